@@ -1,0 +1,59 @@
+//! What the hub answers.
+
+ghost use Rattle.std.specs.Prelude.{◌≡◌, ◌↔◌, IfOk, IsTrue};
+
+use crate::codes::Code;
+use crate::messages::{Envelope, Gots, Message};
+use std::alloc::{AllocError, Global};
+
+/// What the hub answers.
+#[derive(PartialEq, Eq, Drop, Debug)]
+pub enum Reply {
+    /// The request was refused.
+    Code(Code),
+    /// A send or a receive was posted under this number. `done` tells that it is a send and complete.
+    Posted { post: u64, done: bool },
+    /// A message, which is no longer held.
+    Got(Message),
+    /// What was asked for isn't there yet.
+    NotYet,
+    /// The send is complete.
+    Done,
+    /// What a receive would give.
+    Seen(Envelope),
+    /// A message was claimed; its handle is this number.
+    Held(u64, Envelope),
+    /// What several posts gave, all of them complete.
+    AllGot(Gots),
+    /// The link of a partitioned transfer, by its number in the image.
+    Link(u8),
+}
+
+impl Reply {
+    /// Whether the other is the same reply.
+    pub fn is_same(&self, other: &Reply) -> bool
+        ensures { IsTrue result ↔ (self.now ≡ other.now) }
+    {
+        self == other
+    }
+
+    /// The same reply in memory of its own.
+    pub fn try_copy(&self, alloc: Global) -> Result<Reply, AllocError>
+        ensures { IfOk result (λ copy. copy ≡ self.now) }
+    {
+        match self {
+            Reply::Code(code) => Ok(Reply::Code(*code)),
+            Reply::Posted { post, done } => Ok(Reply::Posted {
+                post: *post,
+                done: *done,
+            }),
+            Reply::Got(message) => Ok(Reply::Got(message.try_copy(alloc)?)),
+            Reply::NotYet => Ok(Reply::NotYet),
+            Reply::Done => Ok(Reply::Done),
+            Reply::Seen(envelope) => Ok(Reply::Seen(*envelope)),
+            Reply::Held(message, envelope) => Ok(Reply::Held(*message, *envelope)),
+            Reply::AllGot(gots) => Ok(Reply::AllGot(gots.try_copy(alloc)?)),
+            Reply::Link(link) => Ok(Reply::Link(*link)),
+        }
+    }
+}
