@@ -1,0 +1,252 @@
+//! The bytes of a rank, with their loads, stores, fetches and ranges.
+ghost use Rattle.std.specs.Prelude.{ℕ, ◌≡◌, ◌≢◌, ◌+◌, ◌-◌, ◌++◌, replicate, ◌*◌, ◌%◌, ◌^◌, ◌<◌, ◌≤◌, ◌↔◌, length, IfOk, OnOk, OnErr, IsOk, IsTrue, MatchOption, cond};
+ghost use Rattle.rv_memory.specs.Access.{size_of, load_trap, store_trap, stored, word_at, is_readable, is_writable, IsReadable, IsWritable};
+ghost use Rattle.rv_memory.specs.Memory.{Memory, value_at, bytes_of, bytes_at, overwritten, with_bytes, init_start, loaded_memory};
+
+use crate::fault::{BytesFault, Cause, StoreFault};
+use std::alloc::{AllocError, Global};
+use std::marker::Model;
+
+/// How many bytes a load or a store moves: 1, 2, 4 or 8.
+#[derive(Clone, Copy, PartialEq, Eq, Debug, Drop)]
+pub enum Width {
+    Byte,
+    Half,
+    Word,
+    Double,
+}
+
+/// The bytes of a rank, from address 0. The first of them are the text, which no store and no write reaches.
+#[derive(Drop)]
+pub struct RankMemory {
+    bytes: Vec<u8>,
+    text: u64,
+}
+
+impl Model for RankMemory {
+    ghost use Rattle.std.specs.Prelude.{◌<◌, ◌≤◌, ◌^◌, length};
+    ghost use Rattle.rv_memory.specs.Memory.{Memory};
+
+    ghost Value = { Memory };
+
+    ghost view = { λ m. record { bytes = m.bytes.items; text = m.text } };
+
+    ghost invariant = { λ m. (m.text ≤ length m.bytes.items) × (4096 ≤ length m.bytes.items) × (length m.bytes.items ≤ 2 ^ 20) };
+}
+
+/// Bytes, 8 at most, with zeros behind them.
+#[inline(always)]
+fn widened(bytes: &[u8]) -> [u8; 8]
+    requires { length bytes.now ≤ 8 }
+    ensures { result ≡ bytes.now ++ replicate (8 - length bytes.now) 0 }
+{
+    let mut wide = [0; 8];
+    wide[..bytes.len()].copy_from_slice(bytes);
+    wide
+}
+
+/// The value of `count` bytes, 8 at most, from a place on. With a constant count it compiles to one load.
+#[inline(always)]
+fn value(bytes: &[u8], at: usize, count: usize) -> u64
+    requires inside { at + count ≤ length bytes.now }
+    requires most { count ≤ 8 }
+    ensures value { result ≡ value_at bytes.now at count }
+    ensures bound { result < 256 ^ count }
+{
+    u64::from_le_bytes(widened(&bytes[at..at + count]))
+}
+
+/// Puts other bytes from a place on.
+#[inline(always)]
+fn put(bytes: &mut [u8], at: usize, new: &[u8])
+    requires { at + length new.now ≤ length bytes.old }
+    ensures { bytes.new ≡ overwritten bytes.old at new.now }
+{
+    bytes[at..at + new.len()].copy_from_slice(new);
+}
+
+/// Puts the lowest `count` bytes of a value, 8 at most, from a place on. With a constant count it compiles to one store.
+#[inline(always)]
+fn put_value(bytes: &mut [u8], at: usize, value: u64, count: usize)
+    requires inside { at + count ≤ length bytes.old }
+    requires most { count ≤ 8 }
+    ensures { bytes.new ≡ overwritten bytes.old at (bytes_of value count) }
+{
+    put(bytes, at, &value.to_le_bytes()[..count]);
+}
+
+impl RankMemory {
+    /// The memory of a rank that is loaded: the text at address 0, the initial data behind it at a multiple of 16,
+    /// and zeros elsewhere. `size` is what an image may ask for.
+    pub fn new(
+        alloc: Global,
+        size: usize,
+        text: &[u8],
+        init: &[u8],
+    ) -> Result<RankMemory, AllocError>
+        requires least { 4096 ≤ size }
+        requires most { size ≤ 2 ^ 20 }
+        requires whole { size % 4096 ≡ 0 }
+        requires room { init_start text.now + length init.now ≤ size }
+        ensures { IfOk result (λ memory. memory ≡ loaded_memory size text.now init.now) }
+    {
+        let start = (text.len() + 15) / 16 * 16;
+        let mut bytes = Vec::from_slice(alloc, text)?;
+        bytes.resize(start, 0)?;
+        bytes.extend_from_slice(init)?;
+        bytes.resize(size, 0)?;
+        Ok(RankMemory {
+            bytes,
+            text: text.len() as u64,
+        })
+    }
+
+    /// How many bytes there are, text and all.
+    #[inline(always)]
+    pub fn size(&self) -> u64
+        ensures value { result ≡ length self.now.bytes }
+        ensures least { 4096 ≤ result }
+        ensures most { result ≤ 2 ^ 20 }
+    {
+        self.bytes.len() as u64
+    }
+
+    /// The word at a pc, or `None` where one of its four bytes isn't text.
+    #[inline(always)]
+    pub fn text_word(&self, pc: u64) -> Option<u32>
+        ensures { result ≡ word_at self.now pc }
+    {
+        if self.text < 4 || pc > self.text - 4 {
+            return None;
+        }
+        Some(value(self.bytes.as_slice(), pc as usize, 4) as u32)
+    }
+
+    /// The value of the bytes at an address, zero-extended. Traps as `LoadMisaligned` where the address isn't a
+    /// multiple of the width, else as `LoadAccess` where the bytes aren't all in the memory.
+    #[inline(always)]
+    pub fn load(&self, address: u64, width: Width) -> Result<u64, Cause>
+        ensures value { IfOk result (λ value. value ≡ value_at self.now.bytes address (size_of width)) }
+        ensures bound { IfOk result (λ value. value < 256 ^ size_of width) }
+        ensures trap { MatchOption (load_trap self.now address (size_of width)) (IsOk result) (λ cause. result ≡ Err cause) }
+    {
+        match width {
+            Width::Byte => self.load_bytes(address, 1),
+            Width::Half => self.load_bytes(address, 2),
+            Width::Word => self.load_bytes(address, 4),
+            Width::Double => self.load_bytes(address, 8),
+        }
+    }
+
+    /// A load of `size` bytes.
+    #[inline(always)]
+    fn load_bytes(&self, address: u64, size: u64) -> Result<u64, Cause>
+        requires some { 0 < size }
+        requires most { size ≤ 8 }
+        ensures value { IfOk result (λ value. value ≡ value_at self.now.bytes address size) }
+        ensures bound { IfOk result (λ value. value < 256 ^ size) }
+        ensures trap { MatchOption (load_trap self.now address size) (IsOk result) (λ cause. result ≡ Err cause) }
+    {
+        if address % size != 0 {
+            return Err(Cause::LoadMisaligned);
+        }
+        if address > self.size() - size {
+            return Err(Cause::LoadAccess);
+        }
+        Ok(value(self.bytes.as_slice(), address as usize, size as usize))
+    }
+
+    /// Writes the lowest bytes of a value. Traps as `StoreMisaligned` where the address isn't a multiple of the
+    /// width, else as `StoreAccess` where the bytes aren't all in the memory or are text.
+    #[inline(always)]
+    pub fn store(&mut self, address: u64, width: Width, value: u64) -> Result<(), StoreFault>
+        ensures stored { OnOk result (self.new ≡ stored self.old address (size_of width) value) }
+        ensures trap { MatchOption (store_trap self.old address (size_of width)) (IsOk result) (λ cause. result ≡ Err (StoreFault.Trap cause)) }
+        ensures unchanged { OnErr result (self.new ≡ self.old) }
+        ensures takes_no_memory { result ≢ Err StoreFault.Memory }
+    {
+        match width {
+            Width::Byte => self.store_bytes(address, 1, value),
+            Width::Half => self.store_bytes(address, 2, value),
+            Width::Word => self.store_bytes(address, 4, value),
+            Width::Double => self.store_bytes(address, 8, value),
+        }
+    }
+
+    /// A store of `size` bytes.
+    #[inline(always)]
+    fn store_bytes(&mut self, address: u64, size: u64, value: u64) -> Result<(), StoreFault>
+        requires some { 0 < size }
+        requires most { size ≤ 8 }
+        ensures stored { OnOk result (self.new ≡ stored self.old address size value) }
+        ensures trap { MatchOption (store_trap self.old address size) (IsOk result) (λ cause. result ≡ Err (StoreFault.Trap cause)) }
+        ensures unchanged { OnErr result (self.new ≡ self.old) }
+        ensures takes_no_memory { result ≢ Err StoreFault.Memory }
+    {
+        if address % size != 0 {
+            return Err(StoreFault::Trap(Cause::StoreMisaligned));
+        }
+        if address > self.size() - size || address < self.text {
+            return Err(StoreFault::Trap(Cause::StoreAccess));
+        }
+        put_value(
+            self.bytes.as_mut_slice(),
+            address as usize,
+            value,
+            size as usize,
+        );
+        Ok(())
+    }
+
+    /// Whether `count` bytes from an address on may be read, or with `writing` be written: they are all in the memory
+    /// and, where they are written, none is text. A range of 0 bytes is always right, whatever its address.
+    pub fn in_range(&self, address: u64, count: u64, writing: bool) -> bool
+        ensures { result ≡ cond writing (is_writable self.now address count) (is_readable self.now address count) }
+    {
+        if count == 0 {
+            return true;
+        }
+        if count > self.size() || address > self.size() - count {
+            return false;
+        }
+        !writing || self.text <= address
+    }
+
+    /// A copy of `count` bytes from an address on. `Range` where one isn't in the memory.
+    pub fn read_bytes(&self, alloc: Global, address: u64, count: u64) -> Result<Vec<u8>, BytesFault>
+        ensures read { IfOk result (λ bytes. bytes.items ≡ bytes_at self.now address count) }
+        ensures range { (result ≡ Err BytesFault.Range) ↔ ¬ (IsReadable self.now address count) }
+    {
+        if !self.in_range(address, count, false) {
+            return Err(BytesFault::Range);
+        }
+        if count == 0 {
+            return Ok(Vec::new(alloc));
+        }
+        let at = address as usize;
+        match Vec::from_slice(alloc, &self.bytes[at..at + count as usize]) {
+            Ok(bytes) => Ok(bytes),
+            Err(_) => Err(BytesFault::Memory),
+        }
+    }
+
+    /// Writes all the bytes from an address on, or none. `Range` where one would be outside the memory or in the text;
+    /// `Memory` never comes today.
+    pub fn write_bytes(&mut self, address: u64, bytes: &[u8]) -> Result<(), BytesFault>
+        ensures written { OnOk result (self.new ≡ with_bytes self.old address bytes.now) }
+        ensures range { (result ≡ Err BytesFault.Range) ↔ ¬ (IsWritable self.old address (length bytes.now)) }
+        ensures unchanged { OnErr result (self.new ≡ self.old) }
+        ensures takes_no_memory { result ≢ Err BytesFault.Memory }
+    {
+        if !self.in_range(address, bytes.len() as u64, true) {
+            return Err(BytesFault::Range);
+        }
+        if !bytes.is_empty() {
+            put(self.bytes.as_mut_slice(), address as usize, bytes);
+        }
+        Ok(())
+    }
+}
+
+#[cfg(test)]
+mod tests;
