@@ -1,0 +1,29 @@
+use Rattle.std.proofs.Common.{◌≡◌, ◌++◌, ◌∷◌, [], refl, Ok, length, arith}
+use Rattle.std.proofs.lemmas.Result.{err_from_is_err_and}
+use Rattle.rv_image.specs.Reading.{IsFaultOf, repeated, next_link, link_at}
+use Rattle.rv_image.proofs.Loop.{fails_along, step_fails, step_goes, steps_done}
+use Rattle.rv_image.proofs.reading.take_links.Goals as goal
+
+pub returns-in_err-link : goal.returns-in_err-link
+returns-in_err-link c =
+    let a = c.args in
+    let p = err_from_is_err_and c.from_residual.result c.from_residual.ensures.1 in
+    let step = next_link a.total a.ranks in
+    let done = c.loop.done.items in
+    let fault = c.in_err-link.field-0.0 in
+    let number : length done ≡ c.len.result = omega (arith, c.loop.done.ok.0, c.len.ensures) in
+    let fails : IsFaultOf (step done c.loop.rest.now) fault = fails_along fault (link_at a.total a.ranks (length done) c.loop.rest.now) _ _ refl (rw number c.in_err-link.ensures) in
+    rw (p.1, p.2) (step_fails fault step a.count c.loop.counter done c.loop.rest.now (repeated step a.count [] a.bytes.now) c.loop-test.true fails c.loop.invariant)
+
+pub loop-preserved : goal.loop-preserved
+loop-preserved c =
+    let a = c.args in
+    let step = next_link a.total a.ranks in
+    let done = c.loop.done.items in
+    let link = c.in_ok-link.link in
+    let number : length done ≡ c.len.result = omega (arith, c.loop.done.ok.0, c.len.ensures) in
+    let goes : step done c.loop.rest.now ≡ Ok (done ++ link ∷ [], c.in_ok-link.after.now) = rw (number, c.in_ok-link.ensures) refl in
+    rw (c.in_ok-push.ensures.items) (step_goes step a.count c.loop.counter done c.loop.rest.now (done ++ link ∷ []) c.in_ok-link.after.now (repeated step a.count [] a.bytes.now) c.loop-test.true goes c.loop.invariant)
+
+pub returns : goal.returns
+returns c = let a = c.args in steps_done (next_link a.total a.ranks) a.count c.loop.counter c.loop.done.items c.loop.rest.now (repeated (next_link a.total a.ranks) a.count [] a.bytes.now) c.loop-test.false c.loop.invariant

@@ -1,0 +1,7 @@
+use Rattle.std.proofs.Common.{◌≡◌, [], ◌-◌}
+use Rattle.rv_image.specs.Reading.{repeated, next_link}
+use Rattle.rv_image.proofs.reading.take_links.Given as goal
+
+-- what is left, read after what is done, is what all of it is read as
+abbrev pub invariant-loop : goal.invariant-loop
+invariant-loop l = repeated (next_link l.total l.ranks) (l.count - l.counter) l.done.items l.rest ≡ repeated (next_link l.total l.ranks) l.count [] l.bytes

@@ -1,0 +1,169 @@
+-- What bytes are read as: the image whose text they are, or the first fault in the order of the tests.
+use Rattle.std.specs.Prelude.{◌≡◌, ℕ, zero, suc, ◌+◌, ◌-◌, ◌*◌, ◌%◌, List, [], ◌∷◌, ◌++◌, length, take, drop, Bool, not, ◌&&◌, Option, Some, None, Result, Ok, Err, nat_lt, nat_le, nat_eq, ◌==◌, if◌then◌else◌, slice_index, codes, ⊤}
+use Rattle.std.specs.List.{starts_with, list_any}
+use Rattle.std.specs.Int.{w16, w32, from_le_bytes}
+use Rattle.rv_image.specs.declared.faults.ImageFault.{ImageFault}
+use Rattle.rv_image.specs.declared.faults.ImageFault.TheVariants as faults
+use Rattle.rv_image.specs.declared.faults.ImageFault.TheVariants.{Magic, Version, Short, Long, Limit, Text, Comm, Memory}
+use Rattle.rv_image.specs.declared.header.Header.{Header}
+use Rattle.rv_image.specs.declared.images.Link.{Link}
+use Rattle.rv_image.specs.declared.images.ImageParts.{ImageParts}
+use Rattle.rv_image.specs.Image.{data_start}
+
+-- ---- the header
+
+-- the number of 1, 2 or 4 bytes at an offset, low byte first
+abbrev pub byte_at : ℕ → List ℕ → ℕ
+byte_at offset bytes = slice_index bytes offset
+
+abbrev pub half_at : ℕ → List ℕ → ℕ
+half_at offset bytes = from_le_bytes w16 (take 2 (drop offset bytes))
+
+abbrev pub word_at : ℕ → List ℕ → ℕ
+word_at offset bytes = from_le_bytes w32 (take 4 (drop offset bytes))
+
+-- the header's numbers behind the version, each at its offset
+unfoldable pub header_at : List ℕ → Header
+header_at bytes = record {
+  ranks = byte_at 6 bytes;
+  harts = byte_at 7 bytes;
+  memory = word_at 8 bytes;
+  entry = word_at 12 bytes;
+  text_length = word_at 16 bytes;
+  init_length = word_at 20 bytes;
+  comms = byte_at 24 bytes;
+  links = byte_at 25 bytes;
+  zero = half_at 26 bytes;
+}
+
+abbrev pub is_within : ℕ → ℕ → ℕ → Bool
+is_within least most n = nat_le least n && nat_le n most
+
+-- the tests of the header's numbers in their order: what has to hold, and the fault where it doesn't
+abbrev pub number_tests : Header → List (Bool × ImageFault)
+number_tests h =
+    (is_within 1 8 h.ranks, Limit 6 h.ranks)
+    ∷ (is_within 1 4 h.harts, Limit 7 h.harts)
+    ∷ (is_within 4096 1048576 h.memory && (h.memory % 4096 == 0 && nat_le (4096 * h.harts) h.memory), Limit 8 h.memory)
+    ∷ (nat_le h.comms 7, Limit 24 h.comms)
+    ∷ (nat_le h.links 32, Limit 25 h.links)
+    ∷ (h.zero == 0, Limit 26 h.zero)
+    ∷ (nat_lt 0 h.text_length && (h.text_length % 4 == 0 && nat_le h.text_length h.memory), Text 16)
+    ∷ (nat_le (data_start h.text_length + h.init_length) h.memory, Text 20)
+    ∷ (h.entry % 4 == 0 && nat_lt h.entry h.text_length, Text 12)
+    ∷ []
+
+-- all tests of the header in their order; Short has the input's length
+abbrev pub header_tests : List ℕ → List (Bool × ImageFault)
+header_tests bytes =
+    (nat_le 4 (length bytes), Short (length bytes))
+    ∷ (starts_with nat_eq bytes (codes "RVMC"), Magic)
+    ∷ (nat_le 6 (length bytes), Short (length bytes))
+    ∷ (half_at 4 bytes == 1, Version)
+    ∷ (nat_le 28 (length bytes), Short (length bytes))
+    ∷ number_tests (header_at bytes)
+
+-- the fault of the first test that doesn't hold
+abbrev pub first_fault : List (Bool × ImageFault) → Option ImageFault
+first_fault [] = None
+first_fault (test ∷ tests) = if test.0 then first_fault tests else Some test.1
+
+-- ---- behind the header
+
+infixl 10 ◌>>=◌
+abbrev pub ◌>>=◌ : {A B : Type 0} → Result A ImageFault → (A → Result B ImageFault) → Result B ImageFault
+(Ok x) >>= f = f x
+(Err fault) >>= f = Err fault
+
+-- The first byte and those after it. Here and below `total` is the input's length, for Short.
+abbrev pub next_byte : ℕ → List ℕ → Result (ℕ × List ℕ) ImageFault
+next_byte total [] = Err (Short total)
+next_byte total (byte ∷ rest) = Ok (byte, rest)
+
+-- the first n bytes and those after them
+abbrev pub next_bytes : ℕ → ℕ → List ℕ → Result (List ℕ × List ℕ) ImageFault
+next_bytes n total bytes = if nat_lt (length bytes) n then Err (Short total) else Ok (take n bytes, drop n bytes)
+
+-- count steps, each from what is read so far and the bytes that are left
+unfoldable pub repeated : {A : Type 0} → (A → List ℕ → Result (A × List ℕ) ImageFault) → ℕ → A → List ℕ → Result (A × List ℕ) ImageFault
+repeated step zero done bytes = Ok (done, bytes)
+repeated step (suc count) done bytes = do
+  next ← step done bytes
+  repeated step count next.0 next.1
+
+-- a rank of the image that was not named before
+abbrev pub is_new_rank : ℕ → List ℕ → ℕ → Bool
+is_new_rank ranks named rank = nat_lt rank ranks && not (list_any (λ other. other == rank) named)
+
+-- one more member of communicator n
+abbrev pub next_member : ℕ → ℕ → ℕ → List ℕ → List ℕ → Result (List ℕ × List ℕ) ImageFault
+next_member total ranks n named bytes = do
+  rank ← next_byte total bytes
+  if is_new_rank ranks named rank.0 then Ok (named ++ rank.0 ∷ [], rank.1) else Err (Comm n)
+
+-- communicator n: how many members, and the members
+unfoldable pub comm_at : ℕ → ℕ → ℕ → List ℕ → Result (List ℕ × List ℕ) ImageFault
+comm_at total ranks n bytes = do
+  count ← next_byte total bytes
+  if is_within 1 8 count.0 then repeated (next_member total ranks n) count.0 [] count.1 else Err (Comm n)
+
+-- one more communicator; they are numbered from 1
+abbrev pub next_comm : ℕ → ℕ → List (List ℕ) → List ℕ → Result (List (List ℕ) × List ℕ) ImageFault
+next_comm total ranks done bytes = do
+  comm ← comm_at total ranks (length done + 1) bytes
+  Ok (done ++ comm.0 ∷ [], comm.1)
+
+-- link n: the rank that it leads from is tested before the other is asked for
+unfoldable pub link_at : ℕ → ℕ → ℕ → List ℕ → Result (Link × List ℕ) ImageFault
+link_at total ranks n bytes = do
+  from ← next_byte total bytes
+  if nat_lt from.0 ranks then (next_byte total from.1 >>= λ to. if nat_lt to.0 ranks && not (to.0 == from.0) then Ok (record { from = from.0; to = to.0 }, to.1) else Err (faults.Link n)) else Err (faults.Link n)
+
+-- one more link; they are numbered from 0
+abbrev pub next_link : ℕ → ℕ → List Link → List ℕ → Result (List Link × List ℕ) ImageFault
+next_link total ranks done bytes = do
+  link ← link_at total ranks (length done) bytes
+  Ok (done ++ link.0 ∷ [], link.1)
+
+-- all that stands behind the header
+unfoldable pub body_at : ℕ → Header → List ℕ → Result ImageParts ImageFault
+body_at total h bytes = do
+  comms ← repeated (next_comm total h.ranks) h.comms [] bytes
+  links ← repeated (next_link total h.ranks) h.links [] comms.1
+  text ← next_bytes h.text_length total links.1
+  init ← next_bytes h.init_length total text.1
+  if length init.1 == 0 then Ok (record { ranks = h.ranks; harts = h.harts; memory = h.memory; entry = h.entry; text = text.0; init = init.0; comms = comms.0; links = links.0 }) else Err (Long (total - length init.1))
+
+-- ---- all of it
+
+-- goes on where there is no fault
+abbrev pub unless : {A : Type 0} → Option ImageFault → Result A ImageFault → Result A ImageFault
+unless None read = read
+unless (Some fault) read = Err fault
+
+-- what the bytes are read as
+unfoldable pub reading : List ℕ → Result ImageParts ImageFault
+reading bytes = unless (first_fault (header_tests bytes)) (body_at (length bytes) (header_at bytes) (drop 28 bytes))
+
+-- ---- how an answer compares
+
+-- the fault is the one that is read, unless memory ran out
+abbrev pub IsFaultOf : {A : Type 0} → Result A ImageFault → ImageFault → Type 0
+IsFaultOf read Memory = ⊤
+IsFaultOf read Magic = read ≡ Err Magic
+IsFaultOf read Version = read ≡ Err Version
+IsFaultOf read (Short length) = read ≡ Err (Short length)
+IsFaultOf read (Long end) = read ≡ Err (Long end)
+IsFaultOf read (Limit offset value) = read ≡ Err (Limit offset value)
+IsFaultOf read (Text offset) = read ≡ Err (Text offset)
+IsFaultOf read (Comm n) = read ≡ Err (Comm n)
+IsFaultOf read (faults.Link n) = read ≡ Err (faults.Link n)
+
+-- the answer, seen by view, is what is read, unless memory ran out
+abbrev pub AnswersBy : {A B : Type 0} → (A → B) → Result A ImageFault → Result B ImageFault → Type 0
+AnswersBy view (Ok x) read = read ≡ Ok (view x)
+AnswersBy view (Err fault) read = IsFaultOf read fault
+
+-- the answer is what is read, unless memory ran out
+abbrev pub Answers : {A : Type 0} → Result A ImageFault → Result A ImageFault → Type 0
+Answers = AnswersBy (λ x. x)

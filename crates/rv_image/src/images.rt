@@ -1,0 +1,71 @@
+//! What every rank of a cluster loads.
+
+ghost use Rattle.std.specs.Prelude.{◌≡◌};
+
+use crate::lists::{Comms, Links, Segment};
+use std::marker::Model;
+
+/// A link for partitioned transfers: from one rank to another.
+#[derive(Clone, Copy, Debug, PartialEq, Eq)]
+pub struct Link {
+    pub from: u8,
+    pub to: u8,
+}
+
+/// What an image is made of. It becomes an [`Image`] where it keeps the limits.
+#[derive(Debug, Drop)]
+pub struct ImageParts {
+    /// Number of ranks, 1 to 8.
+    pub ranks: u8,
+    /// Number of harts of each rank, 1 to 4.
+    pub harts: u8,
+    /// Bytes of memory of each rank: 4,096 to 1,048,576 in whole 4,096s, and 4,096 at least for each hart.
+    pub memory: u32,
+    /// The address at which every hart begins: a multiple of 4 in the text.
+    pub entry: u32,
+    /// The text, loaded at address 0: some whole 4s of bytes.
+    pub text: Segment,
+    /// The initial data, loaded at the text's length rounded up to a multiple of 16.
+    pub init: Segment,
+    /// Communicators 1 to 7, each of 1 to 8 different ranks. Communicator 0, all ranks in order, isn't kept.
+    pub comms: Comms,
+    /// At most 32 links, each of two different ranks.
+    pub links: Links,
+}
+
+/// An image that loads: parts that keep the limits. Contracts see its parts.
+#[derive(Debug, Drop)]
+pub struct Image {
+    parts: ImageParts,
+}
+
+impl Model for Image {
+    ghost use Rattle.rv_image.specs.declared.images.ImageParts.{ImageParts};
+    ghost use Rattle.rv_image.specs.Image.{IsImage};
+
+    ghost Value = { ImageParts };
+
+    ghost view = { λ image. image.parts };
+
+    ghost invariant = { λ image. IsImage image.parts };
+}
+
+impl Image {
+    ghost use Rattle.rv_image.specs.Image.{IsImage};
+
+    /// The image of these parts. Takes no memory.
+    pub fn new(parts: ImageParts) -> Image
+        requires { IsImage parts }
+        ensures { result ≡ parts }
+    {
+        Image { parts }
+    }
+
+    /// What the image is made of. Whoever asks knows that it keeps the limits.
+    pub fn parts(&self) -> &ImageParts
+        ensures parts { result.now ≡ self.now }
+        ensures limits { IsImage self.now }
+    {
+        &self.parts
+    }
+}

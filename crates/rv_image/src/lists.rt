@@ -1,0 +1,127 @@
+//! The lists that an image holds, which contracts see as lists.
+
+ghost use Rattle.std.specs.Prelude.{◌≡◌};
+
+use crate::images::Link;
+use std::marker::Model;
+
+/// Bytes that are loaded one after the other: the text, or the initial data. Contracts see a list of numbers.
+#[derive(Debug, Drop)]
+pub struct Segment {
+    bytes: Vec<u8>,
+}
+
+impl Model for Segment {
+    ghost use Rattle.std.specs.Prelude.{List, ℕ};
+
+    ghost Value = { List ℕ };
+
+    ghost view = { λ segment. segment.bytes.items };
+}
+
+impl Segment {
+    /// The vector's bytes. Takes no memory.
+    pub fn from_vec(bytes: Vec<u8>) -> Segment
+        ensures { result ≡ bytes.items }
+    {
+        Segment { bytes }
+    }
+
+    /// The bytes.
+    pub fn as_slice(&self) -> &[u8]
+        ensures { result.now ≡ self.now }
+    {
+        self.bytes.as_slice()
+    }
+}
+
+/// The ranks of a communicator, in the order of their positions. Contracts see a list of numbers.
+#[derive(Debug, Drop)]
+pub struct Members {
+    ranks: Vec<u8>,
+}
+
+impl Model for Members {
+    ghost use Rattle.std.specs.Prelude.{List, ℕ};
+
+    ghost Value = { List ℕ };
+
+    ghost view = { λ members. members.ranks.items };
+}
+
+impl Members {
+    /// The vector's ranks. Takes no memory.
+    pub fn from_vec(ranks: Vec<u8>) -> Members
+        ensures { result ≡ ranks.items }
+    {
+        Members { ranks }
+    }
+
+    /// The ranks.
+    pub fn as_slice(&self) -> &[u8]
+        ensures { result.now ≡ self.now }
+    {
+        self.ranks.as_slice()
+    }
+}
+
+/// Communicators, numbered from 1. Contracts see a list of lists of ranks.
+#[derive(Debug, Drop)]
+pub struct Comms {
+    comms: Vec<Members>,
+}
+
+impl Model for Comms {
+    ghost use Rattle.std.specs.Prelude.{List, ℕ};
+
+    ghost Value = { List (List ℕ) };
+
+    ghost view = { λ comms. comms.comms.items };
+}
+
+impl Comms {
+    /// The vector's communicators; the one at index 0 has number 1. Takes no memory.
+    pub fn from_vec(comms: Vec<Members>) -> Comms
+        ensures { result ≡ comms.items }
+    {
+        Comms { comms }
+    }
+
+    /// The communicators; the one at index 0 has number 1.
+    pub fn as_slice(&self) -> &[Members]
+        ensures { result.now ≡ self.now }
+    {
+        self.comms.as_slice()
+    }
+}
+
+/// Links, numbered from 0. Contracts see a list of links.
+#[derive(Debug, Drop)]
+pub struct Links {
+    links: Vec<Link>,
+}
+
+impl Model for Links {
+    ghost use Rattle.std.specs.Prelude.{List};
+    ghost use Rattle.rv_image.specs.declared.images.Link.{Link};
+
+    ghost Value = { List Link };
+
+    ghost view = { λ links. links.links.items };
+}
+
+impl Links {
+    /// The vector's links. Takes no memory.
+    pub fn from_vec(links: Vec<Link>) -> Links
+        ensures { result ≡ links.items }
+    {
+        Links { links }
+    }
+
+    /// The links.
+    pub fn as_slice(&self) -> &[Link]
+        ensures { result.now ≡ self.now }
+    {
+        self.links.as_slice()
+    }
+}
