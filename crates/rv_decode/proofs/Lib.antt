@@ -1,0 +1,4 @@
+pub mod Lookup
+pub mod Found
+pub mod OneWord
+pub mod Worked

@@ -1,0 +1,196 @@
+//! The text of an instruction.
+ghost use Rattle.std.specs.Prelude.{◌≡◌, IfOk, Some, string_bytes};
+ghost use Rattle.rv_decode.specs.Text.{instr_text, register_text, upper_name, branch_name, load_name, store_name, imm_name, shift_name, arith_name};
+
+use crate::instruction::{ArithOp, BranchOp, ImmOp, Instr, LoadOp, ShiftOp, StoreOp, UpperOp};
+use crate::register::Reg;
+use std::alloc::{AllocError, Global};
+use std::fmt;
+
+impl UpperOp {
+    fn mnemonic(self) -> &'static str
+        ensures { result.now ≡ upper_name self }
+    {
+        match self {
+            UpperOp::Lui => "lui",
+            UpperOp::Auipc => "auipc",
+        }
+    }
+}
+
+impl BranchOp {
+    fn mnemonic(self) -> &'static str
+        ensures { result.now ≡ branch_name self }
+    {
+        match self {
+            BranchOp::Beq => "beq",
+            BranchOp::Bne => "bne",
+            BranchOp::Blt => "blt",
+            BranchOp::Bge => "bge",
+            BranchOp::Bltu => "bltu",
+            BranchOp::Bgeu => "bgeu",
+        }
+    }
+}
+
+impl LoadOp {
+    fn mnemonic(self) -> &'static str
+        ensures { result.now ≡ load_name self }
+    {
+        match self {
+            LoadOp::Lb => "lb",
+            LoadOp::Lh => "lh",
+            LoadOp::Lw => "lw",
+            LoadOp::Ld => "ld",
+            LoadOp::Lbu => "lbu",
+            LoadOp::Lhu => "lhu",
+            LoadOp::Lwu => "lwu",
+        }
+    }
+}
+
+impl StoreOp {
+    fn mnemonic(self) -> &'static str
+        ensures { result.now ≡ store_name self }
+    {
+        match self {
+            StoreOp::Sb => "sb",
+            StoreOp::Sh => "sh",
+            StoreOp::Sw => "sw",
+            StoreOp::Sd => "sd",
+        }
+    }
+}
+
+impl ImmOp {
+    fn mnemonic(self) -> &'static str
+        ensures { result.now ≡ imm_name self }
+    {
+        match self {
+            ImmOp::Addi => "addi",
+            ImmOp::Slti => "slti",
+            ImmOp::Sltiu => "sltiu",
+            ImmOp::Xori => "xori",
+            ImmOp::Ori => "ori",
+            ImmOp::Andi => "andi",
+            ImmOp::Addiw => "addiw",
+        }
+    }
+}
+
+impl ShiftOp {
+    fn mnemonic(self) -> &'static str
+        ensures { result.now ≡ shift_name self }
+    {
+        match self {
+            ShiftOp::Slli => "slli",
+            ShiftOp::Srli => "srli",
+            ShiftOp::Srai => "srai",
+            ShiftOp::Slliw => "slliw",
+            ShiftOp::Srliw => "srliw",
+            ShiftOp::Sraiw => "sraiw",
+        }
+    }
+}
+
+impl ArithOp {
+    fn mnemonic(self) -> &'static str
+        ensures { result.now ≡ arith_name self }
+    {
+        match self {
+            ArithOp::Add => "add",
+            ArithOp::Sub => "sub",
+            ArithOp::Sll => "sll",
+            ArithOp::Slt => "slt",
+            ArithOp::Sltu => "sltu",
+            ArithOp::Xor => "xor",
+            ArithOp::Srl => "srl",
+            ArithOp::Sra => "sra",
+            ArithOp::Or => "or",
+            ArithOp::And => "and",
+            ArithOp::Addw => "addw",
+            ArithOp::Subw => "subw",
+            ArithOp::Sllw => "sllw",
+            ArithOp::Srlw => "srlw",
+            ArithOp::Sraw => "sraw",
+            ArithOp::Mul => "mul",
+            ArithOp::Mulh => "mulh",
+            ArithOp::Mulhsu => "mulhsu",
+            ArithOp::Mulhu => "mulhu",
+            ArithOp::Div => "div",
+            ArithOp::Divu => "divu",
+            ArithOp::Rem => "rem",
+            ArithOp::Remu => "remu",
+            ArithOp::Mulw => "mulw",
+            ArithOp::Divw => "divw",
+            ArithOp::Divuw => "divuw",
+            ArithOp::Remw => "remw",
+            ArithOp::Remuw => "remuw",
+        }
+    }
+}
+
+impl fmt::Display for Reg {
+    ghost output = { λ r. Some (register_text r) };
+
+    fn fmt<W: fmt::Write>(&self, f: &mut fmt::Formatter<W>) -> fmt::Result {
+        let number = self.number();
+        write!(f, "x{number}")
+    }
+}
+
+impl fmt::Display for Instr {
+    ghost output = { λ i. Some (instr_text i) };
+
+    fn fmt<W: fmt::Write>(&self, f: &mut fmt::Formatter<W>) -> fmt::Result {
+        match *self {
+            Instr::Upper { op, rd, imm } => {
+                let name = op.mnemonic();
+                let field = imm.cast_unsigned() / 0x1000;
+                write!(f, "{name} {rd}, 0x{field:x}")
+            }
+            Instr::Jal { rd, off } => write!(f, "jal {rd}, {off}"),
+            Instr::Jalr { rd, rs1, off } => write!(f, "jalr {rd}, {off}({rs1})"),
+            Instr::Branch { op, rs1, rs2, off } => {
+                let name = op.mnemonic();
+                write!(f, "{name} {rs1}, {rs2}, {off}")
+            }
+            Instr::Load { op, rd, rs1, off } => {
+                let name = op.mnemonic();
+                write!(f, "{name} {rd}, {off}({rs1})")
+            }
+            Instr::Store { op, rs1, rs2, off } => {
+                let name = op.mnemonic();
+                write!(f, "{name} {rs2}, {off}({rs1})")
+            }
+            Instr::Imm { op, rd, rs1, imm } => {
+                let name = op.mnemonic();
+                write!(f, "{name} {rd}, {rs1}, {imm}")
+            }
+            Instr::Shift {
+                op,
+                rd,
+                rs1,
+                amount,
+            } => {
+                let name = op.mnemonic();
+                write!(f, "{name} {rd}, {rs1}, {amount}")
+            }
+            Instr::Arith { op, rd, rs1, rs2 } => {
+                let name = op.mnemonic();
+                write!(f, "{name} {rd}, {rs1}, {rs2}")
+            }
+            Instr::Fence => write!(f, "fence"),
+            Instr::Ecall => write!(f, "ecall"),
+            Instr::Ebreak => write!(f, "ebreak"),
+        }
+    }
+}
+
+/// The instruction's text in a new string, as the assembler reads it: `addi x5, x0, -1`, `lui x5, 0xa7`, `sd x5, -8(x2)`,
+/// `beq x5, x6, 8` (targets are offsets in bytes). The only error is want of memory.
+pub fn print_instr(alloc: Global, instr: &Instr) -> Result<String, AllocError>
+    ensures text { IfOk result (λ text. string_bytes text ≡ instr_text instr.now) }
+{
+    instr.to_string(alloc)
+}
