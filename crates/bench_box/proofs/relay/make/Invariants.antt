@@ -1,0 +1,5 @@
+use Rattle.std.proofs.Common.{◌≡◌, take}
+use Rattle.bench_box.proofs.relay.make.Given as goal
+
+abbrev pub invariant-loop-word : goal.invariant-loop-word
+invariant-loop-word l = l.key ≡ record l.fn.key { view = record l.fn.key.view { filled = take l.word-index l.words } }

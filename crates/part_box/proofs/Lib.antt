@@ -1,0 +1,5 @@
+pub mod Lists
+pub mod GateKept
+pub mod Allowed
+pub mod Leaves
+pub mod Owned

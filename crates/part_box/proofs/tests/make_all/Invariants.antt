@@ -1,0 +1,9 @@
+use Rattle.std.proofs.Common.{◌≡◌, ◌<◌, ◌^◌, [], true}
+use Rattle.part_box.proofs.tests.make_all.Given as goal
+
+abbrev pub invariant-loop-k : goal.invariant-loop-k
+invariant-loop-k l = record {
+  own : l.key.at ≡ l.place.at;
+  free : (l.key.view.is_open ≡ true) × (l.key.view.filled ≡ []);
+  stamp : (l.key.view.front < l.stamp) × (l.stamp < 2 ^ 62);
+}

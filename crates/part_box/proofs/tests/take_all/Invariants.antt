@@ -1,0 +1,8 @@
+use Rattle.std.proofs.Common.{◌≡◌, [], None}
+use Rattle.part_box.proofs.tests.take_all.Given as goal
+
+abbrev pub invariant-loop-k : goal.invariant-loop-k
+invariant-loop-k l = record {
+  own : l.key.at ≡ l.place.at;
+  free : (l.key.view.seen ≡ None) × (l.key.view.copied ≡ []);
+}

@@ -1,0 +1,5 @@
+use Rattle.std.proofs.Common.{◌≡◌}
+use Rattle.part_box.proofs.tests.wait_freed.Given as goal
+
+abbrev pub invariant-loop : goal.invariant-loop
+invariant-loop l = (l.key.at ≡ l.fn.key.at) × (l.key.view.filled ≡ l.fn.key.view.filled) × (l.key.view.made ≡ l.fn.key.view.made)

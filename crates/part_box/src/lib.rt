@@ -1,0 +1,20 @@
+//! A box that carries one thing at a time from a sender to a receiver.
+//!
+//! A box is a gate and eight data words. The sender fills the data words and makes them ready under a stamp. The
+//! receiver looks, copies the words and empties the box under a stamp of its own. Each call is one atomic step on one
+//! word; it takes no memory and no lock, and always returns.
+#![tactic(auto)]
+
+mod gate;
+mod keys;
+mod partition;
+mod rule;
+mod settled;
+#[cfg(test)]
+mod tests;
+mod view;
+
+pub use keys::{RecvKey, SendKey};
+pub use partition::PartBox;
+pub use settled::Settled;
+pub use view::{Got, Loaded, Made, Receiving, Sending};
