@@ -1,0 +1,218 @@
+//! What instructions do, against values from outside: the worked rows, and tables of what qemu-riscv64 gave.
+//! Each goes the whole way: the instruction's word stands in a text, and a hart steps over it.
+mod branch_rows;
+mod immediate_rows;
+mod product_rows;
+mod register_rows;
+
+use crate::state::{Did, Hart, Mode};
+use crate::stepping::step;
+use branch_rows::{BRANCH_ROWS, LOAD_ROWS};
+use immediate_rows::{IMMEDIATE_ROWS, SHIFT_ROWS};
+use product_rows::PRODUCT_ROWS;
+use register_rows::REGISTER_ROWS;
+use rv_decode::{Instr, Reg, encode};
+use rv_memory::{Cause, RankMemory};
+use std::alloc::{AllocError, Global};
+use std::process::Abort;
+use std::test::Fail;
+
+/// A rank whose text is these words, with a double word of data at 16 and after it zeros, and a hart at 0.
+fn rank(alloc: Global, words: &[u32; 2], cell: u64) -> Result<(Hart, RankMemory), AllocError> {
+    let [first, second] = *words;
+    let mut text = Vec::new(alloc);
+    text.extend_from_slice(&first.to_le_bytes())?;
+    text.extend_from_slice(&second.to_le_bytes())?;
+    let memory = RankMemory::new(alloc, 4096, text.as_slice(), &cell.to_le_bytes())?;
+    Ok((Hart::start(0, 4096, 0, 0), memory))
+}
+
+fn turn(rt: &impl Abort, hart: &mut Hart, memory: &mut RankMemory) -> Result<Did, AllocError> {
+    let Mode::Running = hart.mode() else {
+        panic!(rt; "the hart doesn't run");
+    };
+    step(hart, memory)
+}
+
+/// The hart after one instruction, of which rs1 is x5, rs2 x6 and rd x7.
+fn after(
+    rt: &impl Abort,
+    alloc: Global,
+    instr: Instr,
+    a: u64,
+    b: u64,
+    cell: u64,
+) -> Result<Hart, AllocError> {
+    assert!(rt; instr.fits());
+    let (mut hart, mut memory) = rank(alloc, &[encode(&instr), 0], cell)?;
+    hart.set(Reg::new(5), a);
+    hart.set(Reg::new(6), b);
+    assert_eq!(rt; turn(rt, &mut hart, &mut memory)?, Did::Plain);
+    Ok(hart)
+}
+
+#[test]
+fn operations_on_registers(rt: HostRuntime) -> Result<(), Fail> {
+    let (rs1, rs2, rd) = (Reg::new(5), Reg::new(6), Reg::new(7));
+    for &(op, a, b, want) in REGISTER_ROWS.iter().chain(&PRODUCT_ROWS) {
+        let hart = after(&rt, rt.alloc(), Instr::Arith { op, rd, rs1, rs2 }, a, b, 0)?;
+        assert_eq!(rt; hart.get(rd), want, "{op:?} {a:x} {b:x}");
+        assert_eq!(rt; hart.pc(), 4);
+    }
+    Ok(())
+}
+
+#[test]
+fn operations_on_immediates(rt: HostRuntime) -> Result<(), Fail> {
+    let (rs1, rd) = (Reg::new(5), Reg::new(7));
+    for &(op, a, imm, want) in &IMMEDIATE_ROWS {
+        let hart = after(&rt, rt.alloc(), Instr::Imm { op, rd, rs1, imm }, a, 0, 0)?;
+        assert_eq!(rt; hart.get(rd), want, "{op:?} {a:x} {imm}");
+    }
+    Ok(())
+}
+
+#[test]
+fn shifts_by_amounts(rt: HostRuntime) -> Result<(), Fail> {
+    let (rs1, rd) = (Reg::new(5), Reg::new(7));
+    for &(op, a, amount, want) in &SHIFT_ROWS {
+        let instr = Instr::Shift {
+            op,
+            rd,
+            rs1,
+            amount,
+        };
+        let hart = after(&rt, rt.alloc(), instr, a, 0, 0)?;
+        assert_eq!(rt; hart.get(rd), want, "{op:?} {a:x} {amount}");
+    }
+    Ok(())
+}
+
+#[test]
+fn branches(rt: HostRuntime) -> Result<(), Fail> {
+    let (rs1, rs2) = (Reg::new(5), Reg::new(6));
+    for &(op, a, b, taken) in &BRANCH_ROWS {
+        let instr = Instr::Branch {
+            op,
+            rs1,
+            rs2,
+            off: 64,
+        };
+        let hart = after(&rt, rt.alloc(), instr, a, b, 0)?;
+        let want = if taken { 64 } else { 4 };
+        assert_eq!(rt; hart.pc(), want, "{op:?} {a:x} {b:x}");
+    }
+    Ok(())
+}
+
+#[test]
+fn loads_extend(rt: HostRuntime) -> Result<(), Fail> {
+    let (rs1, rd) = (Reg::new(5), Reg::new(7));
+    for &(op, cell, off, want) in &LOAD_ROWS {
+        let hart = after(
+            &rt,
+            rt.alloc(),
+            Instr::Load { op, rd, rs1, off },
+            16,
+            0,
+            cell,
+        )?;
+        assert_eq!(rt; hart.get(rd), want, "{op:?} {cell:x} {off}");
+    }
+    Ok(())
+}
+
+#[test]
+fn a_hart_starts_with_its_stack_and_numbers(rt: HostRuntime) {
+    let hart = Hart::start(40, 65536, 2, 7);
+    assert_eq!(rt; hart.pc(), 40);
+    assert_eq!(rt; hart.mode(), Mode::Running);
+    for number in 0..32 {
+        let want = match number {
+            2 => 57344,
+            10 => 2,
+            11 => 7,
+            _ => 0,
+        };
+        assert_eq!(rt; hart.get(Reg::new(number)), want, "x{number}");
+    }
+}
+
+#[test]
+fn loads_a_constant_in_two_words(rt: HostRuntime) -> Result<(), Fail> {
+    // lui x5, 0x80000; addiw x5, x5, -1
+    let (mut hart, mut memory) = rank(rt.alloc(), &[0x8000_02b7, 0xfff2_829b], 0)?;
+    assert_eq!(rt; turn(&rt, &mut hart, &mut memory)?, Did::Plain);
+    assert_eq!(rt; turn(&rt, &mut hart, &mut memory)?, Did::Plain);
+    assert_eq!(rt; hart.get(Reg::new(5)), 0x7fff_ffff);
+    // there is no third
+    let trap = Did::Trap(Cause::InstructionAccess);
+    assert_eq!(rt; turn(&rt, &mut hart, &mut memory)?, trap);
+    assert_eq!(rt; hart.mode(), Mode::Trapped(Cause::InstructionAccess, 8));
+    Ok(())
+}
+
+#[test]
+fn minus_one_is_all_ones(rt: HostRuntime) -> Result<(), Fail> {
+    // addi x5, x0, -1; addi x0, x5, 0
+    let (mut hart, mut memory) = rank(rt.alloc(), &[0xfff0_0293, 0x0002_8013], 0)?;
+    assert_eq!(rt; turn(&rt, &mut hart, &mut memory)?, Did::Plain);
+    assert_eq!(rt; hart.get(Reg::new(5)), u64::MAX);
+    assert_eq!(rt; turn(&rt, &mut hart, &mut memory)?, Did::Plain);
+    assert_eq!(rt; hart.get(Reg::new(0)), 0);
+    Ok(())
+}
+
+#[test]
+fn jumps_by_its_own_link(rt: HostRuntime) -> Result<(), Fail> {
+    // nop; jalr x1, 0(x1)
+    let x1 = Reg::new(1);
+    let (mut hart, mut memory) = rank(rt.alloc(), &[0x0000_0013, 0x0000_80e7], 0)?;
+    hart.set_pc(4);
+    hart.set(x1, 8);
+    assert_eq!(rt; turn(&rt, &mut hart, &mut memory)?, Did::Plain);
+    assert_eq!(rt; hart.pc(), 8);
+    assert_eq!(rt; hart.get(x1), 8);
+    hart.set_pc(4);
+    hart.set(x1, 6);
+    let trap = Did::Trap(Cause::InstructionMisaligned);
+    assert_eq!(rt; turn(&rt, &mut hart, &mut memory)?, trap);
+    assert_eq!(rt; hart.mode(), Mode::Trapped(Cause::InstructionMisaligned, 4));
+    assert_eq!(rt; hart.get(x1), 6);
+    Ok(())
+}
+
+#[test]
+fn reaches_the_end_of_memory_and_no_further(rt: HostRuntime) -> Result<(), Fail> {
+    let rows = [
+        (4088, Did::Plain),
+        (4096, Did::Trap(Cause::LoadAccess)),
+        (4092, Did::Trap(Cause::LoadMisaligned)),
+    ];
+    for (address, want) in rows {
+        // ld x5, 0(x6)
+        let (mut hart, mut memory) = rank(rt.alloc(), &[0x0003_3283, 0], 0)?;
+        hart.set(Reg::new(6), address);
+        assert_eq!(rt; turn(&rt, &mut hart, &mut memory)?, want, "at {address}");
+    }
+    Ok(())
+}
+
+#[test]
+fn stops_without_an_effect(rt: HostRuntime) -> Result<(), Fail> {
+    let rows = [
+        // sd x0, 0(x0)
+        (0x0000_3023, Did::Trap(Cause::StoreAccess)),
+        (0xffff_ffff, Did::Trap(Cause::IllegalInstruction)),
+        // ecall; ebreak
+        (0x0000_0073, Did::Call),
+        (0x0010_0073, Did::Break),
+    ];
+    for (word, want) in rows {
+        let (mut hart, mut memory) = rank(rt.alloc(), &[word, 0], 0)?;
+        assert_eq!(rt; turn(&rt, &mut hart, &mut memory)?, want, "{word:x}");
+        assert_eq!(rt; hart.pc(), 0);
+        assert_eq!(rt; memory.text_word(0), Some(word));
+    }
+    Ok(())
+}
