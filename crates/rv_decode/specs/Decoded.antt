@@ -1,7 +1,7 @@
 -- The instruction of a word, as a function: the table looked up from the word's side.
 use Rattle.std.specs.Prelude.{ℕ, ◌==◌, ◌&&◌, Bool, Option, List, [], ◌∷◌, ◌++◌, map, find}
 use Rattle.rv_decode.specs.Fields.{opcode, rd, funct3, rs1, rs2, funct7, imm_i, imm_s, imm_b, imm_u, imm_j}
-use Rattle.rv_decode.specs.Table.{upper_row, branch_row, load_row, store_row, imm_row, shift_row, arith_row, shift_amount, above_amount}
+use Rattle.rv_decode.specs.Table.{upper_row, branch_row, load_row, store_row, imm_row, shift_row, arith_row, jal_row, jalr_row, fence_row, ecall_word, ebreak_word, shift_amount, above_amount}
 use Rattle.rv_decode.specs.declared.instruction.Instr.{Instr}
 use Rattle.rv_decode.specs.declared.instruction.Instr.TheVariants.{Upper, Jal, Jalr, Branch, Load, Store, Imm, Shift, Arith, Fence, Ecall, Ebreak}
 use Rattle.rv_decode.specs.declared.instruction.UpperOp.{UpperOp}
@@ -32,17 +32,17 @@ has_funct3 word row = same_pair (opcode word, funct3 word) row
 
 abbrev pub has_row : ℕ → Instr → Bool
 has_row word (Upper op _ _) = opcode word == upper_row op
-has_row word (Jal _ _) = opcode word == 0x6f
-has_row word (Jalr _ _ _) = has_funct3 word (0x67, 0)
+has_row word (Jal _ _) = opcode word == jal_row
+has_row word (Jalr _ _ _) = has_funct3 word jalr_row
 has_row word (Branch op _ _ _) = has_funct3 word (branch_row op)
 has_row word (Load op _ _ _) = has_funct3 word (load_row op)
 has_row word (Store op _ _ _) = has_funct3 word (store_row op)
 has_row word (Imm op _ _ _) = has_funct3 word (imm_row op)
 has_row word (Shift op _ _ _) = same_triple (opcode word, funct3 word, above_amount op word) (shift_row op)
 has_row word (Arith op _ _ _) = same_triple (opcode word, funct3 word, funct7 word) (arith_row op)
-has_row word Fence = has_funct3 word (0x0f, 0)
-has_row word Ecall = word == 0x00000073
-has_row word Ebreak = word == 0x00100073
+has_row word Fence = has_funct3 word fence_row
+has_row word Ecall = word == ecall_word
+has_row word Ebreak = word == ebreak_word
 
 -- the operations, in the table's order
 abbrev pub uppers : List UpperOp

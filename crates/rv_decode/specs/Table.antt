@@ -100,6 +100,22 @@ arith_row Divuw = (0x3b, 5, 0x01)
 arith_row Remw = (0x3b, 6, 0x01)
 arith_row Remuw = (0x3b, 7, 0x01)
 
+-- the others: opcode, then funct3; ecall and ebreak are one word each
+abbrev pub jal_row : ℕ
+jal_row = 0x6f
+
+abbrev pub jalr_row : ℕ × ℕ
+jalr_row = (0x67, 0)
+
+abbrev pub fence_row : ℕ × ℕ
+fence_row = (0x0f, 0)
+
+abbrev pub ecall_word : ℕ
+ecall_word = 0x00000073
+
+abbrev pub ebreak_word : ℕ
+ebreak_word = 0x00100073
+
 -- how many bits the amount of a shift has, from bit 20 on
 abbrev pub amount_bits : ShiftOp → ℕ
 amount_bits Slli = 6
@@ -116,7 +132,7 @@ shift_amount op word = bits word (19 + amount_bits op) 20
 abbrev pub above_amount : ShiftOp → ℕ → ℕ
 above_amount op word = bits word 31 (20 + amount_bits op)
 
--- the word has the columns of a row
+-- the word has the columns of the row
 abbrev pub HasFunct3 : ℕ → ℕ × ℕ → Type 0
 HasFunct3 word row = (opcode word ≡ row.0) × (funct3 word ≡ row.1)
 
@@ -129,17 +145,17 @@ HasShift word op = (opcode word ≡ (shift_row op).0) × (funct3 word ≡ (shift
 -- the word stands for the instruction: it has its row, and the operands are those of its fields
 abbrev pub IsWordOf : ℕ → Instr → Type 0
 IsWordOf word (Upper op d imm) = (opcode word ≡ upper_row op) × (d ≡ rd word) × (imm ≡ imm_u word)
-IsWordOf word (Jal d off) = (opcode word ≡ 0x6f) × (d ≡ rd word) × (off ≡ imm_j word)
-IsWordOf word (Jalr d s off) = HasFunct3 word (0x67, 0) × (d ≡ rd word) × (s ≡ rs1 word) × (off ≡ imm_i word)
+IsWordOf word (Jal d off) = (opcode word ≡ jal_row) × (d ≡ rd word) × (off ≡ imm_j word)
+IsWordOf word (Jalr d s off) = HasFunct3 word jalr_row × (d ≡ rd word) × (s ≡ rs1 word) × (off ≡ imm_i word)
 IsWordOf word (Branch op s t off) = HasFunct3 word (branch_row op) × (s ≡ rs1 word) × (t ≡ rs2 word) × (off ≡ imm_b word)
 IsWordOf word (Load op d s off) = HasFunct3 word (load_row op) × (d ≡ rd word) × (s ≡ rs1 word) × (off ≡ imm_i word)
 IsWordOf word (Store op s t off) = HasFunct3 word (store_row op) × (s ≡ rs1 word) × (t ≡ rs2 word) × (off ≡ imm_s word)
 IsWordOf word (Imm op d s imm) = HasFunct3 word (imm_row op) × (d ≡ rd word) × (s ≡ rs1 word) × (imm ≡ imm_i word)
 IsWordOf word (Shift op d s amount) = HasShift word op × (d ≡ rd word) × (s ≡ rs1 word) × (amount ≡ shift_amount op word)
 IsWordOf word (Arith op d s t) = HasFunct7 word (arith_row op) × (d ≡ rd word) × (s ≡ rs1 word) × (t ≡ rs2 word)
-IsWordOf word Fence = HasFunct3 word (0x0f, 0)
-IsWordOf word Ecall = word ≡ 0x00000073
-IsWordOf word Ebreak = word ≡ 0x00100073
+IsWordOf word Fence = HasFunct3 word fence_row
+IsWordOf word Ecall = word ≡ ecall_word
+IsWordOf word Ebreak = word ≡ ebreak_word
 
 -- a signed number of so many bits
 abbrev pub IsSigned : ℕ → ℤ → Type 0
@@ -186,11 +202,11 @@ j_type row d imm = imm_bits imm 20 20 * 2 ^ 31 + imm_bits imm 10 1 * 2 ^ 21 + im
 abbrev pub shift_type : ShiftOp → ℕ → ℕ → ℕ → ℕ
 shift_type op d s amount = (shift_row op).2 * 2 ^ (20 + amount_bits op) + amount * 2 ^ 20 + s * 2 ^ 15 + (shift_row op).1 * 2 ^ 12 + d * 2 ^ 7 + (shift_row op).0
 
--- the word that is written for an instruction that fits: its only word, but for fence (2.7: fence iorw, iorw)
+-- the word that is written for an instruction that fits: its only word, but for fence, whose is `fence iorw, iorw` (2.7)
 unfoldable pub written_word : Instr → ℕ
 written_word (Upper op d imm) = u_type (upper_row op) d imm
-written_word (Jal d off) = j_type 0x6f d off
-written_word (Jalr d s off) = i_type (0x67, 0) d s off
+written_word (Jal d off) = j_type jal_row d off
+written_word (Jalr d s off) = i_type jalr_row d s off
 written_word (Branch op s t off) = b_type (branch_row op) s t off
 written_word (Load op d s off) = i_type (load_row op) d s off
 written_word (Store op s t off) = s_type (store_row op) s t off
@@ -198,5 +214,5 @@ written_word (Imm op d s imm) = i_type (imm_row op) d s imm
 written_word (Shift op d s amount) = shift_type op d s amount
 written_word (Arith op d s t) = r_type (arith_row op) d s t
 written_word Fence = 0x0ff0000f
-written_word Ecall = 0x00000073
-written_word Ebreak = 0x00100073
+written_word Ecall = ecall_word
+written_word Ebreak = ebreak_word
