@@ -10,7 +10,7 @@ use Rattle.part_box.specs.declared.view.Sending.{Sending}
 use Rattle.part_box.specs.declared.view.Receiving.{Receiving}
 use Rattle.part_box.specs.declared.view.View.{View}
 use Rattle.part_box.specs.Gate.{stamp_of}
-use Rattle.part_box.specs.Steps.{nothing_sent, nothing_received, with_word, with_made, with_freed, with_look, with_copy, with_got, fresh, sender_of, receiver_of, joined, spent, with_sending, with_receiving, filled, readied, freed, looked, copied, emptied}
+use Rattle.part_box.specs.Steps.{nothing_sent, nothing_received, with_word, with_made, with_freed, with_look, with_copy, with_got, first_view, sender_part, receiver_part, joined_view, spent_view, with_sending, with_receiving}
 use Rattle.part_box.specs.Rule.{gate_of, GateRule, IsSeated, IsGated}
 use Rattle.part_box.proofs.GateKept as kept
 
@@ -66,7 +66,7 @@ receiver_keeps width t h id v at receives words r go =
 same : (width : ℕ) (words : List ℕ) (i : ℕ) (s : Sending) (r : Receiving) → GateRule width words s r → GateRule width (set words i (slice_index words i)) s r
 same width words i s r g = subst (λ l. GateRule width l s r) (sym (set-get_or words i 0)) g
 
-pub starts : (width : ℕ) (words : List ℕ) → length words ≡ width + 1 → gate_of words ≡ 0 → IsGated width (opening words [] fresh)
+pub starts : (width : ℕ) (words : List ℕ) → length words ≡ width + 1 → gate_of words ≡ 0 → IsGated width (opening words [] first_view)
 starts width words counted gate = record {
   sender = 0;
   receiver = 0;
@@ -76,15 +76,15 @@ starts width words counted gate = record {
   seated = one;
 }
   where
-    one : (j : ℕ) (v : View) → get_elem? (fresh ∷ []) j ≡ some v → IsSeated 0 0 nothing_sent nothing_received j v
+    one : (j : ℕ) (v : View) → get_elem? (first_view ∷ []) j ≡ some v → IsSeated 0 0 nothing_sent nothing_received j v
     one zero v e = subst (IsSeated 0 0 nothing_sent nothing_received 0) (some-injective _ _ e) (record { sends = λ _. (refl, refl); receives = λ _. (refl, refl) })
     one (suc j) v e = absurd (some-ne-none v (sym e))
 
-pub splits : (width id : ℕ) (v : View) → v.receives ≡ true → Splits (IsGated width) id v (sender_of v) (receiver_of v)
+pub splits : (width id : ℕ) (v : View) → v.receives ≡ true → Splits (IsGated width) id v (sender_part v) (receiver_part v)
 splits width id v receives t h at =
     let mine = h.seated id v at in
     let me = mine.receives receives in
-    let views = set t.views id (sender_of v) in
+    let views = set t.views id (sender_part v) in
     let last = length views in record {
       sender = h.sender;
       receiver = last;
@@ -93,52 +93,52 @@ splits width id v receives t h at =
       rule = h.rule;
       seated = λ j u e. ⊎_elim
           (λ (old : get_elem? views j ≡ some u).
-          all_set (IsSeated h.sender last h.sending h.receiving) t.views id (sender_of v) (record { sends = mine.sends; receives = λ q. absurd (off q) })
+          all_set (IsSeated h.sender last h.sending h.receiving) t.views id (sender_part v) (record { sends = mine.sends; receives = λ q. absurd (off q) })
           (λ k x ne there. let theirs = h.seated k x there in record { sends = theirs.sends; receives = λ q. absurd (ne ((theirs.receives q).0 ∙ sym me.0)) })
           j u old)
-          (λ (new : (j ≡ last) × (receiver_of v ≡ u)). subst (IsSeated h.sender last h.sending h.receiving j) new.1 (record { sends = λ q. absurd (off q); receives = λ _. (new.0, me.1) }))
-          (at_new views (receiver_of v) u j e);
+          (λ (new : (j ≡ last) × (receiver_part v ≡ u)). subst (IsSeated h.sender last h.sending h.receiving j) new.1 (record { sends = λ q. absurd (off q); receives = λ _. (new.0, me.1) }))
+          (at_new views (receiver_part v) u j e);
     }
 
 pub fills : (width slots id : ℕ) (me : Me Unit View) (i n : ℕ) → me.0.sends ≡ true → me.0.sending.is_open ≡ true → length me.0.sending.filled < width → i ≡ length me.0.sending.filled + 1
-    → Allows (IsGated width) slots id me i (λ _. n) (λ _ after. after ≡ (filled me.0 n, me.1))
+    → Allows (IsGated width) slots id me i (λ _. n) (λ _ after. after ≡ (with_sending me.0 (with_word me.0.sending n), me.1))
 fills width slots id me i n sends is_open room at t h long here fits =
-    (filled me.0 n, keeps, tt, sender_keeps width t h id me.0 here sends (set t.words i n) (with_word me.0.sending n) (λ g. kept.fills width t.words me.0.sending h.receiving i n g is_open room at), refl)
+    (with_sending me.0 (with_word me.0.sending n), keeps, tt, sender_keeps width t h id me.0 here sends (set t.words i n) (with_word me.0.sending n) (λ g. kept.fills width t.words me.0.sending h.receiving i n g is_open room at), refl)
 
 pub readies : (width slots id : ℕ) (me : Me Unit View) (n : ℕ) → me.0.sends ≡ true → 0 < width → length me.0.sending.filled ≡ width → n % 2 ≡ 1 → me.0.sending.front < n / 2 → n / 2 < 2 ^ 62
-    → Allows (IsGated width) slots id me 0 (λ _. n) (λ _ after. after ≡ (readied me.0 n, me.1))
+    → Allows (IsGated width) slots id me 0 (λ _. n) (λ _ after. after ≡ (with_sending me.0 (with_made me.0.sending (stamp_of n)), me.1))
 readies width slots id me n sends some_words full odd above low t h long here fits =
-    (readied me.0 n, keeps, tt, sender_keeps width t h id me.0 here sends (set t.words 0 n) (with_made me.0.sending (stamp_of n)) (λ g. kept.readies width t.words me.0.sending h.receiving n g some_words full odd above low), refl)
+    (with_sending me.0 (with_made me.0.sending (stamp_of n)), keeps, tt, sender_keeps width t h id me.0 here sends (set t.words 0 n) (with_made me.0.sending (stamp_of n)) (λ g. kept.readies width t.words me.0.sending h.receiving n g some_words full odd above low), refl)
 
 pub frees : (width slots id : ℕ) (me : Me Unit View) → me.0.sends ≡ true
-    → Allows (IsGated width) slots id me 0 (λ n. n) (λ n after. after ≡ (freed me.0 n, me.1))
+    → Allows (IsGated width) slots id me 0 (λ n. n) (λ n after. after ≡ (with_sending me.0 (with_freed me.0.sending n), me.1))
 frees width slots id me sends t h long here fits =
     let n = gate_of t.words in
     let s = with_freed me.0.sending n in
-    (freed me.0 n, keeps, tt, sender_keeps width t h id me.0 here sends (set t.words 0 n) s (λ g. same width t.words 0 s h.receiving (kept.frees width t.words me.0.sending h.receiving g)), refl)
+    (with_sending me.0 (with_freed me.0.sending n), keeps, tt, sender_keeps width t h id me.0 here sends (set t.words 0 n) s (λ g. same width t.words 0 s h.receiving (kept.frees width t.words me.0.sending h.receiving g)), refl)
 
 pub looks : (width slots id : ℕ) (me : Me Unit View) → me.0.receives ≡ true → me.0.receiving.seen ≡ None
-    → Allows (IsGated width) slots id me 0 (λ n. n) (λ n after. after ≡ (looked me.0 n, me.1))
+    → Allows (IsGated width) slots id me 0 (λ n. n) (λ n after. after ≡ (with_receiving me.0 (with_look me.0.receiving n), me.1))
 looks width slots id me receives none t h long here fits =
     let n = gate_of t.words in
     let r = with_look me.0.receiving n in
-    (looked me.0 n, keeps, tt, receiver_keeps width t h id me.0 here receives (set t.words 0 n) r (λ g. same width t.words 0 h.sending r (kept.looks width t.words h.sending me.0.receiving g none)), refl)
+    (with_receiving me.0 (with_look me.0.receiving n), keeps, tt, receiver_keeps width t h id me.0 here receives (set t.words 0 n) r (λ g. same width t.words 0 h.sending r (kept.looks width t.words h.sending me.0.receiving g none)), refl)
 
 pub copies : (width slots id : ℕ) (me : Me Unit View) (i k : ℕ) → me.0.receives ≡ true → me.0.receiving.seen ≡ Some k → i ≡ length me.0.receiving.copied + 1
-    → Allows (IsGated width) slots id me i (λ n. n) (λ n after. after ≡ (copied me.0 n, me.1))
+    → Allows (IsGated width) slots id me i (λ n. n) (λ n after. after ≡ (with_receiving me.0 (with_copy me.0.receiving n), me.1))
 copies width slots id me i k receives sees at t h long here fits =
     let n = slice_index t.words i in
     let r = with_copy me.0.receiving n in
-    (copied me.0 n, keeps, tt, receiver_keeps width t h id me.0 here receives (set t.words i n) r (λ g. same width t.words i h.sending r (kept.copies width t.words h.sending me.0.receiving i k g sees at)), refl)
+    (with_receiving me.0 (with_copy me.0.receiving n), keeps, tt, receiver_keeps width t h id me.0 here receives (set t.words i n) r (λ g. same width t.words i h.sending r (kept.copies width t.words h.sending me.0.receiving i k g sees at)), refl)
 
 pub empties : (width slots id : ℕ) (me : Me Unit View) (n k : ℕ) → me.0.receives ≡ true → me.0.receiving.seen ≡ Some k → length me.0.receiving.copied ≡ width → n % 2 ≡ 0 → k < n / 2 → n / 2 < 2 ^ 62
-    → Allows (IsGated width) slots id me 0 (λ _. n) (λ _ after. after ≡ (emptied me.0 n, me.1))
+    → Allows (IsGated width) slots id me 0 (λ _. n) (λ _ after. after ≡ (with_receiving me.0 (with_got me.0.receiving (stamp_of n)), me.1))
 empties width slots id me n k receives sees full even above low t h long here fits =
-    (emptied me.0 n, keeps, tt, receiver_keeps width t h id me.0 here receives (set t.words 0 n) (with_got me.0.receiving (stamp_of n)) (λ g. kept.empties width t.words h.sending me.0.receiving n k g sees full even above low), refl)
+    (with_receiving me.0 (with_got me.0.receiving (stamp_of n)), keeps, tt, receiver_keeps width t h id me.0 here receives (set t.words 0 n) (with_got me.0.receiving (stamp_of n)) (λ g. kept.empties width t.words h.sending me.0.receiving n k g sees full even above low), refl)
 
-pub joins : (width id other : ℕ) (v u : View) → v.sends ≡ true → u.receives ≡ true → Joins (IsGated width) id v other u (joined v u) spent
+pub joins : (width id other : ℕ) (v u : View) → v.sends ≡ true → u.receives ≡ true → Joins (IsGated width) id v other u (joined_view v u) spent_view
 joins width id other v u sends receives t h at apart there =
-    let w = joined v u in
+    let w = joined_view v u in
     let mine = (h.seated id v at).sends sends in
     let was = ⊎_elim (λ (x : (other ≡ id) × (w ≡ u)). absurd (apart x.0)) (λ (x : (other ≢ id) × (get_elem? t.views other ≡ some u)). x.1) (at_set t.views id other w u there) in
     let theirs = (h.seated other u was).receives receives in record {
@@ -147,7 +147,7 @@ joins width id other v u sends receives t h at apart there =
       sending = h.sending;
       receiving = h.receiving;
       rule = h.rule;
-      seated = all_set (IsSeated h.sender id h.sending h.receiving) (set t.views id w) other spent (record { sends = λ q. absurd (off q); receives = λ q. absurd (off q) })
+      seated = all_set (IsSeated h.sender id h.sending h.receiving) (set t.views id w) other spent_view (record { sends = λ q. absurd (off q); receives = λ q. absurd (off q) })
           (λ j x ne e. all_set (λ k y. k ≢ other → IsSeated h.sender id h.sending h.receiving k y) t.views id w (λ _. record { sends = λ _. mine; receives = λ _. (refl, theirs.1) })
           (λ k y ne' e' far. let old = h.seated k y e' in record { sends = old.sends; receives = λ q. absurd (far ((old.receives q).0 ∙ sym theirs.0)) })
           j x e ne);

@@ -10,25 +10,25 @@ use Rattle.part_box.specs.declared.view.Sending.{Sending}
 use Rattle.part_box.specs.declared.view.Receiving.{Receiving}
 use Rattle.part_box.specs.Gate.{stamp_of, IsEmptyGate, IsFullGate, greatest_stamp, ready_stamp, taken_stamp, thing_of, things_of, last_take, ShowsTake, ShowsMade}
 use Rattle.part_box.specs.Steps.{nothing_sent, nothing_received, with_word, with_made, with_freed, with_look, with_copy, with_got}
-use Rattle.part_box.specs.Rule.{gate_of, DataStartsWith, thing_in, lying_in, GateRule}
+use Rattle.part_box.specs.Rule.{gate_of, DataStartsWith, thing_in, contents_of, GateRule}
 use Rattle.part_box.proofs.Lists.{get_front, get_last, get_snoc, get_within, last_take-push, last_take-at, last_there, behind-set_gate, whole_data, data_nil, data_none, data_push, data_more}
 
 -- What lies in a box
 
-pub lying_empty : (words : List ℕ) → IsEmptyGate (gate_of words) → lying_in words ≡ []
-lying_empty words even = ap (λ (b : Bool). if b then thing_in words ∷ [] else []) (ne_eqb (gate_of words % 2) 1 (λ e. omega arith))
+pub contents_empty : (words : List ℕ) → IsEmptyGate (gate_of words) → contents_of words ≡ []
+contents_empty words even = ap (λ (b : Bool). if b then thing_in words ∷ [] else []) (ne_eqb (gate_of words % 2) 1 (λ e. omega arith))
 
-pub lying_full : (words : List ℕ) → IsFullGate (gate_of words) → lying_in words ≡ thing_in words ∷ []
-lying_full words odd = ap (λ (b : Bool). if b then thing_in words ∷ [] else []) (eq-eqb (gate_of words % 2) 1 odd)
+pub contents_full : (words : List ℕ) → IsFullGate (gate_of words) → contents_of words ≡ thing_in words ∷ []
+contents_full words odd = ap (λ (b : Bool). if b then thing_in words ∷ [] else []) (eq-eqb (gate_of words % 2) 1 odd)
 
 module _ (width : ℕ) (words : List ℕ) (s : Sending) (r : Receiving) (g : GateRule width words s r) where
   -- at an even gate all that was made was got
   all_got : IsEmptyGate (gate_of words) → s.made ≡ things_of r.got
-  all_got even = g.made ∙ (ap (λ l. things_of r.got ++ l) (lying_empty words even) ∙ append-nil (things_of r.got))
+  all_got even = g.made ∙ (ap (λ l. things_of r.got ++ l) (contents_empty words even) ∙ append-nil (things_of r.got))
 
   -- at an odd gate one thing was made that wasn't got
   one_more : IsFullGate (gate_of words) → s.made ≡ things_of r.got ++ thing_in words ∷ []
-  one_more odd = g.made ∙ ap (λ l. things_of r.got ++ l) (lying_full words odd)
+  one_more odd = g.made ∙ ap (λ l. things_of r.got ++ l) (contents_full words odd)
 
   count_same : IsEmptyGate (gate_of words) → length s.made ≡ length r.got
   count_same even = ap length (all_got even) ∙ length-map r.got thing_of
@@ -68,7 +68,7 @@ starts width words counted zero_gate =
     let stamp : gate_of words / 2 ≡ 0 = omega arith in record {
       counted = counted;
       low = omega arith;
-      made = sym (lying_empty words even);
+      made = sym (contents_empty words even);
       empty = λ _. stamp;
       in_turn = record { taken_later = λ k g e. absurd (cc); made_later = λ k g m e. absurd (cc) };
       limited = record { made_low = All-nil _; taken_low = All-nil _ };
@@ -92,7 +92,7 @@ fills width words s r i n g is_open room at =
     let inside : length s.filled + 1 < length words = omega arith in record {
       counted = length-set words i n ∙ g.counted;
       low = subst (λ x. x < 2 ^ 62) (sym half) g.low;
-      made = g.made ∙ ap (λ l. things_of r.got ++ l) (lying_empty words even ∙ sym (lying_empty (set words i n) even'));
+      made = g.made ∙ ap (λ l. things_of r.got ++ l) (contents_empty words even ∙ sym (contents_empty (set words i n) even'));
       empty = λ _. half ∙ g.empty even;
       in_turn = g.in_turn;
       limited = g.limited;
@@ -127,7 +127,7 @@ readies width words s r n g some full odd above low =
     let count : length s.made ≡ length r.got = count_same width words s r g even in record {
       counted = length-set words 0 n ∙ g.counted;
       low = subst (λ x. x < 2 ^ 62) (sym half) low;
-      made = ap (λ l. l ++ m ∷ []) before ∙ ap (λ l. things_of r.got ++ l) (sym (lying_full (set words 0 n) odd' ∙ ap (λ x. x ∷ []) lies));
+      made = ap (λ l. l ++ m ∷ []) before ∙ ap (λ l. things_of r.got ++ l) (sym (contents_full (set words 0 n) odd' ∙ ap (λ x. x ∷ []) lies));
       empty = λ zero. absurd (omega arith);
       in_turn = record {
         taken_later = g.in_turn.taken_later;
@@ -246,7 +246,7 @@ empties width words s r n k g sees full even above low =
     let last : last_take (r.got ++ got ∷ []) ≡ n / 2 = last_take-push r.got got in record {
       counted = length-set words 0 n ∙ g.counted;
       low = subst (λ x. x < 2 ^ 62) (sym half) low;
-      made = all ∙ sym (ap (λ l. things_of (r.got ++ got ∷ []) ++ l) (lying_empty (set words 0 n) even') ∙ append-nil (things_of (r.got ++ got ∷ [])));
+      made = all ∙ sym (ap (λ l. things_of (r.got ++ got ∷ []) ++ l) (contents_empty (set words 0 n) even') ∙ append-nil (things_of (r.got ++ got ∷ [])));
       empty = λ _. half ∙ sym last;
       in_turn = record {
         taken_later = λ j h e. ⊎_elim

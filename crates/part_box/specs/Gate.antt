@@ -1,5 +1,5 @@
 -- Gate words, and the two lists of a box: what was made ready, and what was got.
-use Rattle.std.specs.Prelude.{◌≡◌, ℕ, ◌+◌, ◌*◌, ◌/◌, ◌%◌, ◌^◌, ◌<◌, ◌==◌, ◌&&◌, nat_lt, if◌then◌else◌, List, [], ◌∷◌, All, map, slice_get, Option, Some, None}
+use Rattle.std.specs.Prelude.{◌≡◌, ℕ, ◌+◌, ◌-◌, ◌*◌, ◌/◌, ◌%◌, ◌^◌, ◌<◌, ◌==◌, ◌&&◌, nat_lt, if◌then◌else◌, List, [], ◌∷◌, All, map, slice_get, Option, Some, None}
 use Rattle.part_box.specs.declared.view.Made.{Made}
 use Rattle.part_box.specs.declared.view.Got.{Got}
 use Rattle.part_box.specs.declared.view.Loaded.{Loaded}
@@ -14,9 +14,9 @@ IsEmptyGate gate = gate % 2 ≡ 0
 abbrev pub IsFullGate : ℕ → Type 0
 IsFullGate gate = gate % 2 ≡ 1
 
--- 2^62 - 1
+-- no stamp stands above it
 abbrev pub greatest_stamp : ℕ
-greatest_stamp = 4611686018427387903
+greatest_stamp = 2 ^ 62 - 1
 
 -- what a gate shows the receiver: the stamp of the thing in the box. A gate with the greatest stamp shows nothing
 abbrev pub ready_stamp : ℕ → Option ℕ

@@ -21,13 +21,13 @@ pub record Spells (width : ℕ) (words : List ℕ) (b : Settled) : Type 0 where
   pub nothing : b.full ≡ false → b.words ≡ replicate 8 0
 
 -- what is left in a box of this width: one thing where it is full
-abbrev pub left_in : ℕ → Settled → List Made
-left_in width b = if b.full then record { stamp = b.stamp; words = take width b.words } ∷ [] else []
+abbrev pub leftover : ℕ → Settled → List Made
+leftover width b = if b.full then record { stamp = b.stamp; words = take width b.words } ∷ [] else []
 
 -- What a box of this width is left with, where its sender knows s and its receiver knows r
 pub record IsSettled (width : ℕ) (s : Sending) (r : Receiving) (b : Settled) : Type 0 where
   -- what was made is what was got, stamps included, and then what is left
-  pub made : s.made ≡ things_of r.got ++ left_in width b
+  pub made : s.made ≡ things_of r.got ++ leftover width b
   -- an empty box has the stamp of the last take, and words 0
   pub empty : b.full ≡ false → (b.stamp ≡ last_take r.got) × (b.words ≡ replicate 8 0)
   -- words past the width are 0

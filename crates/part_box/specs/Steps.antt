@@ -1,9 +1,9 @@
--- What each kind of step makes of the view of the seat that takes it, at the word that it stores or finds.
+-- What a step makes of what its key knows, and the views of the seats.
 use Rattle.std.specs.Prelude.{ℕ, [], ◌∷◌, ◌++◌, length, None, true, false, if◌then◌else◌, is_some, unwrap_or}
 use Rattle.part_box.specs.declared.view.Sending.{Sending}
 use Rattle.part_box.specs.declared.view.Receiving.{Receiving}
 use Rattle.part_box.specs.declared.view.View.{View}
-use Rattle.part_box.specs.Gate.{stamp_of, ready_stamp, taken_stamp}
+use Rattle.part_box.specs.Gate.{ready_stamp, taken_stamp}
 
 abbrev pub nothing_sent : Sending
 nothing_sent = record { made = []; filled = []; is_open = true; front = 0; loads = [] }
@@ -43,44 +43,29 @@ with_copy r word = record r { copied = r.copied ++ word ∷ [] }
 abbrev pub with_got : Receiving → ℕ → Receiving
 with_got r stamp = record r { got = r.got ++ record { stamp = unwrap_or r.seen 0; words = r.copied; taken = stamp } ∷ []; seen = None; copied = [] }
 
--- The same of a seat's view
+-- The views of seats
 
 -- the one seat of a new box has both keys
-abbrev pub fresh : View
-fresh = record { sends = true; receives = true; sending = nothing_sent; receiving = nothing_received }
+abbrev pub first_view : View
+first_view = record { sends = true; receives = true; sending = nothing_sent; receiving = nothing_received }
 
-abbrev pub sender_of : View → View
-sender_of v = record v { receives = false; receiving = nothing_received }
+-- the sender's part of such a seat, and the receiver's
+abbrev pub sender_part : View → View
+sender_part v = record v { receives = false; receiving = nothing_received }
 
-abbrev pub receiver_of : View → View
-receiver_of v = record v { sends = false; sending = nothing_sent }
+abbrev pub receiver_part : View → View
+receiver_part v = record v { sends = false; sending = nothing_sent }
 
-abbrev pub joined : View → View → View
-joined v w = record v { receives = w.receives; receiving = w.receiving }
+-- both parts again in one seat, which was the sender's
+abbrev pub joined_view : View → View → View
+joined_view v w = record v { receives = w.receives; receiving = w.receiving }
 
-abbrev pub spent : View
-spent = record { sends = false; receives = false; sending = nothing_sent; receiving = nothing_received }
+-- the seat that was the receiver's does nothing more
+abbrev pub spent_view : View
+spent_view = record { sends = false; receives = false; sending = nothing_sent; receiving = nothing_received }
 
 abbrev pub with_sending : View → Sending → View
 with_sending v s = record v { sending = s }
 
 abbrev pub with_receiving : View → Receiving → View
 with_receiving v r = record v { receiving = r }
-
-abbrev pub filled : View → ℕ → View
-filled v word = with_sending v (with_word v.sending word)
-
-abbrev pub readied : View → ℕ → View
-readied v gate = with_sending v (with_made v.sending (stamp_of gate))
-
-abbrev pub freed : View → ℕ → View
-freed v gate = with_sending v (with_freed v.sending gate)
-
-abbrev pub looked : View → ℕ → View
-looked v gate = with_receiving v (with_look v.receiving gate)
-
-abbrev pub copied : View → ℕ → View
-copied v word = with_receiving v (with_copy v.receiving word)
-
-abbrev pub emptied : View → ℕ → View
-emptied v gate = with_receiving v (with_got v.receiving (stamp_of gate))

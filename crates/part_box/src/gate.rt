@@ -3,7 +3,7 @@ ghost use Rattle.std.specs.Prelude.{◌≡◌, ◌-◌, ◌^◌, ◌<◌, IfSome
 ghost use Rattle.part_box.specs.Gate.{ready_stamp, taken_stamp};
 
 /// The greatest stamp, 2^62 - 1. Nobody could go on from it, since no stamp stands above it.
-const GREATEST_STAMP: u64 = 4_611_686_018_427_387_903;
+const GREATEST_STAMP: u64 = (1 << 62) - 1;
 
 /// The stamp of the thing in the box, where the gate shows one.
 pub(crate) fn ready_in(gate: u64) -> Option<u64>

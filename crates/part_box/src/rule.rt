@@ -1,7 +1,8 @@
 //! The gate rule over the words of a box, and what each kind of step on them tells its key.
 ghost use Rattle.std.specs.Prelude.{◌≡◌};
-ghost use Rattle.part_box.specs.Steps.{fresh, sender_of, receiver_of, joined, spent, filled, readied, freed, looked, copied, emptied};
+ghost use Rattle.part_box.specs.Gate.{stamp_of};
 ghost use Rattle.part_box.specs.Rule.{IsGated};
+ghost use Rattle.part_box.specs.Steps.{first_view, sender_part, receiver_part, joined_view, spent_view, with_sending, with_receiving, with_word, with_made, with_freed, with_look, with_copy, with_got};
 
 use crate::view::View;
 use atomic_table::{Join, Play, Split, TableRule};
@@ -12,62 +13,62 @@ pub(crate) struct Gated;
 impl TableRule<(), View, usize> for Gated {
     ghost holds = { IsGated };
 
-    ghost first = { λ _. fresh };
+    ghost first = { λ _. first_view };
 }
 
 /// Both keys in one seat: at first, and again once the box is settled.
 pub(crate) struct BothKeys;
 
 impl Split<View> for BothKeys {
-    ghost left = { sender_of };
+    ghost left = { sender_part };
 
-    ghost right = { receiver_of };
+    ghost right = { receiver_part };
 }
 
 impl Join<View> for BothKeys {
-    ghost both = { joined };
+    ghost both = { joined_view };
 
-    ghost spent = { spent };
+    ghost spent = { spent_view };
 }
 
 /// The sender stores a data word.
 pub(crate) struct Fill;
 
 impl Play<(), View> for Fill {
-    ghost then = { λ _ was word is. is ≡ (filled was.0 word, was.1) };
+    ghost then = { λ _ was word is. is ≡ (with_sending was.0 (with_word was.0.sending word), was.1) };
 }
 
 /// The sender stores an odd gate.
 pub(crate) struct Ready;
 
 impl Play<(), View> for Ready {
-    ghost then = { λ _ was word is. is ≡ (readied was.0 word, was.1) };
+    ghost then = { λ _ was word is. is ≡ (with_sending was.0 (with_made was.0.sending (stamp_of word)), was.1) };
 }
 
 /// The sender loads the gate.
 pub(crate) struct Freed;
 
 impl Play<(), View> for Freed {
-    ghost then = { λ _ was word is. is ≡ (freed was.0 word, was.1) };
+    ghost then = { λ _ was word is. is ≡ (with_sending was.0 (with_freed was.0.sending word), was.1) };
 }
 
 /// The receiver loads the gate.
 pub(crate) struct Look;
 
 impl Play<(), View> for Look {
-    ghost then = { λ _ was word is. is ≡ (looked was.0 word, was.1) };
+    ghost then = { λ _ was word is. is ≡ (with_receiving was.0 (with_look was.0.receiving word), was.1) };
 }
 
 /// The receiver loads a data word.
 pub(crate) struct Copy;
 
 impl Play<(), View> for Copy {
-    ghost then = { λ _ was word is. is ≡ (copied was.0 word, was.1) };
+    ghost then = { λ _ was word is. is ≡ (with_receiving was.0 (with_copy was.0.receiving word), was.1) };
 }
 
 /// The receiver stores an even gate.
 pub(crate) struct Empty;
 
 impl Play<(), View> for Empty {
-    ghost then = { λ _ was word is. is ≡ (emptied was.0 word, was.1) };
+    ghost then = { λ _ was word is. is ≡ (with_receiving was.0 (with_got was.0.receiving (stamp_of word)), was.1) };
 }

@@ -1,7 +1,7 @@
 use Rattle.std.proofs.Common.{arith, ap, subst}
 use Rattle.std.specs.Slots.{slots_items}
 use Rattle.part_box.specs.declared.view.View.{View}
-use Rattle.part_box.specs.Steps.{joined}
+use Rattle.part_box.specs.Steps.{joined_view}
 use Rattle.part_box.specs.Keys.{Place, Sender, Receiver}
 use Rattle.part_box.specs.Rule.{GateRule}
 use Rattle.part_box.specs.Settling.{IsSettled}
@@ -21,7 +21,7 @@ join_seat-requires c = (
 
 pub returns : goal.returns
 returns c =
-    let both : View = joined c.send.inside.seat.me.0 c.recv.inside.seat.me.0 in
+    let both : View = joined_view c.send.inside.seat.me.0 c.recv.inside.seat.me.0 in
     let width = c.self.inside.width in
     let words = slots_items c.close_with-closed.result.words in
     let end = c.close_with-closed.ensures.values.2 in
