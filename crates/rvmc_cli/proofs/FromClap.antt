@@ -1,0 +1,110 @@
+-- From what clap promises to what the words mean.
+use Rattle.std.proofs.Common.{◌≡◌, ◌<◌, ◌∙◌, ℕ, zero, suc, Bool, true, false, refl, sym, subst, ap, ap₂, arith, List, [], ◌∷◌, length, map, Option, Some, None, option_map, Bor, inl, inr, unwrap_or, true≢false, cond, ◌==◌}
+use Rattle.std.specs.Prelude.{Err}
+use Rattle.std.specs.Box.{box_value}
+use Rattle.std.specs.Option.{is_some, option_and_then}
+use Rattle.std.proofs.lemmas.Bool.{eqb-true}
+use Rattle.clap.specs.Words.{App, Row, Text, fault_of, found_of, is_simple, is_simple_and_free, kind_of, rows_of, subcommand_of, subcommand_name_of, subcommand_rows_of}
+use Rattle.clap.specs.Kinds.{HasKind, IsAmong, Kinds, or_else}
+use Rattle.clap.specs.declared.error.Error.{Error}
+use Rattle.clap.specs.declared.error.kind.ErrorKind.{ErrorKind}
+use Rattle.clap.specs.declared.error.kind.ErrorKind.TheVariants as kind
+use Rattle.clap.specs.declared.parser.matches.ArgMatches.{ArgMatches}
+use Rattle.clap.specs.declared.parser.matches.ArgMatches.TheViews.{out-ArgMatches, out-SubCommand}
+use Rattle.clap.proofs.OnLiterals.{clap_on_literals}
+use Rattle.rvmc_cli.specs.App.{rvmc_app}
+use Rattle.rvmc_cli.specs.Meaning.{IsRefusal, Parses, command_in, faults_in, is_request, line_in, meaning_of, refusals_of}
+use Rattle.rvmc_cli.specs.declared.parsing.ParseFault.{ParseFault}
+use Rattle.rvmc_cli.specs.declared.parsing.ParseFault.TheVariants as parse
+
+pub is_exact : is_simple_and_free rvmc_app ≡ true
+unfolding clap_on_literals
+is_exact = refl
+
+pub has_matches : is_simple rvmc_app ≡ true
+unfolding clap_on_literals
+has_matches = refl
+
+abbrev pub texts : List (Bor Text) → List Text
+texts ws = map (λ w. w.now) ws
+
+pub faults_are : (a : App) (ws : List Text) → a ≡ rvmc_app → fault_of a ws ≡ faults_in ws
+unfolding faults_in
+faults_are a ws e = ap (λ x. fault_of x ws) e
+
+pub command_is : (a : App) (ws : List Text) → a ≡ rvmc_app → subcommand_of a ws ≡ command_in ws
+unfolding command_in
+command_is a ws e = ap (λ x. subcommand_of x ws) e
+
+-- clap took the words
+pub taken : (ws : List (Bor Text)) (name : Text) (rows : List Row) → 0 < length ws → faults_in (texts ws) ≡ [] → command_in (texts ws) ≡ Some (name, rows)
+    → meaning_of (texts ws) ≡ line_in name rows
+taken [] name rows lt none found = absurd (omega (arith, lt))
+taken (w ∷ ws) name rows lt none found = rw (none, found) refl
+
+some_kind : (k : ErrorKind) (ks : Kinds) → IsAmong k ks → length ks ≡ 0 → ⊥
+some_kind k [] among e = among
+some_kind k (x ∷ xs) among e = omega (arith, e)
+
+-- or not
+pub not_taken : (ws : List (Bor Text)) (k : ErrorKind) → 0 < length ws → IsAmong k (faults_in (texts ws)) → meaning_of (texts ws) ≡ None
+not_taken [] k lt among = absurd (omega (arith, lt))
+not_taken (w ∷ ws) k lt among = go (length (faults_in (texts (w ∷ ws))) == 0) refl
+  where
+    go : (b : Bool) → (length (faults_in (texts (w ∷ ws))) == 0) ≡ b → cond b (option_and_then (λ p. line_in p.0 p.1) (command_in (texts (w ∷ ws)))) None ≡ None
+    go true e = absurd (some_kind k _ among (eqb-true _ _ e))
+    go false e = refl
+
+some≢none : {X : Type 0} (x : X) → Some x ≡ None → ⊥
+some≢none x e = true≢false (ap (λ o. is_some o) e)
+
+abbrev pub both_of : {B : Type 0} → (B → Text) → (B → List Row) → Option B → Option (Text × List Row)
+both_of f g o = option_map (λ b. (f b, g b)) o
+
+pub pair : {B : Type 0} (f : B → Text) (g : B → List Row) (o : Option B) (n : Text) (rs : List Row) → Some n ≡ option_map f o
+    → Some rs ≡ option_map (λ (p : Text × List Row). p.1) (both_of f g o) → both_of f g o ≡ Some (n, rs)
+pair f g None n rs name rows = absurd (some≢none n name)
+pair f g (Some b) n rs name rows =
+    let first : n ≡ f b = ap (λ o. unwrap_or o n) name in
+    let second : rs ≡ g b = ap (λ o. unwrap_or o rs) rows in
+    ap₂ (λ x y. Some (x, y)) (sym first) (sym second)
+
+pub nonempty : (n : ℕ) → (n == 0) ≡ false → 0 < n
+nonempty zero e = absurd (true≢false e)
+nonempty (suc n) e = omega arith
+
+pub met : (m : ArgMatches) (n : Text) (rs : List Row) → Some n ≡ subcommand_name_of m → Some rs ≡ option_map (λ p. p.1) (subcommand_rows_of m) → subcommand_rows_of m ≡ Some (n, rs)
+met m n rs name rows =
+    pair (λ b. (out-SubCommand (box_value b)).name.now) (λ b. rows_of (found_of (out-SubCommand (box_value b)).matches)) (out-ArgMatches m).subcommand n rs name rows
+
+-- what is refused is refused for a reason that the words give
+among_refusals : (k : ErrorKind) (ks : Kinds) → IsAmong k ks → IsAmong k (or_else ks (kind.ValueValidation ∷ []))
+among_refusals k [] among = absurd among
+among_refusals k (x ∷ xs) among = among
+
+-- a refusal, of words that mean nothing
+pub refusal : (ws : List (Bor Text)) (k : ErrorKind) (r : ParseFault) → meaning_of (texts ws) ≡ None → IsAmong k (refusals_of (texts ws)) → IsRefusal k r → Parses (texts ws) (Err r)
+refusal ws k parse.Memory none among is = tt
+refusal ws k (parse.Asked text) none among is = (none, (k, among, is))
+refusal ws k (parse.Refused text) none among is = (none, (k, among, is))
+
+-- memory was wanting, or a fault was found
+memory_or : (k : ErrorKind) (r : ParseFault) → k ≡ kind.OutOfMemory → IsRefusal k r → r ≡ parse.Memory
+memory_or k parse.Memory memory is = refl
+memory_or k (parse.Asked text) memory is = absurd (true≢false (sym is ∙ ap is_request memory))
+memory_or k (parse.Refused text) memory is = absurd (is.1 memory)
+
+-- clap refused the words
+pub refused_words : (ws : List (Bor Text)) (e : Error) (app : App) (r : ParseFault) → 0 < length ws → app ≡ rvmc_app → IsRefusal (kind_of e) r → HasKind (fault_of app (texts ws)) e
+    → Parses (texts ws) (Err r)
+refused_words ws e app r lt is shown (inl memory) =
+    subst (λ (x : ParseFault). Parses (texts ws) (Err x)) (sym (memory_or (kind_of e) r memory shown)) tt
+refused_words ws e app r lt is shown (inr among) =
+    let found : IsAmong (kind_of e) (faults_in (texts ws)) = subst (IsAmong (kind_of e)) (faults_are app (texts ws) is) among in
+    refusal ws (kind_of e) r (not_taken ws (kind_of e) lt found) (among_refusals (kind_of e) (faults_in (texts ws)) found) shown
+
+-- clap took the words, and a value is none
+pub refused_value : (ws : List (Bor Text)) (r : ParseFault) → meaning_of (texts ws) ≡ None → faults_in (texts ws) ≡ [] → IsRefusal kind.ValueValidation r
+    → Parses (texts ws) (Err r)
+refused_value ws r none nothing is =
+    refusal ws kind.ValueValidation r none (subst (λ ks. IsAmong kind.ValueValidation (or_else ks (kind.ValueValidation ∷ []))) (sym nothing) (inl refl)) is

@@ -1,0 +1,33 @@
+use Rattle.std.proofs.Common.{◌≡◌, ◌∙◌, [], None, ap, length, sym}
+use Rattle.clap.specs.Words.{found_of, is_simple, is_simple_and_free, rows_of}
+use Rattle.rvmc_cli.specs.Meaning.{faults_in, line_in}
+use Rattle.rvmc_cli.proofs.FromClap.{command_is, faults_are, has_matches, is_exact, met, nonempty, refused_value, refused_words, taken, texts}
+use Rattle.rvmc_cli.proofs.parsing.parse.Goals as goal
+
+pub returns-in-Err : goal.returns-in-Err
+returns-in-Err c =
+    let ws = c.args.words.now in
+    let app = c.in_ok-command.ensures.app in
+    let some = nonempty (length ws) (sym c.is_empty.ensures ∙ c.if-is_empty.false) in
+    refused_words ws c.in-Err.error _ _ some app c.shown.ensures (c.in-Err.ensures.kinds (ap is_simple_and_free app ∙ is_exact))
+
+pub returns-in-Ok-line : goal.returns-in-Ok-line
+returns-in-Ok-line c =
+    let ws = c.args.words.now in
+    let app = c.in_ok-command.ensures.app in
+    let some = nonempty (length ws) (sym c.is_empty.ensures ∙ c.if-is_empty.false) in
+    let none : faults_in (texts ws) ≡ [] = sym (faults_are _ (texts ws) app) ∙ c.in-Ok.ensures.kinds (ap is_simple_and_free app ∙ is_exact) in
+    let found = (c.in-Ok.ensures.ok.2 (ap is_simple app ∙ has_matches)).1 ∙ command_is _ (texts ws) app in
+    let both = met c.in-Ok.matches c.in-Some.name.now (rows_of (found_of c.in-Some.found.now)) c.in-Some.ensures.name c.in-Some.ensures.rows in
+    taken ws c.in-Some.name.now (rows_of (found_of c.in-Some.found.now)) some none (sym found ∙ both) ∙ sym c.in-Ok-line.ensures
+
+pub returns : goal.returns
+returns c =
+    let ws = c.args.words.now in
+    let app = c.in_ok-command.ensures.app in
+    let some = nonempty (length ws) (sym c.is_empty.ensures ∙ c.if-is_empty.false) in
+    let none : faults_in (texts ws) ≡ [] = sym (faults_are _ (texts ws) app) ∙ c.in-Ok.ensures.kinds (ap is_simple_and_free app ∙ is_exact) in
+    let found = (c.in-Ok.ensures.ok.2 (ap is_simple app ∙ has_matches)).1 ∙ command_is _ (texts ws) app in
+    let both = met c.in-Ok.matches c.in-Some.name.now (rows_of (found_of c.in-Some.found.now)) c.in-Some.ensures.name c.in-Some.ensures.rows in
+    let wrong : line_in c.in-Some.name.now (rows_of (found_of c.in-Some.found.now)) ≡ None = sym c.in-Err-line.ensures in
+    refused_value ws c.in_ok-refused-in-Err-line.field-0 (taken ws c.in-Some.name.now (rows_of (found_of c.in-Some.found.now)) some none (sym found ∙ both) ∙ wrong) none c.in_ok-refused-in-Err-line.ensures

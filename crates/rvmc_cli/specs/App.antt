@@ -1,0 +1,58 @@
+-- The command line as data: what clap reads of each command, option and flag.
+use Rattle.std.specs.Prelude.{◌≡◌, List, [], ◌∷◌, Some, true, false, codes}
+use Rattle.clap.specs.Words.{App, Rule, Text, app_of, new_app, new_rule, with_rule, with_subcommand}
+use Rattle.clap.specs.declared.builder.command.Command.{Command}
+use Rattle.clap.specs.declared.builder.command.Command.TheViews.{out-Command}
+use Rattle.clap.specs.declared.builder.action.ArgAction.TheVariants.{SetTrue}
+
+-- `--name`
+abbrev pub flag : Text → Rule
+flag name = record (new_rule name) { long = Some name; action = Some SetTrue }
+
+-- `--name TEXT`
+abbrev pub option : Text → Rule
+option name = record (new_rule name) { long = Some name; value_names = 1 }
+
+-- a command with these flags and options
+abbrev pub with_rules : App → List Rule → App
+with_rules app [] = app
+with_rules app (rule ∷ rules) = with_rules (with_rule app rule) rules
+
+-- a command with these commands below it
+abbrev pub with_commands : App → List App → App
+with_commands app [] = app
+with_commands app (below ∷ others) = with_commands (with_subcommand app below.top) others
+
+-- `asm`
+abbrev pub asm_app : App
+asm_app = new_app (codes "asm")
+
+-- `dis`
+abbrev pub dis_app : App
+dis_app = new_app (codes "dis")
+
+-- `one [--source] [--budget N]`
+abbrev pub one_app : App
+one_app = with_rules (new_app (codes "one")) (flag (codes "source") ∷ option (codes "budget") ∷ [])
+
+-- `rvmc`, before its commands: `--help` and `--version` are clap's own
+abbrev pub top_app : App
+top_app =
+    let named = new_app (codes "rvmc") in
+    record named {
+      top = record named.top {
+        no_binary_name = true;
+        subcommand_required = true;
+        disable_help_subcommand = true;
+        has_version = true;
+      };
+    }
+
+-- the whole command line, one row a command
+abbrev pub rvmc_app : App
+rvmc_app = with_commands top_app (asm_app ∷ dis_app ∷ one_app ∷ [])
+
+-- clap's command is built from these rules, and none of its arguments is global
+pub record StandsFor (rules : App) (command : Command) : Type 0 where
+  pub app : app_of command ≡ rules
+  pub local : (out-Command command).has_globals ≡ false

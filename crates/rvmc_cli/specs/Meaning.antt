@@ -1,0 +1,86 @@
+-- What the words of a command line mean: clap's own walk over the commands of `App`, and then the
+-- value of each option.
+use Rattle.std.specs.Prelude.{◌≡◌, ◌≢◌, ⊤, ℕ, Bool, true, false, List, [], ◌∷◌, length, Option, Some, None, Result, Ok, Err, ◌==◌, if◌then◌else◌, codes, option_map, option_and_then}
+use Rattle.std.specs.Option.{option_map_or}
+use Rattle.std.specs.Str.{bytes_eq}
+use Rattle.clap.specs.Words.{Row, Text, fault_of, first_of, subcommand_of}
+use Rattle.clap.specs.Kinds.{IsAmong, Kinds, or_else}
+use Rattle.clap.specs.declared.error.kind.ErrorKind.{ErrorKind}
+use Rattle.clap.specs.declared.error.kind.ErrorKind.TheVariants as kind
+use Rattle.rvmc_cli.specs.App.{rvmc_app}
+use Rattle.rvmc_cli.specs.Number.{number_in}
+use Rattle.rvmc_cli.specs.declared.parsing.CommandLine.{CommandLine}
+use Rattle.rvmc_cli.specs.declared.parsing.CommandLine.TheVariants.{Asm, Dis, One}
+use Rattle.rvmc_cli.specs.declared.parsing.ParseFault.{ParseFault}
+use Rattle.rvmc_cli.specs.declared.parsing.ParseFault.TheVariants as parse
+
+-- ---- the options of a command, of what clap found for it
+
+-- whether a flag was given
+abbrev pub flag_in : Text → List Row → Bool
+flag_in name rows = option_map_or (λ text. bytes_eq text (codes "true")) (first_of name rows) false
+
+-- the number of an option, from `least` to `most`, or what it is without one
+abbrev pub number_option : Text → ℕ → ℕ → ℕ → List Row → Option ℕ
+number_option name least most default rows =
+    option_map_or (λ text. number_in least most text) (first_of name rows) (Some default)
+
+-- `--budget N`, from 1 to 2^24; without it 1,000,000
+abbrev pub budget_in : List Row → Option ℕ
+budget_in rows = number_option (codes "budget") 1 16777216 1000000 rows
+
+abbrev pub one_in : List Row → Option CommandLine
+one_in rows = option_map (λ budget. One (flag_in (codes "source") rows) budget) (budget_in rows)
+
+-- the command of this name, with what was found for it
+unfoldable pub line_in : Text → List Row → Option CommandLine
+line_in name rows =
+    if bytes_eq name (codes "asm") then Some Asm
+    else (if bytes_eq name (codes "dis") then Some Dis
+    else (if bytes_eq name (codes "one") then one_in rows
+    else None))
+
+-- ---- the whole line
+
+-- the kinds of fault that clap finds in the words, help and the version among them
+unfoldable pub faults_in : List Text → Kinds
+faults_in words = fault_of rvmc_app words
+
+-- the command that clap finds, and what it finds for it
+unfoldable pub command_in : List Text → Option (Text × List Row)
+command_in words = subcommand_of rvmc_app words
+
+-- without words it is `one --source`; else clap has to take the words, and each value has to be one
+abbrev pub meaning_of : List Text → Option CommandLine
+meaning_of [] = Some (One true 1000000)
+meaning_of (word ∷ words) =
+    if length (faults_in (word ∷ words)) == 0
+    then option_and_then (λ found. line_in found.0 found.1) (command_in (word ∷ words))
+    else None
+
+-- why words that mean nothing are refused: by clap, or else for a value that isn't one
+abbrev pub refusals_of : List Text → Kinds
+refusals_of words = or_else (faults_in words) (kind.ValueValidation ∷ [])
+
+-- help and the version are asked for, and are no fault
+abbrev pub is_request : ErrorKind → Bool
+is_request kind.DisplayHelp = true
+is_request kind.DisplayVersion = true
+is_request other = false
+
+-- clap's error of a kind, as `parse` answers it; memory may be wanting for its text
+abbrev pub IsRefusal : ErrorKind → ParseFault → Type 0
+IsRefusal k parse.Memory = ⊤
+IsRefusal k (parse.Asked text) = is_request k ≡ true
+IsRefusal k (parse.Refused text) = (is_request k ≡ false) × (k ≢ kind.OutOfMemory)
+
+-- one of the refusals of the words
+abbrev pub IsRefusalOf : List Text → ParseFault → Type 0
+IsRefusalOf words fault = (k : ErrorKind) × IsAmong k (refusals_of words) × IsRefusal k fault
+
+-- what `parse` answers
+abbrev pub Parses : List Text → Result CommandLine ParseFault → Type 0
+Parses words (Ok line) = meaning_of words ≡ Some line
+Parses words (Err parse.Memory) = ⊤
+Parses words (Err (parse.Asked text)) = (meaning_of words ≡ None) × IsRefusalOf words (parse.Asked text)
+Parses words (Err (parse.Refused text)) = (meaning_of words ≡ None) × IsRefusalOf words (parse.Refused text)

@@ -1,0 +1,131 @@
+//! The command line as clap builds it: each command with its options, and what help says of them.
+
+ghost use Rattle.std.specs.Prelude.{◌≡◌, IfOk, false};
+ghost use Rattle.clap.specs.Words.{new_app, rule_of};
+ghost use Rattle.rvmc_cli.specs.App.{StandsFor, asm_app, dis_app, flag, one_app, option, rvmc_app, top_app};
+
+use clap::{Arg, ArgAction, Command};
+use std::alloc::{AllocError, Global};
+
+const TOP_EXAMPLES: &str = "\
+Without a command rvmc does as `rvmc one --source`.
+
+Examples:
+  rvmc <hi.s                  assembles the source and runs it
+  rvmc asm <hi.s >hi.image    makes an image of it
+  rvmc dis <hi.image          lists the image's instructions
+  rvmc one <hi.image          runs the image
+
+Status:
+  0 done, 1 fault of the input, 2 fault of the command line, 3 a hart trapped,
+  4 the budget is used up, 5 out of memory, 6 a read or write failed";
+
+const ASM_EXAMPLES: &str = "\
+Example:
+  rvmc asm <hi.s >hi.image";
+
+const DIS_EXAMPLES: &str = "\
+A line is an address, the word there and its instruction. A word that is no
+instruction is shown as `.word`.
+
+Example:
+  rvmc asm <hi.s | rvmc dis";
+
+const ONE_EXAMPLES: &str = "\
+The report has the bytes that each rank put out, how each hart ended, and why
+and after how many turns each rank stopped.
+
+Examples:
+  rvmc one --source <hi.s
+  rvmc one --budget 100 <hi.image";
+
+/// `--name`.
+fn flag<'a>(alloc: Global, name: &'a str, help: &'a str) -> Arg<'a>
+    ensures rule { rule_of result ≡ flag name.entry.now }
+    ensures local { result.global ≡ false }
+{
+    Arg::new(alloc, name)
+        .long(name)
+        .action(ArgAction::SetTrue)
+        .help(help)
+}
+
+/// `--name VALUE`. Its text is read by this crate's own parsers: clap's would take `+5` for 5.
+fn option<'a>(alloc: Global, name: &'a str, value: &'a str, help: &'a str) -> Arg<'a>
+    ensures rule { rule_of result ≡ option name.entry.now }
+    ensures local { result.global ≡ false }
+{
+    Arg::new(alloc, name)
+        .long(name)
+        .value_name(value)
+        .help(help)
+}
+
+fn command<'a>(alloc: Global, name: &'a str, about: &'a str, examples: &'a str) -> Command<'a>
+    ensures { StandsFor (new_app name.entry.now) result }
+{
+    Command::new(alloc, name).about(about).after_help(examples)
+}
+
+fn asm<'a>(alloc: Global) -> Command<'a>
+    ensures { StandsFor asm_app result }
+{
+    command(
+        alloc,
+        "asm",
+        "Assembles the source on standard input into an image",
+        ASM_EXAMPLES,
+    )
+}
+
+fn dis<'a>(alloc: Global) -> Command<'a>
+    ensures { StandsFor dis_app result }
+{
+    command(
+        alloc,
+        "dis",
+        "Lists the instructions of the image on standard input",
+        DIS_EXAMPLES,
+    )
+}
+
+fn one<'a>(alloc: Global) -> Result<Command<'a>, AllocError>
+    ensures { IfOk result (StandsFor one_app) }
+{
+    command(
+        alloc,
+        "one",
+        "Runs the image on standard input on one thread and reports",
+        ONE_EXAMPLES,
+    )
+    .arg(flag(alloc, "source", "Takes a source in place of an image"))?
+    .arg(option(
+        alloc,
+        "budget",
+        "N",
+        "Stops a rank after N turns, from 1 to 16777216 [default: 1000000]",
+    ))
+}
+
+fn top<'a>(alloc: Global) -> Result<Command<'a>, AllocError>
+    ensures { IfOk result (StandsFor top_app) }
+{
+    Command::new(alloc, "rvmc")
+        .about("Emulates a small cluster of RISC-V machines (RV64IM) that pass messages")
+        .after_help(TOP_EXAMPLES)
+        .version("0.1.0")
+        .no_binary_name(true)
+        .subcommand_required(true)
+        .disable_help_subcommand(true)
+        .bin_name("rvmc")
+}
+
+/// The whole command line.
+pub fn rvmc<'a>(alloc: Global) -> Result<Command<'a>, AllocError>
+    ensures { IfOk result (StandsFor rvmc_app) }
+{
+    top(alloc)?
+        .subcommand(asm(alloc))?
+        .subcommand(dis(alloc))?
+        .subcommand(one(alloc)?)
+}

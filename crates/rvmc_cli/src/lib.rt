@@ -1,0 +1,11 @@
+//! The command line of rvmc: which words are taken, and what they ask for.
+#![tactic(auto)]
+
+mod command;
+mod number;
+mod parsing;
+
+pub use parsing::{CommandLine, ParseFault, parse};
+
+#[cfg(test)]
+mod tests;
