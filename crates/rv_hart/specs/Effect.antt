@@ -64,7 +64,8 @@ abbrev pub stores : Option Cause → Memory → State → Memory → After
 stores None new s m = plain (at_pc s (next s)) new
 stores (Some cause) new s m = trapped cause s m
 
--- the effect of an instruction
+-- the effect of an instruction: computations 2.4 and 5.2, jumps and branches 2.5, loads and stores 2.6 and 5.3, fence 2.7,
+-- ecall (left to the caller) and ebreak 2.8
 abbrev pub after : Instr → State → Memory → After
 after (Upper op d imm) s m = gives d (upper_result op s.pc imm) s m
 after (Jal d off) s m = jumps d (offset s.pc off) s m

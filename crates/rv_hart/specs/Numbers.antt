@@ -1,5 +1,5 @@
 -- Whole numbers and registers: reduction, quotients rounded down, and the readings of a register
--- (RISC-V Unprivileged ISA 20191213, 1.5 and 5.1).
+-- (RISC-V Unprivileged ISA 20191213, 5.1 and 5.2).
 use Rattle.std.specs.Prelude.{ℕ, ◌-◌, ◌/◌, ◌%◌, ◌^◌, ℤ, pos, negsuc}
 use Rattle.rv_decode.specs.Fields.{signed}
 

@@ -2,7 +2,7 @@
 ghost use Rattle.std.specs.Prelude.{◌≡◌, IsOk, IfOk};
 ghost use Rattle.rv_decode.specs.Table.{Fits};
 ghost use Rattle.rv_decode.specs.declared.instruction.Instr.TheVariants.{Load, Store};
-ghost use Rattle.rv_hart.specs.Effect.{after, IsStep, gives, jumps, branches, next as next_of, offset as offset_of};
+ghost use Rattle.rv_hart.specs.Effect.{After, after, IsStep, gives, jumps, branches, next as next_of, offset as offset_of};
 ghost use Rattle.rv_hart.specs.State.{at_pc, in_mode};
 ghost use Rattle.rv_hart.specs.Stepped.{stepped};
 ghost use Rattle.rv_hart.specs.declared.state.Mode.TheVariants.{Running, Trapped};
@@ -176,7 +176,8 @@ fn execute(hart: &mut Hart, memory: &mut RankMemory, instr: &Instr) -> Result<Di
 }
 
 /// One step of a running hart: the instruction whose word stands at the pc, with its whole effect, or the trap. An ECALL
-/// is answered as `Call` and left to the caller. No step answers an `Err` today: the memory has all its bytes.
+/// is answered as `Call` and left to the caller. No step answers an `Err` today: the memory has all its bytes. What the step
+/// leaves is what the table's relation allows, and the relation allows nothing else.
 #[inline(always)]
 #[tactic(auto, unfolding(crate::specs::Stepped::stepped))]
 pub fn step(hart: &mut Hart, memory: &mut RankMemory) -> Result<Did, AllocError>
@@ -184,6 +185,7 @@ pub fn step(hart: &mut Hart, memory: &mut RankMemory) -> Result<Did, AllocError>
     ensures takes_no_memory { IsOk result }
     ensures effect { IfOk result (λ did. record { did = did; state = hart.new; memory = memory.new } ≡ stepped hart.old memory.old) }
     ensures table { IfOk result (λ did. IsStep hart.old memory.old record { did = did; state = hart.new; memory = memory.new }) }
+    ensures only { IfOk result (λ did. (end : After) → IsStep hart.old memory.old end → end ≡ record { did = did; state = hart.new; memory = memory.new }) }
 {
     let Some(word) = memory.text_word(hart.pc()) else {
         return Ok(trap(hart, Cause::InstructionAccess));

@@ -1,5 +1,5 @@
 //! The bytes of a rank, with their loads, stores, fetches and ranges.
-ghost use Rattle.std.specs.Prelude.{ℕ, ◌≡◌, ◌≢◌, ◌+◌, ◌-◌, ◌++◌, replicate, ◌*◌, ◌%◌, ◌^◌, ◌<◌, ◌≤◌, ◌↔◌, length, IfOk, OnOk, OnErr, IsOk, IsTrue, MatchOption, cond};
+ghost use Rattle.std.specs.Prelude.{◌≡◌, ◌≢◌, ◌↔◌, ◌+◌, ◌-◌, ◌%◌, ◌^◌, ◌<◌, ◌≤◌, ◌++◌, length, replicate, cond, IsOk, IfOk, OnOk, OnErr, MatchOption};
 ghost use Rattle.rv_memory.specs.Access.{size_of, load_trap, store_trap, stored, word_at, is_readable, is_writable, IsReadable, IsWritable};
 ghost use Rattle.rv_memory.specs.Memory.{Memory, value_at, bytes_of, bytes_at, overwritten, with_bytes, init_start, loaded_memory};
 
@@ -77,7 +77,7 @@ fn put_value(bytes: &mut [u8], at: usize, value: u64, count: usize)
 
 impl RankMemory {
     /// The memory of a rank that is loaded: the text at address 0, the initial data behind it at a multiple of 16,
-    /// and zeros elsewhere. `size` is what an image may ask for.
+    /// and zeros elsewhere. `size` is one that an image may ask for: 4,096 to 1,048,576 bytes in whole 4,096s.
     pub fn new(
         alloc: Global,
         size: usize,
