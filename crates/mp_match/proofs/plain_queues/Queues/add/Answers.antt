@@ -1,0 +1,44 @@
+use Rattle.std.proofs.Common.{◌≡◌, ◌∷◌, ◌++◌, [], length, arith, ap, ◌∙◌, length-append}
+use Rattle.mp_match.specs.declared.posts.Line.{Line}
+use Rattle.mp_match.specs.Pairs.{add, partner_for}
+use Rattle.mp_match.specs.Board.{Board}
+use Rattle.mp_match.proofs.Lines.{add_length}
+use Rattle.mp_match.proofs.Rows.{held_snoc, held_below, one_held, partners_end, board_is}
+use Rattle.mp_match.proofs.plain_queues.Queues.add.Goals as goal
+
+pub overflow_add-self : goal.overflow_add-self
+overflow_add-self c =
+    let a = held_below c.self.inside.bodies.items in
+    let b = one_held c.args.body in
+    let v : c.self.inside.lines.items ≡ c.args.self.now.lines = ap (λ (x : Board). x.lines) c.self.view_is in
+    let n : length c.self.inside.lines.items ≡ length c.args.self.now.lines = ap length v in
+    omega (arith, a, b, n, c.requires, c.count_of-more.ensures, c.self.invariant.0, c.self.invariant.1)
+
+found_is : (c : goal.After-self-1) → c.find_partner-partner.result ≡ partner_for c.self.inside.lines.items c.args.new
+found_is c = c.find_partner-partner.ensures ∙ ap (λ l. partner_for l c.args.new) (c.as_slice.ensures.value ∙ c.in_ok-reserve.ensures.items)
+
+lines_are : (c : goal.After-self-1) → c.set_partners.new.lines.items ≡ add c.self.inside.lines.items c.args.new
+lines_are c =
+    let es = c.self.inside.lines.items in
+    let line : Line = record { post = c.args.new; partner = c.find_partner-partner.result } in
+    partners_end es c.push.new.self.items c.set_partners.new.lines.items c.find_partner-partner.result c.args.new c.len-place.result
+    (found_is c)
+    (c.in-Ok.ensures.items ∙ ap (λ l. l ++ line ∷ []) c.in_ok-reserve.ensures.items)
+    (omega (arith, c.in_ok-reserve.ensures.len, c.len-place.ensures))
+    c.set_partners.ensures
+
+bodies_are : (c : goal.After-self-1) → c.push-2.new.self.items ≡ c.self.inside.bodies.items ++ c.args.body ∷ []
+bodies_are c = c.in-Ok-push.ensures.items ∙ ap (λ l. l ++ c.args.body ∷ []) c.in_ok-reserve-2.ensures.items
+
+pub invariant_of-self-2 : goal.invariant_of-self-2
+invariant_of-self-2 c =
+    let i = c.self.invariant in
+    let k = held_snoc c.self.inside.bodies.items c.args.body in
+    let l = add_length c.self.inside.lines.items c.args.new in
+    rw (lines_are c, bodies_are c) (
+      omega (arith, k, c.count_of-more.ensures, i.0),
+      omega (arith, l, i.1, length-append c.self.inside.bodies.items (c.args.body ∷ [])),
+    )
+
+pub returns-clause-ok : goal.returns-clause-ok
+returns-clause-ok c = rw (← c.self.view_is) (found_is c, board_is _ _ _ _ (lines_are c) (bodies_are c))

@@ -1,0 +1,385 @@
+//! All posts with their pairs, over plain lists.
+
+ghost use Rattle.std.specs.Prelude.{◌≡◌, ◌+◌, ◌<◌, ◌≤◌, ◌^◌, ◌∷◌, ◌↔◌, [], length, not, ◌||◌, is_some, IfOk, OnErr, Err, None, Some, ◌-◌, slice_get, slice_set};
+ghost use Rattle.mp_match.specs.Pairs.{accepts, fits, partner_at, partner_for, partner_set, partners_set};
+ghost use Rattle.mp_match.specs.Board.{bytes_in, claim_of, claim_posted, claimed_if, collect, envelope_at, held_count, is_collected, is_finished, is_held, is_receive_at, is_receive_of, is_send_of, line_of, no_posts, partner_of, posted, probed, receive_posted, send_posted};
+
+use crate::posts::{Line, Post, Selection, Sent};
+use mp_types::{Bytes, Envelope, Message};
+use std::alloc::{AllocError, Global};
+use std::marker::Model;
+
+/// The most messages that are held.
+pub const HELD_MAX: u64 = 65_536;
+
+/// Why a send wasn't posted.
+#[derive(Clone, Copy, PartialEq, Eq, Debug)]
+pub enum PostFault {
+    /// 65,536 messages are held.
+    Full,
+    Memory,
+}
+
+/// All posts with their pairs, and the bytes of the messages that are held. Contracts see a board of both.
+///
+/// A message is held from its send until its receive is collected. Posts go by their numbers, from 1; a number that no
+/// post has is the number of a post that never gets a message.
+#[derive(Drop)]
+pub struct Queues {
+    lines: Vec<Line>,
+    bodies: Vec<Option<Bytes>>,
+    held: u64,
+}
+
+impl Model for Queues {
+    ghost use Rattle.std.specs.Prelude.{◌≡◌, length};
+    ghost use Rattle.mp_match.specs.Board.{Board, held_count};
+
+    ghost Value = { Board };
+
+    ghost view = { λ q. record { lines = q.lines.items; bodies = q.bodies.items } };
+
+    ghost invariant = { λ q. (q.held ≡ held_count q.bodies.items) × (length q.bodies.items ≡ length q.lines.items) };
+}
+
+fn does_accept(selection: Selection, sent: Sent) -> bool
+    ensures { result ≡ accepts selection sent }
+{
+    let source = match selection.source {
+        None => true,
+        Some(source) => sent.envelope.source == source,
+    };
+    let tag = match selection.tag {
+        None => true,
+        Some(tag) => sent.envelope.tag == tag,
+    };
+    sent.dest == selection.rank && sent.envelope.comm == selection.comm && source && tag
+}
+
+fn does_fit(new: Post, line: Line) -> bool
+    ensures { result ≡ fits new line }
+{
+    match line.partner {
+        Some(_) => false,
+        None => match (new, line.post) {
+            (Post::Send(sent), Post::Receive(selection)) => does_accept(selection, sent),
+            (Post::Receive(selection), Post::Send(sent)) => does_accept(selection, sent),
+            (Post::Claim(selection), Post::Send(sent)) => does_accept(selection, sent),
+            _ => false,
+        },
+    }
+}
+
+// The least place of a post without a partner that the new one may have.
+fn find_partner(lines: &[Line], new: Post) -> Option<u64>
+    ensures { result ≡ partner_for lines.now new }
+{
+    let mut rest = lines;
+    let mut place = 0;
+    while let Some((line, after)) = rest.split_first() {
+        if does_fit(new, *line) {
+            return Some(place);
+        }
+        rest = after;
+        place += 1;
+    }
+    None
+}
+
+fn set_partner(lines: &mut Vec<Line>, place: u64, partner: u64)
+    ensures { lines.new.items ≡ partner_set lines.old.items place partner }
+{
+    let at = place as usize;
+    if at < lines.len() {
+        let line = lines[at];
+        lines[at] = Line {
+            post: line.post,
+            partner: Some(partner),
+        };
+    }
+}
+
+fn set_partners(lines: &mut Vec<Line>, place: Option<u64>, partner: u64)
+    ensures { lines.new.items ≡ partners_set lines.old.items place partner }
+{
+    if let Some(place) = place {
+        set_partner(lines, place, partner);
+    }
+}
+
+// 1 for a message that is held, else 0.
+fn count_of(body: &Option<Bytes>) -> u64
+    ensures { result ≡ held_count (body.now ∷ []) }
+{
+    match body {
+        Some(_) => 1,
+        None => 0,
+    }
+}
+
+fn take_body(bodies: &mut Vec<Option<Bytes>>, place: u64) -> Option<Bytes>
+    ensures taken { result ≡ bytes_in (slice_get bodies.old.items place) }
+    ensures rest { bodies.new.items ≡ slice_set bodies.old.items place None }
+{
+    let at = place as usize;
+    if at < bodies.len() {
+        bodies[at].take()
+    } else {
+        None
+    }
+}
+
+impl Queues {
+    /// No posts. Takes no memory.
+    pub fn new(alloc: Global) -> Queues
+        ensures { result ≡ no_posts }
+    {
+        Queues {
+            lines: Vec::new(alloc),
+            bodies: Vec::new(alloc),
+            held: 0,
+        }
+    }
+
+    /// How many posts were made, which is the number of the last one.
+    pub fn posts(&self) -> u64
+        ensures { result ≡ length self.now.lines }
+    {
+        self.lines.len() as u64
+    }
+
+    /// How many messages are held.
+    pub fn held(&self) -> u64
+        ensures { result ≡ held_count self.now.bodies }
+    {
+        self.held
+    }
+
+    // One post more, with its partner where there is one.
+    fn add(&mut self, new: Post, body: Option<Bytes>) -> Result<Option<u64>, AllocError>
+        requires { length self.old.lines < 2 ^ 64 - 1 }
+        ensures ok { IfOk result (λ partner. (partner ≡ partner_for self.old.lines new) × (self.new ≡ posted self.old new body)) }
+        ensures err { OnErr result (self.new ≡ self.old) }
+    {
+        self.lines.reserve(1)?;
+        self.bodies.reserve(1)?;
+        let partner = find_partner(self.lines.as_slice(), new);
+        let place = self.lines.len() as u64;
+        let more = count_of(&body);
+        let line = Line { post: new, partner };
+        match self.lines.push(line) {
+            Ok(()) => {}
+            Err(_) => unreachable!(),
+        }
+        match self.bodies.push(body) {
+            Ok(()) => {}
+            Err(_) => unreachable!(),
+        }
+        set_partners(&mut self.lines, partner, place);
+        self.held += more;
+        Ok(partner)
+    }
+
+    /// Posts a send, and tells whether it is complete: a standard send is, and a synchronous one that is paired.
+    ///
+    /// Full where 65,536 messages are held, Memory where a list can't grow. Both leave all as it was.
+    pub fn post_send(&mut self, sent: Sent, bytes: Bytes) -> Result<bool, PostFault>
+        requires { length self.old.lines < 2 ^ 64 - 1 }
+        ensures done { IfOk result (λ done. done ≡ (not sent.sync || is_some (partner_for self.old.lines (Post.Send sent)))) }
+        ensures posted { IfOk result (λ _. self.new ≡ send_posted self.old sent bytes) }
+        ensures full { (result ≡ Err PostFault.Full) ↔ (65536 ≤ held_count self.old.bodies) }
+        ensures err { OnErr result (self.new ≡ self.old) }
+    {
+        if self.held >= HELD_MAX {
+            return Err(PostFault::Full);
+        }
+        match self.add(Post::Send(sent), Some(bytes)) {
+            Ok(partner) => Ok(!sent.sync || partner.is_some()),
+            Err(_) => Err(PostFault::Memory),
+        }
+    }
+
+    /// Posts a receive. After a refusal for memory all is as it was.
+    pub fn post_recv(&mut self, selection: Selection) -> Result<(), AllocError>
+        requires { length self.old.lines < 2 ^ 64 - 1 }
+        ensures ok { IfOk result (λ _. self.new ≡ receive_posted self.old selection) }
+        ensures err { OnErr result (self.new ≡ self.old) }
+    {
+        self.add(Post::Receive(selection), None)?;
+        Ok(())
+    }
+
+    // What the post would be given, if anything.
+    fn probe_for(&self, new: Post) -> Option<Envelope>
+        ensures { result ≡ probed self.now new }
+    {
+        match find_partner(self.lines.as_slice(), new) {
+            None => None,
+            Some(place) => self.envelope(place),
+        }
+    }
+
+    /// What a receive would be given, if anything. (MPI 4.1, chapter 3.8.1.)
+    pub fn probe(&self, selection: Selection) -> Option<Envelope>
+        ensures { result ≡ probed self.now (Post.Receive selection) }
+    {
+        self.probe_for(Post::Receive(selection))
+    }
+
+    /// Takes a message out of matching, where there is one: a claim is then the last post.
+    /// (MPI 4.1, chapter 3.8.2.) After a refusal for memory all is as it was.
+    pub fn claim(&mut self, selection: Selection) -> Result<Option<Envelope>, AllocError>
+        requires { length self.old.lines < 2 ^ 64 - 1 }
+        ensures envelope { IfOk result (λ envelope. envelope ≡ probed self.old (Post.Claim selection)) }
+        ensures claimed { IfOk result (λ envelope. self.new ≡ claimed_if self.old selection envelope) }
+        ensures err { OnErr result (self.new ≡ self.old) }
+    {
+        match self.probe_for(Post::Claim(selection)) {
+            None => Ok(None),
+            Some(envelope) => {
+                self.add(Post::Claim(selection), None)?;
+                Ok(Some(envelope))
+            }
+        }
+    }
+
+    /// Takes out the message of a receive or a claim, where it has one that is still held.
+    pub fn collect(&mut self, post: u64) -> Option<Message>
+        ensures message { result ≡ (collect self.old post).0 }
+        ensures after { self.new ≡ (collect self.old post).1 }
+    {
+        match self.partner(post) {
+            None => None,
+            Some(send) => {
+                let envelope = self.envelope(send);
+                let body = take_body(&mut self.bodies, send);
+                self.held -= count_of(&body);
+                match (envelope, body) {
+                    (Some(envelope), Some(bytes)) => Some(Message { envelope, bytes }),
+                    _ => None,
+                }
+            }
+        }
+    }
+
+    /// Whether a send is standard or paired with a receive.
+    pub fn finished(&self, post: u64) -> bool
+        ensures { result ≡ is_finished self.now post }
+    {
+        let standard = match self.line(post) {
+            Some(line) => match line.post {
+                Post::Send(sent) => !sent.sync,
+                _ => false,
+            },
+            None => false,
+        };
+        standard || self.has_receive(post)
+    }
+
+    /// Whether the post is a receive or a claim of the rank.
+    pub fn is_receive_of(&self, rank: u8, post: u64) -> bool
+        ensures { result ≡ is_receive_of rank (line_of self.now post) }
+    {
+        match self.line(post) {
+            Some(line) => match line.post {
+                Post::Send(_) => false,
+                Post::Receive(selection) => selection.rank == rank,
+                Post::Claim(selection) => selection.rank == rank,
+            },
+            None => false,
+        }
+    }
+
+    /// Whether the post is a send of the rank.
+    pub fn is_send_of(&self, rank: u8, post: u64) -> bool
+        ensures { result ≡ is_send_of rank (line_of self.now post) }
+    {
+        match self.line(post) {
+            Some(line) => match line.post {
+                Post::Send(sent) => sent.envelope.source == rank,
+                _ => false,
+            },
+            None => false,
+        }
+    }
+
+    /// Whether the post has a partner.
+    pub fn has_partner(&self, post: u64) -> bool
+        ensures { result ≡ is_some (partner_of self.now post) }
+    {
+        self.partner(post).is_some()
+    }
+
+    /// Whether the post has a message that isn't held any more.
+    pub fn is_collected(&self, post: u64) -> bool
+        ensures { result ≡ is_collected self.now post }
+    {
+        match self.partner(post) {
+            None => false,
+            Some(send) => !self.is_held(send),
+        }
+    }
+
+    /// The number of the claim that has this send's message.
+    pub fn claim_of(&self, post: u64) -> Option<u64>
+        ensures { result ≡ claim_of self.now post }
+    {
+        let place = self.partner(post)?;
+        match self.lines.get(place as usize) {
+            Some(line) => match line.post {
+                Post::Claim(_) => Some(place + 1),
+                _ => None,
+            },
+            None => None,
+        }
+    }
+
+    fn line(&self, post: u64) -> Option<Line>
+        ensures { result ≡ line_of self.now post }
+    {
+        if post == 0 {
+            return None;
+        }
+        self.lines.get((post - 1) as usize).copied()
+    }
+
+    // The place of the post's partner.
+    fn partner(&self, post: u64) -> Option<u64>
+        ensures { result ≡ partner_of self.now post }
+    {
+        match self.line(post) {
+            None => None,
+            Some(line) => line.partner,
+        }
+    }
+
+    fn has_receive(&self, post: u64) -> bool
+        ensures { result ≡ is_receive_at self.now (partner_of self.now post) }
+    {
+        match self.partner(post) {
+            None => false,
+            Some(place) => match self.lines.get(place as usize) {
+                Some(line) => matches!(line.post, Post::Receive(_)),
+                None => false,
+            },
+        }
+    }
+
+    fn envelope(&self, place: u64) -> Option<Envelope>
+        ensures { result ≡ envelope_at self.now (Some place) }
+    {
+        match self.lines.get(place as usize) {
+            Some(line) => match line.post {
+                Post::Send(sent) => Some(sent.envelope),
+                _ => None,
+            },
+            None => None,
+        }
+    }
+
+    fn is_held(&self, place: u64) -> bool
+        ensures { result ≡ is_held (slice_get self.now.bodies place) }
+    {
+        matches!(self.bodies.get(place as usize), Some(Some(_)))
+    }
+}
