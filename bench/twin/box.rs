@@ -20,7 +20,7 @@ fn wait(place: &PartBox, parity: u64) -> Option<u64> {
         if gate % 2 == parity {
             return Some(gate / 2);
         }
-        if looks % LOOKS_AT_ONCE == LOOKS_AT_ONCE - 1 {
+        if looks >= LOOKS_AT_ONCE {
             thread::yield_now();
         }
     }

@@ -11,7 +11,7 @@ use std::thread::Threads;
 /// How often a thread looks for one make or one take before it gives up.
 const LOOKS: u32 = 10_000_000;
 
-/// After this many looks in a row that missed, the thread lets others run.
+/// After this many looks that missed, the thread lets others run before each further one.
 const LOOKS_AT_ONCE: u32 = 64;
 
 /// How many of the things went through the box with the words that they were made with: all, unless a thread gave up.
@@ -72,7 +72,7 @@ fn wait_freed(place: &PartBox, key: &mut SendKey) -> Option<u64>
         if let Some(stamp) = place.freed(key) {
             return Some(stamp);
         }
-        if looks % LOOKS_AT_ONCE == LOOKS_AT_ONCE - 1 {
+        if looks >= LOOKS_AT_ONCE {
             thread::yield_now();
         }
     }
@@ -90,7 +90,7 @@ fn wait_ready(place: &PartBox, key: &mut RecvKey) -> Option<u64>
         if let Some(stamp) = place.look(key) {
             return Some(stamp);
         }
-        if looks % LOOKS_AT_ONCE == LOOKS_AT_ONCE - 1 {
+        if looks >= LOOKS_AT_ONCE {
             thread::yield_now();
         }
     }
