@@ -1,0 +1,23 @@
+//! Laws of a rank, over the definitions alone: functions with empty bodies, whose contracts are the laws.
+
+ghost use Rattle.cl_rank.specs.Laws.{OneRankLaw, RefusalLaw, RisingLaw, ToldLaw};
+
+/// A told rank has the event's stamp as its clock, and keeps what the image fixes and its number of harts.
+pub fn told_law()
+    ensures { ToldLaw }
+{}
+
+/// A refused call asks nobody. It changes a0, a1, the pc and the clock, and nothing else of the rank.
+pub fn refusal_law()
+    ensures { RefusalLaw }
+{}
+
+/// The stamps of a rank alone strictly rise, from above its clock.
+pub fn rising_law()
+    ensures { RisingLaw }
+{}
+
+/// A rank and what it met lead to one rank.
+pub fn one_rank_law()
+    ensures { OneRankLaw }
+{}
