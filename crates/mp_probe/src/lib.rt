@@ -1,0 +1,9 @@
+//! Matched probes: messages that were claimed, and are received by their handles (MPI 4.1, chapters 3.8.2 and 3.8.3).
+#![tactic(auto)]
+
+mod handles;
+
+pub use handles::{ClaimFault, Claims, Waiting};
+
+#[cfg(test)]
+mod tests;
