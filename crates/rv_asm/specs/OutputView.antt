@@ -1,0 +1,6 @@
+-- The output that the code keeps.
+use Rattle.rv_asm.specs.declared.output.Output.{Output as Kept}
+use Rattle.rv_asm.specs.Output.{Output}
+
+abbrev pub output_view : Kept → Output
+output_view o = record { text = o.text.items; entry = o.entry }

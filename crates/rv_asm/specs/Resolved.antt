@@ -1,0 +1,136 @@
+-- The instructions of a mnemonic and its operands (RISC-V Unprivileged ISA 20191213, chapter 25).
+use Rattle.std.specs.Prelude.{ℕ, ◌-◌, ◌*◌, ◌^◌, ℤ, pos, negsuc, ◌+ℤ◌, ◌-ℤ◌, ◌*ℤ◌, List, [], ◌∷◌, map, length, Bool, ◌&&◌, Option, Some, None, Result, Ok, Err, int_le, int_rem, if◌then◌else◌}
+use Rattle.std.specs.Ordering.{int_eq}
+use Rattle.std.specs.Int.{int_div_euclid, int_rem_euclid}
+use Rattle.std.specs.Str.{bytes_eq}
+use Rattle.rv_decode.specs.declared.instruction.Instr.{Instr}
+use Rattle.rv_decode.specs.declared.instruction.Instr.TheVariants as instr
+use Rattle.rv_decode.specs.declared.instruction.UpperOp.TheVariants.{Lui}
+use Rattle.rv_decode.specs.declared.instruction.ImmOp.TheVariants.{Addi, Addiw}
+use Rattle.rv_decode.specs.Table.{amount_bits, written_word}
+use Rattle.rv_asm_tokens.specs.declared.fault.AsmFaultKind.{AsmFaultKind}
+use Rattle.rv_asm_tokens.specs.declared.fault.AsmFaultKind.TheVariants as kinds
+use Rattle.rv_asm_tokens.specs.Fault.{◌>>=◌, wanted}
+use Rattle.rv_asm_statements.specs.declared.filled.Target.{Target as Goal}
+use Rattle.rv_asm_statements.specs.declared.filled.Filled.{Filled}
+use Rattle.rv_asm_statements.specs.declared.mnemonics.Use.{Use}
+use Rattle.rv_asm_statements.specs.declared.rows.Slot.{Slot}
+use Rattle.rv_asm_statements.specs.declared.rows.Slot.TheVariants.{First, Second, Third, Zero, Link}
+use Rattle.rv_asm_statements.specs.declared.rows.Amount.{Amount}
+use Rattle.rv_asm_statements.specs.declared.rows.Amount.TheVariants.{Written, Given}
+use Rattle.rv_asm_statements.specs.declared.rows.Template.{Template}
+use Rattle.rv_asm_statements.specs.declared.rows.Template.TheVariants as template
+
+-- labels and their addresses
+abbrev pub address_in : List ℕ → List (List ℕ × ℕ) → Option ℕ
+address_in w [] = None
+address_in w (l ∷ ls) = if bytes_eq w l.0 then Some l.1 else address_in w ls
+
+-- ---- numbers
+
+abbrev pub is_between : ℤ → ℤ → ℤ → Bool
+is_between low high z = int_le low z && int_le z high
+
+-- a number within two bounds
+unfoldable pub ranged : ℤ → ℤ → ℤ → Result ℤ AsmFaultKind
+ranged low high z = if is_between low high z then Ok z else Err (kinds.Range z)
+
+-- an even number within two bounds
+unfoldable pub even_ranged : ℤ → ℤ → ℤ → Result ℤ AsmFaultKind
+even_ranged low high z = if is_between low high z && int_eq (int_rem z (pos 2)) (pos 0) then Ok z else Err (kinds.Range z)
+
+-- an immediate of 12 bits
+abbrev pub imm_12 : ℤ → Result ℤ AsmFaultKind
+imm_12 z = ranged (negsuc 2047) (pos 2047) z
+
+-- what is added to an address: a number, or how far a label and the number behind it are from the instruction
+unfoldable pub label_offset : List (List ℕ × ℕ) → ℕ → ℤ → Option (List ℕ) → Result ℤ AsmFaultKind
+label_offset labels at z None = Ok z
+label_offset labels at z (Some w) = wanted (address_in w labels) kinds.LabelMissing >>= λ a. Ok ((pos a +ℤ z) -ℤ pos at)
+
+abbrev pub offset_of : List (List ℕ × ℕ) → ℕ → Goal → Result ℤ AsmFaultKind
+offset_of labels at goal = label_offset labels at goal.number goal.label
+
+-- the immediate of lui and auipc, as it is added: the number's 20 bits, above 12 bits that are 0
+unfoldable pub upper_immediate : ℤ → ℤ
+upper_immediate z = if int_le z (pos 524287) then z *ℤ pos 4096 else (z -ℤ pos 1048576) *ℤ pos 4096
+
+-- z is 4096 times its high part, and its low part, which has 12 bits with a sign
+abbrev pub high_part : ℤ → ℤ
+high_part z = int_div_euclid (z +ℤ pos 2048) (pos 4096)
+
+abbrev pub low_part : ℤ → ℤ
+low_part z = z -ℤ (pos 4096 *ℤ high_part z)
+
+-- ---- operands
+
+abbrev pub register_at : Slot → Filled → ℕ
+register_at First o = o.first
+register_at Second o = o.second
+register_at Third o = o.third
+register_at Zero o = 0
+register_at Link o = 1
+
+abbrev pub number_at : Amount → Filled → ℤ
+number_at Written o = o.target.number
+number_at (Given z) o = z
+
+-- a shift amount, which is not negative
+abbrev pub amount_of : ℤ → ℕ
+amount_of (pos n) = n
+amount_of (negsuc n) = 0
+
+-- ---- instructions
+
+-- lui of a high part, less whole multiples of 2 ^ 20
+abbrev pub lui_high : ℕ → ℤ → Instr
+lui_high d z = instr.Upper Lui d (upper_immediate (int_rem_euclid (high_part z) (pos 1048576)))
+
+-- `li d, z`
+abbrev pub load_immediate : ℕ → ℤ → List Instr
+load_immediate d z =
+    if is_between (negsuc 2047) (pos 2047) z then instr.Imm Addi d 0 z ∷ []
+    else (if int_eq (low_part z) (pos 0) then lui_high d z ∷ []
+    else lui_high d z ∷ instr.Imm Addiw d d (low_part z) ∷ [])
+
+-- a number of 32 bits with a sign
+abbrev pub imm_32 : ℤ → Result ℤ AsmFaultKind
+imm_32 z = ranged (negsuc 2147483647) (pos 2147483647) z
+
+-- `la d, label`
+abbrev pub load_address : ℕ → ℤ → List Instr
+load_address d z = lui_high d z ∷ instr.Imm Addi d d (low_part z) ∷ []
+
+abbrev pub one : Instr → List Instr
+one i = i ∷ []
+
+-- the instructions of a template and its operands, at an address
+unfoldable pub instrs_of : List (List ℕ × ℕ) → ℕ → Template → Filled → Result (List Instr) AsmFaultKind
+instrs_of labels at (template.Upper op d) o = ranged (pos 0) (pos 1048575) o.target.number >>= λ z. Ok (one (instr.Upper op (register_at d o) (upper_immediate z)))
+instrs_of labels at (template.Jal d) o = offset_of labels at o.target >>= λ n. even_ranged (negsuc 1048575) (pos 1048575) n >>= λ z. Ok (one (instr.Jal (register_at d o) z))
+instrs_of labels at (template.Jalr d s n) o = imm_12 (number_at n o) >>= λ z. Ok (one (instr.Jalr (register_at d o) (register_at s o) z))
+instrs_of labels at (template.Branch op s t) o = offset_of labels at o.target >>= λ n. even_ranged (negsuc 4095) (pos 4095) n >>= λ z. Ok (one (instr.Branch op (register_at s o) (register_at t o) z))
+instrs_of labels at (template.Load op d s) o = imm_12 o.target.number >>= λ z. Ok (one (instr.Load op (register_at d o) (register_at s o) z))
+instrs_of labels at (template.Store op s t) o = imm_12 o.target.number >>= λ z. Ok (one (instr.Store op (register_at s o) (register_at t o) z))
+instrs_of labels at (template.Imm op d s n) o = imm_12 (number_at n o) >>= λ z. Ok (one (instr.Imm op (register_at d o) (register_at s o) z))
+instrs_of labels at (template.Shift op d s) o = ranged (pos 0) (pos (2 ^ amount_bits op - 1)) o.target.number >>= λ z. Ok (one (instr.Shift op (register_at d o) (register_at s o) (amount_of z)))
+instrs_of labels at (template.Arith op d s t) o = Ok (one (instr.Arith op (register_at d o) (register_at s o) (register_at t o)))
+instrs_of labels at template.Fence o = Ok (one instr.Fence)
+instrs_of labels at template.Ecall o = Ok (one instr.Ecall)
+instrs_of labels at template.Ebreak o = Ok (one instr.Ebreak)
+instrs_of labels at (template.LoadImmediate d) o = imm_32 o.target.number >>= λ z. Ok (load_immediate (register_at d o) z)
+instrs_of labels at (template.LoadAddress d) o = offset_of labels 0 o.target >>= λ a. Ok (load_address (register_at d o) a)
+
+-- the words of a template and its operands, at an address
+abbrev pub words_of : List (List ℕ × ℕ) → ℕ → Template → Filled → Result (List ℕ) AsmFaultKind
+words_of labels at t o = instrs_of labels at t o >>= λ is. Ok (map written_word is)
+
+-- how many instructions: li takes one or two by its number, two where that is out of range
+abbrev pub count_of : Template → Filled → ℕ
+count_of (template.LoadImmediate d) o = if is_between (negsuc 2147483647) (pos 2147483647) o.target.number then length (load_immediate 0 o.target.number) else 2
+count_of (template.LoadAddress d) o = 2
+count_of _ o = 1
+
+-- how many bytes
+unfoldable pub use_length : Use → ℕ
+use_length u = 4 * count_of u.template u.filled

@@ -1,0 +1,48 @@
+//! The bytes of instructions.
+
+ghost use Rattle.std.specs.Prelude.{◌≡◌, ◌++◌, OnOk, MatchResult, Ok};
+ghost use Rattle.std.specs.List.{flat_map};
+ghost use Rattle.std.specs.Int.{w32, to_le_bytes};
+ghost use Rattle.rv_asm_tokens.specs.Fault.{Fails};
+ghost use Rattle.rv_asm.specs.LayoutView.{labels_view};
+ghost use Rattle.rv_asm.specs.WordsView.{words_list};
+ghost use Rattle.rv_asm.specs.Output.{with_use};
+
+use crate::resolved::{Words, words_of};
+use indexmap::IndexMap;
+use rv_asm_statements::Use;
+use rv_asm_tokens::AsmFaultKind;
+use std::alloc::AllocError;
+
+fn put_word(text: &mut Vec<u8>, word: u32) -> Result<(), AllocError>
+    ensures { OnOk result (text.new.items ≡ text.old.items ++ to_le_bytes w32 word) }
+{
+    text.extend_from_slice(&word.to_le_bytes())
+}
+
+fn put_words(text: &mut Vec<u8>, words: &Words) -> Result<(), AllocError>
+    ensures { OnOk result (text.new.items ≡ text.old.items ++ flat_map (to_le_bytes w32) (words_list words.now)) }
+{
+    put_word(text, words.first)?;
+    match words.second {
+        None => Ok(()),
+        Some(second) => put_word(text, second),
+    }
+}
+
+/// Adds the instructions of a mnemonic and its operands at an address.
+#[tactic(auto, unfolding(crate::specs::Output::with_use))]
+pub fn put_use(
+    labels: &IndexMap<Vec<u8>, u64>,
+    at: u64,
+    found: &Use,
+    text: &mut Vec<u8>,
+) -> Result<(), AsmFaultKind>
+    ensures { MatchResult result
+        (λ _. with_use (labels_view labels.now.entries) at found.now text.old.items ≡ Ok text.new.items)
+        (λ e. Fails e (with_use (labels_view labels.now.entries) at found.now text.old.items)) }
+{
+    let words = words_of(labels, at, found.template, &found.filled)?;
+    put_words(text, &words)?;
+    Ok(())
+}

@@ -1,0 +1,16 @@
+//! Assembler source to the image that every rank loads.
+#![tactic(auto)]
+
+mod assembling;
+mod encoded;
+mod labels;
+mod layout;
+mod offsets;
+mod output;
+mod resolved;
+
+pub use assembling::assemble;
+pub use rv_asm_tokens::{AsmFault, AsmFaultKind};
+
+#[cfg(test)]
+mod tests;

@@ -1,0 +1,301 @@
+//! The instructions of a mnemonic and its operands.
+
+ghost use Rattle.std.specs.Prelude.{◌≡◌, ◌≤◌, ◌∷◌, ◌++◌, ◌-◌, ◌^◌, map, IfOk, pos, negsuc, neg_ℤ, ◌≤ℤ◌, ◌+ℤ◌, ◌-ℤ◌, ◌*ℤ◌, []};
+ghost use Rattle.rv_decode.specs.Table.{Fits, amount_bits, written_word};
+ghost use Rattle.rv_asm_tokens.specs.Fault.{Gives};
+ghost use Rattle.rv_asm.specs.LayoutView.{labels_view};
+ghost use Rattle.rv_asm.specs.WordsView.{words_list};
+ghost use Rattle.rv_asm.specs.Resolved.{register_at, number_at, lui_high, low_part, high_part, load_immediate, load_address, is_between, count_of, use_length, words_of as resolved_words, imm_12};
+
+use crate::offsets::{even_within, offset, upper, within};
+use indexmap::IndexMap;
+use rv_asm_statements::{Amount, Filled, Slot, Template, Use};
+use rv_asm_tokens::AsmFaultKind;
+use rv_decode::{ImmOp, Instr, Reg, ShiftOp, UpperOp, encode};
+
+/// The words of one instruction or two.
+#[derive(Clone, Copy, Debug)]
+pub struct Words {
+    pub first: u32,
+    pub second: Option<u32>,
+}
+
+fn register(slot: Slot, o: &Filled) -> Reg
+    ensures { result ≡ register_at slot o.now }
+{
+    match slot {
+        Slot::First => o.first,
+        Slot::Second => o.second,
+        Slot::Third => o.third,
+        Slot::Zero => Reg::new(0),
+        Slot::Link => Reg::new(1),
+    }
+}
+
+fn number(amount: Amount, o: &Filled) -> i128
+    ensures { result ≡ number_at amount o.now }
+{
+    match amount {
+        Amount::Written => o.target.number.value(),
+        Amount::Given(given) => i128::from(given),
+    }
+}
+
+fn immediate(number: i128) -> Result<i32, AsmFaultKind>
+    ensures value { Gives (λ x. x) result (imm_12 number) }
+    ensures low { IfOk result (λ x. negsuc 2047 ≤ℤ x) }
+    ensures high { IfOk result (λ x. x ≤ℤ pos 2047) }
+{
+    within(-2048, 2047, number)
+}
+
+fn one(instr: Instr) -> Words
+    requires { Fits instr }
+    ensures { words_list result ≡ written_word instr ∷ [] }
+{
+    Words {
+        first: encode(&instr),
+        second: None,
+    }
+}
+
+fn two(first: Instr, second: Instr) -> Words
+    requires first_fits { Fits first }
+    requires second_fits { Fits second }
+    ensures { words_list result ≡ written_word first ∷ written_word second ∷ [] }
+{
+    Words {
+        first: encode(&first),
+        second: Some(encode(&second)),
+    }
+}
+
+/// 4096 times the high part is within 2048 of the number.
+fn high(z: i128) -> i128
+    requires low { neg_ℤ (pos (2 ^ 70)) ≤ℤ z }
+    requires high { z ≤ℤ pos (2 ^ 70) }
+    ensures value { result ≡ high_part z }
+    ensures above { (pos 4096 *ℤ result) ≤ℤ (z +ℤ pos 2048) }
+    ensures below { z ≤ℤ ((pos 4096 *ℤ result) +ℤ pos 2047) }
+{
+    (z + 2048).div_euclid(4096)
+}
+
+/// What is left of a number besides 4096 times another.
+fn rest(z: i128, high: i128) -> i32
+    requires low { neg_ℤ (pos (2 ^ 70)) ≤ℤ z }
+    requires high { z ≤ℤ pos (2 ^ 70) }
+    requires above { (pos 4096 *ℤ high) ≤ℤ (z +ℤ pos 2048) }
+    requires below { z ≤ℤ ((pos 4096 *ℤ high) +ℤ pos 2047) }
+    ensures value { result ≡ z -ℤ (pos 4096 *ℤ high) }
+    ensures above { negsuc 2047 ≤ℤ result }
+    ensures below { result ≤ℤ pos 2047 }
+{
+    (z - 4096 * high) as i32
+}
+
+/// What is left of a number besides its high part.
+fn low(z: i128) -> i32
+    requires low { neg_ℤ (pos (2 ^ 70)) ≤ℤ z }
+    requires high { z ≤ℤ pos (2 ^ 70) }
+    ensures value { result ≡ low_part z }
+    ensures above { negsuc 2047 ≤ℤ result }
+    ensures below { result ≤ℤ pos 2047 }
+{
+    rest(z, high(z))
+}
+
+/// `lui` of a number's high part.
+fn load_high(d: Reg, z: i128) -> Instr
+    requires low { neg_ℤ (pos (2 ^ 70)) ≤ℤ z }
+    requires high { z ≤ℤ pos (2 ^ 70) }
+    ensures value { result ≡ lui_high d z }
+    ensures fits { Fits result }
+{
+    let bits = high(z).rem_euclid(1_048_576);
+    Instr::Upper {
+        op: UpperOp::Lui,
+        rd: d,
+        imm: upper(bits as i32),
+    }
+}
+
+/// `li`, of a number of 32 bits with a sign.
+fn immediate_words(d: Reg, z: i32) -> Words
+    ensures { words_list result ≡ map written_word (load_immediate d z) }
+{
+    if z >= -2048 && z <= 2047 {
+        return one(Instr::Imm {
+            op: ImmOp::Addi,
+            rd: d,
+            rs1: Reg::new(0),
+            imm: z,
+        });
+    }
+    let z = i128::from(z);
+    let first = load_high(d, z);
+    let imm = low(z);
+    if imm == 0 {
+        return one(first);
+    }
+    two(
+        first,
+        Instr::Imm {
+            op: ImmOp::Addiw,
+            rd: d,
+            rs1: d,
+            imm,
+        },
+    )
+}
+
+/// `la`, of an address.
+fn address_words(d: Reg, z: i128) -> Words
+    requires low { neg_ℤ (pos (2 ^ 70)) ≤ℤ z }
+    requires high { z ≤ℤ pos (2 ^ 70) }
+    ensures { words_list result ≡ map written_word (load_address d z) }
+{
+    two(
+        load_high(d, z),
+        Instr::Imm {
+            op: ImmOp::Addi,
+            rd: d,
+            rs1: d,
+            imm: low(z),
+        },
+    )
+}
+
+fn greatest_amount(op: ShiftOp) -> i32
+    ensures value { pos (2 ^ amount_bits op - 1) ≡ result }
+    ensures bound { result ≤ℤ pos 63 }
+{
+    match op {
+        ShiftOp::Slli | ShiftOp::Srli | ShiftOp::Srai => 63,
+        ShiftOp::Slliw | ShiftOp::Srliw | ShiftOp::Sraiw => 31,
+    }
+}
+
+/// The words of a template and its operands, at an address.
+#[tactic(auto, unfolding(crate::specs::Resolved::instrs_of))]
+pub fn words_of(
+    labels: &IndexMap<Vec<u8>, u64>,
+    at: u64,
+    template: Template,
+    o: &Filled,
+) -> Result<Words, AsmFaultKind>
+    ensures { Gives words_list result (resolved_words (labels_view labels.now.entries) at template o.now) }
+{
+    let written = o.target.number.value();
+    match template {
+        Template::Upper(op, d) => {
+            let z = within(0, 1_048_575, written)?;
+            Ok(one(Instr::Upper {
+                op,
+                rd: register(d, o),
+                imm: upper(z),
+            }))
+        }
+        Template::Jal(d) => {
+            let off = even_within(-1_048_576, 1_048_575, offset(labels, at, &o.target)?)?;
+            Ok(one(Instr::Jal {
+                rd: register(d, o),
+                off,
+            }))
+        }
+        Template::Jalr(d, s, n) => {
+            let off = immediate(number(n, o))?;
+            Ok(one(Instr::Jalr {
+                rd: register(d, o),
+                rs1: register(s, o),
+                off,
+            }))
+        }
+        Template::Branch(op, s, t) => {
+            let off = even_within(-4096, 4095, offset(labels, at, &o.target)?)?;
+            Ok(one(Instr::Branch {
+                op,
+                rs1: register(s, o),
+                rs2: register(t, o),
+                off,
+            }))
+        }
+        Template::Load(op, d, s) => {
+            let off = immediate(written)?;
+            Ok(one(Instr::Load {
+                op,
+                rd: register(d, o),
+                rs1: register(s, o),
+                off,
+            }))
+        }
+        Template::Store(op, s, t) => {
+            let off = immediate(written)?;
+            Ok(one(Instr::Store {
+                op,
+                rs1: register(s, o),
+                rs2: register(t, o),
+                off,
+            }))
+        }
+        Template::Imm(op, d, s, n) => {
+            let imm = immediate(number(n, o))?;
+            Ok(one(Instr::Imm {
+                op,
+                rd: register(d, o),
+                rs1: register(s, o),
+                imm,
+            }))
+        }
+        Template::Shift(op, d, s) => {
+            let amount = within(0, greatest_amount(op), written)?;
+            Ok(one(Instr::Shift {
+                op,
+                rd: register(d, o),
+                rs1: register(s, o),
+                amount: amount as u8,
+            }))
+        }
+        Template::Arith(op, d, s, t) => {
+            Ok(one(Instr::Arith {
+                op,
+                rd: register(d, o),
+                rs1: register(s, o),
+                rs2: register(t, o),
+            }))
+        }
+        Template::Fence => Ok(one(Instr::Fence)),
+        Template::Ecall => Ok(one(Instr::Ecall)),
+        Template::Ebreak => Ok(one(Instr::Ebreak)),
+        Template::LoadImmediate(d) => {
+            let z = within(i32::MIN, i32::MAX, written)?;
+            Ok(immediate_words(register(d, o), z))
+        }
+        Template::LoadAddress(d) => {
+            let address = offset(labels, 0, &o.target)?;
+            Ok(address_words(register(d, o), address))
+        }
+    }
+}
+
+/// How many bytes the instructions of a mnemonic take.
+#[tactic(auto, unfolding(crate::specs::Resolved::use_length))]
+pub fn length_of_use(found: &Use) -> u64
+    ensures value { result ≡ use_length found.now }
+    ensures small { result ≤ 8 }
+{
+    let written = found.filled.target.number.value();
+    match found.template {
+        Template::LoadAddress(_) => 8,
+        Template::LoadImmediate(_) => {
+            if written >= -2048 && written <= 2047 {
+                4
+            } else if written >= -2_147_483_648 && written <= 2_147_483_647 && low(written) == 0 {
+                4
+            } else {
+                8
+            }
+        }
+        _ => 4,
+    }
+}

@@ -1,0 +1,59 @@
+-- Walks along tables and lists.
+use Rattle.std.proofs.Common.{◌≡◌, ℕ, zero, suc, ◌+◌, ◌<◌, ◌≤◌, true, false, List, [], ◌∷◌, length, drop, map, get_or, Option, Some, None, refl, sym, ap, ◌∙◌, arith}
+use Rattle.std.proofs.lemmas.List.{drop_all, length-map}
+use Rattle.std.specs.Str.{bytes_eq}
+use Rattle.rv_asm_statements.specs.Registers.{number_named}
+use Rattle.rv_asm_statements.specs.Walk.{first_given}
+use Rattle.rv_asm_statements.specs.Rows.{Row}
+use Rattle.rv_asm_statements.specs.Mnemonics.{row_named}
+
+-- from i on there is what stands at i, and the rest
+pub item_at : {A B : Type 0} (view : A → B) (xs : List A) (i : ℕ) (d : A) → i < length xs → drop i (map view xs) ≡ view (get_or xs i d) ∷ drop (i + 1) (map view xs)
+item_at view [] i d lt = absurd (omega arith)
+item_at view (x ∷ xs) zero d lt = refl
+item_at view (x ∷ xs) (suc i) d lt =
+    let e : suc (i + 1) ≡ suc i + 1 = omega arith in
+    item_at view xs i d (omega arith) ∙ ap (λ (k : ℕ). view (get_or xs i d) ∷ drop k (view x ∷ map view xs)) e
+
+pub row_at : {A : Type 0} (view : A → List ℕ × ℕ) (xs : List A) (i : ℕ) (d : A) → i < length xs → drop i (map view xs) ≡ view (get_or xs i d) ∷ drop (i + 1) (map view xs)
+row_at view [] i d lt = absurd (omega arith)
+row_at view (x ∷ xs) zero d lt = refl
+row_at view (x ∷ xs) (suc i) d lt =
+    let e : suc (i + 1) ≡ suc i + 1 = omega arith in
+    row_at view xs i d (omega arith) ∙ ap (λ (k : ℕ). view (get_or xs i d) ∷ drop k (view x ∷ map view xs)) e
+
+pub passed : (name : List ℕ) (ls : List (List ℕ × ℕ)) (l : List ℕ × ℕ) (others : List (List ℕ × ℕ)) (whole : Option ℕ) → ls ≡ l ∷ others → bytes_eq l.0 name ≡ false → number_named name ls ≡ whole → number_named name others ≡ whole
+passed name ls l others whole is h so_far =
+    let one : number_named name (l ∷ others) ≡ number_named name others = rw h refl in
+    sym one ∙ ap (number_named name) (sym is) ∙ so_far
+
+pub met : (name : List ℕ) (ls : List (List ℕ × ℕ)) (l : List ℕ × ℕ) (others : List (List ℕ × ℕ)) (whole : Option ℕ) → ls ≡ l ∷ others → bytes_eq l.0 name ≡ true → number_named name ls ≡ whole → whole ≡ Some l.1
+met name ls l others whole is h so_far =
+    let one : number_named name (l ∷ others) ≡ Some l.1 = rw h refl in
+    sym so_far ∙ ap (number_named name) is ∙ one
+
+-- ---- the first that f gives
+
+pub given_passed : {A B C : Type 0} (f : B → Option C) (view : A → B) (xs : List A) (i : ℕ) (d : A) (whole : Option C) → i < length xs → f (view (get_or xs i d)) ≡ None → first_given f (drop i (map view xs)) ≡ whole → first_given f (drop (i + 1) (map view xs)) ≡ whole
+given_passed f view xs i d whole lt h so_far =
+    let here = item_at view xs i d lt in
+    let one : first_given f (view (get_or xs i d) ∷ drop (i + 1) (map view xs)) ≡ first_given f (drop (i + 1) (map view xs)) = rw h refl in
+    sym one ∙ ap (first_given f) (sym here) ∙ so_far
+
+pub given_met : {A B C : Type 0} (f : B → Option C) (view : A → B) (xs : List A) (i : ℕ) (d : A) (c : C) (whole : Option C) → i < length xs → f (view (get_or xs i d)) ≡ Some c → first_given f (drop i (map view xs)) ≡ whole → whole ≡ Some c
+given_met f view xs i d c whole lt h so_far =
+    let here = item_at view xs i d lt in
+    let one : first_given f (view (get_or xs i d) ∷ drop (i + 1) (map view xs)) ≡ Some c = rw h refl in
+    sym so_far ∙ ap (first_given f) here ∙ one
+
+pub given_end : {A B C : Type 0} (f : B → Option C) (view : A → B) (xs : List A) (i : ℕ) (whole : Option C) → length xs ≤ i → first_given f (drop i (map view xs)) ≡ whole → whole ≡ None
+given_end f view xs i whole le so_far =
+    let none : drop i (map view xs) ≡ [] = drop_all i (map view xs) (omega (arith, length-map xs view)) in
+    sym so_far ∙ ap (first_given f) none
+
+-- a row of another name, and one of the name
+pub named_other : (w : List ℕ) (row : Row) → bytes_eq row.name w ≡ false → row_named w row ≡ None
+named_other w row h = rw h refl
+
+pub named_this : (w : List ℕ) (row : Row) → bytes_eq row.name w ≡ true → row_named w row ≡ Some row
+named_this w row h = rw h refl

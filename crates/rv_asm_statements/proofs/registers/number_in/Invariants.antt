@@ -1,0 +1,7 @@
+use Rattle.std.proofs.Common.{◌≡◌, drop, map}
+use Rattle.rv_asm_statements.specs.Registers.{number_named}
+use Rattle.rv_asm_statements.specs.Registers.{register_view}
+use Rattle.rv_asm_statements.proofs.registers.number_in.Given as goal
+
+abbrev pub invariant-loop-row : goal.invariant-loop-row
+invariant-loop-row l = number_named l.name (drop l.row-index (map register_view l.table)) ≡ number_named l.name (map register_view l.table)

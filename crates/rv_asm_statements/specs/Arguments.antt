@@ -1,0 +1,50 @@
+-- What stands between the commas of a statement.
+use Rattle.std.specs.Prelude.{ℕ, ℤ, List, [], ◌∷◌, ◌++◌, map, Bool, true, false, Option, Some, None, if◌then◌else◌}
+use Rattle.rv_asm_tokens.specs.Fault.{if_some}
+use Rattle.rv_asm_tokens.specs.Lexeme.{Lexeme, name, number, text, comma, opens, closes, plus, number_value}
+use Rattle.std.specs.Global.{Vec}
+use Rattle.rv_asm_statements.specs.declared.operand_list.Operand.{Operand}
+use Rattle.rv_asm_statements.specs.declared.operand_list.Operand.TheVariants.{Name, Number, Text, Sum, Place}
+
+-- an operand, without where its bytes lie
+pub data Argument : Type 0 where
+  word : List ℕ → Argument
+  value : ℤ → Argument
+  quoted : List ℕ → Argument
+  sum : List ℕ → ℤ → Argument
+  place : ℤ → List ℕ → Argument
+
+-- an operand of the code
+abbrev pub argument_view : Operand → Argument
+argument_view (Name w) = word w.now
+argument_view (Number n) = value (number_value n)
+argument_view (Text bs) = quoted bs.now
+argument_view (Sum w n) = sum w.now (number_value n)
+argument_view (Place n w) = place (number_value n) w.now
+
+-- `name`, `number`, `"text"`, `name+number` or `number(name)`
+abbrev pub argument_of : List Lexeme → Option Argument
+argument_of (name w ∷ []) = Some (word w)
+argument_of (number z ∷ []) = Some (value z)
+argument_of (text bs ∷ []) = Some (quoted bs)
+argument_of (name w ∷ plus ∷ number z ∷ []) = Some (sum w z)
+argument_of (number z ∷ opens ∷ name w ∷ closes ∷ []) = Some (place z w)
+argument_of _ = None
+
+abbrev pub is_comma : Lexeme → Bool
+is_comma comma = true
+is_comma _ = false
+
+-- the operands behind those that are done; `piece` are the tokens of the present one so far
+unfoldable pub arguments_from : List Argument → List Lexeme → List Lexeme → Option (List Argument)
+arguments_from done piece [] = if_some (argument_of piece) None (λ a. Some (done ++ a ∷ []))
+arguments_from done piece (t ∷ ts) = if is_comma t then if_some (argument_of piece) None (λ a. arguments_from (done ++ a ∷ []) [] ts) else arguments_from done (piece ++ t ∷ []) ts
+
+-- none, or operands with a comma between two
+abbrev pub arguments_of : List Lexeme → Option (List Argument)
+arguments_of [] = Some []
+arguments_of (t ∷ ts) = arguments_from [] [] (t ∷ ts)
+
+-- the operands of the code
+abbrev pub arguments_view : Vec Operand → List Argument
+arguments_view operands = map argument_view operands.items

@@ -1,0 +1,99 @@
+-- One step of the loops that read a line's bytes.
+use Rattle.std.proofs.Common.{◌≡◌, ℕ, zero, suc, ◌+◌, ◌≤◌, ◌<◌, Bool, List, [], ◌∷◌, length, get_or, drop, Option, Some, None, Result, Ok, refl, sym, ap, ◌∙◌, add-one}
+use Rattle.std.proofs.Math.Seq.{drop-cons}
+use Rattle.std.proofs.lemmas.List.{drop_all, drop-drop}
+use Rattle.rv_asm_tokens.specs.declared.fault.AsmFaultKind.{AsmFaultKind}
+use Rattle.rv_asm_tokens.specs.declared.fault.AsmFaultKind.TheVariants as kinds
+use Rattle.rv_asm_tokens.specs.declared.escapes.QuoteStep.TheVariants.{End, Bad, Go}
+use Rattle.rv_asm_tokens.specs.Fault.{◌>>=◌, if_some, Fails}
+use Rattle.rv_asm_tokens.specs.Lexeme.{Lexeme}
+use Rattle.rv_asm_tokens.specs.Escapes.{quote_step, quoted_length}
+use Rattle.rv_asm_tokens.specs.Scan.{front_at, with_token, tokens_from}
+
+-- from i on there is the byte at i, and the rest
+pub cons_at : (xs : List ℕ) (i : ℕ) → i < length xs → drop i xs ≡ get_or xs i 0 ∷ drop (i + 1) xs
+cons_at xs i lt = rw (add-one, drop-cons xs i 0) refl
+
+-- ---- strings
+
+pub quote_ends : (escaped : Bool) (i : ℕ) (xs : List ℕ) (whole : Option ℕ) → length xs ≤ i → quoted_length escaped i (drop i xs) ≡ whole → whole ≡ None
+unfolding quoted_length
+quote_ends escaped i xs whole le so_far =
+    let one : quoted_length escaped i (drop i xs) ≡ None = rw (drop_all i xs le) refl in
+    sym so_far ∙ one
+
+pub quote_stops : (escaped : Bool) (i : ℕ) (xs : List ℕ) (whole : Option ℕ) → i < length xs → quote_step escaped (get_or xs i 0) ≡ End → quoted_length escaped i (drop i xs) ≡ whole → whole ≡ Some i
+unfolding quoted_length
+quote_stops escaped i xs whole lt h so_far =
+    let one : quoted_length escaped i (drop i xs) ≡ Some i = rw (cons_at xs i lt, h) refl in
+    sym so_far ∙ one
+
+pub quote_bad : (escaped : Bool) (i : ℕ) (xs : List ℕ) (whole : Option ℕ) → i < length xs → quote_step escaped (get_or xs i 0) ≡ Bad → quoted_length escaped i (drop i xs) ≡ whole → whole ≡ None
+unfolding quoted_length
+quote_bad escaped i xs whole lt h so_far =
+    let one : quoted_length escaped i (drop i xs) ≡ None = rw (cons_at xs i lt, h) refl in
+    sym so_far ∙ one
+
+pub quote_goes : (escaped : Bool) (i : ℕ) (xs : List ℕ) (e : Bool) (whole : Option ℕ) → i < length xs → quote_step escaped (get_or xs i 0) ≡ Go e → quoted_length escaped i (drop i xs) ≡ whole → quoted_length e (i + 1) (drop (i + 1) xs) ≡ whole
+unfolding quoted_length
+quote_goes escaped i xs e whole lt h so_far =
+    let one : quoted_length escaped i (drop i xs) ≡ quoted_length e (i + 1) (drop (i + 1) xs) = rw (cons_at xs i lt, h) refl in
+    sym one ∙ so_far
+
+-- ---- tokens
+
+-- a fault of the first step is that of both
+pub fails_along : {A B : Type 0} (e : AsmFaultKind) (r : Result A AsmFaultKind) (f : A → Result B AsmFaultKind) (whole : Result B AsmFaultKind) → (r >>= f) ≡ whole → Fails e r → Fails e whole
+fails_along kinds.Memory r f whole same h = tt
+fails_along kinds.Token r f whole same h = rw (← same, h) refl
+fails_along kinds.Mnemonic r f whole same h = rw (← same, h) refl
+fails_along kinds.Operand r f whole same h = rw (← same, h) refl
+fails_along (kinds.Range v) r f whole same h = rw (← same, h) refl
+fails_along kinds.LabelTwice r f whole same h = rw (← same, h) refl
+fails_along kinds.LabelMissing r f whole same h = rw (← same, h) refl
+fails_along kinds.Directive r f whole same h = rw (← same, h) refl
+fails_along kinds.Limit r f whole same h = rw (← same, h) refl
+
+-- the bytes of a token are passed over
+pub tokens_from-inside : (k : ℕ) (done : List Lexeme) (bs : List ℕ) → tokens_from k done bs ≡ tokens_from 0 done (drop k bs)
+unfolding tokens_from
+tokens_from-inside zero done bs = refl
+tokens_from-inside (suc k) done [] = refl
+tokens_from-inside (suc k) done (b ∷ bs) = tokens_from-inside k done bs
+
+abbrev Whole : Type 0
+Whole = Result (List Lexeme) AsmFaultKind
+
+-- what stands at i is wrong
+pub token_fails : (e : AsmFaultKind) (i : ℕ) (done : List Lexeme) (xs : List ℕ) (whole : Whole) → i < length xs → Fails e (front_at (get_or xs i 0) (drop i xs) (drop (i + 1) xs)) → tokens_from 0 done (drop i xs) ≡ whole → Fails e whole
+unfolding tokens_from
+token_fails e i done xs whole lt h so_far =
+    let here = cons_at xs i lt in
+    let f = λ (o : Option (Option Lexeme × ℕ)). if_some o (Ok done) (λ p. tokens_from p.1 (with_token done p.0) (drop (i + 1) xs)) in
+    let next : (front_at (get_or xs i 0) (get_or xs i 0 ∷ drop (i + 1) xs) (drop (i + 1) xs) >>= f) ≡ whole = ap (tokens_from 0 done) (sym here) ∙ so_far in
+    fails_along e (front_at (get_or xs i 0) (get_or xs i 0 ∷ drop (i + 1) xs) (drop (i + 1) xs)) f whole next (rw (← here) h)
+
+-- a comment stands at i
+pub token_none : (i : ℕ) (done : List Lexeme) (xs : List ℕ) (whole : Whole) → i < length xs → front_at (get_or xs i 0) (drop i xs) (drop (i + 1) xs) ≡ Ok None → tokens_from 0 done (drop i xs) ≡ whole → whole ≡ Ok done
+unfolding tokens_from
+token_none i done xs whole lt h so_far =
+    let here = cons_at xs i lt in
+    let is : front_at (get_or xs i 0) (get_or xs i 0 ∷ drop (i + 1) xs) (drop (i + 1) xs) ≡ Ok None = rw (← here) h in
+    let one : tokens_from 0 done (get_or xs i 0 ∷ drop (i + 1) xs) ≡ Ok done = rw is refl in
+    sym so_far ∙ ap (tokens_from 0 done) here ∙ one
+
+-- a token or a blank stands at i
+pub token_goes : (i : ℕ) (done : List Lexeme) (xs : List ℕ) (t : Option Lexeme) (more next : ℕ) (whole : Whole) → next ≡ i + 1 + more → i < length xs → front_at (get_or xs i 0) (drop i xs) (drop (i + 1) xs) ≡ Ok (Some (t, more)) → tokens_from 0 done (drop i xs) ≡ whole → tokens_from 0 (with_token done t) (drop next xs) ≡ whole
+unfolding tokens_from
+token_goes i done xs t more next whole sum lt h so_far =
+    let here = cons_at xs i lt in
+    let is : front_at (get_or xs i 0) (get_or xs i 0 ∷ drop (i + 1) xs) (drop (i + 1) xs) ≡ Ok (Some (t, more)) = rw (← here) h in
+    let one : tokens_from 0 done (get_or xs i 0 ∷ drop (i + 1) xs) ≡ tokens_from more (with_token done t) (drop (i + 1) xs) = rw is refl in
+    let two : tokens_from more (with_token done t) (drop (i + 1) xs) ≡ tokens_from 0 (with_token done t) (drop next xs) = rw sum (tokens_from-inside more (with_token done t) (drop (i + 1) xs) ∙ ap (tokens_from 0 (with_token done t)) (drop-drop more (i + 1) xs)) in
+    sym two ∙ sym one ∙ ap (tokens_from 0 done) (sym here) ∙ so_far
+
+pub tokens_end : (i : ℕ) (done : List Lexeme) (xs : List ℕ) (whole : Whole) → length xs ≤ i → tokens_from 0 done (drop i xs) ≡ whole → whole ≡ Ok done
+unfolding tokens_from
+tokens_end i done xs whole le so_far =
+    let one : tokens_from 0 done (drop i xs) ≡ Ok done = rw (drop_all i xs le) refl in
+    sym so_far ∙ one

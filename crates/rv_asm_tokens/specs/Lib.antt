@@ -1,0 +1,6 @@
+pub mod Fault
+pub mod Lexeme
+pub mod Digits
+pub mod Escapes
+pub mod Scan
+pub mod FrontView

@@ -1,0 +1,180 @@
+//! The tokens of a line, from its bytes.
+
+ghost use Rattle.std.specs.Prelude.{◌≡◌, ◌≤◌, ◌+◌, ◌∷◌, IfOk, IfSome, drop, length};
+ghost use Rattle.std.specs.Option.{option_map};
+ghost use Rattle.rv_asm_tokens.specs.Fault.{Gives};
+ghost use Rattle.rv_asm_tokens.specs.Lexeme.{lexeme_of, lexemes_of};
+ghost use Rattle.rv_asm_tokens.specs.Scan.{is_name_byte, word_length, sign, sign_front, number_front, negative_front, name_front, text_front, front_at, tokens_of};
+ghost use Rattle.rv_asm_tokens.specs.FrontView.{front_view, LiesIn};
+
+use crate::digits::magnitude_of;
+use crate::escapes::length_of_quoted;
+use crate::fault::AsmFaultKind;
+use crate::number::Number;
+use crate::token::Token;
+use std::alloc::Global;
+
+/// What stands at a byte.
+#[derive(Clone, Copy, Debug)]
+pub enum Front<'a> {
+    Comment,
+    Blank,
+    /// A token, and how many of the bytes after the first belong to it.
+    Piece(Token<'a>, usize),
+}
+
+fn may_stand_in_name(b: u8) -> bool
+    ensures { result ≡ is_name_byte b }
+{
+    matches!(b, b'a'..=b'z' | b'A'..=b'Z' | b'0'..=b'9' | b'_' | b'.' | b'$')
+}
+
+fn length_of_word(bytes: &[u8]) -> usize
+    ensures value { result ≡ word_length bytes.now }
+    ensures within { result ≤ length bytes.now }
+{
+    for (i, b) in bytes.iter().enumerate() {
+        if !may_stand_in_name(*b) {
+            return i;
+        }
+    }
+    bytes.len()
+}
+
+fn number_at<'a>(here: &'a [u8], after: &'a [u8]) -> Result<Front<'a>, AsmFaultKind>
+    requires { length here.now ≡ length after.now + 1 }
+    ensures value { Gives front_view result (number_front here.now after.now) }
+    ensures within { IfOk result (LiesIn (length after.now)) }
+{
+    let more = length_of_word(after);
+    match magnitude_of(&here[..more + 1]) {
+        None => Err(AsmFaultKind::Token),
+        Some(magnitude) => Ok(Front::Piece(
+            Token::Number(Number {
+                negative: false,
+                magnitude,
+            }),
+            more,
+        )),
+    }
+}
+
+fn negative_at(after: &[u8]) -> Result<Front<'_>, AsmFaultKind>
+    ensures value { Gives front_view result (negative_front after.now) }
+    ensures within { IfOk result (LiesIn (length after.now)) }
+{
+    let more = length_of_word(after);
+    match magnitude_of(&after[..more]) {
+        None => Err(AsmFaultKind::Token),
+        Some(magnitude) => {
+            if magnitude > 9_223_372_036_854_775_808 {
+                return Err(AsmFaultKind::Token);
+            }
+            Ok(Front::Piece(
+                Token::Number(Number {
+                    negative: true,
+                    magnitude,
+                }),
+                more,
+            ))
+        }
+    }
+}
+
+fn name_at<'a>(here: &'a [u8], after: &'a [u8]) -> Front<'a>
+    requires { length here.now ≡ length after.now + 1 }
+    ensures value { front_view result ≡ name_front here.now after.now }
+    ensures within { LiesIn (length after.now) result }
+{
+    let more = length_of_word(after);
+    Front::Piece(Token::Name(&here[..more + 1]), more)
+}
+
+fn text_at(after: &[u8]) -> Result<Front<'_>, AsmFaultKind>
+    ensures value { Gives front_view result (text_front after.now) }
+    ensures within { IfOk result (LiesIn (length after.now)) }
+{
+    match length_of_quoted(after) {
+        None => Err(AsmFaultKind::Token),
+        Some(n) => Ok(Front::Piece(Token::Text(&after[..n]), n + 1)),
+    }
+}
+
+fn sign_of(b: u8) -> Option<Token<'static>>
+    ensures { option_map lexeme_of result ≡ sign b }
+{
+    match b {
+        b',' => Some(Token::Comma),
+        b':' => Some(Token::Colon),
+        b'(' => Some(Token::Open),
+        b')' => Some(Token::Close),
+        b'+' => Some(Token::Plus),
+        _ => None,
+    }
+}
+
+fn sign_at<'a>(b: u8) -> Result<Front<'a>, AsmFaultKind>
+    ensures value { Gives front_view result (sign_front b) }
+    ensures within { IfOk result (LiesIn 0) }
+{
+    match sign_of(b) {
+        None => Err(AsmFaultKind::Token),
+        Some(token) => Ok(Front::Piece(token, 0)),
+    }
+}
+
+/// The bytes from a place on.
+fn behind(bytes: &[u8], at: usize) -> &[u8]
+    requires { at ≤ length bytes.now }
+    ensures value { result.now ≡ drop at bytes.now }
+    ensures len { length result.now + at ≡ length bytes.now }
+{
+    &bytes[at..]
+}
+
+/// What stands at the first byte of `here`, which is `b` with `after` behind it.
+#[tactic(auto, unfolding(crate::specs::Scan::front_at))]
+fn found_at<'a>(b: u8, here: &'a [u8], after: &'a [u8]) -> Result<Front<'a>, AsmFaultKind>
+    requires { length here.now ≡ length after.now + 1 }
+    ensures value { Gives front_view result (front_at b here.now after.now) }
+    ensures within { IfOk result (LiesIn (length after.now)) }
+{
+    match b {
+        b' ' | b'\t' => Ok(Front::Blank),
+        b'#' => Ok(Front::Comment),
+        b'"' => text_at(after),
+        b'-' => negative_at(after),
+        b'0'..=b'9' => number_at(here, after),
+        _ => {
+            if may_stand_in_name(b) {
+                Ok(name_at(here, after))
+            } else {
+                sign_at(b)
+            }
+        }
+    }
+}
+
+/// The tokens of a line, whose newline is left out.
+///
+/// `Token` where a character, number or string is none, and `Memory`. Nothing but tab, space and the
+/// characters of tokens may stand outside strings and comments.
+pub fn tokens(alloc: Global, line: &[u8]) -> Result<Vec<Token<'_>>, AsmFaultKind>
+    ensures { Gives (λ v. lexemes_of v.items) result (tokens_of line.now) }
+{
+    let mut done = Vec::new(alloc);
+    let mut at: usize = 0;
+    while at < line.len() {
+        let here = behind(line, at);
+        let after = behind(line, at + 1);
+        match found_at(line[at], here, after)? {
+            Front::Comment => return Ok(done),
+            Front::Blank => at += 1,
+            Front::Piece(token, more) => {
+                done.push(token)?;
+                at += 1 + more;
+            }
+        }
+    }
+    Ok(done)
+}
