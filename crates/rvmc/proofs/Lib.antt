@@ -1,0 +1,5 @@
+pub mod Calls
+pub mod Digits
+pub mod Known
+pub mod Sources
+pub mod Turns

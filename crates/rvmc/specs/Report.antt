@@ -1,0 +1,102 @@
+-- What the report of a run tells.
+use Rattle.std.specs.Prelude.{ℕ, Bool, true, false, if◌then◌else◌, List, [], ◌∷◌, ◌++◌, length, codes}
+use Rattle.std.specs.Fmt.{decimal, digits}
+use Rattle.std.specs.List.{enumerate_from, flat_map, list_any}
+use Rattle.rv_hart.specs.State.{State}
+use Rattle.rv_hart.specs.declared.state.Mode.{Mode}
+use Rattle.rv_hart.specs.declared.state.Mode.TheVariants.{Running, Waiting, Ended, Trapped}
+use Rattle.rv_memory.specs.Fault.{cause_number}
+use Rattle.rvmc.specs.Machine.{Machine}
+use Rattle.rvmc.specs.declared.ending.Ending.{Ending}
+use Rattle.rvmc.specs.declared.ending.Stop.{Stop}
+use Rattle.rvmc.specs.declared.ending.Stop.TheVariants.{AllEnded, Budget, Memory}
+
+-- ---- the ranks
+
+-- a rank whose run has ended
+pub record RankEnd : Type 0 where
+  pub output : List ℕ
+  pub harts : List State
+  pub stop : Stop
+  pub turns : ℕ
+
+-- the end of a run of a machine with one hart
+abbrev pub rank_end : Machine → Ending → RankEnd
+rank_end m ending = record { output = m.output; harts = m.hart ∷ []; stop = ending.stop; turns = ending.turns }
+
+-- ---- their text
+
+abbrev pub newline : List ℕ
+newline = 10 ∷ []
+
+-- an address, as `0x1c`
+abbrev pub address_text : ℕ → List ℕ
+address_text pc = codes "0x" ++ digits 16 false pc
+
+-- how a hart stands
+abbrev pub mode_text : Mode → ℕ → List ℕ
+mode_text Running pc = codes "running at " ++ address_text pc
+mode_text (Waiting wait) pc = codes "waiting at " ++ address_text pc
+mode_text (Ended code) pc = codes "ended " ++ decimal code
+mode_text (Trapped cause at) pc = codes "trapped " ++ (decimal (cause_number cause) ++ (codes " at " ++ address_text at))
+
+abbrev pub stop_text : Stop → List ℕ
+stop_text AllEnded = codes "all-ended"
+stop_text Budget = codes "budget"
+stop_text Memory = codes "memory"
+
+-- `rank R output N`
+abbrev pub output_head : ℕ → ℕ → List ℕ
+output_head rank count = codes "rank " ++ (decimal rank ++ (codes " output " ++ (decimal count ++ newline)))
+
+-- and the N bytes, with a newline behind them
+abbrev pub output_text : ℕ → List ℕ → List ℕ
+output_text rank output = output_head rank (length output) ++ (output ++ newline)
+
+-- `rank R hart H` and how it stands
+abbrev pub hart_text : ℕ → ℕ → State → List ℕ
+hart_text rank number hart =
+    codes "rank " ++ (decimal rank ++ (codes " hart " ++ (decimal number ++ (codes " " ++ (mode_text hart.mode hart.pc ++ newline)))))
+
+-- `rank R stop WHY turns T`
+abbrev pub stop_line : ℕ → Stop → ℕ → List ℕ
+stop_line rank stop turns =
+    codes "rank " ++ (decimal rank ++ (codes " stop " ++ (stop_text stop ++ (codes " turns " ++ (decimal turns ++ newline)))))
+
+-- a rank's output, its harts in order, and its stop
+abbrev pub rank_text : ℕ → RankEnd → List ℕ
+rank_text rank end =
+    output_text rank end.output
+    ++ (flat_map (λ hart. hart_text rank hart.0 hart.1) (enumerate_from 0 end.harts)
+    ++ stop_line rank end.stop end.turns)
+
+-- all ranks in order
+abbrev pub report : List RankEnd → List ℕ
+report ranks = flat_map (λ rank. rank_text rank.0 rank.1) (enumerate_from 0 ranks)
+
+-- ---- their status
+
+-- the rank stopped for want of memory
+abbrev pub wants_memory : Stop → Bool
+wants_memory Memory = true
+wants_memory other = false
+
+-- the rank stopped before all its harts did
+abbrev pub is_cut_short : Stop → Bool
+is_cut_short Budget = true
+is_cut_short other = false
+
+abbrev pub is_trapped : Mode → Bool
+is_trapped (Trapped cause pc) = true
+is_trapped other = false
+
+abbrev pub has_trapped : List State → Bool
+has_trapped harts = list_any (λ hart. is_trapped hart.mode) harts
+
+-- 5 where memory was wanting for a rank, else 3 where a hart trapped, else 4 where a rank's budget was used, else 0
+abbrev pub status_of : List RankEnd → ℕ
+status_of ranks =
+    if list_any (λ rank. wants_memory rank.stop) ranks then 5
+    else (if list_any (λ rank. has_trapped rank.harts) ranks then 3
+    else (if list_any (λ rank. is_cut_short rank.stop) ranks then 4
+    else 0))
