@@ -1,0 +1,4 @@
+pub mod CallsSoFar
+pub mod BoardKept
+pub mod SentKept
+pub mod Counted

@@ -1,0 +1,11 @@
+use Rattle.std.proofs.Common.{◌≡◌, ◌+◌, ◌≤◌, length}
+use Rattle.std.specs.List.{filter}
+use Rattle.mp_hub.specs.Inits.{is_same_side}
+use Rattle.mp_hub.proofs.sides.count_same.Given as goal
+
+abbrev pub invariant-loop-side : goal.invariant-loop-side
+invariant-loop-side l =
+    (l.count + length (filter (is_same_side l.new) l.rest) ≡ length (filter (is_same_side l.new) l.sides)) × (l.count + length l.rest ≤ length l.sides)
+
+abbrev pub decreases-loop-side : goal.decreases-loop-side
+decreases-loop-side l = length l.rest

@@ -1,0 +1,35 @@
+-- Initialisations of partitioned transfers: their pairs, links and shapes (MPI 4.1, chapter 4.2).
+use Rattle.std.specs.Prelude.{ℕ, ◌==◌, ◌&&◌, not, Bool, cond, List, length, filter, find, Option, option_map}
+use Rattle.std.specs.List.{slice_get, list_any, enumerate_from}
+use Rattle.rv_image.specs.declared.images.Link.{Link}
+use Rattle.mp_hub.specs.declared.sides.Setup.{Setup}
+use Rattle.mp_hub.specs.declared.sides.Side.{Side}
+
+-- the same communicator, source, destination and tag
+abbrev pub same_transfer : Setup → Setup → Bool
+same_transfer s t = (t.comm == s.comm) && (t.from == s.from) && (t.to == s.to) && (t.tag == s.tag)
+
+-- a side that was initialised before, of the same transfer and on the same side as the new one, or on the other
+abbrev pub is_same_side : Setup → Side → Bool
+is_same_side s t = same_transfer s t.setup && cond s.sending t.setup.sending (not t.setup.sending)
+
+abbrev pub is_other_side : Setup → Side → Bool
+is_other_side s t = same_transfer s t.setup && cond s.sending (not t.setup.sending) t.setup.sending
+
+-- the i-th of one side and the i-th of the other are a pair; refused initialisations aren't among the sides
+abbrev pub peer_of : List Side → Setup → Option Side
+peer_of sides s = slice_get (filter (is_other_side s) sides) (length (filter (is_same_side s) sides))
+
+abbrev pub is_reserved : List Side → ℕ → Bool
+is_reserved sides link = list_any (λ (t : Side). t.link == link) sides
+
+-- a numbered link that joins the two ranks and that no side has
+abbrev pub is_for : List Side → Setup → ℕ × Link → Bool
+is_for sides s l = (l.1.from == s.from) && (l.1.to == s.to) && not (is_reserved sides l.0)
+
+-- the lowest such link's number
+abbrev pub lowest_link : List Link → List Side → Setup → Option ℕ
+lowest_link links sides s = option_map (λ (l : ℕ × Link). l.0) (find (is_for sides s) (enumerate_from 0 links))
+
+abbrev pub same_shape : Setup → Setup → Bool
+same_shape s t = (t.parts == s.parts) && (t.size == s.size)

@@ -1,0 +1,4 @@
+pub mod Inits
+pub mod Hub
+pub mod Rows
+pub mod Laws

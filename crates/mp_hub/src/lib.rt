@@ -1,0 +1,12 @@
+//! The hub: one answer to each request of a rank, as a function of the links and of all requests before.
+#![tactic(auto)]
+
+pub mod laws;
+mod sides;
+mod state;
+
+pub use sides::{Setup, Side};
+pub use state::{CallFault, HubState};
+
+#[cfg(test)]
+mod tests;
