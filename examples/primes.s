@@ -1,7 +1,8 @@
 # The primes below 100, one a line, by trial division.
         li   s0, 2                  # the candidate
         li   s4, 10
-        la   s3, line
+        addi s3, sp, -16            # three bytes on the stack: tens, ones and a newline
+        sb   s4, 2(s3)              # 10 is the newline too, and stays
 next:   li   s1, 2                  # the divisor
 try:    mul  t0, s1, s1
         bgt  t0, s0, prime          # no divisor up to the square root
@@ -26,9 +27,6 @@ composite:
         addi s0, s0, 1
         li   t0, 100
         blt  s0, t0, next
-        li   a0, 0
+        li   a0, 0                  # EXIT's code
         li   a7, 0                  # EXIT
         ecall
-
-        .data
-line:   .ascii "??\n"
