@@ -1,3 +1,4 @@
 pub mod Alone
 pub mod Members
+pub mod Starts
 pub mod Worked

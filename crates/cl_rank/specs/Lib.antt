@@ -5,6 +5,7 @@ pub mod Requests
 pub mod Rank
 pub mod Asked
 pub mod Right
+pub mod Room
 pub mod Told
 pub mod Deeds
 pub mod Laws

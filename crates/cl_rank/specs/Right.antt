@@ -1,10 +1,11 @@
 -- What is known of a turn once it was read.
-use Rattle.std.specs.Prelude.{◌≡◌, IsTrue}
-use Rattle.rv_memory.specs.Memory.{Memory}
+use Rattle.std.specs.Prelude.{◌≡◌, ℕ, List, [], IsTrue}
+use Rattle.rv_memory.specs.Memory.{Memory, bytes_at}
 use Rattle.rv_hart.specs.State.{State}
 use Rattle.rv_hart.specs.declared.state.Mode.TheVariants.{Running}
 use Rattle.cl_rank.specs.declared.asking.Doing.{Doing}
 use Rattle.cl_rank.specs.declared.asking.Doing.TheVariants.{Go, Step}
+use Rattle.cl_rank.specs.declared.calls.Call.TheVariants as call
 use Rattle.cl_rank.specs.declared.sites.Site.{Site}
 use Rattle.cl_rank.specs.Calls.{needs_of}
 use Rattle.cl_rank.specs.Checks.{is_comm, is_peer, is_tag, is_count, is_buffer}
@@ -27,3 +28,8 @@ IsRunning _ hart = Unit {0}
 abbrev pub IsNoStep : Doing → Type 0
 IsNoStep Step = ⊥
 IsNoStep _ = Unit {0}
+
+-- the bytes that a turn puts behind the output
+abbrev pub output_of : Memory → Doing → List ℕ
+output_of memory (Go (call.Put buffer count)) = bytes_at memory buffer count
+output_of memory _ = []

@@ -9,11 +9,18 @@ mod calls;
 mod checking;
 mod events;
 pub mod laws;
+mod loading;
 pub mod rows;
 mod sites;
+mod state;
+mod telling;
 mod turns;
 
 pub use asking::{Answer, Ask, Doing};
 pub use calls::{ANY, Call, NO_RANK, Needs, Peer, Range, Tag};
 pub use events::{Event, Kind};
 pub use sites::{Communicators, Site, place};
+pub use state::RankState;
+
+#[cfg(test)]
+mod tests;
