@@ -1,9 +1,10 @@
 -- What each command answers: the text on standard output, and the status.
-use Rattle.std.specs.Prelude.{◌≡◌, ⊤, ℕ, ◌≤◌, ◌==◌, ◌&&◌, ◌⊎◌, if◌then◌else◌, Bool, true, false, List, [], ◌∷◌, length, MatchBool, MatchOption, Option, Some, None, Result, Ok, Err, string_bytes}
+use Rattle.std.specs.Prelude.{◌≡◌, ⊤, ℕ, ◌+◌, ◌≤◌, ◌==◌, ◌&&◌, ◌⊎◌, if◌then◌else◌, Bool, true, false, List, [], ◌∷◌, length, take, count_by, MatchBool, MatchOption, Option, Some, None, Result, Ok, Err, string_bytes}
 use Rattle.std.specs.Io.KnownBytes.{Appends, Keeps}
 use Rattle.std.specs.Result.{result_ok}
 use Rattle.std.specs.Str.Lossy.{utf8_valid_len}
 use Rattle.rv_asm.specs.Source.{meaning}
+use Rattle.rv_asm_tokens.specs.declared.fault.AsmFaultKind.TheVariants as kinds
 use Rattle.rv_image.specs.Reading.{reading}
 use Rattle.rv_image.specs.Text.{image_text}
 use Rattle.rv_image.specs.declared.images.ImageParts.{ImageParts}
@@ -26,6 +27,11 @@ use Rattle.rvmc.specs.declared.faults.Fault.TheVariants as faults
 -- the image of a source, which is UTF-8 and has no fault
 unfoldable pub source_image : List ℕ → Option ImageParts
 source_image bytes = if utf8_valid_len bytes == length bytes then result_ok (meaning bytes) else None
+
+-- the fault of bytes that aren't UTF-8: a Token at the line of the first wrong byte
+abbrev pub wrong_bytes : List ℕ → Fault
+wrong_bytes bytes =
+    faults.Source (record { line = count_by (λ byte. byte == 10) (take (utf8_valid_len bytes) bytes) + 1; kind = kinds.Token })
 
 -- the image that the bytes spell
 abbrev pub spelled_image : List ℕ → Option ImageParts

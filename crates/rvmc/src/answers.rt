@@ -1,7 +1,8 @@
 //! What each command answers to its input.
 
-ghost use Rattle.std.specs.Prelude.{◌≡◌, IfErr, Ok, true, ◌&&◌};
-ghost use Rattle.rvmc.specs.Answers.{Finds, Gives, Says, is_alone, image_of, source_image, spelled_image, IsReported};
+ghost use Rattle.std.specs.Prelude.{◌≡◌, ◌+◌, ◌==◌, count_by};
+ghost use Rattle.std.specs.Str.{IsUtf8};
+ghost use Rattle.rvmc.specs.Answers.{Finds, Gives, IsReported, Says, source_image, spelled_image, wrong_bytes};
 ghost use Rattle.rvmc_cli.specs.declared.parsing.CommandLine.TheVariants.{Asm, Dis, One};
 
 use crate::faults::Fault;
@@ -23,7 +24,8 @@ pub struct Answer {
 /// The image of a source. Bytes that aren't UTF-8 are a Token at the line of the first wrong byte.
 #[tactic(auto, unfolding(crate::specs::Answers::source_image))]
 fn source_image(alloc: Global, bytes: &[u8]) -> Result<Image, Fault>
-    ensures { Finds (source_image bytes.now) result }
+    ensures image { Finds (source_image bytes.now) result }
+    ensures token { ¬ (IsUtf8 bytes.now) → result ≡ Err (wrong_bytes bytes.now) }
 {
     match str::from_utf8(bytes) {
         Ok(source) => Ok(assemble(alloc, source)?),
@@ -35,7 +37,9 @@ fn source_image(alloc: Global, bytes: &[u8]) -> Result<Image, Fault>
 }
 
 /// The number, from 1, of the line that follows these bytes.
-fn line_at(before: &[u8]) -> u64 {
+fn line_at(before: &[u8]) -> u64
+    ensures { result ≡ count_by (λ byte. byte == 10) before.now + 1 }
+{
     before.iter().filter(|byte| **byte == b'\n').count() as u64 + 1
 }
 

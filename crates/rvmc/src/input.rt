@@ -1,7 +1,8 @@
 //! The whole input, of a bounded length in a bounded number of reads.
 
-ghost use Rattle.std.specs.Prelude.{◌≤◌, IfOk, length};
+ghost use Rattle.std.specs.Prelude.{◌≡◌, ◌≤◌, IfOk, length};
 ghost use Rattle.std.specs.Io.KnownBytes.{Consumes, IsAtEnd};
+ghost use Rattle.rvmc.specs.declared.input.InputFault.TheVariants as faults;
 
 use std::alloc::{AllocError, Global};
 use std::io::Read;
@@ -16,6 +17,8 @@ pub enum InputFault {
 }
 
 impl From<AllocError> for InputFault {
+    ghost from_gives = { λ _ e. e ≡ faults.Memory };
+
     fn from(_e: AllocError) -> InputFault {
         InputFault::Memory
     }
