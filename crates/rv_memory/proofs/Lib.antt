@@ -1,1 +1,2 @@
+-- The lemmas of values and their bytes.
 pub mod Values

@@ -1,3 +1,5 @@
+-- What a memory is, what its loads and stores answer, and worked values.
 pub mod Fault
 pub mod Memory
 pub mod Access
+pub mod Worked

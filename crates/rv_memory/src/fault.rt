@@ -5,13 +5,21 @@ ghost use Rattle.rv_memory.specs.Fault.{cause_number};
 /// Why a hart traps.
 #[derive(Clone, Copy, PartialEq, Eq, Debug, Drop)]
 pub enum Cause {
+    /// 0: a jump or a branch that is taken goes to an address that isn't a multiple of 4.
     InstructionMisaligned,
+    /// 1: the four bytes at the pc aren't all text.
     InstructionAccess,
+    /// 2: the word at the pc stands for no instruction.
     IllegalInstruction,
+    /// 3: an EBREAK.
     Breakpoint,
+    /// 4: a load's address isn't a multiple of its width.
     LoadMisaligned,
+    /// 5: the bytes of an aligned load aren't all in the memory.
     LoadAccess,
+    /// 6: a store's address isn't a multiple of its width.
     StoreMisaligned,
+    /// 7: the bytes of an aligned store aren't all in the memory, or are text.
     StoreAccess,
 }
 
@@ -36,17 +44,17 @@ impl Cause {
 /// Why a store isn't done.
 #[derive(Clone, Copy, PartialEq, Eq, Debug, Drop)]
 pub enum StoreFault {
-    /// The store traps.
+    /// 1: the store traps.
     Trap(Cause),
-    /// There is no memory for the page. No store answers this today: a rank has all its bytes from the start.
+    /// 2: memory that the store needs isn't there. Never answered: a rank has all its bytes from the start.
     Memory,
 }
 
 /// Why bytes aren't read or written.
 #[derive(Clone, Copy, PartialEq, Eq, Debug, Drop)]
 pub enum BytesFault {
-    /// Some of them are outside the memory, or would be written over the text.
+    /// 1: some of them are outside the memory, or would be written over the text.
     Range,
-    /// There is no memory for the copy.
+    /// 2: there is no memory for the copy.
     Memory,
 }

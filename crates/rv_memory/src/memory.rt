@@ -10,9 +10,13 @@ use std::marker::Model;
 /// How many bytes a load or a store moves: 1, 2, 4 or 8.
 #[derive(Clone, Copy, PartialEq, Eq, Debug, Drop)]
 pub enum Width {
+    /// 1 byte.
     Byte,
+    /// 2 bytes.
     Half,
+    /// 4 bytes.
     Word,
+    /// 8 bytes.
     Double,
 }
 
@@ -78,6 +82,7 @@ fn put_value(bytes: &mut [u8], at: usize, value: u64, count: usize)
 impl RankMemory {
     /// The memory of a rank that is loaded: the text at address 0, the initial data behind it at a multiple of 16,
     /// and zeros elsewhere. `size` is one that an image may ask for: 4,096 to 1,048,576 bytes in whole 4,096s.
+    /// Text and data fit into it. The only error is want of memory.
     pub fn new(
         alloc: Global,
         size: usize,
@@ -212,7 +217,8 @@ impl RankMemory {
         !writing || self.text <= address
     }
 
-    /// A copy of `count` bytes from an address on. `Range` where one isn't in the memory.
+    /// A copy of `count` bytes from an address on. `Range` where one isn't in the memory, `Memory` where there is none for
+    /// the copy. Zero bytes are right at any address.
     pub fn read_bytes(&self, alloc: Global, address: u64, count: u64) -> Result<Vec<u8>, BytesFault>
         ensures read { IfOk result (λ bytes. bytes.items ≡ bytes_at self.now address count) }
         ensures range { (result ≡ Err BytesFault.Range) ↔ ¬ (IsReadable self.now address count) }

@@ -1,4 +1,4 @@
-//! The worked rows of loads and stores, and each call that allocates.
+//! Loads and stores at the edges, and each call that allocates.
 use super::{RankMemory, Width};
 use crate::fault::{BytesFault, Cause, StoreFault};
 use std::alloc::AllocError;

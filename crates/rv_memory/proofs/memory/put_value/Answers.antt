@@ -1,3 +1,4 @@
+-- The bytes that are put are the lowest ones of the value.
 use Rattle.rv_memory.proofs.memory.put_value.Goals as goal
 use Rattle.std.proofs.Common.{◌∙◌, ap, take}
 use Rattle.rv_memory.proofs.Values.{take-bytes_low_first}
