@@ -1,3 +1,5 @@
 pub mod Steps
 pub mod LabelSteps
 pub mod Wholeness
+pub mod Sound
+pub mod Placed

@@ -22,7 +22,9 @@ use Rattle.rv_asm_statements.specs.declared.rows.Template.{Template}
 use Rattle.rv_asm_statements.specs.declared.rows.Template.TheVariants as template
 use Rattle.rv_asm_statements.specs.declared.statements.Statement.{Statement}
 use Rattle.rv_asm_statements.specs.declared.statements.Statement.TheVariants.{Label, Instruction}
-use Rattle.rv_asm_statements.specs.Statements.{statement_of}
+use Rattle.rv_asm_statements.specs.Arguments.{arguments_of}
+use Rattle.rv_asm_statements.specs.Mnemonics.{instruction_of}
+use Rattle.rv_asm_statements.specs.Statements.{begins_with_dot, instruction_at, statement_of}
 use Rattle.rv_asm.specs.declared.layout.Item.{Item}
 use Rattle.rv_asm.specs.Resolved.{address_in, ranged, even_ranged, imm_32, offset_of, upper_immediate, amount_of, is_between, low_part, load_immediate, load_address, register_at, instrs_of, words_of, count_of, use_length}
 use Rattle.rv_asm.specs.Layout.{Layout, empty_layout, length_of, with_item, with_label, labels_at, placed, line_step, lines_from, at_line, layout_of, most_text}
@@ -50,7 +52,7 @@ pub at_line_ok : {A B : Type 0} (n : ℕ) (r : Result A AsmFaultKind) (f : A →
 at_line_ok n (Ok x) f y h = record { value = x; first = refl; second = h }
 at_line_ok n (Err e) f y h = absurd cc
 
-abbrev ok : {A : Type 0} → A → Result A AsmFaultKind
+abbrev pub ok : {A : Type 0} → A → Result A AsmFaultKind
 ok x = Ok x
 
 pub ok_is : {A : Type 0} (x y : A) → let l : Result A AsmFaultKind = Ok x in let r : Result A AsmFaultKind = Ok y in l ≡ r → x ≡ y
@@ -69,7 +71,62 @@ total-cons x xs = sum_by-append (λ i. length_of i.statement) (x ∷ []) xs ∙ 
 
 -- ---- the first pass
 
-abbrev Ends : Layout → Type 0
+pub if_ok : {A : Type 0} (b : Bool) (e : AsmFaultKind) (r : Result A AsmFaultKind) (y : A) → (if b then Err e else r) ≡ Ok y → r ≡ Ok y
+if_ok true e r y h = absurd cc
+if_ok false e r y h = h
+
+pair_first : {A B : Type 0} (x y : A × B) → ok x ≡ ok y → x.0 ≡ y.0
+pair_first x y h = ap (λ p. p.0) (ok_is x y h)
+
+-- a fact that each new label and each new instruction keeps
+pub record IsKept (P : Layout → Type 0) : Type 0 where
+  pub label : (n : ℕ) (s : Layout) (w : List ℕ) → P s → P (with_label n s w)
+  pub instruction : (n : ℕ) (s : Layout) (u : Use) → P s → P (with_item n s (Instruction u))
+
+labels_at-keeps : (P : Layout → Type 0) → IsKept P → (n : ℕ) (s : Layout) (ts : List Lexeme) (f : Layout × List Lexeme) → labels_at n s ts ≡ Ok f → P s → P f.0
+unfolding labels_at
+labels_at-keeps P k n s (name w ∷ colon ∷ rest) f h p = labels_at-keeps P k n (with_label n s w) rest f (if_ok (is_some (address_in w s.labels)) _ (labels_at n (with_label n s w) rest) f h) (k.label n s w p)
+labels_at-keeps P k n s ts f h p = subst P (pair_first (s, ts) f h) p
+
+-- a line's statement is an instruction
+abbrev IsInstruction : Option Statement → Type 0
+IsInstruction None = Unit {0}
+IsInstruction (Some (Label w)) = ⊥
+IsInstruction (Some (Instruction u)) = Unit {0}
+
+instruction_at-is : (w : List ℕ) (ts : List Lexeme) (o : Option Statement) → instruction_at w ts ≡ Ok o → IsInstruction o
+instruction_at-is w ts o h =
+    let a = bind_ok (instruction_of w (arguments_of ts)) (λ u. ok (Some (Instruction u))) o h in
+    subst IsInstruction (ok_is (Some (Instruction a.value)) o a.second) tt
+
+statement_of-is : (ts : List Lexeme) (o : Option Statement) → statement_of ts ≡ Ok o → IsInstruction o
+unfolding statement_of
+statement_of-is [] o h = subst IsInstruction (ok_is None o h) tt
+statement_of-is (name w ∷ ts) o h = instruction_at-is w ts o (if_ok (begins_with_dot w) _ (instruction_at w ts) o h)
+statement_of-is ts o h = absurd cc
+
+placed-keeps : (P : Layout → Type 0) → IsKept P → (n : ℕ) (s t : Layout) (stated : Option Statement) → IsInstruction stated → placed n s stated ≡ Ok t → P s → P t
+unfolding placed
+placed-keeps P k n s t None is h p = subst P (ok_is s t h) p
+placed-keeps P k n s t (Some (Label w)) is h p = absurd is
+placed-keeps P k n s t (Some (Instruction u)) is h p = subst P (ok_is (with_item n s (Instruction u)) t (if_ok (nat_lt most_text (s.at + length_of (Instruction u))) _ (Ok (with_item n s (Instruction u))) t h)) (k.instruction n s u p)
+
+line_step-keeps : (P : Layout → Type 0) → IsKept P → (n : ℕ) (s t : Layout) (line : List ℕ) → line_step n s line ≡ Ok t → P s → P t
+unfolding line_step
+line_step-keeps P k n s t line h p =
+    let a = bind_ok (tokens_of line) _ t h in
+    let b = bind_ok (labels_at n s a.value) _ t a.second in
+    let c = bind_ok (statement_of b.value.1) _ t b.second in
+    placed-keeps P k n b.value.0 t c.value (statement_of-is b.value.1 c.value c.first) c.second (labels_at-keeps P k n s a.value b.value b.first p)
+
+pub lines_from-keeps : (P : Layout → Type 0) → IsKept P → (n : ℕ) (s t : Layout) (ls : List (List ℕ)) → lines_from n s ls ≡ Ok t → P s → P t
+unfolding lines_from
+lines_from-keeps P k n s t [] h p = subst P (line_ok s t h) p
+lines_from-keeps P k n s t (line ∷ others) h p =
+    let a = at_line_ok n (line_step n s line) (λ u. lines_from (n + 1) u others) t h in
+    lines_from-keeps P k (n + 1) a.value t others a.second (line_step-keeps P k n s a.value line a.first p)
+
+abbrev pub Ends : Layout → Type 0
 Ends s = s.at ≡ total s.items
 
 with_item-ends : (n : ℕ) (s : Layout) (stated : Statement) → Ends s → Ends (with_item n s stated)
@@ -77,37 +134,8 @@ with_item-ends n s stated h =
     let push = total-push s.items (record { line = n; at = s.at; statement = stated }) in
     sym (push ∙ ap (λ k. k + length_of stated) (sym h))
 
-if_ok : {A : Type 0} (b : Bool) (e : AsmFaultKind) (r : Result A AsmFaultKind) (y : A) → (if b then Err e else r) ≡ Ok y → r ≡ Ok y
-if_ok true e r y h = absurd cc
-if_ok false e r y h = h
-
-pair_first : {A B : Type 0} (x y : A × B) → ok x ≡ ok y → x.0 ≡ y.0
-pair_first x y h = ap (λ p. p.0) (ok_is x y h)
-
-labels_at-ends : (n : ℕ) (s : Layout) (ts : List Lexeme) (f : Layout × List Lexeme) → labels_at n s ts ≡ Ok f → Ends s → Ends f.0
-unfolding labels_at
-labels_at-ends n s (name w ∷ colon ∷ rest) f h p = labels_at-ends n (with_label n s w) rest f (if_ok (is_some (address_in w s.labels)) _ (labels_at n (with_label n s w) rest) f h) (with_item-ends n s (Label w) p)
-labels_at-ends n s ts f h p = subst Ends (pair_first (s, ts) f h) p
-
-placed-ends : (n : ℕ) (s t : Layout) (stated : Option Statement) → placed n s stated ≡ Ok t → Ends s → Ends t
-unfolding placed
-placed-ends n s t None h p = subst Ends (ok_is s t h) p
-placed-ends n s t (Some stated) h p = subst Ends (ok_is (with_item n s stated) t (if_ok (nat_lt most_text (s.at + length_of stated)) _ (Ok (with_item n s stated)) t h)) (with_item-ends n s stated p)
-
-line_step-ends : (n : ℕ) (s t : Layout) (line : List ℕ) → line_step n s line ≡ Ok t → Ends s → Ends t
-unfolding line_step
-line_step-ends n s t line h p =
-    let a = bind_ok (tokens_of line) _ t h in
-    let b = bind_ok (labels_at n s a.value) _ t a.second in
-    let c = bind_ok (statement_of b.value.1) _ t b.second in
-    placed-ends n b.value.0 t c.value c.second (labels_at-ends n s a.value b.value b.first p)
-
-lines_from-ends : (n : ℕ) (s t : Layout) (ls : List (List ℕ)) → lines_from n s ls ≡ Ok t → Ends s → Ends t
-unfolding lines_from
-lines_from-ends n s t [] h p = subst Ends (line_ok s t h) p
-lines_from-ends n s t (line ∷ others) h p =
-    let a = at_line_ok n (line_step n s line) (λ u. lines_from (n + 1) u others) t h in
-    lines_from-ends (n + 1) a.value t others a.second (line_step-ends n s a.value line a.first p)
+pub ends_kept : IsKept Ends
+ends_kept = record { label = λ n s w p. with_item-ends n s (Label w) p; instruction = λ n s u p. with_item-ends n s (Instruction u) p }
 
 -- ---- the second pass
 
@@ -164,7 +192,7 @@ word_bytes-length : (words : List ℕ) → length (word_bytes words) ≡ 4 * len
 word_bytes-length [] = refl
 word_bytes-length (w ∷ ws) = omega (arith, length-append (to_le_bytes w32 w) (word_bytes ws), word_bytes-length ws)
 
-with_use-length : (labels : List (List ℕ × ℕ)) (at : ℕ) (u : Use) (old made : List ℕ) → with_use labels at u old ≡ Ok made → length made ≡ length old + use_length u
+pub with_use-length : (labels : List (List ℕ × ℕ)) (at : ℕ) (u : Use) (old made : List ℕ) → with_use labels at u old ≡ Ok made → length made ≡ length old + use_length u
 unfolding with_use use_length
 with_use-length labels at u old made h =
     let a = bind_ok (words_of labels at u.template u.filled) (λ words. ok (old ++ word_bytes words)) made h in
@@ -181,7 +209,7 @@ EntryAt end (Some at) = (at < end) × (at % 4 ≡ 0)
 text_address : (end at : ℕ) → is_text_address end at ≡ true → EntryAt end (Some at)
 text_address end at h = search (rules, tests)
 
-record Grown (end : ℕ) (o p : Output) (by : ℕ) : Type 0 where
+pub record Grown (end : ℕ) (o p : Output) (by : ℕ) : Type 0 where
   pub longer : length p.text ≡ length o.text + by
   pub entry : EntryAt end o.entry → EntryAt end p.entry
 
@@ -190,7 +218,7 @@ label_cases true true at end o p there h = let e = ok_is (record o { entry = Som
 label_cases true false at end o p there h = absurd cc
 label_cases false c at end o p there h = subst (λ q. Grown end o q 0) (ok_is o p h) (record { longer = sym (add-zero (length o.text)); entry = λ x. x })
 
-stated_step-grows : (s : Layout) (at : ℕ) (stated : Statement) (o p : Output) → stated_step s at stated o ≡ Ok p → Grown s.at o p (length_of stated)
+pub stated_step-grows : (s : Layout) (at : ℕ) (stated : Statement) (o p : Output) → stated_step s at stated o ≡ Ok p → Grown s.at o p (length_of stated)
 unfolding stated_step label_step
 stated_step-grows s at (Label w) o p h = label_cases (bytes_eq w (codes "_start")) (is_text_address s.at at) at s.at o p (text_address s.at at) h
 stated_step-grows s at (Instruction u) o p h =
@@ -198,7 +226,7 @@ stated_step-grows s at (Instruction u) o p h =
     let e = ok_is (record o { text = a.value }) p a.second in
     subst (λ q. Grown s.at o q (use_length u)) e (record { longer = with_use-length s.labels at u o.text a.value a.first; entry = λ x. x })
 
-items_from-grows : (s : Layout) (o p : Output) (xs : List Item) → items_from s o xs ≡ Ok p → Grown s.at o p (total xs)
+pub items_from-grows : (s : Layout) (o p : Output) (xs : List Item) → items_from s o xs ≡ Ok p → Grown s.at o p (total xs)
 unfolding items_from
 items_from-grows s o p [] h = subst (λ q. Grown s.at o q 0) (line_ok o p h) (record { longer = sym (add-zero (length o.text)); entry = λ x. x })
 items_from-grows s o p (x ∷ others) h =
@@ -227,7 +255,7 @@ entry_in bytes end (Some at) same h = (omega arith, h.1)
 
 pub whole_output : (source : List ℕ) (s : Layout) (o : Output) → layout_of source ≡ Ok s → items_from s empty_output s.items ≡ Ok o → IsWhole o
 whole_output source s o laid made =
-    let end = lines_from-ends 1 empty_layout s (lines source) laid refl in
+    let end = lines_from-keeps Ends ends_kept 1 empty_layout s (lines source) laid refl in
     let grown = items_from-grows s empty_output o s.items made in
     record {
       whole_words = omega (arith, grown.longer, total-words s.items);

@@ -1,12 +1,13 @@
 //! Both passes, and what is tested of the whole.
 
-ghost use Rattle.std.specs.Prelude.{◌≡◌, ◌≤◌, ◌<◌, ◌+◌, ◌^◌, length, List, ℕ, map, MatchResult, IfOk, IfErr, Ok};
+ghost use Rattle.std.specs.Prelude.{◌≡◌, ◌≤◌, ◌<◌, ◌+◌, ◌^◌, length, List, ℕ, map, MatchResult, IfOk, IfErr, OnOk, Ok};
 ghost use Rattle.std.specs.Str.Lines.{lines};
 ghost use Rattle.rv_asm_tokens.specs.Fault.{Fails};
-ghost use Rattle.rv_asm.specs.Layout.{length_of, placed, line_step, layout_of};
-ghost use Rattle.rv_asm.specs.LayoutView.{layout_view};
+ghost use Rattle.rv_asm.specs.Layout.{Layout as Laid, length_of, placed, line_step, layout_of};
+ghost use Rattle.rv_asm.specs.LayoutView.{labels_view, layout_view};
 ghost use Rattle.rv_asm.specs.Output.{items_from, empty_output};
 ghost use Rattle.rv_asm.specs.OutputView.{output_view};
+ghost use Rattle.rv_asm.specs.Places.{AreSound, HoldCode};
 ghost use Rattle.rv_asm.specs.Source.{FailsAt, IsWhole, finished, meaning};
 
 use crate::labels::take_labels;
@@ -107,9 +108,10 @@ fn layout_source(alloc: Global, source: &str) -> Result<Layout, AsmFault>
 
 /// The text and the entry, or the first fault of the second pass.
 fn make_output(alloc: Global, layout: &Layout) -> Result<Output, AsmFault>
-    ensures { MatchResult result
+    ensures output { MatchResult result
         (λ output. items_from (layout_view layout.now) empty_output layout.now.items.items ≡ Ok (output_view output))
         (λ fault. FailsAt fault (items_from (layout_view layout.now) empty_output layout.now.items.items)) }
+    ensures sound { OnOk result (AreSound (labels_view layout.now.labels.entries) layout.now.items.items) }
 {
     let mut output = Output {
         text: Vec::new(alloc),
@@ -172,6 +174,9 @@ fn finish(alloc: Global, output: Output) -> Result<Image, AsmFault>
 pub fn assemble(alloc: Global, source: &str) -> Result<Image, AsmFault>
     ensures image { IfOk result (λ image. meaning source.now ≡ Ok image) }
     ensures fault { IfErr result (λ fault. FailsAt fault (meaning source.now)) }
+
+    // Each instruction of the source stands at its address: the words there decode to it.
+    ensures decodes { IfOk result (λ image. (s : Laid) → layout_of source.now ≡ Ok s → HoldCode s.labels image.text s.items) }
 {
     let layout = layout_source(alloc, source)?;
     let output = make_output(alloc, &layout)?;

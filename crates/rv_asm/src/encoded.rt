@@ -6,6 +6,8 @@ ghost use Rattle.std.specs.Int.{w32, to_le_bytes};
 ghost use Rattle.rv_asm_tokens.specs.Fault.{Fails};
 ghost use Rattle.rv_asm.specs.LayoutView.{labels_view};
 ghost use Rattle.rv_asm.specs.WordsView.{words_list};
+ghost use Rattle.rv_asm.specs.Resolved.{instrs_of};
+ghost use Rattle.rv_asm.specs.Places.{AllWritten, IfRight};
 ghost use Rattle.rv_asm.specs.Output.{with_use};
 
 use crate::resolved::{Words, words_of};
@@ -38,9 +40,10 @@ pub fn put_use(
     found: &Use,
     text: &mut Vec<u8>,
 ) -> Result<(), AsmFaultKind>
-    ensures { MatchResult result
+    ensures text { MatchResult result
         (λ _. with_use (labels_view labels.now.entries) at found.now text.old.items ≡ Ok text.new.items)
         (λ e. Fails e (with_use (labels_view labels.now.entries) at found.now text.old.items)) }
+    ensures written { OnOk result (IfRight (instrs_of (labels_view labels.now.entries) at found.now.template found.now.filled) AllWritten) }
 {
     let words = words_of(labels, at, found.template, &found.filled)?;
     put_words(text, &words)?;

@@ -4,6 +4,7 @@
 mod assembling;
 mod encoded;
 mod labels;
+pub mod laws;
 mod layout;
 mod offsets;
 mod output;
@@ -12,5 +13,7 @@ mod resolved;
 pub use assembling::assemble;
 pub use rv_asm_tokens::{AsmFault, AsmFaultKind};
 
+#[cfg(test)]
+mod gnu_table;
 #[cfg(test)]
 mod tests;

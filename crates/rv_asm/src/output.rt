@@ -1,9 +1,10 @@
 //! The second pass: the bytes of each statement, and the entry.
 
-ghost use Rattle.std.specs.Prelude.{◌≡◌, MatchResult, Ok};
+ghost use Rattle.std.specs.Prelude.{◌≡◌, MatchResult, OnOk, Ok};
 ghost use Rattle.rv_asm_tokens.specs.Fault.{Fails};
 ghost use Rattle.rv_asm.specs.Output.{is_text_address, label_step, stated_step};
-ghost use Rattle.rv_asm.specs.LayoutView.{layout_view};
+ghost use Rattle.rv_asm.specs.LayoutView.{labels_view, layout_view};
+ghost use Rattle.rv_asm.specs.Places.{IsSound};
 ghost use Rattle.rv_asm.specs.OutputView.{output_view};
 
 use crate::encoded::put_use;
@@ -42,9 +43,10 @@ fn take_label(end: u64, name: &[u8], at: u64, output: &mut Output) -> Result<(),
 /// Adds what one item is.
 #[tactic(auto, unfolding(crate::specs::Output::stated_step))]
 pub fn take_item(layout: &Layout, item: &Item, output: &mut Output) -> Result<(), AsmFaultKind>
-    ensures { MatchResult result
+    ensures output { MatchResult result
         (λ _. stated_step (layout_view layout.now) item.now.at item.now.statement (output_view output.old) ≡ Ok (output_view output.new))
         (λ e. Fails e (stated_step (layout_view layout.now) item.now.at item.now.statement (output_view output.old))) }
+    ensures sound { OnOk result (IsSound (labels_view layout.now.labels.entries) item.now.at item.now.statement) }
 {
     match &item.statement {
         Statement::Label(name) => take_label(layout.at, name.as_slice(), item.at, output),

@@ -1,11 +1,12 @@
 //! The instructions of a mnemonic and its operands.
 
-ghost use Rattle.std.specs.Prelude.{◌≡◌, ◌≤◌, ◌∷◌, ◌++◌, ◌-◌, ◌^◌, map, IfOk, pos, negsuc, neg_ℤ, ◌≤ℤ◌, ◌+ℤ◌, ◌-ℤ◌, ◌*ℤ◌, []};
+ghost use Rattle.std.specs.Prelude.{◌≡◌, ◌≤◌, ◌∷◌, ◌++◌, ◌-◌, ◌^◌, map, IfOk, OnOk, pos, negsuc, neg_ℤ, ◌≤ℤ◌, ◌+ℤ◌, ◌-ℤ◌, ◌*ℤ◌, []};
 ghost use Rattle.rv_decode.specs.Table.{Fits, amount_bits, written_word};
 ghost use Rattle.rv_asm_tokens.specs.Fault.{Gives};
 ghost use Rattle.rv_asm.specs.LayoutView.{labels_view};
+ghost use Rattle.rv_asm.specs.Places.{IsWritten, AllWritten, IfRight};
 ghost use Rattle.rv_asm.specs.WordsView.{words_list};
-ghost use Rattle.rv_asm.specs.Resolved.{register_at, number_at, lui_high, low_part, high_part, load_immediate, load_address, is_between, count_of, use_length, words_of as resolved_words, imm_12};
+ghost use Rattle.rv_asm.specs.Resolved.{register_at, number_at, lui_high, low_part, high_part, load_immediate, load_address, is_between, count_of, use_length, instrs_of, words_of as resolved_words, imm_12};
 
 use crate::offsets::{even_within, offset, upper, within};
 use indexmap::IndexMap;
@@ -51,7 +52,8 @@ fn immediate(number: i128) -> Result<i32, AsmFaultKind>
 
 fn one(instr: Instr) -> Words
     requires { Fits instr }
-    ensures { words_list result ≡ written_word instr ∷ [] }
+    ensures words { words_list result ≡ written_word instr ∷ [] }
+    ensures written { IsWritten instr }
 {
     Words {
         first: encode(&instr),
@@ -62,7 +64,9 @@ fn one(instr: Instr) -> Words
 fn two(first: Instr, second: Instr) -> Words
     requires first_fits { Fits first }
     requires second_fits { Fits second }
-    ensures { words_list result ≡ written_word first ∷ written_word second ∷ [] }
+    ensures words { words_list result ≡ written_word first ∷ written_word second ∷ [] }
+    ensures first { IsWritten first }
+    ensures second { IsWritten second }
 {
     Words {
         first: encode(&first),
@@ -122,7 +126,8 @@ fn load_high(d: Reg, z: i128) -> Instr
 
 /// `li`, of a number of 32 bits with a sign.
 fn immediate_words(d: Reg, z: i32) -> Words
-    ensures { words_list result ≡ map written_word (load_immediate d z) }
+    ensures words { words_list result ≡ map written_word (load_immediate d z) }
+    ensures written { AllWritten (load_immediate d z) }
 {
     if z >= -2048 && z <= 2047 {
         return one(Instr::Imm {
@@ -153,7 +158,8 @@ fn immediate_words(d: Reg, z: i32) -> Words
 fn address_words(d: Reg, z: i128) -> Words
     requires low { neg_ℤ (pos (2 ^ 70)) ≤ℤ z }
     requires high { z ≤ℤ pos (2 ^ 70) }
-    ensures { words_list result ≡ map written_word (load_address d z) }
+    ensures words { words_list result ≡ map written_word (load_address d z) }
+    ensures written { AllWritten (load_address d z) }
 {
     two(
         load_high(d, z),
@@ -184,7 +190,8 @@ pub fn words_of(
     template: Template,
     o: &Filled,
 ) -> Result<Words, AsmFaultKind>
-    ensures { Gives words_list result (resolved_words (labels_view labels.now.entries) at template o.now) }
+    ensures value { Gives words_list result (resolved_words (labels_view labels.now.entries) at template o.now) }
+    ensures written { OnOk result (IfRight (instrs_of (labels_view labels.now.entries) at template o.now) AllWritten) }
 {
     let written = o.target.number.value();
     match template {

@@ -1,7 +1,11 @@
 use Rattle.rv_asm.proofs.Wholeness.{whole_output}
+use Rattle.rv_asm.proofs.Placed.{image_holds}
 use Rattle.rv_asm.specs.LayoutView.{layout_view}
 use Rattle.rv_asm.specs.OutputView.{output_view}
 use Rattle.rv_asm.proofs.assembling.assemble.Goals as goal
 
 pub finish-requires : goal.finish-requires
-finish-requires c = whole_output c.args.source.now (layout_view c.in_ok-layout.layout) (output_view c.in_ok-output.output) c.in_ok-layout.ensures c.in_ok-output.ensures
+finish-requires c = whole_output c.args.source.now (layout_view c.in_ok-layout.layout) (output_view c.in_ok-output.output) c.in_ok-layout.ensures c.in_ok-output.ensures.output
+
+pub returns-clause-decodes : goal.returns-clause-decodes
+returns-clause-decodes c = image_holds c.args.source.now c.finish.result (layout_view c.in_ok-layout.layout) (output_view c.in_ok-output.output) c.in_ok-layout.ensures c.in_ok-output.ensures.output c.in_ok-output.ensures.sound c.finish.ensures
