@@ -1,3 +1,4 @@
+-- The lemmas of the box, from its lists up to what it is left with.
 pub mod Lists
 pub mod GateKept
 pub mod Allowed

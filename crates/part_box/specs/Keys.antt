@@ -24,10 +24,10 @@ pub record Receiver : Type 0 where
   pub view : Receiving
 
 abbrev pub new_sender : BoxId → Sender
-new_sender z = record { at = z; view = nothing_sent }
+new_sender at = record { at = at; view = nothing_sent }
 
 abbrev pub new_receiver : BoxId → Receiver
-new_receiver z = record { at = z; view = nothing_received }
+new_receiver at = record { at = at; view = nothing_received }
 
 abbrev pub after_fill : Sender → ℕ → Sender
 after_fill k word = record k { view = with_word k.view word }

@@ -1,6 +1,8 @@
+-- The definitions of the box, from its gate words up to what it is left with.
 pub mod Gate
 pub mod Steps
 pub mod Rule
 pub mod Fields
 pub mod Keys
 pub mod Settling
+pub mod Worked

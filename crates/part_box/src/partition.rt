@@ -160,7 +160,10 @@ impl PartBox {
         key.copied = 0;
     }
 
-    /// What the box is left with, told against all that its keys made and got. A half-done fill or copy may stand.
+    /// What lies in the box at the end.
+    ///
+    /// It is full exactly where one thing that was made ready wasn't taken; what was taken is the beginning of what was
+    /// made. A half-done fill or copy may stand.
     ///
     /// Both keys are this box's.
     pub fn settle(self, send: SendKey, recv: RecvKey) -> Settled

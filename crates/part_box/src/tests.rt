@@ -1,4 +1,4 @@
-//! What no clause says: that the calls succeed, the worked rows, and a run with two threads.
+//! What no clause says: that the calls succeed, one thing from look to freed, and a run with two threads.
 ghost use Rattle.std.specs.Prelude.{◌≡◌, ℕ, ◌+◌, ◌-◌, ◌^◌, ◌<◌, [], ◌++◌, length, Some, None, IfSome, IsTrue};
 ghost use Rattle.part_box.specs.Keys.{new_sender, new_receiver, after_ready, after_empty};
 
@@ -18,8 +18,12 @@ fn gate(place: &PartBox) -> u64 {
     place.table.shared.peek(0)
 }
 
-fn is_empty_at(left: &Settled, stamp: u64) -> bool {
-    !left.full && left.stamp == stamp && left.words == [0; 8]
+fn empty_at(stamp: u64) -> Settled {
+    Settled {
+        full: false,
+        stamp,
+        words: [0; 8],
+    }
 }
 
 fn make(place: &PartBox, key: &mut SendKey, words: &[u64; 8], stamp: u64)
@@ -51,7 +55,7 @@ fn take(place: &PartBox, key: &mut RecvKey, stamp: u64) -> [u64; 8]
 #[test]
 fn a_new_box_settles_empty(rt: HostRuntime) -> Result<(), Fail> {
     let (place, send, recv) = PartBox::new(rt.alloc())?;
-    assert!(rt; is_empty_at(&place.settle(send, recv), 0));
+    assert_eq!(rt; place.settle(send, recv), empty_at(0));
     Ok(())
 }
 
@@ -61,7 +65,7 @@ fn three_fills_settle_empty(rt: HostRuntime) -> Result<(), Fail> {
     place.fill(&mut send, 7);
     place.fill(&mut send, 8);
     place.fill(&mut send, 9);
-    assert!(rt; is_empty_at(&place.settle(send, recv), 0));
+    assert_eq!(rt; place.settle(send, recv), empty_at(0));
     Ok(())
 }
 
@@ -69,8 +73,12 @@ fn three_fills_settle_empty(rt: HostRuntime) -> Result<(), Fail> {
 fn a_ready_thing_settles_full(rt: HostRuntime) -> Result<(), Fail> {
     let (place, mut send, recv) = PartBox::new(rt.alloc())?;
     make(&place, &mut send, &WORDS, 5);
-    let left = place.settle(send, recv);
-    assert!(rt; left.full && left.stamp == 5 && left.words == WORDS);
+    let full = Settled {
+        full: true,
+        stamp: 5,
+        words: WORDS,
+    };
+    assert_eq!(rt; place.settle(send, recv), full);
     Ok(())
 }
 
@@ -78,18 +86,18 @@ fn a_ready_thing_settles_full(rt: HostRuntime) -> Result<(), Fail> {
 #[test]
 fn one_thing_goes_through(rt: HostRuntime) -> Result<(), Fail> {
     let (place, mut send, mut recv) = PartBox::new(rt.alloc())?;
-    assert!(rt; place.look(&mut recv).is_none());
+    assert_eq!(rt; place.look(&mut recv), None);
     make(&place, &mut send, &WORDS, 5);
-    assert!(rt; gate(&place) == 11);
-    assert!(rt; place.freed(&mut send).is_none());
+    assert_eq!(rt; gate(&place), 11);
+    assert_eq!(rt; place.freed(&mut send), None);
     let Some(seen) = place.look(&mut recv) else {
         panic!(rt; "the look missed a thing that was ready")
     };
-    assert!(rt; seen == 5);
-    assert!(rt; take(&place, &mut recv, 9) == WORDS);
-    assert!(rt; gate(&place) == 18);
-    assert!(rt; place.freed(&mut send) == Some(9));
-    assert!(rt; is_empty_at(&place.settle(send, recv), 9));
+    assert_eq!(rt; seen, 5);
+    assert_eq!(rt; take(&place, &mut recv, 9), WORDS);
+    assert_eq!(rt; gate(&place), 18);
+    assert_eq!(rt; place.freed(&mut send), Some(9));
+    assert_eq!(rt; place.settle(send, recv), empty_at(9));
     Ok(())
 }
 
@@ -97,8 +105,8 @@ fn one_thing_goes_through(rt: HostRuntime) -> Result<(), Fail> {
 fn the_greatest_stamp_shows_nothing(rt: HostRuntime) -> Result<(), Fail> {
     let (place, mut send, mut recv) = PartBox::new(rt.alloc())?;
     make(&place, &mut send, &[0; 8], 4_611_686_018_427_387_903);
-    assert!(rt; gate(&place) == 9_223_372_036_854_775_807);
-    assert!(rt; place.look(&mut recv).is_none());
+    assert_eq!(rt; gate(&place), 9_223_372_036_854_775_807);
+    assert_eq!(rt; place.look(&mut recv), None);
     Ok(())
 }
 
@@ -194,9 +202,8 @@ fn two_threads_pass_a_thousand_things(rt: HostRuntime) -> Result<(), Fail> {
             }
         },
     );
-    assert!(rt; done.0 == MAKES);
-    assert!(rt; done.1 == MAKES);
+    assert_eq!(rt; done, (MAKES, MAKES));
     // The first stamp is 1, and each make and each take adds one: the last take has stamp 2 * MAKES.
-    assert!(rt; gate(&place) == 4 * MAKES);
+    assert_eq!(rt; gate(&place), 4 * MAKES);
     Ok(())
 }

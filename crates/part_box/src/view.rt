@@ -55,7 +55,9 @@ pub struct Receiving {
 
 /// What one seat of the words knows: a sender's seat, a receiver's, both in one, or a spent one that is neither.
 pub struct View {
+    /// Whether it is a sender's: then what it knows as a sender holds of the box.
     pub sends: bool,
+    /// Whether it is a receiver's: then what it knows as a receiver holds of the box.
     pub receives: bool,
     /// Known to the seat where it sends.
     pub sending: Sending,

@@ -1,3 +1,4 @@
+-- While one thing is taken: the words read so far are the copied ones.
 use Rattle.std.proofs.Common.{◌≡◌, length, take}
 use Rattle.bench_box.proofs.relay.take.Given as goal
 

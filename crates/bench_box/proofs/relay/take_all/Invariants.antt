@@ -1,3 +1,4 @@
+-- Between two takes: the key is this box's, nothing is pending, and nothing is copied.
 use Rattle.std.proofs.Common.{◌≡◌, [], None}
 use Rattle.bench_box.proofs.relay.take_all.Given as goal
 

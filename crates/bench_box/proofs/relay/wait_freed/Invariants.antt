@@ -1,3 +1,4 @@
+-- While the sender looks: looks alone were made with the key.
 use Rattle.bench_box.specs.Relay.{IsSameSender}
 use Rattle.bench_box.proofs.relay.wait_freed.Given as goal
 

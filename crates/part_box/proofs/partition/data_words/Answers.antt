@@ -1,3 +1,4 @@
+-- One more data word is read.
 use Rattle.std.proofs.Common.{arith}
 use Rattle.std.specs.Slots.{slots_items}
 use Rattle.part_box.proofs.Lists.{data_read}

@@ -1,3 +1,4 @@
+-- While one thing is made: the words stored so far are the filled ones.
 use Rattle.std.proofs.Common.{◌≡◌, take}
 use Rattle.part_box.proofs.tests.make.Given as goal
 

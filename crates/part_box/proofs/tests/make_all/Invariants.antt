@@ -1,3 +1,4 @@
+-- Between two makes: the key is this box's and open, nothing is filled, and the next stamp is above its front.
 use Rattle.std.proofs.Common.{◌≡◌, ◌<◌, ◌^◌, [], true}
 use Rattle.part_box.proofs.tests.make_all.Given as goal
 

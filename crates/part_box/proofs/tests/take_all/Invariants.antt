@@ -1,3 +1,4 @@
+-- Between two takes: the key is this box's, nothing is pending, and nothing is copied.
 use Rattle.std.proofs.Common.{◌≡◌, [], None}
 use Rattle.part_box.proofs.tests.take_all.Given as goal
 

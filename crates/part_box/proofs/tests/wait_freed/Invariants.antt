@@ -1,3 +1,4 @@
+-- While the sender looks: nothing more is made, and nothing more is filled.
 use Rattle.std.proofs.Common.{◌≡◌}
 use Rattle.part_box.proofs.tests.wait_freed.Given as goal
 

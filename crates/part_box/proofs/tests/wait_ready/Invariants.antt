@@ -1,3 +1,4 @@
+-- While the receiver looks: nothing is seen yet, and nothing more is copied.
 use Rattle.std.proofs.Common.{◌≡◌, None}
 use Rattle.part_box.proofs.tests.wait_ready.Given as goal
 

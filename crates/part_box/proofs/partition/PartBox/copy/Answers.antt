@@ -1,3 +1,4 @@
+-- A receiver with a thing pending may load its next data word.
 use Rattle.std.proofs.Common.{arith, ◌≡◌, ℕ, length, true≢false, IsSome, Option, None, Some, refl, sym, ap, ◌∙◌}
 use Rattle.part_box.specs.Keys.{Place, Receiver}
 use Rattle.part_box.proofs.Allowed.{copies}

@@ -1,3 +1,4 @@
+-- A receiver that has copied all words may store an even gate.
 use Rattle.std.proofs.Common.{arith, ◌≡◌, ℕ, ◌*◌, ◌/◌, ◌%◌, length, ap, ◌∙◌}
 use Rattle.part_box.specs.Keys.{Place, Receiver}
 use Rattle.part_box.proofs.Allowed.{empties}

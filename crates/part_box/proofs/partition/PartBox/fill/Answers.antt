@@ -1,3 +1,4 @@
+-- An open sender may store its next data word.
 use Rattle.std.proofs.Common.{arith, ◌≡◌, length, ap, ◌∙◌}
 use Rattle.part_box.specs.Keys.{Place, Sender}
 use Rattle.part_box.proofs.Allowed.{fills}

@@ -1,3 +1,4 @@
+-- The receiver may load the gate while nothing is pending.
 use Rattle.std.proofs.Common.{arith, ◌≡◌, ap, ◌∙◌}
 use Rattle.part_box.specs.Keys.{Receiver}
 use Rattle.part_box.proofs.Allowed.{looks}

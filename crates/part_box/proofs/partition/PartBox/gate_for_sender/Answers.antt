@@ -1,3 +1,4 @@
+-- The sender may load the gate at any time.
 use Rattle.std.proofs.Common.{arith}
 use Rattle.part_box.proofs.Allowed.{frees}
 use Rattle.part_box.proofs.Owned.{sender_owned}

@@ -1,3 +1,4 @@
+-- Words that are all 0 keep the gate rule of a new box, and its one seat splits into the two keys.
 use Rattle.std.proofs.Common.{ℕ, ◌+◌, ◌≤◌, List, length, take, replicate, rules, arith, ap}
 use Rattle.std.proofs.lemmas.List.{length-take-le, get_or-take}
 use Rattle.part_box.proofs.Allowed.{starts, splits}

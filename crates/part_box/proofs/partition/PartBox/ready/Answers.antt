@@ -1,3 +1,4 @@
+-- A sender that has filled all words may store an odd gate.
 use Rattle.std.proofs.Common.{arith, ◌≡◌, ℕ, ◌+◌, ◌*◌, ◌/◌, ◌%◌, length, ap}
 use Rattle.part_box.specs.Keys.{Place, Sender}
 use Rattle.part_box.proofs.Allowed.{readies}

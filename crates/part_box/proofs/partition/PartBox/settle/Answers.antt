@@ -1,3 +1,4 @@
+-- The two keys may be joined, and by the gate rule the box is settled by what its words spell.
 use Rattle.std.proofs.Common.{arith, ap, subst}
 use Rattle.std.specs.Slots.{slots_items}
 use Rattle.part_box.specs.declared.view.View.{View}
