@@ -1,4 +1,5 @@
--- The instruction of a word, as a function: the table looked up from the word's side.
+-- The instruction of a word, as a function: the table looked up from the word's side
+-- (RISC-V Unprivileged ISA 20191213, chapter 24).
 use Rattle.std.specs.Prelude.{ℕ, ◌==◌, ◌&&◌, Bool, Option, List, [], ◌∷◌, ◌++◌, map, find}
 use Rattle.rv_decode.specs.Fields.{opcode, rd, funct3, rs1, rs2, funct7, imm_i, imm_s, imm_b, imm_u, imm_j}
 use Rattle.rv_decode.specs.Table.{upper_row, branch_row, load_row, store_row, imm_row, shift_row, arith_row, jal_row, jalr_row, fence_row, ecall_word, ebreak_word, shift_amount, above_amount}

@@ -1,5 +1,5 @@
 //! From words to instructions.
-ghost use Rattle.std.specs.Prelude.{◌≡◌, ◌<◌, ◌↔◌, ◌==◌, IsNone, IfSome, Option, find};
+ghost use Rattle.std.specs.Prelude.{◌≡◌, ◌↔◌, IsNone, IfSome, find};
 ghost use Rattle.rv_decode.specs.Decoded.{decoded, same_pair, same_triple, branches, loads, stores, imms, shifts, ariths};
 ghost use Rattle.rv_decode.specs.Fields.{imm_i as imm_i_of, imm_s as imm_s_of, imm_b as imm_b_of, imm_u as imm_u_of, imm_j as imm_j_of, bits};
 ghost use Rattle.rv_decode.specs.Table.{IsWordOf, Fits, branch_row, load_row, store_row, imm_row, shift_row, arith_row};
@@ -501,6 +501,8 @@ fn system(word: u32) -> Option<Instr>
 fn by_opcode(word: u32) -> Option<Instr>
     ensures { result ≡ decoded word }
 {
+    // The order of the tests is free. Where the compiler makes a chain of compares, the first arms cost least, so that
+    // the commonest opcodes stand first; a jump table is as fast here, as was measured.
     match word % 0x80 {
         0x13 => imm(word),
         0x33 => arith(word),

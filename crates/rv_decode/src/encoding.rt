@@ -9,7 +9,9 @@ use crate::instruction::{Instr, ShiftOp};
 use crate::register::Reg;
 
 impl Instr {
-    /// Whether the format holds the instruction's immediate, offset or amount, so that a word stands for it.
+    /// Whether the format holds the instruction's immediate, offset or amount, so that a word stands for it: `imm` of
+    /// `Upper` a multiple of 4096; `off` of `Jal` even, -2^20 to 2^20 - 2; `off` of `Branch` even, -4096 to 4094; the other
+    /// immediates and offsets -2048 to 2047; `amount` below 64, that of a W shift below 32.
     pub fn fits(&self) -> bool
         ensures { IsTrue result ↔ Fits self.now }
     {

@@ -106,6 +106,16 @@ impl ShiftOp {
             ShiftOp::Sraiw => (0x1b, 5, 0x20),
         }
     }
+
+    // the value of the lowest bit above the amount
+    pub(crate) fn above_amount(self) -> u32
+        ensures { result ≡ 2 ^ (20 + amount_bits self) }
+    {
+        match self {
+            ShiftOp::Slli | ShiftOp::Srli | ShiftOp::Srai => 0x400_0000,
+            ShiftOp::Slliw | ShiftOp::Srliw | ShiftOp::Sraiw => 0x200_0000,
+        }
+    }
 }
 
 impl ArithOp {
@@ -145,18 +155,6 @@ impl ArithOp {
             ArithOp::Divuw => (0x3b, 5, 0x01),
             ArithOp::Remw => (0x3b, 6, 0x01),
             ArithOp::Remuw => (0x3b, 7, 0x01),
-        }
-    }
-}
-
-impl ShiftOp {
-    // the value of the lowest bit above the amount
-    pub(crate) fn above_amount(self) -> u32
-        ensures { result ≡ 2 ^ (20 + amount_bits self) }
-    {
-        match self {
-            ShiftOp::Slli | ShiftOp::Srli | ShiftOp::Srai => 0x400_0000,
-            ShiftOp::Slliw | ShiftOp::Srliw | ShiftOp::Sraiw => 0x200_0000,
         }
     }
 }

@@ -21,8 +21,15 @@ fn agrees_with_gnu_as(rt: HostRuntime) -> Result<(), Fail> {
 
 #[test]
 fn leaves_words_illegal(rt: HostRuntime) {
-    // slliw with bit 25 set; csrrw x0, 0, x0; all ones
-    for word in [0x0212_929b, 0x0000_1073, 0xffff_ffff] {
+    // slliw with bit 25 set; csrrw x0, 0, x0; fence.i; jalr x1, 0(x1) with funct3 1; all ones
+    let words = [
+        0x0212_929b,
+        0x0000_1073,
+        0x0000_100f,
+        0x0000_90e7,
+        0xffff_ffff,
+    ];
+    for word in words {
         assert_eq!(rt; decode(word), None, "at {word:x}");
     }
 }

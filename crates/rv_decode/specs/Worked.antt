@@ -1,6 +1,5 @@
 -- Worked values of the definitions: words that GNU as writes, and words that stand for nothing.
-use Rattle.std.proofs.Common.{◌≡◌, pos, negsuc, refl, Some, None}
-use Rattle.std.specs.Prelude.{codes}
+use Rattle.std.specs.Prelude.{◌≡◌, pos, negsuc, Some, None, codes, refl}
 use Rattle.std.specs.Fmt.{digits}
 use Rattle.rv_decode.specs.Fields.{bits, signed, imm_i, imm_s, imm_b, imm_u, imm_j}
 use Rattle.rv_decode.specs.Table.{IsWordOf, written_word}
@@ -15,91 +14,91 @@ use Rattle.rv_decode.specs.declared.instruction.ShiftOp.TheVariants.{Slliw}
 use Rattle.rv_decode.specs.declared.instruction.ArithOp.TheVariants.{Sub}
 
 -- fields
-upper_bits : bits 0xfff00293 31 20 ≡ 0xfff
+pub upper_bits : bits 0xfff00293 31 20 ≡ 0xfff
 upper_bits = refl
 
-signed_byte : signed 8 0xfe ≡ negsuc 1
+pub signed_byte : signed 8 0xfe ≡ negsuc 1
 signed_byte = refl
 
 -- the immediates of addi x5, x0, -1; sd x5, -8(x2); beq x5, x6, 8; lui x5, 0xa7; lui x5, 0x80000; jal x0, -4
-imm_of_addi : imm_i 0xfff00293 ≡ negsuc 0
+pub imm_of_addi : imm_i 0xfff00293 ≡ negsuc 0
 imm_of_addi = refl
 
-imm_of_sd : imm_s 0xfe513c23 ≡ negsuc 7
+pub imm_of_sd : imm_s 0xfe513c23 ≡ negsuc 7
 imm_of_sd = refl
 
-imm_of_beq : imm_b 0x00628463 ≡ pos 8
+pub imm_of_beq : imm_b 0x00628463 ≡ pos 8
 imm_of_beq = refl
 
-imm_of_lui : imm_u 0x000a72b7 ≡ pos 0xa7000
+pub imm_of_lui : imm_u 0x000a72b7 ≡ pos 0xa7000
 imm_of_lui = refl
 
-imm_of_high_lui : imm_u 0x800002b7 ≡ negsuc 0x7fffffff
+pub imm_of_high_lui : imm_u 0x800002b7 ≡ negsuc 0x7fffffff
 imm_of_high_lui = refl
 
-imm_of_jal : imm_j 0xffdff06f ≡ negsuc 3
+pub imm_of_jal : imm_j 0xffdff06f ≡ negsuc 3
 imm_of_jal = refl
 
 -- the table
-addi_word : IsWordOf 0xfff00293 (Imm Addi 5 0 (negsuc 0))
+pub addi_word : IsWordOf 0xfff00293 (Imm Addi 5 0 (negsuc 0))
 addi_word = ((refl, refl), refl, refl, refl)
 
-slliw_word : IsWordOf 0x0012929b (Shift Slliw 5 5 1)
+pub slliw_word : IsWordOf 0x0012929b (Shift Slliw 5 5 1)
 slliw_word = ((refl, refl, refl), refl, refl, refl)
 
-jalr_word : IsWordOf 0x000080e7 (Jalr 1 1 (pos 0))
+pub jalr_word : IsWordOf 0x000080e7 (Jalr 1 1 (pos 0))
 jalr_word = ((refl, refl), refl, refl, refl)
 
-bare_fence_word : IsWordOf 0x0000000f Fence
+pub bare_fence_word : IsWordOf 0x0000000f Fence
 bare_fence_word = (refl, refl)
 
-written_fence_word : IsWordOf (written_word Fence) Fence
+pub written_fence_word : IsWordOf (written_word Fence) Fence
 unfolding written_word
 written_fence_word = (refl, refl)
 
-written_sd : written_word (Store Sd 2 5 (negsuc 7)) ≡ 0xfe513c23
+pub written_sd : written_word (Store Sd 2 5 (negsuc 7)) ≡ 0xfe513c23
 unfolding written_word
 written_sd = refl
 
-written_beq : written_word (Branch Beq 5 6 (pos 8)) ≡ 0x00628463
+pub written_beq : written_word (Branch Beq 5 6 (pos 8)) ≡ 0x00628463
 unfolding written_word
 written_beq = refl
 
-written_jal : written_word (Jal 0 (negsuc 3)) ≡ 0xffdff06f
+pub written_jal : written_word (Jal 0 (negsuc 3)) ≡ 0xffdff06f
 unfolding written_word
 written_jal = refl
 
 -- the two words of li x5, 2147483647
-decoded_li : (decoded 0x800002b7 ≡ Some (Upper Lui 5 (negsuc 0x7fffffff))) × (decoded 0xfff2829b ≡ Some (Imm Addiw 5 5 (negsuc 0)))
+pub decoded_li : (decoded 0x800002b7 ≡ Some (Upper Lui 5 (negsuc 0x7fffffff))) × (decoded 0xfff2829b ≡ Some (Imm Addiw 5 5 (negsuc 0)))
 unfolding decoded
 decoded_li = (refl, refl)
 
-decoded_ecall : decoded 0x00000073 ≡ Some Ecall
+pub decoded_ecall : decoded 0x00000073 ≡ Some Ecall
 unfolding decoded
 decoded_ecall = refl
 
 -- slliw with bit 25 set, a word of the CSR instructions, and a word of no opcode
-illegal : (decoded 0x0212929b ≡ None) × (decoded 0x00001073 ≡ None) × (decoded 0xffffffff ≡ None)
+pub illegal : (decoded 0x0212929b ≡ None) × (decoded 0x00001073 ≡ None) × (decoded 0xffffffff ≡ None)
 unfolding decoded
 illegal = (refl, refl, refl)
 
 -- texts
-text_of_lui : instr_text (Upper Lui 5 (pos 0xa7000)) ≡ codes "lui x5, 0xa7"
+pub text_of_lui : instr_text (Upper Lui 5 (pos 0xa7000)) ≡ codes "lui x5, 0xa7"
 unfolding digits
 text_of_lui = refl
 
-text_of_high_lui : instr_text (Upper Lui 5 (negsuc 0x7fffffff)) ≡ codes "lui x5, 0x80000"
+pub text_of_high_lui : instr_text (Upper Lui 5 (negsuc 0x7fffffff)) ≡ codes "lui x5, 0x80000"
 unfolding digits
 text_of_high_lui = refl
 
-text_of_sd : instr_text (Store Sd 2 5 (negsuc 7)) ≡ codes "sd x5, -8(x2)"
+pub text_of_sd : instr_text (Store Sd 2 5 (negsuc 7)) ≡ codes "sd x5, -8(x2)"
 unfolding digits
 text_of_sd = refl
 
-text_of_beq : instr_text (Branch Beq 5 6 (pos 8)) ≡ codes "beq x5, x6, 8"
+pub text_of_beq : instr_text (Branch Beq 5 6 (pos 8)) ≡ codes "beq x5, x6, 8"
 unfolding digits
 text_of_beq = refl
 
-text_of_sub : instr_text (Arith Sub 31 0 16) ≡ codes "sub x31, x0, x16"
+pub text_of_sub : instr_text (Arith Sub 31 0 16) ≡ codes "sub x31, x0, x16"
 unfolding digits
 text_of_sub = refl
