@@ -62,7 +62,7 @@ impl Status {
         count: 0,
     };
 
-    /// The status of a receive from the null process (MPI 4.1, chapter 3.10).
+    /// The status of a receive from the null process (MPI 4.1, chapter 3.11).
     pub const PROC_NULL: Status = Status {
         source: -2,
         tag: -1,
