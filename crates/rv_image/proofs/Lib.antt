@@ -1,3 +1,4 @@
+-- The lemmas behind the answers: a loop's steps, what a reading takes, distinct ranks, the header's numbers, the whole.
 pub mod Loop
 pub mod Takes
 pub mod Distinct

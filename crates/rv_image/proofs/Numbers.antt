@@ -14,7 +14,7 @@ use Rattle.rv_image.specs.declared.header.Header.{Header}
 use Rattle.rv_image.specs.declared.images.ImageParts.{ImageParts}
 use Rattle.rv_image.specs.Image.{IsImage, data_start}
 use Rattle.rv_image.specs.Text.{header_text}
-use Rattle.rv_image.specs.Reading.{byte_at, half_at, word_at, header_at, is_within, number_tests, header_tests, first_fault}
+use Rattle.rv_image.specs.Reading.{byte_at, number_at, header_at, is_within, number_tests, header_tests, first_fault}
 use Rattle.rv_image.proofs.Takes.{IsBytes, IsBytes-drop}
 use Rattle.rv_image.proofs.Steps.{true-is_within}
 
@@ -30,14 +30,14 @@ IsBytes-take n bytes fits i =
       | inr le ↦ rw (get_or_past (take n bytes) i 0 (omega (arith, length-take n bytes))) (omega arith)
     ]
 
-half_cut : (at : ℕ) (bytes : List ℕ) (n : ℕ) → IsBytes bytes → at + 2 ≤ length bytes → n ≡ half_at at bytes → drop at bytes ≡ to_le_bytes w16 n ++ drop (at + 2) bytes
+half_cut : (at : ℕ) (bytes : List ℕ) (n : ℕ) → IsBytes bytes → at + 2 ≤ length bytes → n ≡ number_at w16 at bytes → drop at bytes ≡ to_le_bytes w16 n ++ drop (at + 2) bytes
 half_cut at bytes n fits there is =
     let piece = take 2 (drop at bytes) in
     let len : length piece ≡ 2 = omega (arith, length-take 2 (drop at bytes), length-drop at bytes) in
     let written : to_le_bytes w16 n ≡ piece = le_bytes_2 piece n len (IsBytes-take 2 (drop at bytes) (IsBytes-drop at bytes fits)) is in
     sym (take-append-drop 2 (drop at bytes)) ∙ ap (λ (t : List ℕ). t ++ drop 2 (drop at bytes)) (sym written) ∙ ap (λ (t : List ℕ). to_le_bytes w16 n ++ t) (drop-drop 2 at bytes)
 
-word_cut : (at : ℕ) (bytes : List ℕ) (n : ℕ) → IsBytes bytes → at + 4 ≤ length bytes → n ≡ word_at at bytes → drop at bytes ≡ to_le_bytes w32 n ++ drop (at + 4) bytes
+word_cut : (at : ℕ) (bytes : List ℕ) (n : ℕ) → IsBytes bytes → at + 4 ≤ length bytes → n ≡ number_at w32 at bytes → drop at bytes ≡ to_le_bytes w32 n ++ drop (at + 4) bytes
 word_cut at bytes n fits there is =
     let piece = take 4 (drop at bytes) in
     let len : length piece ≡ 4 = omega (arith, length-take 4 (drop at bytes), length-drop at bytes) in
@@ -58,7 +58,7 @@ pub record IsHeaderOf (image : ImageParts) (h : Header) : Type 0 where
   pub links : length image.links ≡ h.links
   pub zero : 0 ≡ h.zero
 
-pub header_takes : (bytes : List ℕ) (image : ImageParts) → IsBytes bytes → 28 ≤ length bytes → starts_with nat_eq bytes (codes "RVMC") ≡ true → half_at 4 bytes ≡ 1 → IsHeaderOf image (header_at bytes)
+pub header_takes : (bytes : List ℕ) (image : ImageParts) → IsBytes bytes → 28 ≤ length bytes → starts_with nat_eq bytes (codes "RVMC") ≡ true → number_at w16 4 bytes ≡ 1 → IsHeaderOf image (header_at bytes)
     → bytes ≡ header_text image ++ drop 28 bytes
 unfolding header_at header_text
 header_takes bytes image fits there magic version is =
@@ -117,7 +117,7 @@ none_fails (test ∷ tests) t = rw (t.0) (none_fails tests t.1)
 -- the header's tests that hold, by name
 pub record IsTested (bytes : List ℕ) (h : Header) : Type 0 where
   pub magic : starts_with nat_eq bytes (codes "RVMC") ≡ true
-  pub version : eqb (half_at 4 bytes) 1 ≡ true
+  pub version : eqb (number_at w16 4 bytes) 1 ≡ true
   pub there : leb 28 (length bytes) ≡ true
   pub ranks : is_within 1 8 h.ranks ≡ true
   pub harts : is_within 1 4 h.harts ≡ true

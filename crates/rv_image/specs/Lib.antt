@@ -1,3 +1,5 @@
+-- The definitions that contracts cite: what an image is, its text, what bytes are read as, and worked values of them.
 pub mod Image
 pub mod Text
 pub mod Reading
+pub mod Worked

@@ -1,7 +1,7 @@
 -- What bytes are read as: the image whose text they are, or the first fault in the order of the tests.
 use Rattle.std.specs.Prelude.{◌≡◌, ℕ, zero, suc, ◌+◌, ◌-◌, ◌*◌, ◌%◌, List, [], ◌∷◌, ◌++◌, length, take, drop, Bool, not, ◌&&◌, Option, Some, None, Result, Ok, Err, nat_lt, nat_le, nat_eq, ◌==◌, if◌then◌else◌, slice_index, codes, ⊤}
 use Rattle.std.specs.List.{starts_with, list_any}
-use Rattle.std.specs.Int.{w16, w32, from_le_bytes}
+use Rattle.std.specs.Int.{Width, w16, w32, byte_len, from_le_bytes}
 use Rattle.rv_image.specs.declared.faults.ImageFault.{ImageFault}
 use Rattle.rv_image.specs.declared.faults.ImageFault.TheVariants as faults
 use Rattle.rv_image.specs.declared.faults.ImageFault.TheVariants.{Magic, Version, Short, Long, Limit, Text, Comm, Memory}
@@ -12,28 +12,26 @@ use Rattle.rv_image.specs.Image.{data_start}
 
 -- ---- the header
 
--- the number of 1, 2 or 4 bytes at an offset, low byte first
+-- the byte at an offset
 abbrev pub byte_at : ℕ → List ℕ → ℕ
 byte_at offset bytes = slice_index bytes offset
 
-abbrev pub half_at : ℕ → List ℕ → ℕ
-half_at offset bytes = from_le_bytes w16 (take 2 (drop offset bytes))
-
-abbrev pub word_at : ℕ → List ℕ → ℕ
-word_at offset bytes = from_le_bytes w32 (take 4 (drop offset bytes))
+-- the number of a width at an offset, low byte first
+abbrev pub number_at : Width → ℕ → List ℕ → ℕ
+number_at width offset bytes = from_le_bytes width (take (byte_len width) (drop offset bytes))
 
 -- the header's numbers behind the version, each at its offset
 unfoldable pub header_at : List ℕ → Header
 header_at bytes = record {
   ranks = byte_at 6 bytes;
   harts = byte_at 7 bytes;
-  memory = word_at 8 bytes;
-  entry = word_at 12 bytes;
-  text_length = word_at 16 bytes;
-  init_length = word_at 20 bytes;
+  memory = number_at w32 8 bytes;
+  entry = number_at w32 12 bytes;
+  text_length = number_at w32 16 bytes;
+  init_length = number_at w32 20 bytes;
   comms = byte_at 24 bytes;
   links = byte_at 25 bytes;
-  zero = half_at 26 bytes;
+  zero = number_at w16 26 bytes;
 }
 
 abbrev pub is_within : ℕ → ℕ → ℕ → Bool
@@ -59,7 +57,7 @@ header_tests bytes =
     (nat_le 4 (length bytes), Short (length bytes))
     ∷ (starts_with nat_eq bytes (codes "RVMC"), Magic)
     ∷ (nat_le 6 (length bytes), Short (length bytes))
-    ∷ (half_at 4 bytes == 1, Version)
+    ∷ (number_at w16 4 bytes == 1, Version)
     ∷ (nat_le 28 (length bytes), Short (length bytes))
     ∷ number_tests (header_at bytes)
 
@@ -113,11 +111,17 @@ next_comm total ranks done bytes = do
   comm ← comm_at total ranks (length done + 1) bytes
   Ok (done ++ comm.0 ∷ [], comm.1)
 
+-- where link n leads: to another rank of the image than the one that it leads from
+abbrev pub second_rank : ℕ → ℕ → ℕ → ℕ → List ℕ → Result (Link × List ℕ) ImageFault
+second_rank total ranks n from bytes = do
+  to ← next_byte total bytes
+  if nat_lt to.0 ranks && not (to.0 == from) then Ok (record { from = from; to = to.0 }, to.1) else Err (faults.Link n)
+
 -- link n: the rank that it leads from is tested before the other is asked for
 unfoldable pub link_at : ℕ → ℕ → ℕ → List ℕ → Result (Link × List ℕ) ImageFault
 link_at total ranks n bytes = do
   from ← next_byte total bytes
-  if nat_lt from.0 ranks then (next_byte total from.1 >>= λ to. if nat_lt to.0 ranks && not (to.0 == from.0) then Ok (record { from = from.0; to = to.0 }, to.1) else Err (faults.Link n)) else Err (faults.Link n)
+  if nat_lt from.0 ranks then second_rank total ranks n from.0 from.1 else Err (faults.Link n)
 
 -- one more link; they are numbered from 0
 abbrev pub next_link : ℕ → ℕ → List Link → List ℕ → Result (List Link × List ℕ) ImageFault

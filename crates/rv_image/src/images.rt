@@ -8,7 +8,9 @@ use std::marker::Model;
 /// A link for partitioned transfers: from one rank to another.
 #[derive(Clone, Copy, Debug, PartialEq, Eq)]
 pub struct Link {
+    /// The sending rank.
     pub from: u8,
+    /// The receiving rank.
     pub to: u8,
 }
 

@@ -156,6 +156,7 @@ fn take_body(
     let (text, rest) = take_bytes(h.text_length, total, rest)?;
     let (init, rest) = take_bytes(h.init_length, total, rest)?;
     if !rest.is_empty() {
+        // It never saturates: what is left is the input's end.
         return Err(ImageFault::Long(total.saturating_sub(rest.len())));
     }
     Ok(ImageParts {

@@ -1,7 +1,10 @@
 //! The image of the program `hi`, whole and changed, and an image with all that one can have.
 
-use super::*;
-use std::test::*;
+use crate::faults::ImageFault;
+use crate::images::Link;
+use crate::reading::read_image;
+use crate::writing::write_image;
+use std::test::Fail;
 
 /// The 68 bytes of `hi`, as docs/FORMATS.md walks through them. The words of the text are GNU as's.
 const HI: [u8; 68] = [
@@ -57,7 +60,8 @@ fn each_prefix_is_short_of_its_length(rt: HostRuntime) {
     for n in 0..68 {
         assert_eq!(rt;
             read_image(rt.alloc(), &HI[..n]).err(),
-            Some(ImageFault::Short(n))
+            Some(ImageFault::Short(n)),
+            "at {n}"
         );
     }
 }
@@ -67,7 +71,11 @@ fn each_byte_as_ff(rt: HostRuntime) {
     for offset in 0..68 {
         let mut bytes = HI;
         bytes[offset] = 0xff;
-        assert_eq!(rt; read_image(rt.alloc(), &bytes).err(), fault_with_ff(offset));
+        assert_eq!(rt;
+            read_image(rt.alloc(), &bytes).err(),
+            fault_with_ff(offset),
+            "at {offset}"
+        );
     }
 }
 
@@ -113,8 +121,8 @@ fn communicators_and_links_are_read_and_written_back(rt: HostRuntime) -> Result<
     assert_eq!(rt; parts.init.as_slice(), b"abc".as_slice());
     let comms = parts.comms.as_slice();
     assert_eq!(rt; comms.len(), 2);
-    for (comm, members) in comms.iter().zip([&[2, 0, 1][..], &[2][..]]) {
-        assert_eq!(rt; comm.as_slice(), members);
+    for (n, members) in [&[2, 0, 1][..], &[2][..]].iter().enumerate() {
+        assert_eq!(rt; comms[n].as_slice(), *members, "at {n}");
     }
     assert_eq!(rt;
         parts.links.as_slice(),
@@ -148,7 +156,11 @@ fn a_changed_byte_behind_the_header(rt: HostRuntime) {
         if let Some(byte) = bytes.get_mut(offset) {
             *byte = value;
         }
-        assert_eq!(rt; read_image(rt.alloc(), &bytes).err(), Some(fault));
+        assert_eq!(rt;
+            read_image(rt.alloc(), &bytes).err(),
+            Some(fault),
+            "at {offset}"
+        );
     }
 }
 
@@ -169,7 +181,7 @@ fn faults_are_printed_as_name_and_numbers(rt: HostRuntime) -> Result<(), Fail> {
         let printed = format!(in rt.alloc(); "{fault}")
             .ok()
             .ok_or("there is memory")?;
-        assert_eq!(rt; printed.as_str(), text);
+        assert_eq!(rt; printed.as_str(), text, "at {text}");
     }
     Ok(())
 }

@@ -1,3 +1,4 @@
+-- Behind a header that passes its tests, what is read is what the body is read as.
 use Rattle.rv_image.specs.Reading.{reading}
 use Rattle.rv_image.proofs.reading.parts_of.Goals as goal
 

@@ -1,3 +1,4 @@
+-- The communicators are read as `repeated` says: a fault at a turn, one more communicator, the last one.
 use Rattle.std.proofs.Common.{◌≡◌, ◌++◌, ◌∷◌, [], refl, Ok, length, ◌+◌, arith}
 use Rattle.std.proofs.lemmas.Result.{err_from_is_err_and}
 use Rattle.rv_image.specs.Reading.{IsFaultOf, repeated, next_comm, comm_at}

@@ -1,3 +1,4 @@
+-- How the loop over the communicators stands before each turn.
 use Rattle.std.proofs.Common.{◌≡◌, [], ◌-◌}
 use Rattle.rv_image.specs.Reading.{repeated, next_comm}
 use Rattle.rv_image.proofs.reading.take_comms.Given as goal

@@ -1,3 +1,4 @@
+-- How the loop over the links stands before each turn.
 use Rattle.std.proofs.Common.{◌≡◌, [], ◌-◌}
 use Rattle.rv_image.specs.Reading.{repeated, next_link}
 use Rattle.rv_image.proofs.reading.take_links.Given as goal

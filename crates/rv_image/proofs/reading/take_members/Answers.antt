@@ -1,3 +1,4 @@
+-- The members of a communicator are read as `repeated` says: a fault at a turn, one more member, the last one.
 use Rattle.std.proofs.Common.{rules, ◌≡◌, ◌++◌, ◌∷◌, [], refl, Ok, Err}
 use Rattle.std.proofs.lemmas.Result.{err_from_is_err_and}
 use Rattle.rv_image.specs.declared.faults.ImageFault.TheVariants as faults

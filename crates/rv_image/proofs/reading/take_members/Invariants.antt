@@ -1,3 +1,4 @@
+-- How the loop over the members of a communicator stands before each turn.
 use Rattle.std.proofs.Common.{◌≡◌, [], ◌-◌}
 use Rattle.rv_image.specs.Reading.{repeated, next_member}
 use Rattle.rv_image.proofs.reading.take_members.Given as goal

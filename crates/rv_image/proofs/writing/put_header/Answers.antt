@@ -1,3 +1,4 @@
+-- The pieces that are written one after the other are the text of the header.
 use Rattle.std.proofs.Common.{append_assoc}
 use Rattle.rv_image.specs.Text.{header_text}
 use Rattle.rv_image.proofs.writing.put_header.Goals as goal

@@ -1,3 +1,4 @@
+-- How the loop that writes the links stands before each turn: those before this one are written.
 use Rattle.std.proofs.Common.{◌≡◌, ◌++◌, take}
 use Rattle.std.specs.List.{flat_map}
 use Rattle.rv_image.specs.Text.{link_text}

@@ -1,3 +1,4 @@
+-- What was written is read as the same image.
 use Rattle.rv_image.proofs.Laws.{written_again}
 use Rattle.rv_image.proofs.writing.write_image.Goals as goal
 
