@@ -1,0 +1,4 @@
+pub mod Distinct
+pub mod Handles
+pub mod Maps
+pub mod Worked

@@ -1,0 +1,22 @@
+//! The handle table of one rank: its open requests, as a map from the handles 1 to 255.
+//!
+//! MPI 4.1's words are used: an ordinary request is completed once (chapter 3.7), a persistent one is started again
+//! and again (3.9), a partitioned one moves its bytes part by part (chapter 4).
+#![tactic(auto)]
+
+mod entries;
+mod laws;
+mod refusals;
+mod rows;
+mod table;
+
+pub use entries::{OpenRequest, Partitions, Progress, State, Transfer};
+pub use laws::map_law;
+pub use refusals::Refusal;
+pub use rows::{
+    completion_rows, done_rows, lowest_free_rows, named_rows, refusal_rows, testable_rows,
+};
+pub use table::{HANDLES, Requests};
+
+#[cfg(test)]
+mod tests;
