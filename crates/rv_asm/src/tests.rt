@@ -17,7 +17,7 @@ addi x17, x0, 0
 ecall
 ";
 
-// its image, field by field as docs/FORMATS.md lays it out; the words by GNU as 2.44
+// its image, field by field as docs/FORMATS.md lays it out; the words by GNU as 2.40
 const HI_IMAGE: [u8; 68] = [
     0x52, 0x56, 0x4d, 0x43, 1, 0, 1, 1, 0, 0, 1, 0, 0, 0, 0, 0, 0x28, 0, 0, 0, 0, 0, 0, 0, 0, 0, 0,
     0, 0xb7, 0x72, 0x0a, 0x00, 0x93, 0x82, 0x82, 0x96, 0x23, 0x3c, 0x51, 0xfe, 0x13, 0x05, 0x81,

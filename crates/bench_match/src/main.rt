@@ -1,0 +1,72 @@
+//! Matches messages while others wait, and prints how many it matched: a program to time the matching with.
+//!
+//! Its first argument says how many messages wait that no receive asks for, its second how often a message is sent,
+//! received and collected beside them.
+#![tactic(auto)]
+
+use mp_match::{Queues, Selection, Sent};
+use mp_types::{Bytes, Envelope};
+use std::alloc::Global;
+use std::{env, io};
+
+/// The tag that the receives ask for; the messages that wait have another.
+const WANTED: u16 = 7;
+
+/// Sends a byte from rank 0 to rank 1; the answer is whether it was posted.
+fn send(alloc: Global, queues: &mut Queues, tag: u16) -> io::Result<bool> {
+    let sent = Sent {
+        sync: false,
+        dest: 1,
+        envelope: Envelope {
+            comm: 0,
+            source: 0,
+            tag,
+            count: 1,
+        },
+    };
+    let bytes = Bytes::from_slice(alloc, &[1])?;
+    Ok(queues.posts() < u64::MAX && queues.post_send(sent, bytes).is_ok())
+}
+
+/// Receives and collects a message with the tag that is asked for; the answer is whether there was one.
+fn receive(queues: &mut Queues) -> io::Result<bool> {
+    if queues.posts() == u64::MAX {
+        return Ok(false);
+    }
+    queues.post_recv(Selection {
+        rank: 1,
+        comm: 0,
+        source: Some(0),
+        tag: Some(WANTED),
+    })?;
+    let post = queues.posts();
+    Ok(queues.collect(post).is_some())
+}
+
+/// The argument at the place, or what stands for it.
+fn number_at(rt: &HostRuntime, place: usize, other: u32) -> io::Result<u32> {
+    let Some(word) = env::args(rt)?.nth(place) else {
+        return Ok(other);
+    };
+    Ok(word.as_str().parse().unwrap_or(other))
+}
+
+fn main(rt: HostRuntime) -> io::Result<()> {
+    let alloc = rt.alloc();
+    let waiting = number_at(&rt, 1, 10)?;
+    let matches = number_at(&rt, 2, 100)?;
+    let mut queues = Queues::new(alloc);
+    for _ in 0..waiting {
+        send(alloc, &mut queues, WANTED + 1)?;
+    }
+    let mut matched = 0u64;
+    for _ in 0..matches {
+        if send(alloc, &mut queues, WANTED)? && receive(&mut queues)? && matched < u64::MAX {
+            matched += 1;
+        }
+    }
+    println!(rt;
+        "{matched} of {matches} messages matched, {} held",
+        queues.held()
+    )
+}
