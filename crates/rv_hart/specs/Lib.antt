@@ -1,3 +1,4 @@
+-- What a hart is, what an instruction does to it, its step, and worked values.
 pub mod Numbers
 pub mod Results
 pub mod State

@@ -1,13 +1,12 @@
 -- Worked values: what the definitions give at the edges, computed.
-use Rattle.std.specs.Prelude.{◌≡◌, ◌-◌, ◌^◌, pos, negsuc, replicate, Some, None, refl}
+use Rattle.std.specs.Prelude.{◌≡◌, ◌-◌, ◌^◌, pos, negsuc, refl}
 use Rattle.rv_decode.specs.declared.instruction.UpperOp.TheVariants.{Lui}
 use Rattle.rv_decode.specs.declared.instruction.ImmOp.TheVariants.{Addi, Addiw}
 use Rattle.rv_decode.specs.declared.instruction.ArithOp.TheVariants.{Mulhsu, Mulh, Divw, Remw, Divuw, Remuw}
 use Rattle.rv_decode.specs.declared.instruction.LoadOp.TheVariants.{Lw}
 use Rattle.rv_decode.specs.declared.instruction.Instr.TheVariants.{Jalr}
-use Rattle.rv_memory.specs.Access.{load_trap, store_trap}
-use Rattle.rv_memory.specs.Memory.{Memory}
-use Rattle.rv_memory.specs.declared.fault.Cause.TheVariants.{InstructionMisaligned, LoadMisaligned, LoadAccess, StoreAccess}
+use Rattle.rv_memory.specs.Worked.{small}
+use Rattle.rv_memory.specs.declared.fault.Cause.TheVariants.{InstructionMisaligned}
 use Rattle.rv_hart.specs.Effect.{after, plain, trapped}
 use Rattle.rv_hart.specs.Results.{upper_result, imm_result, arith_result, load_result}
 use Rattle.rv_hart.specs.State.{fresh, write, at_pc}
@@ -57,22 +56,6 @@ remuw_by_zero = refl
 pub lw_extends_the_sign : load_result Lw 0x80000000 ≡ 0xffffffff80000000
 unfolding load_result
 lw_extends_the_sign = refl
-
--- 64 bytes of memory with 8 of text
-abbrev pub small : Memory
-small = record { bytes = replicate 64 0; text = 8 }
-
-pub ld_at_the_end : load_trap small 56 8 ≡ None
-ld_at_the_end = refl
-
-pub ld_past_the_end : load_trap small 64 8 ≡ Some LoadAccess
-ld_past_the_end = refl
-
-pub ld_across_the_end : load_trap small 60 8 ≡ Some LoadMisaligned
-ld_across_the_end = refl
-
-pub sd_into_the_text : store_trap small 0 8 ≡ Some StoreAccess
-sd_into_the_text = refl
 
 -- jalr x1, 0(x1) at pc 4: x1 is read before it is written, and not written where the target is misaligned
 pub jalr_by_its_own_link : after (Jalr 1 1 (pos 0)) (write (fresh 4) 1 8) small ≡ plain (at_pc (write (fresh 4) 1 8) 8) small

@@ -66,22 +66,18 @@ fn extended_signed(value: i32) -> u64
     (value as i64).cast_unsigned()
 }
 
-/// 8 bits, sign-extended.
+/// The value of the bytes of a width, sign-extended.
 #[inline(always)]
-fn extended_8(value: u64) -> u64
-    requires { value < 2 ^ 8 }
-    ensures { result ≡ in_64 (signed_of 8 value) }
+fn extended_from(width: Width, value: u64) -> u64
+    requires { value < 256 ^ size_of width }
+    ensures { result ≡ in_64 (signed_of (8 * size_of width) value) }
 {
-    ((value as i64 + 0x80) % 0x100 - 0x80).cast_unsigned()
-}
-
-/// 16 bits, sign-extended.
-#[inline(always)]
-fn extended_16(value: u64) -> u64
-    requires { value < 2 ^ 16 }
-    ensures { result ≡ in_64 (signed_of 16 value) }
-{
-    ((value as i64 + 0x8000) % 0x1_0000 - 0x8000).cast_unsigned()
+    match width {
+        Width::Byte => unsigned((value as u8).cast_signed() as i64),
+        Width::Half => unsigned((value as u16).cast_signed() as i64),
+        Width::Word => extended(value as u32),
+        Width::Double => value,
+    }
 }
 
 // ---- sums, differences and shifts
@@ -181,7 +177,7 @@ fn mulh(a: u64, b: u64) -> u64
 fn mulhsu(a: u64, b: u64) -> u64
     ensures { result ≡ in_64 (floor (signed_64 a *ℤ pos b) (2 ^ 64)) }
 {
-    unsigned(((signed(a) as i128 * b as i128) >> 64) as i64)
+    high(signed(a) as i128 * b as i128)
 }
 
 #[inline(always)]
@@ -371,9 +367,9 @@ pub(crate) fn loaded(op: LoadOp, value: u64) -> u64
     ensures { result ≡ load_result op value }
 {
     match op {
-        LoadOp::Lb => extended_8(value),
-        LoadOp::Lh => extended_16(value),
-        LoadOp::Lw => extended(value as u32),
+        LoadOp::Lb => extended_from(Width::Byte, value),
+        LoadOp::Lh => extended_from(Width::Half, value),
+        LoadOp::Lw => extended_from(Width::Word, value),
         LoadOp::Ld | LoadOp::Lbu | LoadOp::Lhu | LoadOp::Lwu => value,
     }
 }

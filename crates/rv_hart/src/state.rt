@@ -62,7 +62,8 @@ impl Hart {
     ghost use Rattle.rv_hart.specs.State.{read, write, at_pc, in_mode, start_state};
 
     /// A hart as its rank is loaded: Running at the program's entry, all registers 0 but x2 = memory size - 4,096 times
-    /// the hart's number, x10 = the hart's number and x11 = the rank's.
+    /// the hart's number, x10 = the hart's number and x11 = the rank's. 4,096 times the hart's number is at most the
+    /// memory size.
     pub fn start(entry: u64, memory_size: u64, hart: u8, rank: u8) -> Hart
         requires { 4096 * hart ≤ memory_size }
         ensures { result ≡ start_state entry memory_size hart rank }

@@ -1,7 +1,7 @@
 //! One step of a hart.
 ghost use Rattle.std.specs.Prelude.{◌≡◌, IsOk, IfOk};
 ghost use Rattle.rv_decode.specs.Table.{Fits};
-ghost use Rattle.rv_decode.specs.declared.instruction.Instr.TheVariants.{Load, Store};
+ghost use Rattle.rv_decode.specs.declared.instruction.Instr.TheVariants.{Branch, Load, Store};
 ghost use Rattle.rv_hart.specs.Effect.{After, after, IsStep, gives, jumps, branches, next as next_of, offset as offset_of};
 ghost use Rattle.rv_hart.specs.State.{at_pc, in_mode};
 ghost use Rattle.rv_hart.specs.Stepped.{stepped};
@@ -10,7 +10,7 @@ ghost use Rattle.rv_memory.specs.Memory.{Memory};
 
 use crate::results;
 use crate::state::{Did, Hart, Mode};
-use rv_decode::{Instr, LoadOp, Reg, StoreOp, decode};
+use rv_decode::{BranchOp, Instr, LoadOp, Reg, StoreOp, decode};
 use rv_memory::{Cause, RankMemory, StoreFault};
 use std::alloc::AllocError;
 
@@ -75,7 +75,7 @@ fn jump(hart: &mut Hart, rd: Reg, target: u64) -> Did
     Did::Plain
 }
 
-/// Takes a branch.
+/// Takes a branch to a target.
 #[inline(always)]
 #[tactic(auto, unfolding(crate::specs::Effect::branches))]
 fn branch(hart: &mut Hart, target: u64) -> Did
@@ -86,6 +86,19 @@ fn branch(hart: &mut Hart, target: u64) -> Did
     }
     hart.set_pc(target);
     Did::Plain
+}
+
+/// Takes a branch, or goes on to the next instruction.
+#[inline(always)]
+fn branch_by(hart: &mut Hart, op: BranchOp, rs1: Reg, rs2: Reg, off: i32) -> Did
+    ensures { (m : Memory) → record { did = result; state = hart.new; memory = m } ≡ after (Branch op rs1 rs2 off) hart.old m }
+{
+    if results::is_taken(op, hart.get(rs1), hart.get(rs2)) {
+        let target = offset(hart.pc(), off);
+        branch(hart, target)
+    } else {
+        pass(hart)
+    }
 }
 
 #[inline(always)]
@@ -119,6 +132,17 @@ fn store(
     }
 }
 
+/// Stops at an EBREAK.
+#[inline(always)]
+fn stop_at_ebreak(hart: &mut Hart) -> Did
+    ensures state { hart.new ≡ in_mode hart.old (Trapped Cause.Breakpoint hart.old.pc) }
+    ensures did { result ≡ Did.Break }
+{
+    let pc = hart.pc();
+    hart.set_mode(Mode::Trapped(Cause::Breakpoint, pc));
+    Did::Break
+}
+
 #[inline(always)]
 fn execute(hart: &mut Hart, memory: &mut RankMemory, instr: &Instr) -> Result<Did, AllocError>
     requires { Fits instr.now }
@@ -138,14 +162,7 @@ fn execute(hart: &mut Hart, memory: &mut RankMemory, instr: &Instr) -> Result<Di
             let target = offset(hart.get(rs1), off);
             Ok(jump(hart, rd, target - target % 2))
         }
-        Instr::Branch { op, rs1, rs2, off } => {
-            if results::is_taken(op, hart.get(rs1), hart.get(rs2)) {
-                let target = offset(hart.pc(), off);
-                Ok(branch(hart, target))
-            } else {
-                Ok(pass(hart))
-            }
-        }
+        Instr::Branch { op, rs1, rs2, off } => Ok(branch_by(hart, op, rs1, rs2, off)),
         Instr::Load { op, rd, rs1, off } => Ok(load(hart, memory, op, rd, rs1, off)),
         Instr::Store { op, rs1, rs2, off } => store(hart, memory, op, rs1, rs2, off),
         Instr::Imm { op, rd, rs1, imm } => {
@@ -167,11 +184,7 @@ fn execute(hart: &mut Hart, memory: &mut RankMemory, instr: &Instr) -> Result<Di
         }
         Instr::Fence => Ok(pass(hart)),
         Instr::Ecall => Ok(Did::Call),
-        Instr::Ebreak => {
-            let pc = hart.pc();
-            hart.set_mode(Mode::Trapped(Cause::Breakpoint, pc));
-            Ok(Did::Break)
-        }
+        Instr::Ebreak => Ok(stop_at_ebreak(hart)),
     }
 }
 

@@ -1,4 +1,4 @@
-//! What instructions do, against values from outside: the worked rows, and tables of what qemu-riscv64 gave.
+//! What instructions do: values from the manual's corner cases, and tables of what qemu-riscv64 gave.
 //! Each goes the whole way: the instruction's word stands in a text, and a hart steps over it.
 mod branch_rows;
 mod immediate_rows;
@@ -11,8 +11,8 @@ use branch_rows::{BRANCH_ROWS, LOAD_ROWS};
 use immediate_rows::{IMMEDIATE_ROWS, SHIFT_ROWS};
 use product_rows::PRODUCT_ROWS;
 use register_rows::REGISTER_ROWS;
-use rv_decode::{Instr, Reg, encode};
-use rv_memory::{Cause, RankMemory};
+use rv_decode::{Instr, Reg, StoreOp, UpperOp, encode};
+use rv_memory::{Cause, RankMemory, Width};
 use std::alloc::{AllocError, Global};
 use std::process::Abort;
 use std::test::Fail;
@@ -118,6 +118,74 @@ fn loads_extend(rt: HostRuntime) -> Result<(), Fail> {
             cell,
         )?;
         assert_eq!(rt; hart.get(rd), want, "{op:?} {cell:x} {off}");
+    }
+    Ok(())
+}
+
+#[test]
+fn upper_immediates(rt: HostRuntime) -> Result<(), Fail> {
+    let rd = Reg::new(7);
+    // operation, pc, immediate, result
+    let rows = [
+        (UpperOp::Lui, 0, 0x7fff_f000, 0x7fff_f000),
+        (UpperOp::Lui, 4, i32::MIN, 0xffff_ffff_8000_0000),
+        (UpperOp::Lui, 4, -0x1000, 0xffff_ffff_ffff_f000),
+        (UpperOp::Auipc, 4, 0x7fff_f000, 0x7fff_f004),
+        (UpperOp::Auipc, 0, -0x1000, 0xffff_ffff_ffff_f000),
+        (UpperOp::Auipc, 4, -0x1000, 0xffff_ffff_ffff_f004),
+        (UpperOp::Auipc, 4, i32::MIN, 0xffff_ffff_8000_0004),
+    ];
+    for (op, pc, imm, want) in rows {
+        let word = encode(&Instr::Upper { op, rd, imm });
+        let (mut hart, mut memory) = rank(rt.alloc(), &[word, word], 0)?;
+        hart.set_pc(pc);
+        assert_eq!(rt; turn(&rt, &mut hart, &mut memory)?, Did::Plain);
+        assert_eq!(rt; hart.get(rd), want, "{op:?} {imm} at {pc}");
+        assert_eq!(rt; hart.pc(), pc + 4);
+    }
+    Ok(())
+}
+
+#[test]
+fn jumps_by_an_offset(rt: HostRuntime) -> Result<(), Fail> {
+    let rd = Reg::new(7);
+    // pc, offset, target
+    let rows = [
+        (0, 2048, 2048),
+        (4, 0, 4),
+        (4, -4, 0),
+        (0, -4, 0xffff_ffff_ffff_fffc),
+    ];
+    for (pc, off, target) in rows {
+        let word = encode(&Instr::Jal { rd, off });
+        let (mut hart, mut memory) = rank(rt.alloc(), &[word, word], 0)?;
+        hart.set_pc(pc);
+        assert_eq!(rt; turn(&rt, &mut hart, &mut memory)?, Did::Plain);
+        assert_eq!(rt; hart.pc(), target, "{off} at {pc}");
+        assert_eq!(rt; hart.get(rd), pc + 4);
+    }
+    Ok(())
+}
+
+#[test]
+fn stores_write_the_lowest_bytes(rt: HostRuntime) -> Result<(), Fail> {
+    let (rs1, rs2) = (Reg::new(5), Reg::new(6));
+    // operation, offset from 16, the double word at 16 afterwards
+    let rows = [
+        (StoreOp::Sb, 0, 0x8182_8384_8586_8708),
+        (StoreOp::Sb, 7, 0x0882_8384_8586_8788),
+        (StoreOp::Sh, 2, 0x8182_8384_0708_8788),
+        (StoreOp::Sw, 4, 0x0506_0708_8586_8788),
+        (StoreOp::Sd, 0, 0x0102_0304_0506_0708),
+    ];
+    for (op, off, want) in rows {
+        let word = encode(&Instr::Store { op, rs1, rs2, off });
+        let (mut hart, mut memory) = rank(rt.alloc(), &[word, 0], 0x8182_8384_8586_8788)?;
+        hart.set(rs1, 16);
+        hart.set(rs2, 0x0102_0304_0506_0708);
+        assert_eq!(rt; turn(&rt, &mut hart, &mut memory)?, Did::Plain);
+        assert_eq!(rt; memory.load(16, Width::Double), Ok(want), "{op:?} {off}");
+        assert_eq!(rt; hart.pc(), 4);
     }
     Ok(())
 }

@@ -1,3 +1,4 @@
+-- What holds while the text is put together.
 use Rattle.std.proofs.Common.{◌≡◌, ◌*◌, length}
 use Rattle.bench_step.proofs.loaded.Given as goal
 
