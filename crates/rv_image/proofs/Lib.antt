@@ -1,7 +1,9 @@
--- The lemmas behind the answers: a loop's steps, what a reading takes, distinct ranks, the header's numbers, the whole.
+-- The lemmas behind the answers: a loop's steps, what a reading takes, distinct ranks, the header's numbers, the whole, the order of the tests.
 pub mod Loop
 pub mod Takes
 pub mod Distinct
 pub mod Steps
 pub mod Numbers
-pub mod Laws
+pub mod Whole
+pub mod OrderFollows
+pub mod Order

@@ -1,10 +1,12 @@
 -- Worked values of the definitions: the image of the program `hi`, and inputs that are none.
-use Rattle.std.specs.Prelude.{◌≡◌, [], ◌∷◌, Err, refl}
-use Rattle.rv_image.specs.declared.faults.ImageFault.TheVariants.{Short, Magic, Version}
+use Rattle.std.specs.Prelude.{◌≡◌, [], ◌∷◌, ◌++◌, Some, None, Err, slice_set, refl}
+use Rattle.rv_image.specs.declared.faults.ImageFault.TheVariants as faults
+use Rattle.rv_image.specs.declared.faults.ImageFault.TheVariants.{Short, Long, Magic, Version, Limit, Comm}
 use Rattle.rv_image.specs.declared.images.ImageParts.{ImageParts}
 use Rattle.rv_image.specs.Image.{data_start}
 use Rattle.rv_image.specs.Text.{header_text, image_text}
-use Rattle.rv_image.specs.Reading.{reading}
+use Rattle.rv_image.specs.Reading.{header_at, first_fault, reading}
+use Rattle.rv_image.specs.Order.{body_tests, image_tests}
 
 -- ten instructions of 4 bytes
 pub data_behind_hi : data_start 40 ≡ 48
@@ -70,3 +72,29 @@ a_magic_alone_is_short = refl
 pub a_later_version : reading (0x52 ∷ 0x56 ∷ 0x4d ∷ 0x43 ∷ 2 ∷ 0 ∷ []) ≡ Err Version
 unfolding reading
 a_later_version = refl
+
+-- ---- the first failing row of the tests
+
+pub all_rows_of_hi_hold : first_fault (image_tests (image_text hi)) ≡ None
+unfolding image_tests body_tests header_at image_text header_text
+all_rows_of_hi_hold = refl
+
+-- byte 6 is the number of ranks
+pub nine_ranks : first_fault (image_tests (slice_set (image_text hi) 6 9)) ≡ Some (Limit 6 9)
+unfolding image_tests body_tests header_at image_text header_text
+nine_ranks = refl
+
+-- two ranks, and a communicator that has rank 0 twice
+pub a_rank_twice : first_fault (image_tests (image_text (record hi { ranks = 2; comms = (0 ∷ 0 ∷ []) ∷ [] }))) ≡ Some (Comm 1)
+unfolding image_tests body_tests header_at image_text header_text
+a_rank_twice = refl
+
+-- two ranks, a link from 0 to 1, and one from 1 to 1
+pub a_link_to_itself : first_fault (image_tests (image_text (record hi { ranks = 2; links = record { from = 0; to = 1 } ∷ record { from = 1; to = 1 } ∷ [] }))) ≡ Some (faults.Link 1)
+unfolding image_tests body_tests header_at image_text header_text
+a_link_to_itself = refl
+
+-- the text of hi, and one byte behind it
+pub a_byte_more : first_fault (image_tests (image_text hi ++ 0 ∷ [])) ≡ Some (Long 68)
+unfolding image_tests body_tests header_at image_text header_text
+a_byte_more = refl

@@ -7,6 +7,7 @@
 mod faults;
 mod header;
 mod images;
+pub mod laws;
 mod lists;
 mod reading;
 mod writing;

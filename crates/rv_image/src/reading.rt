@@ -183,7 +183,8 @@ fn parts_of(alloc: Global, bytes: &[u8]) -> Result<ImageParts, ImageFault>
     take_body(alloc, bytes.len(), &header_of(bytes), rest)
 }
 
-/// The image whose text the bytes are, or the first fault in the order of the tests.
+/// The image whose text the bytes are, or the first fault in the order of the tests, which
+/// [`first_fault_law`](crate::laws::first_fault_law) has as one table.
 ///
 /// [`ImageFault::Memory`] is answered only where memory ran out. The text and the initial data are copied.
 pub fn read_image(alloc: Global, bytes: &[u8]) -> Result<Image, ImageFault>

@@ -2,7 +2,7 @@
 use Rattle.std.proofs.Common.{ap, subst, sym, ◌∙◌, arith}
 use Rattle.std.proofs.lemmas.Result.{err_from_is_err_and}
 use Rattle.rv_image.specs.Reading.{IsFaultOf, reading}
-use Rattle.rv_image.proofs.Laws.{reading_takes, reading_again}
+use Rattle.rv_image.proofs.Whole.{reading_takes, reading_again}
 use Rattle.rv_image.proofs.reading.read_image.Goals as goal
 
 pub new-requires : goal.new-requires

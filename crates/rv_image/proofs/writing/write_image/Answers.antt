@@ -1,5 +1,5 @@
 -- What was written is read as the same image.
-use Rattle.rv_image.proofs.Laws.{written_again}
+use Rattle.rv_image.proofs.Whole.{written_again}
 use Rattle.rv_image.proofs.writing.write_image.Goals as goal
 
 pub returns-clause-read_again : goal.returns-clause-read_again

@@ -1,0 +1,77 @@
+-- The tests of all parts of an image's bytes as one table in their order, and the law that reading answers its first failing row.
+use Rattle.std.specs.Prelude.{◌≡◌, ℕ, zero, suc, ◌+◌, ◌*◌, List, [], ◌∷◌, ◌++◌, length, take, drop, Bool, not, ◌&&◌, Option, Some, None, Result, Ok, Err, nat_lt, nat_le, ◌==◌, flat_map}
+use Rattle.std.specs.List.{range_with_len}
+use Rattle.rv_image.specs.declared.faults.ImageFault.{ImageFault}
+use Rattle.rv_image.specs.declared.faults.ImageFault.TheVariants as faults
+use Rattle.rv_image.specs.declared.faults.ImageFault.TheVariants.{Short, Long, Comm}
+use Rattle.rv_image.specs.declared.header.Header.{Header}
+use Rattle.rv_image.specs.Reading.{byte_at, header_at, is_within, is_new_rank, header_tests, first_fault, reading}
+
+-- Each row is a test: what has to hold, and the fault where it doesn't. Offsets count from the first byte of the image.
+
+-- the byte at the offset is there
+abbrev pub is_there : List ℕ → ℕ → Bool × ImageFault
+is_there bytes offset = (nat_lt offset (length bytes), Short (length bytes))
+
+-- member k, from 0, of communicator n, whose members begin at `first`: a rank of the image that no member before it is
+abbrev pub member_tests : List ℕ → ℕ → ℕ → ℕ → ℕ → List (Bool × ImageFault)
+member_tests bytes ranks n first k =
+    is_there bytes (first + k)
+    ∷ (is_new_rank ranks (take k (drop first bytes)) (byte_at (first + k) bytes), Comm n)
+    ∷ []
+
+-- communicator n, which begins at `start`: how many members, and each member
+abbrev pub comm_tests : List ℕ → ℕ → ℕ → ℕ → List (Bool × ImageFault)
+comm_tests bytes ranks n start =
+    is_there bytes start
+    ∷ (is_within 1 8 (byte_at start bytes), Comm n)
+    ∷ flat_map (member_tests bytes ranks n (start + 1)) (range_with_len 0 (byte_at start bytes))
+
+-- where a communicator begins that has so many before it; with all of them before, where the links begin
+abbrev pub comm_start : List ℕ → ℕ → ℕ
+comm_start bytes zero = 28
+comm_start bytes (suc before) = comm_start bytes before + 1 + byte_at (comm_start bytes before) bytes
+
+-- the communicators, numbered from 1
+abbrev pub comms_tests : List ℕ → Header → List (Bool × ImageFault)
+comms_tests bytes h = flat_map (λ before. comm_tests bytes h.ranks (before + 1) (comm_start bytes before)) (range_with_len 0 h.comms)
+
+-- link n, which begins at `start`: the rank that it leads from, and another one that it leads to
+abbrev pub link_tests : List ℕ → ℕ → ℕ → ℕ → List (Bool × ImageFault)
+link_tests bytes ranks n start =
+    is_there bytes start
+    ∷ (nat_lt (byte_at start bytes) ranks, faults.Link n)
+    ∷ is_there bytes (start + 1)
+    ∷ (nat_lt (byte_at (start + 1) bytes) ranks && not (byte_at (start + 1) bytes == byte_at start bytes), faults.Link n)
+    ∷ []
+
+-- the links, two bytes each, numbered from 0; the first begins at `start`
+abbrev pub links_tests : List ℕ → Header → ℕ → List (Bool × ImageFault)
+links_tests bytes h start = flat_map (λ n. link_tests bytes h.ranks n (start + 2 * n)) (range_with_len 0 h.links)
+
+-- the text, which begins at `start`, the data behind it, and nothing behind them
+abbrev pub end_tests : List ℕ → Header → ℕ → List (Bool × ImageFault)
+end_tests bytes h start =
+    (nat_le (start + h.text_length) (length bytes), Short (length bytes))
+    ∷ (nat_le (start + h.text_length + h.init_length) (length bytes), Short (length bytes))
+    ∷ (nat_le (length bytes) (start + h.text_length + h.init_length), Long (start + h.text_length + h.init_length))
+    ∷ []
+
+-- all that stands behind the header
+unfoldable pub body_tests : List ℕ → Header → List (Bool × ImageFault)
+body_tests bytes h =
+    comms_tests bytes h
+    ++ (links_tests bytes h (comm_start bytes h.comms) ++ end_tests bytes h (comm_start bytes h.comms + 2 * h.links))
+
+-- all tests of an image's bytes in their order
+unfoldable pub image_tests : List ℕ → List (Bool × ImageFault)
+image_tests bytes = header_tests bytes ++ body_tests bytes (header_at bytes)
+
+-- the fault that a reading answers, if any
+abbrev pub fault_of : {A : Type 0} → Result A ImageFault → Option ImageFault
+fault_of (Ok x) = None
+fault_of (Err fault) = Some fault
+
+-- reading answers the fault of the first test that doesn't hold, and none where all of them hold
+abbrev pub FirstFaultLaw : Type 0
+FirstFaultLaw = (bytes : List ℕ) → fault_of (reading bytes) ≡ first_fault (image_tests bytes)
