@@ -1,22 +1,9 @@
--- What holds of told ranks and of ranks alone.
+-- What holds of ranks alone.
 use Rattle.std.proofs.Common.{◌≡◌, ℕ, ◌<◌, [], ◌∷◌, refl, sym, ap, ◌∙◌, subst, arith}
-use Rattle.std.proofs.Math.ListN.{length-set}
-use Rattle.cl_rank.specs.Rank.{Rank}
-use Rattle.cl_rank.specs.Asked.{part_of, asked, asked_in}
-use Rattle.cl_rank.specs.Told.{returned, told, told_in, with_part}
+use Rattle.cl_state.specs.Rank.{Rank}
+use Rattle.cl_state.proofs.Moves.{told_at}
 use Rattle.cl_rank.specs.Deeds.{Act, Deed, answer_of, IsStamp, RankMoves, IsAlone}
-use Rattle.cl_rank.specs.Laws.{ToldLaw, RefusalLaw, RisesFrom, RisingLaw, OneRankLaw}
-
-pub told_at : ToldLaw
-unfolding told
-told_at rank hart answer stamp = record { clock = refl; site = refl; harts = length-set _ _ _ }
-
-pub refused : RefusalLaw
-unfolding told asked returned
-refused rank hart code answer stamp is = record {
-  asks = ap (asked_in rank.site rank.memory) is;
-  leaves = ap (λ d. with_part rank hart (told_in rank.site hart d answer (part_of rank hart)) stamp) is;
-}
+use Rattle.cl_rank.specs.Laws.{RisesFrom, RisingLaw, OneRankLaw}
 
 -- an event's stamp is above its rank's clock
 pub stamp_above : (clock stamp : ℕ) (a : Act) → IsStamp clock a stamp → clock < stamp

@@ -1,4 +1,1 @@
 pub mod Alone
-pub mod Members
-pub mod Starts
-pub mod Worked

@@ -2,13 +2,13 @@
 use Rattle.std.specs.Prelude.{◌≡◌, ℕ, ◌<◌, ◌+◌, ◌^◌, ◌⊎◌, max, List, [], ◌∷◌, Option, Some, None, length}
 use Rattle.mp_types.specs.declared.requests.Request.{Request}
 use Rattle.mp_types.specs.declared.replies.Reply.{Reply}
-use Rattle.cl_rank.specs.declared.asking.Ask.{Ask}
-use Rattle.cl_rank.specs.declared.asking.Answer.{Answer}
-use Rattle.cl_rank.specs.declared.events.Kind.{Kind}
-use Rattle.cl_rank.specs.declared.events.Event.{Event}
-use Rattle.cl_rank.specs.Rank.{Rank}
-use Rattle.cl_rank.specs.Asked.{asked}
-use Rattle.cl_rank.specs.Told.{told}
+use Rattle.cl_state.specs.declared.asking.Ask.{Ask}
+use Rattle.cl_state.specs.declared.asking.Answer.{Answer}
+use Rattle.cl_trace.specs.declared.events.Kind.{Kind}
+use Rattle.cl_trace.specs.declared.events.Event.{Event}
+use Rattle.cl_state.specs.Rank.{Rank}
+use Rattle.cl_state.specs.Asked.{asked}
+use Rattle.cl_state.specs.Told.{told}
 
 -- what an event was, with all that it met: the rank's clock and the hub's reply; the box, its gate's stamp and its bytes
 pub data Act : Type 0 where

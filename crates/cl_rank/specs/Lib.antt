@@ -1,12 +1,2 @@
-pub mod Site
-pub mod Calls
-pub mod Checks
-pub mod Requests
-pub mod Rank
-pub mod Asked
-pub mod Right
-pub mod Room
-pub mod Told
 pub mod Deeds
 pub mod Laws
-pub mod Rows

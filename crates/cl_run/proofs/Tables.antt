@@ -3,11 +3,11 @@ use Rattle.std.specs.Prelude.{ℕ, zero, suc, ◌+◌, ◌<◌, max, List, [], �
 use Rattle.std.proofs.Common.{refl, sym, ap, ◌∙◌, subst, arith}
 use Rattle.std.proofs.lemmas.Option.{same_Some}
 use Rattle.cl_run.specs.Journal.{Journal, with_entry}
-use Rattle.cl_rank.specs.declared.asking.Answer.{Answer}
-use Rattle.cl_rank.specs.declared.events.Kind.{Kind}
-use Rattle.cl_rank.specs.Rank.{Rank}
-use Rattle.cl_rank.specs.Asked.{asked}
-use Rattle.cl_rank.specs.Told.{told}
+use Rattle.cl_state.specs.declared.asking.Answer.{Answer}
+use Rattle.cl_trace.specs.declared.events.Kind.{Kind}
+use Rattle.cl_state.specs.Rank.{Rank}
+use Rattle.cl_state.specs.Asked.{asked}
+use Rattle.cl_state.specs.Told.{told}
 use Rattle.cl_rank.specs.Deeds.{Act, Answers, IsStamp, RankMoves, answer_of, kind_of}
 use Rattle.cl_run.specs.declared.steps.Step.{Step}
 use Rattle.cl_run.specs.Boxes.{Box, Thing, Holds, box_number, with_made, with_taken}

@@ -7,14 +7,14 @@ use Rattle.mp_types.specs.declared.replies.Reply.{Reply}
 use Rattle.mp_types.specs.declared.replies.Reply.TheVariants as reply
 use Rattle.mp_types.specs.declared.requests.Request.TheVariants as request
 use Rattle.cl_run.specs.Journal.{Journal, empty_journal, reply_in, with_entry}
-use Rattle.cl_rank.specs.declared.events.Kind.{Kind}
-use Rattle.cl_rank.specs.declared.asking.Answer.{Answer}
-use Rattle.cl_rank.specs.declared.asking.Ask.{Ask}
-use Rattle.cl_rank.specs.Rank.{Rank}
-use Rattle.cl_rank.specs.Asked.{asked, doing}
-use Rattle.cl_rank.specs.Told.{received, received_message, returned, told, with_status}
-use Rattle.cl_rank.specs.Rows.{send}
-use Rattle.cl_rank.proofs.Alone.{told_at}
+use Rattle.cl_trace.specs.declared.events.Kind.{Kind}
+use Rattle.cl_state.specs.declared.asking.Answer.{Answer}
+use Rattle.cl_state.specs.declared.asking.Ask.{Ask}
+use Rattle.cl_state.specs.Rank.{Rank}
+use Rattle.cl_state.specs.Asked.{asked, doing}
+use Rattle.cl_state.specs.Told.{received, received_message, returned, told, with_status}
+use Rattle.cl_state.specs.Rows.{send}
+use Rattle.cl_state.proofs.Moves.{told_at}
 use Rattle.cl_run.specs.Boxes.{Box, Thing, empty_box, box_number}
 use Rattle.cl_run.specs.Cluster.{Cluster, IsStep}
 use Rattle.cl_run.specs.Rows.{step, sender_called, sender_made, sender_done, receiver_missed, receiver_took, receiver_done, first_reply, one_call, second_reply, shared_start, shared_end, SharedRow, EarlyRow, receiving, sent_message, SendsFirst, ReceivesFirst, NothingSent, StampTooLow}

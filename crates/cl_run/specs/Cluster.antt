@@ -3,12 +3,12 @@ use Rattle.std.specs.Prelude.{ℕ, ◌+◌, ◌*◌, ◌<◌, ◌^◌, max, List
 use Rattle.rv_image.specs.declared.images.ImageParts.{ImageParts}
 use Rattle.mp_types.specs.declared.requests.Request.{Request}
 use Rattle.cl_run.specs.Journal.{Journal, empty_journal, reply_in, with_entry}
-use Rattle.cl_rank.specs.declared.asking.Answer.{Answer}
-use Rattle.cl_rank.specs.declared.asking.Ask.{Ask}
-use Rattle.cl_rank.specs.declared.events.Kind.{Kind}
-use Rattle.cl_rank.specs.Rank.{Rank, below, loaded}
-use Rattle.cl_rank.specs.Asked.{asked}
-use Rattle.cl_rank.specs.Told.{told}
+use Rattle.cl_state.specs.declared.asking.Answer.{Answer}
+use Rattle.cl_state.specs.declared.asking.Ask.{Ask}
+use Rattle.cl_trace.specs.declared.events.Kind.{Kind}
+use Rattle.cl_state.specs.Rank.{Rank, below, loaded}
+use Rattle.cl_state.specs.Asked.{asked}
+use Rattle.cl_state.specs.Told.{told}
 use Rattle.cl_run.specs.declared.steps.Step.{Step}
 use Rattle.cl_run.specs.Boxes.{Box, empty_box, box_number, IsEmpty, Holds, with_made, with_taken}
 

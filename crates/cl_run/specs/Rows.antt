@@ -8,14 +8,14 @@ use Rattle.mp_types.specs.declared.replies.Reply.TheVariants as reply
 use Rattle.mp_types.specs.declared.requests.Request.{Request}
 use Rattle.cl_journal.specs.declared.entries.Entry.{Entry}
 use Rattle.cl_run.specs.Journal.{Journal, empty_journal, reply_in, with_entry}
-use Rattle.cl_rank.specs.declared.asking.Answer.{Answer}
-use Rattle.cl_rank.specs.declared.asking.Ask.{Ask}
-use Rattle.cl_rank.specs.declared.events.Kind.{Kind}
+use Rattle.cl_state.specs.declared.asking.Answer.{Answer}
+use Rattle.cl_state.specs.declared.asking.Ask.{Ask}
+use Rattle.cl_trace.specs.declared.events.Kind.{Kind}
 use Rattle.cl_rank.specs.Deeds.{Act, Deed}
-use Rattle.cl_rank.specs.Rank.{Rank}
-use Rattle.cl_rank.specs.Asked.{asked}
-use Rattle.cl_rank.specs.Told.{told}
-use Rattle.cl_rank.specs.Rows.{first_of_two, guest, send}
+use Rattle.cl_state.specs.Rank.{Rank}
+use Rattle.cl_state.specs.Asked.{asked}
+use Rattle.cl_state.specs.Told.{told}
+use Rattle.cl_state.specs.Rows.{first_of_two, guest, send}
 use Rattle.cl_run.specs.declared.steps.Step.{Step}
 use Rattle.cl_run.specs.Boxes.{empty_box}
 use Rattle.cl_run.specs.Cluster.{Cluster, IsStep, IsRun}

@@ -1,6 +1,0 @@
-use Rattle.std.proofs.Common.{◌≡◌, vec_len}
-use Rattle.cl_rank.specs.Rank.{start_harts}
-use Rattle.cl_rank.proofs.loading.all_harts.Given as goal
-
-abbrev pub invariant-loop-hart : goal.invariant-loop-hart
-invariant-loop-hart l = (l.harts.items ≡ start_harts l.parts l.rank l.hart) × (vec_len l.harts ≡ l.hart)

@@ -1,0 +1,94 @@
+//! A rank as it is loaded.
+
+ghost use Rattle.std.specs.Prelude.{◌≡◌, ◌≤◌, ◌*◌, ◌∷◌, IfOk, length, vec_len};
+ghost use Rattle.rv_image.specs.Image.{IsImage};
+ghost use Rattle.rv_memory.specs.Memory.{loaded_memory};
+ghost use Rattle.cl_state.specs.Rank.{below, loaded, start_harts};
+
+use crate::state::RankState;
+use cl_calls::{Communicators, Site};
+use rv_hart::Hart;
+use rv_image::{Comms, Image, ImageParts, Links, Members};
+use rv_memory::RankMemory;
+use std::alloc::{AllocError, Global};
+
+fn all_ranks(alloc: Global, ranks: u8) -> Result<Members, AllocError>
+    ensures { IfOk result (λ members. members ≡ below ranks) }
+{
+    let mut list = Vec::new(alloc);
+    for rank in 0..ranks {
+        list.push(rank)?;
+    }
+    Ok(Members::from_vec(list))
+}
+
+fn copy_members(alloc: Global, members: &Members) -> Result<Members, AllocError>
+    ensures { IfOk result (λ copy. copy ≡ members.now) }
+{
+    Ok(Members::from_vec(Vec::from_slice(alloc, members.as_slice())?))
+}
+
+fn all_comms(alloc: Global, ranks: u8, comms: &Comms) -> Result<Communicators, AllocError>
+    requires { length comms.now ≤ 7 }
+    ensures { IfOk result (λ all. all ≡ below ranks ∷ comms.now) }
+{
+    let comms = comms.as_slice();
+    let mut lists = Vec::new(alloc);
+    lists.push(all_ranks(alloc, ranks)?)?;
+    for i in 0..comms.len() {
+        lists.push(copy_members(alloc, &comms[i])?)?;
+    }
+    Ok(Communicators::from_vec(lists))
+}
+
+fn copy_links(alloc: Global, links: &Links) -> Result<Links, AllocError>
+    ensures { IfOk result (λ copy. copy ≡ links.now) }
+{
+    Ok(Links::from_vec(Vec::from_slice(alloc, links.as_slice())?))
+}
+
+fn all_harts(alloc: Global, parts: &ImageParts, rank: u8) -> Result<Vec<Hart>, AllocError>
+    requires { 4096 * parts.now.harts ≤ parts.now.memory }
+    ensures harts { IfOk result (λ harts. harts.items ≡ start_harts parts.now rank parts.now.harts) }
+    ensures count { IfOk result (λ harts. vec_len harts ≡ parts.now.harts) }
+{
+    let mut harts = Vec::new(alloc);
+    for hart in 0..parts.harts {
+        harts.push(Hart::start(u64::from(parts.entry), u64::from(parts.memory), hart, rank))?;
+    }
+    Ok(harts)
+}
+
+#[tactic(auto, using(crate::proofs::Starts::start_is))]
+fn memory(alloc: Global, parts: &ImageParts) -> Result<RankMemory, AllocError>
+    requires { IsImage parts.now }
+    ensures { IfOk result (λ memory. memory ≡ loaded_memory parts.now.memory parts.now.text parts.now.init) }
+{
+    RankMemory::new(
+        alloc,
+        parts.memory as usize,
+        parts.text.as_slice(),
+        parts.init.as_slice(),
+    )
+}
+
+impl RankState {
+    ghost use Rattle.cl_state.specs.Room.{rank_of};
+
+    /// The rank of this number, as it is loaded.
+    pub fn load(alloc: Global, image: &Image, rank: u8) -> Result<RankState, AllocError>
+        ensures loaded { IfOk result (λ state. rank_of state ≡ loaded image.now rank) }
+        ensures harts { IfOk result (λ state. vec_len state.harts ≡ image.now.harts) }
+    {
+        let parts = image.parts();
+        let site = Site {
+            number: rank,
+            ranks: parts.ranks,
+            comms: all_comms(alloc, parts.ranks, &parts.comms)?,
+            links: copy_links(alloc, &parts.links)?,
+        };
+        let memory = memory(alloc, parts)?;
+        let harts = all_harts(alloc, parts, rank)?;
+        Ok(RankState::new(alloc, site, memory, harts))
+    }
+}

@@ -1,0 +1,116 @@
+//! A rank as it runs.
+
+ghost use Rattle.std.specs.Prelude.{◌≡◌, ◌<◌, get_or, vec_len, IfOk, OnOk};
+ghost use Rattle.cl_state.specs.Asked.{asked, doing as doing_of, no_hart, part_of};
+ghost use Rattle.cl_state.specs.Right.{IsChecked, IsRunning};
+ghost use Rattle.cl_state.specs.Told.{told};
+
+use crate::asking::{Answer, Ask, Doing};
+use crate::telling::answer_hart;
+use cl_calls::{Call, Site};
+use mp_types::Stamp;
+use rv_hart::Hart;
+use rv_memory::RankMemory;
+use std::alloc::{AllocError, Global};
+
+/// A rank: its memory, its harts, its output and its clock, beside what the image fixes.
+#[derive(Drop)]
+pub struct RankState {
+    alloc: Global,
+    pub site: Site,
+    pub memory: RankMemory,
+    pub harts: Vec<Hart>,
+    pub out: Vec<u8>,
+    /// The bytes that the next turn puts behind the output, once `room` made them.
+    pub fresh: Vec<u8>,
+    pub clock: Stamp,
+}
+
+impl RankState {
+    ghost use Rattle.std.specs.Prelude.{[]};
+    ghost use Rattle.cl_state.specs.Room.{HasRoom, rank_of};
+
+    /// A rank with no output at clock 0.
+    pub fn new(alloc: Global, site: Site, memory: RankMemory, harts: Vec<Hart>) -> RankState
+        ensures rank { rank_of result ≡ record { site = site; memory = memory; harts = harts.items; requests = []; phases = []; out = []; clock = 0 } }
+        ensures harts { vec_len result.harts ≡ vec_len harts }
+    {
+        RankState {
+            alloc,
+            site,
+            memory,
+            harts,
+            out: Vec::new(alloc),
+            fresh: Vec::new(alloc),
+            clock: 0,
+        }
+    }
+
+    fn doing(&self, hart: u8) -> Doing
+        requires { hart < vec_len self.now.harts }
+        ensures doing { result ≡ doing_of self.now.site (part_of (rank_of self.now) hart) }
+        ensures right { IsChecked self.now.site self.now.memory result }
+        ensures running { IsRunning result (get_or self.now.harts.items hart no_hart) }
+    {
+        Doing::of(
+            &self.site,
+            &self.memory,
+            self.out.as_slice(),
+            &self.harts[hart as usize],
+        )
+    }
+
+    /// What the hart asks in its next turn. Only a copy of bytes to be sent takes memory.
+    #[tactic(auto, unfolding(crate::specs::Asked::asked))]
+    pub fn ask(&self, hart: u8) -> Result<Ask, AllocError>
+        requires { hart < vec_len self.now.harts }
+        ensures { IfOk result (λ ask. ask ≡ asked (rank_of self.now) hart) }
+    {
+        self.doing(hart).ask(self.alloc, &self.site, &self.memory)
+    }
+
+    /// Makes all growths of the hart's next turn. The rank stays as it is.
+    pub fn room(&mut self, hart: u8) -> Result<(), AllocError>
+        requires { hart < vec_len self.old.harts }
+        ensures same { rank_of self.new ≡ rank_of self.old }
+        ensures harts { vec_len self.new.harts ≡ vec_len self.old.harts }
+        ensures room { OnOk result (HasRoom self.new hart) }
+    {
+        match self.doing(hart) {
+            Doing::Go(Call::Put { buffer, count }) => {
+                let Ok(bytes) = self.memory.read_bytes(self.alloc, buffer, count) else {
+                    return Err(AllocError);
+                };
+                self.out.reserve(bytes.len())?;
+                self.fresh = bytes;
+                Ok(())
+            }
+            _ => {
+                self.fresh = Vec::new(self.alloc);
+                Ok(())
+            }
+        }
+    }
+
+    /// Tells the rank the answer to what the hart asked. Takes no memory.
+    #[tactic(auto, unfolding(crate::specs::Told::told))]
+    pub fn tell(&mut self, hart: u8, answer: &Answer, stamp: Stamp)
+        requires hart { hart < vec_len self.old.harts }
+        requires room { HasRoom self.old hart }
+        ensures told { rank_of self.new ≡ told (rank_of self.old) hart answer.now stamp }
+        ensures harts { vec_len self.new.harts ≡ vec_len self.old.harts }
+    {
+        let doing = self.doing(hart);
+        answer_hart(
+            &self.site,
+            hart,
+            &mut self.harts[hart as usize],
+            &mut self.memory,
+            &mut self.out,
+            self.fresh.as_slice(),
+            &doing,
+            answer,
+        );
+        self.clock = stamp;
+    }
+}
