@@ -1,6 +1,7 @@
 -- What each command answers: the text on standard output, and the status.
 use Rattle.std.specs.Prelude.{◌≡◌, ⊤, ℕ, ◌+◌, ◌≤◌, ◌==◌, ◌&&◌, ◌⊎◌, if◌then◌else◌, Bool, true, false, List, [], ◌∷◌, length, take, count_by, MatchBool, MatchOption, Option, Some, None, Result, Ok, Err, string_bytes}
 use Rattle.std.specs.Io.KnownBytes.{Appends, Keeps}
+use Rattle.std.specs.List.{list_all}
 use Rattle.std.specs.Result.{result_ok}
 use Rattle.std.specs.Str.Lossy.{utf8_valid_len}
 use Rattle.rv_asm.specs.Source.{meaning}
@@ -55,6 +56,11 @@ IsDone meant text status = (text ≡ meant) × (status ≡ 0)
 abbrev pub is_alone : ImageParts → Bool
 is_alone image = (image.ranks == 1) && (image.harts == 1)
 
+-- a list that names nothing but number 0, or none
+abbrev pub names_only_0 : Option (List ℕ) → Bool
+names_only_0 (Some numbers) = list_all (λ number. number == 0) numbers
+names_only_0 None = true
+
 -- the report and the status of a run of the image
 pub record IsReported (image : ImageParts) (budget : ℕ) (text : List ℕ) (status : ℕ) : Type 0 where
   pub end : Machine
@@ -69,9 +75,9 @@ Says Asm bytes text status =
     MatchOption (source_image bytes) (IsFaulty text status) (λ image. IsDone (image_text image) text status)
 Says Dis bytes text status =
     MatchOption (spelled_image bytes) (IsFaulty text status) (λ image. IsDone (listing image.text) text status)
-Says (One source budget) bytes text status =
+Says (One source budget plan order) bytes text status =
     MatchOption (image_of source bytes) (IsFaulty text status)
-    (λ image. MatchBool (is_alone image) (IsReported image budget text status) (IsFaulty text status))
+    (λ image. MatchBool (is_alone image && (names_only_0 plan && names_only_0 order)) (IsReported image budget text status) (IsFaulty text status))
 
 -- ---- the program
 

@@ -2,7 +2,7 @@
 
 ghost use Rattle.std.specs.Prelude.{◌≡◌, ◌+◌, ◌==◌, count_by};
 ghost use Rattle.std.specs.Str.{IsUtf8};
-ghost use Rattle.rvmc.specs.Answers.{Finds, Gives, IsReported, Says, source_image, spelled_image, wrong_bytes};
+ghost use Rattle.rvmc.specs.Answers.{Finds, Gives, IsReported, Says, names_only_0, source_image, spelled_image, wrong_bytes};
 ghost use Rattle.rvmc_cli.specs.declared.parsing.CommandLine.TheVariants.{Asm, Dis, One};
 
 use crate::faults::Fault;
@@ -11,7 +11,7 @@ use crate::machine::Machine;
 use crate::report::{report, status};
 use rv_asm::{AsmFault, AsmFaultKind, assemble};
 use rv_image::{Image, read_image, write_image};
-use rvmc_cli::CommandLine;
+use rvmc_cli::{CommandLine, Numbers};
 use std::alloc::Global;
 
 /// The text for standard output, and the status.
@@ -88,9 +88,26 @@ fn run(alloc: Global, image: &Image, budget: u64) -> Result<Answer, Fault>
     Ok(Answer { text, status })
 }
 
+/// Whether a list names nothing but number 0, which is the one hart or rank that there is.
+fn names_only_0(list: &Option<Numbers>) -> bool
+    ensures { result ≡ names_only_0 list.now }
+{
+    match list {
+        Some(numbers) => numbers.as_slice().iter().all(|number| *number == 0),
+        None => true,
+    }
+}
+
 /// `one`.
-fn one(alloc: Global, source: bool, budget: u64, bytes: &[u8]) -> Result<Answer, Fault>
-    ensures { Gives (Says (One source budget) bytes.now) result }
+fn one(
+    alloc: Global,
+    source: bool,
+    budget: u64,
+    plan: Option<Numbers>,
+    order: Option<Numbers>,
+    bytes: &[u8],
+) -> Result<Answer, Fault>
+    ensures { Gives (Says (One source budget plan order) bytes.now) result }
 {
     let image = if source {
         rebuilt_image(alloc, bytes)?
@@ -99,6 +116,9 @@ fn one(alloc: Global, source: bool, budget: u64, bytes: &[u8]) -> Result<Answer,
     };
     let parts = image.parts();
     if parts.ranks != 1 || parts.harts != 1 {
+        return Err(Fault::Plans);
+    }
+    if !names_only_0(&plan) || !names_only_0(&order) {
         return Err(Fault::Plans);
     }
     run(alloc, &image, budget)
@@ -111,6 +131,11 @@ pub fn answer_to(alloc: Global, line: CommandLine, bytes: &[u8]) -> Result<Answe
     match line {
         CommandLine::Asm => asm(alloc, bytes),
         CommandLine::Dis => dis(alloc, bytes),
-        CommandLine::One { source, budget } => one(alloc, source, budget, bytes),
+        CommandLine::One {
+            source,
+            budget,
+            plan,
+            order,
+        } => one(alloc, source, budget, plan, order, bytes),
     }
 }

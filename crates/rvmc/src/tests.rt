@@ -168,6 +168,23 @@ fn more_ranks_or_harts_than_one(rt: HostRuntime) {
 }
 
 #[test]
+fn harts_and_ranks_that_are_listed(rt: HostRuntime) {
+    // The one hart of the one rank, as often as one likes.
+    expect(
+        &rt,
+        &["one", "--plan", "0", "--order=0,0"],
+        &HI_IMAGE,
+        0,
+        HI_REPORT,
+        b"",
+    );
+    // Numbers that fit, of a hart and a rank that aren't there.
+    for words in &[["one", "--plan=0,1"], ["one", "--order=255"]] {
+        expect(&rt, words, &HI_IMAGE, 1, b"", b"rvmc: plans\n");
+    }
+}
+
+#[test]
 fn lists_words(rt: HostRuntime) {
     let image =
         b"RVMC\x01\x00\x01\x01\x00\x00\x01\x00\x00\x00\x00\x00\x0c\x00\x00\x00\x00\x00\x00\x00\x00\x00\x00\x00\xb7\x72\x0a\x00\x0f\x00\xf0\x0f\xff\xff\xff\xff";
@@ -241,13 +258,15 @@ fn output_is_full(rt: HostRuntime) {
 
 #[test]
 fn command_lines_that_are_refused(rt: HostRuntime) {
-    let refused: [&[&str]; 13] = [
+    let refused: [&[&str]; 15] = [
         &["fly"],
         &["run"],
         &["check"],
         &["asm", "--budget", "1"],
         &["dis", "more"],
-        &["one", "--plan", "0"],
+        &["one", "--plan", "0,"],
+        &["one", "--order", ""],
+        &["one", "--plan=0", "--plan=0"],
         &["one", "--budget"],
         &["one", "--budget", "0"],
         &["one", "--budget", "16777217"],

@@ -13,9 +13,12 @@ use Rattle.clap.specs.declared.parser.matches.ArgMatches.{ArgMatches}
 use Rattle.clap.specs.declared.parser.matches.ArgMatches.TheViews.{out-ArgMatches, out-SubCommand}
 use Rattle.clap.proofs.OnLiterals.{clap_on_literals}
 use Rattle.rvmc_cli.specs.App.{rvmc_app}
-use Rattle.rvmc_cli.specs.Meaning.{IsRefusal, Parses, command_in, faults_in, is_request, line_in, meaning_of, refusals_of}
+use Rattle.rvmc_cli.specs.Meaning.{Finds, IsRefusal, IsTold, Parses, command_in, faults_in, is_request, line_in, meaning_of, refusals_of}
 use Rattle.rvmc_cli.specs.declared.parsing.ParseFault.{ParseFault}
 use Rattle.rvmc_cli.specs.declared.parsing.ParseFault.TheVariants as parse
+use Rattle.rvmc_cli.specs.declared.parsing.CommandLine.{CommandLine}
+use Rattle.rvmc_cli.specs.declared.parsing.Wrong.{Wrong}
+use Rattle.rvmc_cli.specs.declared.parsing.Wrong.TheVariants as wrong
 
 pub is_exact : is_simple_and_free rvmc_app ≡ true
 unfolding clap_on_literals
@@ -104,7 +107,15 @@ refused_words ws e app r lt is shown (inr among) =
     refusal ws (kind_of e) r (not_taken ws (kind_of e) lt found) (among_refusals (kind_of e) (faults_in (texts ws)) found) shown
 
 -- clap took the words, and a value is none
-pub refused_value : (ws : List (Bor Text)) (r : ParseFault) → meaning_of (texts ws) ≡ None → faults_in (texts ws) ≡ [] → IsRefusal kind.ValueValidation r
+refused_value : (ws : List (Bor Text)) (r : ParseFault) → meaning_of (texts ws) ≡ None → faults_in (texts ws) ≡ [] → IsRefusal kind.ValueValidation r
     → Parses (texts ws) (Err r)
 refused_value ws r none nothing is =
     refusal ws kind.ValueValidation r none (subst (λ ks. IsAmong kind.ValueValidation (or_else ks (kind.ValueValidation ∷ []))) (sym nothing) (inl refl)) is
+
+-- or memory was wanting for it
+pub told : (ws : List (Bor Text)) (w : Wrong) (r : ParseFault) (meant : Option CommandLine) → meaning_of (texts ws) ≡ meant → Finds meant (Err w) → faults_in (texts ws) ≡ [] → IsTold w r
+    → Parses (texts ws) (Err r)
+told ws wrong.Memory r meant is found nothing memory = subst (λ (x : ParseFault). Parses (texts ws) (Err x)) (sym memory) tt
+told ws wrong.Command r meant is found nothing shown = refused_value ws r (is ∙ found) nothing shown
+told ws (wrong.Number option least most text) r meant is found nothing shown = refused_value ws r (is ∙ found) nothing shown
+told ws (wrong.List option text) r meant is found nothing shown = refused_value ws r (is ∙ found) nothing shown

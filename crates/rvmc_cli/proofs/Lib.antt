@@ -1,3 +1,3 @@
 pub mod Building
+pub mod Digits
 pub mod FromClap
-pub mod Numbers

@@ -31,9 +31,11 @@ asm_app = new_app (codes "asm")
 abbrev pub dis_app : App
 dis_app = new_app (codes "dis")
 
--- `one [--source] [--budget N]`
+-- `one [--source] [--budget N] [--plan HARTS] [--order RANKS]`
 abbrev pub one_app : App
-one_app = with_rules (new_app (codes "one")) (flag (codes "source") ∷ option (codes "budget") ∷ [])
+one_app =
+    with_rules (new_app (codes "one"))
+    (flag (codes "source") ∷ option (codes "budget") ∷ option (codes "plan") ∷ option (codes "order") ∷ [])
 
 -- `rvmc`, before its commands: `--help` and `--version` are clap's own
 abbrev pub top_app : App

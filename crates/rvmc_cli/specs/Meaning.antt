@@ -8,11 +8,13 @@ use Rattle.clap.specs.Kinds.{IsAmong, Kinds, or_else}
 use Rattle.clap.specs.declared.error.kind.ErrorKind.{ErrorKind}
 use Rattle.clap.specs.declared.error.kind.ErrorKind.TheVariants as kind
 use Rattle.rvmc_cli.specs.App.{rvmc_app}
-use Rattle.rvmc_cli.specs.Number.{number_in}
+use Rattle.rvmc_cli.specs.Number.{number_in, numbers_in}
 use Rattle.rvmc_cli.specs.declared.parsing.CommandLine.{CommandLine}
 use Rattle.rvmc_cli.specs.declared.parsing.CommandLine.TheVariants.{Asm, Dis, One}
 use Rattle.rvmc_cli.specs.declared.parsing.ParseFault.{ParseFault}
 use Rattle.rvmc_cli.specs.declared.parsing.ParseFault.TheVariants as parse
+use Rattle.rvmc_cli.specs.declared.parsing.Wrong.{Wrong}
+use Rattle.rvmc_cli.specs.declared.parsing.Wrong.TheVariants as wrong
 
 -- ---- the options of a command, of what clap found for it
 
@@ -29,8 +31,16 @@ number_option name least most default rows =
 abbrev pub budget_in : List Row → Option ℕ
 budget_in rows = number_option (codes "budget") 1 16777216 1000000 rows
 
+-- the numbers of an option, or None without one
+abbrev pub list_option : Text → List Row → Option (Option (List ℕ))
+list_option name rows = option_map_or (λ text. option_map (λ numbers. Some numbers) (numbers_in text)) (first_of name rows) (Some None)
+
+-- each option of `one`
 abbrev pub one_in : List Row → Option CommandLine
-one_in rows = option_map (λ budget. One (flag_in (codes "source") rows) budget) (budget_in rows)
+one_in rows =
+    option_and_then (λ budget. option_and_then (λ plan. option_map (λ order.
+    One (flag_in (codes "source") rows) budget plan order)
+    (list_option (codes "order") rows)) (list_option (codes "plan") rows)) (budget_in rows)
 
 -- the command of this name, with what was found for it
 unfoldable pub line_in : Text → List Row → Option CommandLine
@@ -52,7 +62,7 @@ command_in words = subcommand_of rvmc_app words
 
 -- without words it is `one --source`; else clap has to take the words, and each value has to be one
 abbrev pub meaning_of : List Text → Option CommandLine
-meaning_of [] = Some (One true 1000000)
+meaning_of [] = Some (One true 1000000 None None)
 meaning_of (word ∷ words) =
     if length (faults_in (word ∷ words)) == 0
     then option_and_then (λ found. line_in found.0 found.1) (command_in (word ∷ words))
@@ -84,3 +94,16 @@ Parses words (Ok line) = meaning_of words ≡ Some line
 Parses words (Err parse.Memory) = ⊤
 Parses words (Err (parse.Asked text)) = (meaning_of words ≡ None) × IsRefusalOf words (parse.Asked text)
 Parses words (Err (parse.Refused text)) = (meaning_of words ≡ None) × IsRefusalOf words (parse.Refused text)
+
+-- ---- the steps to a command line
+
+-- what was found is what is meant, unless memory was refused
+abbrev pub Finds : {X : Type 0} → Option X → Result X Wrong → Type 0
+Finds meant (Ok found) = meant ≡ Some found
+Finds meant (Err wrong.Memory) = ⊤
+Finds meant (Err other) = meant ≡ None
+
+-- what is told of words that clap took, whose value isn't one
+abbrev pub IsTold : Wrong → ParseFault → Type 0
+IsTold wrong.Memory fault = fault ≡ parse.Memory
+IsTold other fault = IsRefusal kind.ValueValidation fault

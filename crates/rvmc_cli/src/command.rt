@@ -32,12 +32,20 @@ Example:
   rvmc asm <hi.s | rvmc dis";
 
 const ONE_EXAMPLES: &str = "\
+The ranks take turns in the order that --order lists, round and round, and a
+rank that has stopped is passed over. In its turn a rank gives one hart a turn:
+the next in the list that --plan gives, round and round, the same for each rank.
+A list is decimal numbers from 0 to 255 with one comma between them. A hart may
+be listed more than once, or not at all. Each rank has to be listed.
+
 The report has the bytes that each rank put out, how each hart ended, and why
 and after how many turns each rank stopped.
 
 Examples:
   rvmc one --source <hi.s
-  rvmc one --budget 100 <hi.image";
+  rvmc one --budget 100 <hi.image
+  rvmc one --order 1,0 <hi.image       rank 1 takes the first turn
+  rvmc one --plan 0,0,1 <hi.image      hart 0 takes two turns, then hart 1 one";
 
 /// `--name`.
 fn flag<'a>(alloc: Global, name: &'a str, help: &'a str) -> Arg<'a>
@@ -104,6 +112,18 @@ fn one<'a>(alloc: Global) -> Result<Command<'a>, AllocError>
         "budget",
         "N",
         "Stops a rank after N turns, from 1 to 16777216 [default: 1000000]",
+    ))?
+    .arg(option(
+        alloc,
+        "plan",
+        "HARTS",
+        "The harts that take a rank's turns, as 0,1 [default: all in order]",
+    ))?
+    .arg(option(
+        alloc,
+        "order",
+        "RANKS",
+        "The ranks that take turns, as 0,1 [default: all in order]",
     ))
 }
 

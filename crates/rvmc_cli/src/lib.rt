@@ -2,9 +2,11 @@
 #![tactic(auto)]
 
 mod command;
+mod list;
 mod number;
 mod parsing;
 
+pub use list::Numbers;
 pub use parsing::{CommandLine, ParseFault, parse};
 
 #[cfg(test)]

@@ -1,12 +1,13 @@
 //! Decimal numbers in a range.
 
-ghost use Rattle.std.specs.Prelude.{◌≡◌};
+ghost use Rattle.std.specs.Prelude.{◌≡◌, ◌≤◌, IfSome};
 ghost use Rattle.rvmc_cli.specs.Number.{number_in};
 
 /// The number that a text writes in decimal digits, where it is from `least` to `most`. A sign, a
 /// blank or no digit at all is no number.
 pub fn number_in(least: u64, most: u64, text: &str) -> Option<u64>
-    ensures { result ≡ number_in least most text.now }
+    ensures value { result ≡ number_in least most text.now }
+    ensures bound { IfSome result (λ number. number ≤ most) }
 {
     let bytes = text.as_bytes();
     if bytes.is_empty() {

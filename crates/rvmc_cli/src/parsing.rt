@@ -1,14 +1,14 @@
 //! From words to a command line.
 
 ghost use Rattle.std.specs.Prelude.{◌≡◌, IfOk, map, option_map};
-ghost use Rattle.std.specs.Result.{result_ok};
 ghost use Rattle.clap.specs.Walk.{rows_of};
 ghost use Rattle.clap.specs.Words.{first_of, found_of, kind_of};
-ghost use Rattle.clap.specs.declared.error.kind.ErrorKind.TheVariants.{ValueValidation};
-ghost use Rattle.rvmc_cli.specs.Meaning.{IsRefusal, Parses, budget_in, flag_in, line_in, number_option, one_in};
+ghost use Rattle.rvmc_cli.specs.Meaning.{Finds, IsRefusal, IsTold, Parses, budget_in, flag_in, line_in, list_option, number_option, one_in};
 ghost use Rattle.rvmc_cli.specs.declared.parsing.ParseFault.TheVariants.{Memory};
+ghost use Rattle.rvmc_cli.specs.declared.parsing.Wrong.TheVariants as wrong;
 
 use crate::command;
+use crate::list::{Numbers, numbers_in};
 use crate::number::number_in;
 use clap::error::ErrorKind;
 use clap::{ArgMatches, Command};
@@ -16,15 +16,22 @@ use std::alloc::{AllocError, Global};
 use std::fmt;
 
 /// What rvmc is asked to do.
-#[derive(Clone, Copy, Debug, PartialEq, Eq)]
+#[derive(Debug, Drop, PartialEq, Eq)]
 pub enum CommandLine {
     /// A source is read, and its image is written.
     Asm,
     /// An image is read, and its listing is written.
     Dis,
     /// An image, or with `source` a source, is read and run on one thread, each rank for at most
-    /// `budget` turns (1 to 16,777,216), and the report is written.
-    One { source: bool, budget: u64 },
+    /// `budget` turns (1 to 16,777,216), and the report is written. The ranks take turns in the order
+    /// of `order`, and each rank's harts in that of `plan`, round and round; without them all take
+    /// turns in order. Whether a rank or a hart is there is not known here.
+    One {
+        source: bool,
+        budget: u64,
+        plan: Option<Numbers>,
+        order: Option<Numbers>,
+    },
 }
 
 /// Why there is no command line.
@@ -49,6 +56,8 @@ impl From<AllocError> for ParseFault {
 /// Why what clap found is no command line.
 #[derive(Clone, Copy, Debug)]
 enum Wrong<'a> {
+    /// Memory was refused for a list. It is told as that, and not by a sentence.
+    Memory,
     /// There is no command, or none of this name.
     Command,
     /// An option's text is no number in its range.
@@ -58,11 +67,25 @@ enum Wrong<'a> {
         most: u64,
         text: &'a str,
     },
+    /// An option's text is no list of numbers.
+    List {
+        option: &'static str,
+        text: &'a str,
+    },
+}
+
+impl From<AllocError> for Wrong<'_> {
+    ghost from_gives = { λ _ e. e ≡ wrong.Memory };
+
+    fn from(_e: AllocError) -> Self {
+        Wrong::Memory
+    }
 }
 
 impl fmt::Display for Wrong<'_> {
     fn fmt<W: fmt::Write>(&self, f: &mut fmt::Formatter<W>) -> fmt::Result {
         match self {
+            Wrong::Memory => write!(f, "memory was refused"),
             Wrong::Command => write!(f, "a command is wanted"),
             Wrong::Number {
                 option,
@@ -72,6 +95,10 @@ impl fmt::Display for Wrong<'_> {
             } => write!(
                 f,
                 "'--{option}' takes a number from {least} to {most}, not '{text}'"
+            ),
+            Wrong::List { option, text } => write!(
+                f,
+                "'--{option}' takes numbers from 0 to 255 with one comma between them, as 0,1, not '{text}'"
             ),
         }
     }
@@ -102,7 +129,7 @@ fn number<'a>(
     most: u64,
     default: u64,
 ) -> Result<u64, Wrong<'a>>
-    ensures { result_ok result ≡ number_option option.entry.now least most default (rows_of (found_of matches.now)) }
+    ensures { Finds (number_option option.entry.now least most default (rows_of (found_of matches.now))) result }
 {
     let Some(text) = text(matches, option) else {
         return Ok(default);
@@ -119,25 +146,46 @@ fn number<'a>(
 }
 
 fn budget<'a>(matches: &ArgMatches<'a>) -> Result<u64, Wrong<'a>>
-    ensures { result_ok result ≡ budget_in (rows_of (found_of matches.now)) }
+    ensures { Finds (budget_in (rows_of (found_of matches.now))) result }
 {
     number(matches, "budget", 1, 16_777_216, 1_000_000)
 }
 
-fn one<'a>(matches: &ArgMatches<'a>) -> Result<CommandLine, Wrong<'a>>
-    ensures { result_ok result ≡ one_in (rows_of (found_of matches.now)) }
+/// The numbers of an option, if it was given.
+fn list<'a>(
+    alloc: Global,
+    matches: &ArgMatches<'a>,
+    option: &'static str,
+) -> Result<Option<Numbers>, Wrong<'a>>
+    ensures { Finds (list_option option.entry.now (rows_of (found_of matches.now))) result }
+{
+    let Some(text) = text(matches, option) else {
+        return Ok(None);
+    };
+    match numbers_in(alloc, text)? {
+        Some(numbers) => Ok(Some(numbers)),
+        None => Err(Wrong::List { option, text }),
+    }
+}
+
+fn one<'a>(alloc: Global, matches: &ArgMatches<'a>) -> Result<CommandLine, Wrong<'a>>
+    ensures { Finds (one_in (rows_of (found_of matches.now))) result }
 {
     let budget = budget(matches)?;
+    let plan = list(alloc, matches, "plan")?;
+    let order = list(alloc, matches, "order")?;
     Ok(CommandLine::One {
         source: flag(matches, "source"),
         budget,
+        plan,
+        order,
     })
 }
 
 /// The command line of the command that clap found.
 #[tactic(auto, unfolding(crate::specs::Meaning::line_in))]
-fn line<'a>(name: &str, matches: &ArgMatches<'a>) -> Result<CommandLine, Wrong<'a>>
-    ensures { result_ok result ≡ line_in name.now (rows_of (found_of matches.now)) }
+fn line<'a>(alloc: Global, name: &str, matches: &ArgMatches<'a>) -> Result<CommandLine, Wrong<'a>>
+    ensures { Finds (line_in name.now (rows_of (found_of matches.now))) result }
 {
     if name == "asm" {
         return Ok(CommandLine::Asm);
@@ -146,7 +194,7 @@ fn line<'a>(name: &str, matches: &ArgMatches<'a>) -> Result<CommandLine, Wrong<'
         return Ok(CommandLine::Dis);
     }
     if name == "one" {
-        return one(matches);
+        return one(alloc, matches);
     }
     Err(Wrong::Command)
 }
@@ -165,14 +213,17 @@ fn shown(alloc: Global, error: clap::Error) -> ParseFault
     }
 }
 
-/// A refusal of our own, in clap's form, with the usage below it.
+/// A refusal of our own, in clap's form, with the usage below it; or that memory was refused.
 fn refused(
     alloc: Global,
     command: &mut Command<'_>,
     wrong: Wrong<'_>,
 ) -> Result<ParseFault, AllocError>
-    ensures { IfOk result (IsRefusal ValueValidation) }
+    ensures { IfOk result (IsTold wrong.entry) }
 {
+    if let Wrong::Memory = wrong {
+        return Ok(ParseFault::Memory);
+    }
     let sentence = format!(in alloc; "{wrong}")?;
     let error = command.error(ErrorKind::ValueValidation, sentence.as_str())?;
     Ok(shown(alloc, error))
@@ -180,8 +231,9 @@ fn refused(
 
 /// What the words after the program's name ask for. Without words it is `one --source`.
 ///
-/// `Asked` comes where the words ask for help or the version, `Refused` where clap doesn't take them
-/// or a number is out of its range, and `Memory` where memory was refused, whatever the words.
+/// `Asked` comes where the words ask for help or the version, `Refused` where clap doesn't take them,
+/// a number is out of its range or a list is none, and `Memory` where memory was refused, whatever the
+/// words.
 pub fn parse<'a>(alloc: Global, words: &'a [&'a str]) -> Result<CommandLine, ParseFault>
     ensures { Parses (map (λ w. w.now) words.entry.now) result }
 {
@@ -189,6 +241,8 @@ pub fn parse<'a>(alloc: Global, words: &'a [&'a str]) -> Result<CommandLine, Par
         return Ok(CommandLine::One {
             source: true,
             budget: 1_000_000,
+            plan: None,
+            order: None,
         });
     }
     let mut command = command::rvmc(alloc)?;
@@ -201,7 +255,7 @@ pub fn parse<'a>(alloc: Global, words: &'a [&'a str]) -> Result<CommandLine, Par
     let Some((name, found)) = matches.subcommand() else {
         return Err(refused(alloc, &mut command, Wrong::Command)?);
     };
-    match line(name, found) {
+    match line(alloc, name, found) {
         Ok(line) => Ok(line),
         Err(wrong) => Err(refused(alloc, &mut command, wrong)?),
     }

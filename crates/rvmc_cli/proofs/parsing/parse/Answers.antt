@@ -1,7 +1,7 @@
-use Rattle.std.proofs.Common.{◌≡◌, ◌∙◌, [], None, ap, length, sym}
+use Rattle.std.proofs.Common.{◌≡◌, ◌∙◌, [], ap, length, sym}
 use Rattle.clap.specs.Words.{found_of, is_simple, is_simple_and_free, rows_of}
-use Rattle.rvmc_cli.specs.Meaning.{faults_in, line_in}
-use Rattle.rvmc_cli.proofs.FromClap.{command_is, faults_are, has_matches, is_exact, met, nonempty, refused_value, refused_words, taken, texts}
+use Rattle.rvmc_cli.specs.Meaning.{faults_in}
+use Rattle.rvmc_cli.proofs.FromClap.{command_is, faults_are, has_matches, is_exact, met, nonempty, refused_words, taken, texts, told}
 use Rattle.rvmc_cli.proofs.parsing.parse.Goals as goal
 
 pub returns-in-Err : goal.returns-in-Err
@@ -19,7 +19,7 @@ returns-in-Ok-line c =
     let none : faults_in (texts ws) ≡ [] = sym (faults_are _ (texts ws) app) ∙ c.in-Ok.ensures.kinds (ap is_simple_and_free app ∙ is_exact) in
     let found = (c.in-Ok.ensures.ok.2 (ap is_simple app ∙ has_matches)).1 ∙ command_is _ (texts ws) app in
     let both = met c.in-Ok.matches c.in-Some.name.now (rows_of (found_of c.in-Some.found.now)) c.in-Some.ensures.name c.in-Some.ensures.rows in
-    taken ws c.in-Some.name.now (rows_of (found_of c.in-Some.found.now)) some none (sym found ∙ both) ∙ sym c.in-Ok-line.ensures
+    taken ws c.in-Some.name.now (rows_of (found_of c.in-Some.found.now)) some none (sym found ∙ both) ∙ c.in-Ok-line.ensures
 
 pub returns : goal.returns
 returns c =
@@ -29,5 +29,5 @@ returns c =
     let none : faults_in (texts ws) ≡ [] = sym (faults_are _ (texts ws) app) ∙ c.in-Ok.ensures.kinds (ap is_simple_and_free app ∙ is_exact) in
     let found = (c.in-Ok.ensures.ok.2 (ap is_simple app ∙ has_matches)).1 ∙ command_is _ (texts ws) app in
     let both = met c.in-Ok.matches c.in-Some.name.now (rows_of (found_of c.in-Some.found.now)) c.in-Some.ensures.name c.in-Some.ensures.rows in
-    let wrong : line_in c.in-Some.name.now (rows_of (found_of c.in-Some.found.now)) ≡ None = sym c.in-Err-line.ensures in
-    refused_value ws c.in_ok-refused-in-Err-line.field-0 (taken ws c.in-Some.name.now (rows_of (found_of c.in-Some.found.now)) some none (sym found ∙ both) ∙ wrong) none c.in_ok-refused-in-Err-line.ensures
+    let line = taken ws c.in-Some.name.now (rows_of (found_of c.in-Some.found.now)) some none (sym found ∙ both) in
+    told ws c.in-Err-line.wrong c.in_ok-refused-in-Err-line.field-0 _ line c.in-Err-line.ensures none c.in_ok-refused-in-Err-line.ensures
