@@ -1,5 +1,5 @@
 -- What holds of ranks alone.
-use Rattle.std.proofs.Common.{◌≡◌, ℕ, ◌<◌, [], ◌∷◌, refl, sym, ap, ◌∙◌, subst, arith}
+use Rattle.std.proofs.Common.{◌≡◌, ℕ, ◌<◌, [], ◌∷◌, sym, ap, ◌∙◌, subst, arith}
 use Rattle.cl_state.specs.Rank.{Rank}
 use Rattle.cl_state.proofs.Moves.{told_at}
 use Rattle.cl_rank.specs.Deeds.{Act, Deed, answer_of, IsStamp, RankMoves, IsAlone}

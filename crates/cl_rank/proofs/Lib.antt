@@ -1,1 +1,4 @@
 pub mod Alone
+pub mod Boxless
+pub mod Clocks
+pub mod Turned

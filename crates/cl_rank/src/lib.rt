@@ -1,10 +1,20 @@
 //! A rank of the cluster and its turns: each asks, is answered, and is recorded as one event.
 //!
-//! The meaning stands in specs/: deeds, which are events with all that they met, and the rank alone.
+//! The meaning stands in specs/: deeds, which are events with all that they met, the rank alone, and turns.
 #![tactic(auto)]
 
+mod desks;
 pub mod laws;
+mod ranks;
+mod stops;
+mod turning;
 
 pub use cl_calls::{ANY, Call, Communicators, NO_RANK, Needs, Peer, Range, Site, Tag, place};
 pub use cl_state::{Answer, Ask, Doing, RankState};
-pub use cl_trace::{Event, Kind};
+pub use cl_trace::{Bare, Cursor, Event, Kind, Seen, Trace};
+pub use desks::{Desk, LockedDesk, PlainDesk};
+pub use ranks::Rank;
+pub use stops::Stop;
+
+#[cfg(test)]
+mod tests;
