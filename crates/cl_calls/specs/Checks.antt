@@ -1,16 +1,34 @@
 -- The checks of a call, in their order. The first that fails gives the code.
-use Rattle.std.specs.Prelude.{ℕ, ◌+◌, ◌^◌, ◌==◌, if◌then◌else◌, List, [], ◌∷◌, length, Option, Some, None, Bool, true, ◌&&◌, ◌||◌, nat_le, nat_lt, is_some}
+use Rattle.std.specs.Prelude.{ℕ, ◌+◌, ◌^◌, ◌==◌, if◌then◌else◌, List, [], ◌∷◌, length, Option, Some, None, Bool, true, not, ◌&&◌, ◌||◌, nat_le, nat_lt, is_some}
 use Rattle.rv_memory.specs.Memory.{Memory}
 use Rattle.rv_memory.specs.Access.{is_readable, is_writable}
 use Rattle.mp_types.specs.declared.codes.Code.{Code}
-use Rattle.mp_types.specs.declared.codes.Code.TheVariants.{BadCall, BadComm, BadRank, BadTag, BadCount, BadBuffer, Full}
-use Rattle.cl_calls.specs.declared.calls.Needs.{Needs}
-use Rattle.cl_calls.specs.declared.calls.Peer.{Peer}
-use Rattle.cl_calls.specs.declared.calls.Range.{Range}
-use Rattle.cl_calls.specs.declared.calls.Tag.{Tag}
+use Rattle.mp_types.specs.declared.codes.Code.TheVariants.{BadCall, BadRequest, BadComm, BadRank, BadTag, BadCount, BadBuffer, Active, Full}
+use Rattle.mp_request.specs.Entries.{is_persistent, is_active}
+use Rattle.mp_request.specs.Table.{Table, request_at, has, lowest_free}
+use Rattle.cl_calls.specs.declared.needs.Named.{Named}
+use Rattle.cl_calls.specs.declared.needs.Named.TheVariants.{Nothing, NullOrOpen, Persistent, Open}
+use Rattle.cl_calls.specs.declared.needs.Needs.{Needs}
+use Rattle.cl_calls.specs.declared.needs.Peer.{Peer}
+use Rattle.cl_calls.specs.declared.needs.Range.{Range}
+use Rattle.cl_calls.specs.declared.needs.Tag.{Tag}
 use Rattle.cl_calls.specs.Calls.{any, no_rank}
 use Rattle.cl_calls.specs.declared.sites.Site.{Site}
 use Rattle.cl_calls.specs.Site.{members, place_of}
+
+-- the handle names what it has to name (MPI 4.1, 3.7.3 and 3.9); handle 0 is the null request
+abbrev pub is_named : Table → Named → Bool
+is_named table Nothing = true
+is_named table (NullOrOpen handle) = (handle == 0) || is_some (request_at table handle)
+is_named table (Persistent handle) = has is_persistent table handle
+is_named table (Open handle) = is_some (request_at table handle)
+
+-- a request that is started or freed isn't active
+abbrev pub is_idle : Table → Named → Bool
+is_idle table Nothing = true
+is_idle table (NullOrOpen handle) = true
+is_idle table (Persistent handle) = not (has is_active table handle)
+is_idle table (Open handle) = not (has is_active table handle)
 
 -- the caller is a member of the communicator
 abbrev pub is_comm : Site → Option ℕ → Bool
@@ -43,15 +61,21 @@ is_status memory status = (status == 0) || is_writable memory status 24
 abbrev pub has_room : ℕ → ℕ → Bool
 has_room written growth = (growth == 0) || nat_le (written + growth) (2 ^ 20)
 
-abbrev pub checks : Site → Memory → ℕ → Needs → List (Bool × Code)
-checks site memory written needs =
+-- a request is opened at a handle that is free
+abbrev pub has_slot : Table → Bool → Bool
+has_slot table slot = not slot || is_some (lowest_free table)
+
+abbrev pub checks : Site → Memory → Table → ℕ → Needs → List (Bool × Code)
+checks site memory table written needs =
     (needs.known, BadCall) ∷
+    (is_named table needs.request, BadRequest) ∷
     (is_comm site needs.comm, BadComm) ∷
     (is_peer site needs.comm needs.peer, BadRank) ∷
     (is_tag needs.tag, BadTag) ∷
     (is_count needs.buffer, BadCount) ∷
     (is_buffer memory needs.buffer && is_status memory needs.status, BadBuffer) ∷
-    (has_room written needs.growth, Full) ∷
+    (is_idle table needs.request, Active) ∷
+    (has_room written needs.growth && has_slot table needs.slot, Full) ∷
     []
 
 abbrev pub first_fault : List (Bool × Code) → Option Code

@@ -1,3 +1,4 @@
 pub mod Site
 pub mod Calls
+pub mod Needs
 pub mod Checks

@@ -1,7 +1,7 @@
-//! The calls of a guest, and what each needs to be right.
+//! The calls of a guest, as its registers spell them.
 
 ghost use Rattle.std.specs.Prelude.{◌≡◌, ◌<◌};
-ghost use Rattle.cl_calls.specs.Calls.{argument as argument_of, call_of, needs_of, reads, writes, destination as destination_of, source as source_of};
+ghost use Rattle.cl_calls.specs.Calls.{argument as argument_of, call_of, claimed_by, completing_by, probing_by, receiving_by, sending_by};
 
 use rv_decode::Reg;
 use rv_hart::Hart;
@@ -12,146 +12,104 @@ pub const ANY: u64 = u64::MAX;
 /// PROC_NULL, -2 in 64 bits.
 pub const NO_RANK: u64 = u64::MAX - 1;
 
-/// A call, with its arguments as the registers spell them.
+/// MESSAGE_NO_PROC, -2 in 64 bits: the message of a matched probe of the null process (MPI 4.1, 3.8.2).
+pub const NO_MESSAGE: u64 = u64::MAX - 1;
+
+/// The arguments of a send: the bytes, and where to.
+#[derive(Clone, Copy, PartialEq, Eq, Drop, Debug)]
+pub struct Sending {
+    pub buffer: u64,
+    pub count: u64,
+    pub dest: u64,
+    pub tag: u64,
+    pub comm: u64,
+}
+
+/// The arguments of a receive: where to put the bytes, at most so many, and what is accepted.
+#[derive(Clone, Copy, PartialEq, Eq, Drop, Debug)]
+pub struct Receiving {
+    pub buffer: u64,
+    pub capacity: u64,
+    pub source: u64,
+    pub tag: u64,
+    pub comm: u64,
+}
+
+/// The arguments of a receive of a claimed message: where to put the bytes, and the message's handle.
+#[derive(Clone, Copy, PartialEq, Eq, Drop, Debug)]
+pub struct Claimed {
+    pub buffer: u64,
+    pub capacity: u64,
+    pub message: u64,
+}
+
+/// The arguments of a probe: what is accepted, and the address of a status, or 0.
+#[derive(Clone, Copy, PartialEq, Eq, Drop, Debug)]
+pub struct Probing {
+    pub source: u64,
+    pub tag: u64,
+    pub comm: u64,
+    pub status: u64,
+}
+
+/// The arguments of a completing call: the handle of a request, and the address of a status, or 0.
+#[derive(Clone, Copy, PartialEq, Eq, Drop, Debug)]
+pub struct Completing {
+    pub handle: u64,
+    pub status: u64,
+}
+
+/// A call, with its arguments as the registers spell them. The sections are those of MPI 4.1.
 #[derive(Clone, Copy, PartialEq, Eq, Drop, Debug)]
 pub enum Call {
     /// Ends the hart.
-    Exit {
-        code: u64,
-    },
+    Exit { code: u64 },
     /// Puts bytes behind the rank's output.
-    Put {
-        buffer: u64,
-        count: u64,
-    },
-    /// Asks for the caller's position in a communicator (MPI 4.1, 7.4.1, MPI_COMM_RANK).
-    Rank {
-        comm: u64,
-    },
+    Put { buffer: u64, count: u64 },
+    /// Asks for the caller's position in a communicator (7.4.1, MPI_COMM_RANK).
+    Rank { comm: u64 },
     /// Asks how many members a communicator has (7.4.1, MPI_COMM_SIZE).
-    Size {
-        comm: u64,
-    },
+    Size { comm: u64 },
     /// Asks for the hart's number.
     Hart,
     /// Sends in standard mode (3.2.1, MPI_SEND).
-    Send {
-        buffer: u64,
-        count: u64,
-        dest: u64,
-        tag: u64,
-        comm: u64,
-    },
+    Send(Sending),
+    /// Sends in synchronous mode: it is complete once a receive has the message (3.4, MPI_SSEND).
+    Ssend(Sending),
     /// Receives (3.2.4, MPI_RECV).
-    Recv {
-        buffer: u64,
-        capacity: u64,
-        source: u64,
-        tag: u64,
-        comm: u64,
-        status: u64,
-    },
+    Recv { receiving: Receiving, status: u64 },
+    /// Begins a send in standard mode (3.7.2, MPI_ISEND).
+    Isend(Sending),
+    /// Begins a send in synchronous mode (3.7.2, MPI_ISSEND).
+    Issend(Sending),
+    /// Begins a receive (3.7.2, MPI_IRECV).
+    Irecv(Receiving),
+    /// Completes a request if it can be (3.7.3, MPI_TEST).
+    Test(Completing),
+    /// Completes a request as soon as it can be (3.7.3, MPI_WAIT).
+    Wait(Completing),
+    /// Tells what a receive would give, if anything (3.8.1, MPI_IPROBE).
+    Iprobe(Probing),
+    /// Tells what a receive would give, as soon as there is something (3.8.1, MPI_PROBE).
+    Probe(Probing),
+    /// Takes a message out of matching, if there is one (3.8.2, MPI_IMPROBE).
+    Improbe(Probing),
+    /// Takes a message out of matching, as soon as there is one (3.8.2, MPI_MPROBE).
+    Mprobe(Probing),
+    /// Begins a receive of a claimed message (3.8.3, MPI_IMRECV).
+    Imrecv(Claimed),
+    /// Receives a claimed message (3.8.3, MPI_MRECV).
+    Mrecv { claimed: Claimed, status: u64 },
+    /// Makes a persistent send in standard mode (3.9, MPI_SEND_INIT).
+    SendInit(Sending),
+    /// Makes a persistent receive (3.9, MPI_RECV_INIT).
+    RecvInit(Receiving),
+    /// Starts a persistent request (3.9, MPI_START).
+    Start { handle: u64 },
+    /// Frees a persistent request (3.7.3, MPI_REQUEST_FREE).
+    RequestFree { handle: u64 },
     /// A number that is no call's.
     Unknown,
-}
-
-/// A rank argument, and which of the wildcard and the null process may stand for it.
-#[derive(Clone, Copy, PartialEq, Eq, Drop, Debug)]
-pub struct Peer {
-    pub rank: u64,
-    pub any: bool,
-    pub null: bool,
-}
-
-/// A tag argument, and whether the wildcard may stand for it.
-#[derive(Clone, Copy, PartialEq, Eq, Drop, Debug)]
-pub struct Tag {
-    pub tag: u64,
-    pub any: bool,
-}
-
-/// Bytes of the memory that a call reads or writes.
-#[derive(Clone, Copy, PartialEq, Eq, Drop, Debug)]
-pub struct Range {
-    pub address: u64,
-    pub count: u64,
-    pub writing: bool,
-}
-
-/// What a call needs to be right. Where it needs nothing of a kind, that field is None or 0.
-#[derive(Clone, Copy, PartialEq, Eq, Drop, Debug)]
-pub struct Needs {
-    /// There is such a call.
-    pub known: bool,
-    /// A communicator of which the caller is a member.
-    pub comm: Option<u64>,
-    /// A member of that communicator.
-    pub peer: Option<Peer>,
-    pub tag: Tag,
-    pub buffer: Range,
-    /// The address of a status, or 0.
-    pub status: u64,
-    /// How many bytes the output grows by.
-    pub growth: u64,
-}
-
-/// What a call needs that needs nothing.
-const NOTHING: Needs = Needs {
-    known: true,
-    comm: None,
-    peer: None,
-    tag: Tag { tag: 0, any: false },
-    buffer: Range {
-        address: 0,
-        count: 0,
-        writing: false,
-    },
-    status: 0,
-    growth: 0,
-};
-
-impl Range {
-    fn reading(address: u64, count: u64) -> Range
-        ensures { result ≡ reads address count }
-    {
-        Range {
-            address,
-            count,
-            writing: false,
-        }
-    }
-
-    fn writing(address: u64, count: u64) -> Range
-        ensures { result ≡ writes address count }
-    {
-        Range {
-            address,
-            count,
-            writing: true,
-        }
-    }
-}
-
-impl Peer {
-    fn destination(rank: u64) -> Peer
-        ensures { result ≡ destination_of rank }
-    {
-        Peer {
-            rank,
-            any: false,
-            null: true,
-        }
-    }
-
-    fn source(rank: u64) -> Peer
-        ensures { result ≡ source_of rank }
-    {
-        Peer {
-            rank,
-            any: true,
-            null: true,
-        }
-    }
 }
 
 fn argument(hart: &Hart, number: u8) -> u64
@@ -161,97 +119,110 @@ fn argument(hart: &Hart, number: u8) -> u64
     hart.get(Reg::new(10 + number))
 }
 
+impl Sending {
+    fn of(hart: &Hart) -> Sending
+        ensures { result ≡ sending_by (argument_of hart.now) }
+    {
+        Sending {
+            buffer: argument(hart, 0),
+            count: argument(hart, 1),
+            dest: argument(hart, 2),
+            tag: argument(hart, 3),
+            comm: argument(hart, 4),
+        }
+    }
+}
+
+impl Receiving {
+    fn of(hart: &Hart) -> Receiving
+        ensures { result ≡ receiving_by (argument_of hart.now) }
+    {
+        Receiving {
+            buffer: argument(hart, 0),
+            capacity: argument(hart, 1),
+            source: argument(hart, 2),
+            tag: argument(hart, 3),
+            comm: argument(hart, 4),
+        }
+    }
+}
+
+impl Claimed {
+    fn of(hart: &Hart) -> Claimed
+        ensures { result ≡ claimed_by (argument_of hart.now) }
+    {
+        Claimed {
+            buffer: argument(hart, 0),
+            capacity: argument(hart, 1),
+            message: argument(hart, 2),
+        }
+    }
+}
+
+impl Probing {
+    fn of(hart: &Hart) -> Probing
+        ensures { result ≡ probing_by (argument_of hart.now) }
+    {
+        Probing {
+            source: argument(hart, 0),
+            tag: argument(hart, 1),
+            comm: argument(hart, 2),
+            status: argument(hart, 3),
+        }
+    }
+}
+
+impl Completing {
+    fn of(hart: &Hart) -> Completing
+        ensures { result ≡ completing_by (argument_of hart.now) }
+    {
+        Completing {
+            handle: argument(hart, 0),
+            status: argument(hart, 1),
+        }
+    }
+}
+
 impl Call {
     /// The call that a hart's registers spell.
     pub fn of(hart: &Hart) -> Call
         ensures { result ≡ call_of hart.now }
     {
         let a0 = argument(hart, 0);
-        let a1 = argument(hart, 1);
-        let a2 = argument(hart, 2);
-        let a3 = argument(hart, 3);
-        let a4 = argument(hart, 4);
-        let a5 = argument(hart, 5);
         match argument(hart, 7) {
             0 => Call::Exit { code: a0 },
             1 => Call::Put {
                 buffer: a0,
-                count: a1,
+                count: argument(hart, 1),
             },
             2 => Call::Rank { comm: a0 },
             3 => Call::Size { comm: a0 },
             4 => Call::Hart,
-            16 => Call::Send {
-                buffer: a0,
-                count: a1,
-                dest: a2,
-                tag: a3,
-                comm: a4,
-            },
+            16 => Call::Send(Sending::of(hart)),
+            17 => Call::Ssend(Sending::of(hart)),
             18 => Call::Recv {
-                buffer: a0,
-                capacity: a1,
-                source: a2,
-                tag: a3,
-                comm: a4,
-                status: a5,
+                receiving: Receiving::of(hart),
+                status: argument(hart, 5),
             },
+            19 => Call::Isend(Sending::of(hart)),
+            20 => Call::Issend(Sending::of(hart)),
+            21 => Call::Irecv(Receiving::of(hart)),
+            22 => Call::Test(Completing::of(hart)),
+            23 => Call::Wait(Completing::of(hart)),
+            24 => Call::Iprobe(Probing::of(hart)),
+            25 => Call::Probe(Probing::of(hart)),
+            26 => Call::Improbe(Probing::of(hart)),
+            27 => Call::Mprobe(Probing::of(hart)),
+            28 => Call::Imrecv(Claimed::of(hart)),
+            29 => Call::Mrecv {
+                claimed: Claimed::of(hart),
+                status: argument(hart, 3),
+            },
+            30 => Call::SendInit(Sending::of(hart)),
+            31 => Call::RecvInit(Receiving::of(hart)),
+            32 => Call::Start { handle: a0 },
+            33 => Call::RequestFree { handle: a0 },
             _ => Call::Unknown,
-        }
-    }
-
-    /// What the call needs to be right.
-    pub fn needs(&self) -> Needs
-        ensures { result ≡ needs_of self.now }
-    {
-        match *self {
-            Call::Exit { code: _ } => NOTHING,
-            Call::Put { buffer, count } => Needs {
-                buffer: Range::reading(buffer, count),
-                growth: count,
-                ..NOTHING
-            },
-            Call::Rank { comm } => Needs {
-                comm: Some(comm),
-                ..NOTHING
-            },
-            Call::Size { comm } => Needs {
-                comm: Some(comm),
-                ..NOTHING
-            },
-            Call::Hart => NOTHING,
-            Call::Send {
-                buffer,
-                count,
-                dest,
-                tag,
-                comm,
-            } => Needs {
-                comm: Some(comm),
-                peer: Some(Peer::destination(dest)),
-                tag: Tag { tag, any: false },
-                buffer: Range::reading(buffer, count),
-                ..NOTHING
-            },
-            Call::Recv {
-                buffer,
-                capacity,
-                source,
-                tag,
-                comm,
-                status,
-            } => Needs {
-                comm: Some(comm),
-                peer: Some(Peer::source(source)),
-                tag: Tag { tag, any: true },
-                buffer: Range::writing(buffer, capacity),
-                status,
-                ..NOTHING
-            },
-            Call::Unknown => Needs {
-                known: false,
-                ..NOTHING
-            },
         }
     }
 }

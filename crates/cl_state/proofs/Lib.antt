@@ -1,3 +1,5 @@
+pub mod Idle
 pub mod Moves
 pub mod Starts
 pub mod Worked
+pub mod WorkedRequests

@@ -12,6 +12,6 @@ told_at rank hart answer stamp = record { clock = refl; site = refl; harts = len
 pub refused : RefusalLaw
 unfolding told asked returned
 refused rank hart code answer stamp is = record {
-  asks = ap (asked_in rank.site rank.memory) is;
+  asks = ap (asked_in rank.site rank.memory rank.requests) is;
   leaves = ap (λ d. with_part rank hart (told_in rank.site hart d answer (part_of rank hart)) stamp) is;
 }

@@ -1,6 +1,6 @@
 -- What a hart asks in its next turn.
 use Rattle.std.specs.Prelude.{ℕ, ◌==◌, if◌then◌else◌, List, [], length, get_or, Option, Some, None, Bool, true, false}
-use Rattle.rv_memory.specs.Memory.{Memory, bytes_at}
+use Rattle.rv_memory.specs.Memory.{Memory}
 use Rattle.rv_memory.specs.Access.{word_at}
 use Rattle.rv_hart.specs.State.{State}
 use Rattle.rv_hart.specs.declared.state.Mode.{Mode}
@@ -8,22 +8,28 @@ use Rattle.rv_hart.specs.declared.state.Mode.TheVariants.{Running, Waiting, Ende
 use Rattle.rv_hart.specs.declared.state.Wait.TheVariants.{Post, Again}
 use Rattle.mp_types.specs.declared.codes.Code.{Code}
 use Rattle.mp_types.specs.declared.requests.Request.TheVariants as request
+use Rattle.mp_request.specs.declared.entries.OpenRequest.{OpenRequest}
+use Rattle.mp_request.specs.Table.{Table, request_at}
 use Rattle.cl_calls.specs.declared.calls.Call.{Call}
 use Rattle.cl_calls.specs.declared.calls.Call.TheVariants as call
+use Rattle.cl_calls.specs.declared.calls.Probing.{Probing}
+use Rattle.cl_calls.specs.declared.sites.Site.{Site}
+use Rattle.cl_calls.specs.Calls.{no_rank, call_of}
+use Rattle.cl_calls.specs.Needs.{needs_of}
+use Rattle.cl_calls.specs.Checks.{checks, first_fault}
 use Rattle.cl_state.specs.declared.asking.Ask.{Ask}
 use Rattle.cl_state.specs.declared.asking.Ask.TheVariants as ask
 use Rattle.cl_state.specs.declared.asking.Doing.{Doing}
 use Rattle.cl_state.specs.declared.asking.Doing.TheVariants.{Step, Refused, Go, Poll, Stopped}
-use Rattle.cl_calls.specs.declared.sites.Site.{Site}
-use Rattle.cl_calls.specs.Site.{member}
-use Rattle.cl_calls.specs.Calls.{any, no_rank, call_of, needs_of}
-use Rattle.cl_calls.specs.Checks.{checks, first_fault}
 use Rattle.cl_state.specs.Rank.{Rank}
+use Rattle.cl_state.specs.Transfers.{source_of, tag_of, send_of, receive_of, asked_transfer, asked_claimed}
+use Rattle.cl_state.specs.Pending.{pending_of, asked_pending}
 
 -- what one hart's turn may change of its rank, but for the clock
 pub record Part : Type 0 where
   pub hart : State
   pub memory : Memory
+  pub requests : Table
   pub out : List ℕ
 
 -- a hart that isn't there is a stopped one
@@ -31,7 +37,8 @@ abbrev pub no_hart : State
 no_hart = record { regs = []; pc = 0; mode = Ended 0 }
 
 abbrev pub part_of : Rank → ℕ → Part
-part_of rank hart = record { hart = get_or rank.harts hart no_hart; memory = rank.memory; out = rank.out }
+part_of rank hart =
+    record { hart = get_or rank.harts hart no_hart; memory = rank.memory; requests = rank.requests; out = rank.out }
 
 abbrev pub go_or_refuse : Option Code → Call → Doing
 go_or_refuse None c = Go c
@@ -40,7 +47,9 @@ go_or_refuse (Some code) c = Refused code
 -- the call that the registers spell, if all its checks hold
 abbrev pub checked : Site → Part → Doing
 checked site part =
-    go_or_refuse (first_fault (checks site part.memory (length part.out) (needs_of (call_of part.hart)))) (call_of part.hart)
+    go_or_refuse
+    (first_fault (checks site part.memory part.requests (length part.out) (needs_of (call_of part.hart))))
+    (call_of part.hart)
 
 -- the word is ECALL's (RISC-V Unprivileged ISA, 2.8)
 abbrev pub is_ecall : Option ℕ → Bool
@@ -58,28 +67,59 @@ doing_in (Trapped cause pc) site part = Stopped
 unfoldable pub doing : Site → Part → Doing
 doing site part = doing_in part.hart.mode site part
 
--- a source argument as a rank of the cluster, and a tag argument; None is any
-abbrev pub source_of : Site → ℕ → ℕ → Option ℕ
-source_of site comm source = if (source == any) then None else Some (member site comm source)
+-- a probe tells what a receive would give, a matched one takes it (MPI 4.1, 3.8.1 and 3.8.2); the null process isn't asked
+abbrev pub asked_probe : Site → Probing → Ask
+asked_probe site p =
+    if (p.source == no_rank) then ask.Local else ask.Hub (request.Probe p.comm (source_of site p.comm p.source) (tag_of p.tag))
 
-abbrev pub tag_of : ℕ → Option ℕ
-tag_of tag = if (tag == any) then None else Some tag
+abbrev pub asked_claim : Site → Probing → Ask
+asked_claim site p =
+    if (p.source == no_rank) then ask.Local else ask.Hub (request.Claim p.comm (source_of site p.comm p.source) (tag_of p.tag))
 
--- what a right call asks: nothing, or a request to the hub; with the null process nothing (MPI 4.1, 3.11)
-abbrev pub asked_by : Site → Memory → Call → Ask
-asked_by site memory (call.Send buffer count dest tag comm) =
-    if (dest == no_rank) then ask.Local else ask.Hub (request.Send false comm (member site comm dest) tag (bytes_at memory buffer count))
-asked_by site memory (call.Recv buffer capacity source tag comm status) =
-    if (source == no_rank) then ask.Local else ask.Hub (request.Recv true comm (source_of site comm source) (tag_of tag))
-asked_by site memory _ = ask.Local
+-- a start asks what its request transfers (3.9)
+abbrev pub asked_start : Memory → Option OpenRequest → Ask
+asked_start memory None = ask.Local
+asked_start memory (Some r) = asked_transfer memory false r.transfer
 
-abbrev pub asked_in : Site → Memory → Doing → Ask
-asked_in site memory Step = ask.Plain
-asked_in site memory (Refused code) = ask.Local
-asked_in site memory (Go c) = asked_by site memory c
-asked_in site memory (Poll c post) = ask.Hub (request.Collect post)
-asked_in site memory Stopped = ask.Idle
+-- what a right call asks: nothing, or a request to the hub
+abbrev pub asked_by : Site → Memory → Table → Call → Ask
+asked_by site memory table (call.Exit value) = ask.Local
+asked_by site memory table (call.Put buffer count) = ask.Local
+asked_by site memory table (call.Rank comm) = ask.Local
+asked_by site memory table (call.Size comm) = ask.Local
+asked_by site memory table call.Hart = ask.Local
+asked_by site memory table (call.Send s) = asked_transfer memory true (send_of site false s)
+asked_by site memory table (call.Ssend s) = asked_transfer memory true (send_of site true s)
+asked_by site memory table (call.Recv r status) = asked_transfer memory true (receive_of site r)
+asked_by site memory table (call.Isend s) = asked_transfer memory false (send_of site false s)
+asked_by site memory table (call.Issend s) = asked_transfer memory false (send_of site true s)
+asked_by site memory table (call.Irecv r) = asked_transfer memory false (receive_of site r)
+asked_by site memory table (call.Test c) = asked_pending (pending_of (request_at table c.handle))
+asked_by site memory table (call.Wait c) = asked_pending (pending_of (request_at table c.handle))
+asked_by site memory table (call.Iprobe p) = asked_probe site p
+asked_by site memory table (call.Probe p) = asked_probe site p
+asked_by site memory table (call.Improbe p) = asked_claim site p
+asked_by site memory table (call.Mprobe p) = asked_claim site p
+asked_by site memory table (call.Imrecv m) = asked_claimed false m
+asked_by site memory table (call.Mrecv m status) = asked_claimed true m
+asked_by site memory table (call.SendInit s) = ask.Local
+asked_by site memory table (call.RecvInit r) = ask.Local
+asked_by site memory table (call.Start handle) = asked_start memory (request_at table handle)
+asked_by site memory table (call.RequestFree handle) = ask.Local
+asked_by site memory table call.Unknown = ask.Local
+
+-- a poll asks whether a synchronous send is complete, or for the message of a receive
+abbrev pub asked_poll : Call → ℕ → Ask
+asked_poll (call.Ssend s) post = ask.Hub (request.Finished post)
+asked_poll _ post = ask.Hub (request.Collect post)
+
+abbrev pub asked_in : Site → Memory → Table → Doing → Ask
+asked_in site memory table Step = ask.Plain
+asked_in site memory table (Refused code) = ask.Local
+asked_in site memory table (Go c) = asked_by site memory table c
+asked_in site memory table (Poll c post) = asked_poll c post
+asked_in site memory table Stopped = ask.Idle
 
 -- what the hart's registers, mode and memory spell for its next turn
 unfoldable pub asked : Rank → ℕ → Ask
-asked rank hart = asked_in rank.site rank.memory (doing rank.site (part_of rank hart))
+asked rank hart = asked_in rank.site rank.memory rank.requests (doing rank.site (part_of rank hart))

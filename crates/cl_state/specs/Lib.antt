@@ -1,8 +1,11 @@
-pub mod Requests
+pub mod Phases
 pub mod Rank
+pub mod Transfers
+pub mod Pending
 pub mod Asked
 pub mod Right
 pub mod Room
 pub mod Told
 pub mod Laws
 pub mod Rows
+pub mod RequestRows

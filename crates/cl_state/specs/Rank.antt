@@ -4,13 +4,14 @@ use Rattle.rv_memory.specs.Memory.{Memory, loaded_memory}
 use Rattle.rv_hart.specs.State.{State, start_state}
 use Rattle.rv_image.specs.declared.images.ImageParts.{ImageParts}
 use Rattle.cl_calls.specs.declared.sites.Site.{Site}
-use Rattle.cl_state.specs.Requests.{Opened, Phase}
+use Rattle.mp_request.specs.Table.{Table, no_requests}
+use Rattle.cl_state.specs.Phases.{Phase}
 
 pub record Rank : Type 0 where
   pub site : Site
   pub memory : Memory
   pub harts : List State
-  pub requests : List Opened  -- by handle, lowest first
+  pub requests : Table
   pub phases : List Phase
   pub out : List ℕ
   pub clock : ℕ
@@ -35,7 +36,7 @@ loaded image rank = record {
   site = site_of image rank;
   memory = loaded_memory image.memory image.text image.init;
   harts = start_harts image rank image.harts;
-  requests = [];
+  requests = no_requests;
   phases = [];
   out = [];
   clock = 0;

@@ -3,22 +3,31 @@ use Rattle.std.specs.Prelude.{◌≡◌, ℕ, List, [], IsTrue}
 use Rattle.rv_memory.specs.Memory.{Memory, bytes_at}
 use Rattle.rv_hart.specs.State.{State}
 use Rattle.rv_hart.specs.declared.state.Mode.TheVariants.{Running}
+use Rattle.mp_request.specs.Table.{Table}
 use Rattle.cl_state.specs.declared.asking.Doing.{Doing}
 use Rattle.cl_state.specs.declared.asking.Doing.TheVariants.{Go, Step}
 use Rattle.cl_calls.specs.declared.calls.Call.TheVariants as call
+use Rattle.cl_calls.specs.declared.needs.Needs.{Needs}
 use Rattle.cl_calls.specs.declared.sites.Site.{Site}
-use Rattle.cl_calls.specs.Calls.{needs_of}
-use Rattle.cl_calls.specs.Checks.{is_comm, is_peer, is_tag, is_count, is_buffer}
+use Rattle.cl_calls.specs.Needs.{needs_of}
+use Rattle.cl_calls.specs.Checks.{is_named, is_comm, is_peer, is_tag, is_count, is_idle}
+
+-- what the checks make sure of, and the code leans on: arguments that name a member of a communicator, a tag and a length
+abbrev pub IsRight : Site → Needs → Type 0
+IsRight site needs =
+    IsTrue (is_comm site needs.comm)
+    × IsTrue (is_peer site needs.comm needs.peer)
+    × IsTrue (is_tag needs.tag)
+    × IsTrue (is_count needs.buffer)
+
+-- and a request that is there and, where it is to be started or freed, isn't active
+abbrev pub IsThere : Table → Needs → Type 0
+IsThere table needs = IsTrue (is_named table needs.request) × IsTrue (is_idle table needs.request)
 
 -- a call that goes on has passed the checks
-abbrev pub IsChecked : Site → Memory → Doing → Type 0
-IsChecked site memory (Go call) =
-    IsTrue (is_comm site (needs_of call).comm)
-    × IsTrue (is_peer site (needs_of call).comm (needs_of call).peer)
-    × IsTrue (is_tag (needs_of call).tag)
-    × IsTrue (is_count (needs_of call).buffer)
-    × IsTrue (is_buffer memory (needs_of call).buffer)
-IsChecked site memory _ = Unit {0}
+abbrev pub IsChecked : Site → Table → Doing → Type 0
+IsChecked site table (Go call) = IsRight site (needs_of call) × IsThere table (needs_of call)
+IsChecked site table _ = Unit {0}
 
 -- an instruction is a running hart's
 abbrev pub IsRunning : Doing → State → Type 0

@@ -6,7 +6,7 @@ use Rattle.cl_state.specs.Right.{output_of}
 use Rattle.cl_state.specs.declared.state.RankState.{RankState}
 
 abbrev pub rank_of : RankState → Rank
-rank_of s = record { site = s.site; memory = s.memory; harts = s.harts.items; requests = []; phases = []; out = s.out.items; clock = s.clock }
+rank_of s = record { site = s.site; memory = s.memory; harts = s.harts.items; requests = s.requests; phases = []; out = s.out.items; clock = s.clock }
 
 -- the bytes that the hart's turn puts behind the output lie ready, and the output has room for them
 abbrev pub HasRoom : RankState → ℕ → Type 0

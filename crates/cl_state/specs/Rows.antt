@@ -12,8 +12,12 @@ use Rattle.mp_types.specs.declared.requests.Request.TheVariants as request
 use Rattle.cl_state.specs.declared.asking.Answer.{Answer}
 use Rattle.cl_state.specs.declared.asking.Ask.{Ask}
 use Rattle.cl_calls.specs.declared.calls.Call.{Call}
+use Rattle.cl_calls.specs.declared.calls.Receiving.{Receiving}
+use Rattle.cl_calls.specs.declared.calls.Sending.{Sending}
 use Rattle.cl_calls.specs.declared.sites.Site.{Site}
-use Rattle.cl_calls.specs.Calls.{any, no_rank, needs_of}
+use Rattle.mp_request.specs.Table.{no_requests}
+use Rattle.cl_calls.specs.Calls.{any, no_rank}
+use Rattle.cl_calls.specs.Needs.{needs_of}
 use Rattle.cl_calls.specs.Checks.{checks, first_fault}
 use Rattle.cl_state.specs.Rank.{Rank}
 use Rattle.cl_state.specs.Asked.{asked}
@@ -36,7 +40,7 @@ guest arguments number = record {
   site = first_of_two;
   memory = small_memory;
   harts = calling arguments number ∷ [];
-  requests = [];
+  requests = no_requests;
   phases = [];
   out = [];
   clock = 8;
@@ -134,28 +138,34 @@ NullRow =
       clock = 9;
     })
 
+abbrev pub sending : ℕ → ℕ → ℕ → ℕ → ℕ → Sending
+sending buffer count dest tag comm = record { buffer = buffer; count = count; dest = dest; tag = tag; comm = comm }
+
+abbrev pub receiving : ℕ → ℕ → ℕ → ℕ → ℕ → Receiving
+receiving buffer capacity source tag comm = record { buffer = buffer; capacity = capacity; source = source; tag = tag; comm = comm }
+
 -- the checks of calls whose arguments are wrong in one way or in several
 abbrev pub code_of : Call → Option Code
-code_of call = first_fault (checks first_of_two small_memory 0 (needs_of call))
+code_of call = first_fault (checks first_of_two small_memory no_requests 0 (needs_of call))
 
 abbrev pub refusals : List (Call × Option Code)
 refusals =
     (Call.Unknown, Some code.BadCall) ∷
-    (Call.Send 8 1 1 7 8, Some code.BadComm) ∷
-    (Call.Send 8 5000 9 (2 ^ 64 - 5) 8, Some code.BadComm) ∷
-    (Call.Send 8 1 2 7 0, Some code.BadRank) ∷
-    (Call.Send 8 1 any 7 0, Some code.BadRank) ∷
-    (Call.Send 8 1 1 any 0, Some code.BadTag) ∷
-    (Call.Send 8 1 1 32768 0, Some code.BadTag) ∷
-    (Call.Send 8 4097 1 7 0, Some code.BadCount) ∷
-    (Call.Send 63 2 1 7 0, Some code.BadBuffer) ∷
-    (Call.Send (2 ^ 64 - 1) 0 1 7 0, None) ∷
-    (Call.Send 8 1 no_rank 7 0, None) ∷
-    (Call.Recv 8 4 (2 ^ 64 - 3) 7 0 0, Some code.BadRank) ∷
-    (Call.Recv 8 4 1 (2 ^ 64 - 2) 0 0, Some code.BadTag) ∷
-    (Call.Recv 0 4 1 7 0 0, Some code.BadBuffer) ∷
-    (Call.Recv 8 4 1 7 0 58, Some code.BadBuffer) ∷
-    (Call.Recv 8 4 any any 0 40, None) ∷
+    (Call.Send (sending 8 1 1 7 8), Some code.BadComm) ∷
+    (Call.Send (sending 8 5000 9 (2 ^ 64 - 5) 8), Some code.BadComm) ∷
+    (Call.Send (sending 8 1 2 7 0), Some code.BadRank) ∷
+    (Call.Send (sending 8 1 any 7 0), Some code.BadRank) ∷
+    (Call.Send (sending 8 1 1 any 0), Some code.BadTag) ∷
+    (Call.Send (sending 8 1 1 32768 0), Some code.BadTag) ∷
+    (Call.Send (sending 8 4097 1 7 0), Some code.BadCount) ∷
+    (Call.Send (sending 63 2 1 7 0), Some code.BadBuffer) ∷
+    (Call.Send (sending (2 ^ 64 - 1) 0 1 7 0), None) ∷
+    (Call.Send (sending 8 1 no_rank 7 0), None) ∷
+    (Call.Recv (receiving 8 4 (2 ^ 64 - 3) 7 0) 0, Some code.BadRank) ∷
+    (Call.Recv (receiving 8 4 1 (2 ^ 64 - 2) 0) 0, Some code.BadTag) ∷
+    (Call.Recv (receiving 0 4 1 7 0) 0, Some code.BadBuffer) ∷
+    (Call.Recv (receiving 8 4 1 7 0) 58, Some code.BadBuffer) ∷
+    (Call.Recv (receiving 8 4 any any 0) 40, None) ∷
     (Call.Put 8 56, None) ∷
     (Call.Rank 1, Some code.BadComm) ∷
     (Call.Exit 3, None) ∷

@@ -1,15 +1,17 @@
 //! What the next turn of a hart is, and what it asks.
 
-ghost use Rattle.std.specs.Prelude.{◌≡◌, ◌≢◌, IfOk, IsTrue, Some};
-ghost use Rattle.cl_state.specs.Asked.{asked_by, asked_in, checked as checked_of, doing as doing_of, is_ecall as is_ecall_of, source_of, tag_of};
-ghost use Rattle.cl_calls.specs.Calls.{no_rank, source as source_peer, tag_or_any};
-ghost use Rattle.cl_calls.specs.Checks.{is_peer, is_tag};
-ghost use Rattle.cl_state.specs.Right.{IsChecked, IsNoStep, IsRunning};
+ghost use Rattle.std.specs.Prelude.{◌≡◌, IfOk, false};
+ghost use Rattle.cl_calls.specs.Needs.{needs_of_probing};
+ghost use Rattle.cl_state.specs.Asked.{asked_by, asked_claim, asked_in, asked_poll, asked_probe, asked_start, checked as checked_of, doing as doing_of, is_ecall as is_ecall_of};
+ghost use Rattle.cl_state.specs.Right.{IsChecked, IsNoStep, IsRight, IsRunning};
 ghost use Rattle.cl_state.specs.declared.asking.Doing.TheVariants.{Go};
 
 use crate::asking::{Ask, Doing};
-use cl_calls::{ANY, Call, NO_RANK, Site, fault};
-use mp_types::{Bytes, Request};
+use crate::pending::Pending;
+use crate::transfers::{ask, ask_claimed, receive, send, source, tag};
+use cl_calls::{Call, NO_RANK, Probing, Site, fault};
+use mp_request::{OpenRequest, Requests};
+use mp_types::Request;
 use rv_hart::{Hart, Mode, Wait};
 use rv_memory::RankMemory;
 use std::alloc::{AllocError, Global};
@@ -26,119 +28,159 @@ pub(crate) fn is_ecall(word: Option<u32>) -> bool
 }
 
 /// The call that a hart's registers spell, if all its checks hold.
-fn checked(site: &Site, memory: &RankMemory, out: &[u8], hart: &Hart) -> Doing
-    ensures doing { result ≡ checked_of site.now (record { hart = hart.now; memory = memory.now; out = out.now }) }
-    ensures right { IsChecked site.now memory.now result }
+fn checked(site: &Site, memory: &RankMemory, requests: &Requests, out: &[u8], hart: &Hart) -> Doing
+    ensures doing { result ≡ checked_of site.now (record { hart = hart.now; memory = memory.now; requests = requests.now; out = out.now }) }
+    ensures right { IsChecked site.now requests.now result }
     ensures call { IsNoStep result }
 {
     let call = Call::of(hart);
-    match fault(site, memory, out.len(), &call.needs()) {
+    match fault(site, memory, requests, out.len(), &call.needs()) {
         None => Doing::Go(call),
         Some(code) => Doing::Refused(code),
     }
 }
 
 impl Doing {
-    /// What the next turn of a hart is, of a rank with this memory and this output.
+    /// What the next turn of a hart is, of a rank with this memory, these requests and this output.
     #[tactic(auto, unfolding(crate::specs::Asked::doing))]
-    pub fn of(site: &Site, memory: &RankMemory, out: &[u8], hart: &Hart) -> Doing
-        ensures doing { result ≡ doing_of site.now (record { hart = hart.now; memory = memory.now; out = out.now }) }
-        ensures right { IsChecked site.now memory.now result }
+    pub fn of(
+        site: &Site,
+        memory: &RankMemory,
+        requests: &Requests,
+        out: &[u8],
+        hart: &Hart,
+    ) -> Doing
+        ensures doing { result ≡ doing_of site.now (record { hart = hart.now; memory = memory.now; requests = requests.now; out = out.now }) }
+        ensures right { IsChecked site.now requests.now result }
         ensures running { IsRunning result hart.now }
     {
         match hart.mode() {
             Mode::Running => {
                 if is_ecall(memory.text_word(hart.pc())) {
-                    checked(site, memory, out, hart)
+                    checked(site, memory, requests, out, hart)
                 } else {
                     Doing::Step
                 }
             }
             Mode::Waiting(Wait::Post(post)) => Doing::Poll(Call::of(hart), post),
-            Mode::Waiting(Wait::Again) => checked(site, memory, out, hart),
+            Mode::Waiting(Wait::Again) => checked(site, memory, requests, out, hart),
             Mode::Ended(_) => Doing::Stopped,
             Mode::Trapped(_, _) => Doing::Stopped,
         }
     }
 
     /// What such a turn asks. Only a copy of bytes to be sent takes memory.
-    pub fn ask(&self, alloc: Global, site: &Site, memory: &RankMemory) -> Result<Ask, AllocError>
-        requires { IsChecked site.now memory.now self.now }
-        ensures { IfOk result (λ ask. ask ≡ asked_in site.now memory.now self.now) }
+    pub fn ask(
+        &self,
+        alloc: Global,
+        site: &Site,
+        memory: &RankMemory,
+        requests: &Requests,
+    ) -> Result<Ask, AllocError>
+        requires { IsChecked site.now requests.now self.now }
+        ensures { IfOk result (λ ask. ask ≡ asked_in site.now memory.now requests.now self.now) }
     {
         match *self {
             Doing::Step => Ok(Ask::Plain),
             Doing::Refused(_) => Ok(Ask::Local),
-            Doing::Go(call) => ask_by(alloc, site, memory, &call),
-            Doing::Poll(_, post) => Ok(Ask::Hub(Request::Collect { post })),
+            Doing::Go(call) => ask_by(alloc, site, memory, requests, &call),
+            Doing::Poll(call, post) => Ok(poll(&call, post)),
             Doing::Stopped => Ok(Ask::Idle),
         }
     }
 }
 
-fn source(site: &Site, comm: u64, source: u64) -> Option<u8>
-    requires right { IsTrue (is_peer site.now (Some comm) (Some (source_peer source))) }
-    requires there { source ≢ no_rank }
-    ensures { result ≡ source_of site.now comm source }
+/// What a poll of a post asks.
+fn poll(call: &Call, post: u64) -> Ask
+    ensures { result ≡ asked_poll call.now post }
 {
-    if source == ANY {
-        None
-    } else {
-        Some(site.member(comm, source))
+    match *call {
+        Call::Ssend(_) => Ask::Hub(Request::Finished { post }),
+        _ => Ask::Hub(Request::Collect { post }),
     }
 }
 
-fn tag(tag: u64) -> Option<u16>
-    requires { IsTrue (is_tag (tag_or_any tag)) }
-    ensures { result ≡ tag_of tag }
+fn probe(site: &Site, probing: &Probing) -> Ask
+    requires { IsRight site.now (needs_of_probing probing.now) }
+    ensures { result ≡ asked_probe site.now probing.now }
 {
-    if tag == ANY { None } else { Some(tag as u16) }
+    if probing.source == NO_RANK {
+        return Ask::Local;
+    }
+    Ask::Hub(Request::Probe {
+        comm: site.comm_number(probing.comm),
+        source: source(site, probing.comm, probing.source),
+        tag: tag(probing.tag),
+    })
 }
 
-fn ask_by(alloc: Global, site: &Site, memory: &RankMemory, call: &Call) -> Result<Ask, AllocError>
-    requires { IsChecked site.now memory.now (Go call.now) }
-    ensures { IfOk result (λ ask. ask ≡ asked_by site.now memory.now call.now) }
+fn claim(site: &Site, probing: &Probing) -> Ask
+    requires { IsRight site.now (needs_of_probing probing.now) }
+    ensures { result ≡ asked_claim site.now probing.now }
+{
+    if probing.source == NO_RANK {
+        return Ask::Local;
+    }
+    Ask::Hub(Request::Claim {
+        comm: site.comm_number(probing.comm),
+        source: source(site, probing.comm, probing.source),
+        tag: tag(probing.tag),
+    })
+}
+
+fn start(
+    alloc: Global,
+    memory: &RankMemory,
+    request: Option<OpenRequest>,
+) -> Result<Ask, AllocError>
+    ensures { IfOk result (λ ask. ask ≡ asked_start memory.now request) }
+{
+    match request {
+        None => Ok(Ask::Local),
+        Some(request) => ask(alloc, memory, false, &request.transfer),
+    }
+}
+
+fn ask_by(
+    alloc: Global,
+    site: &Site,
+    memory: &RankMemory,
+    requests: &Requests,
+    call: &Call,
+) -> Result<Ask, AllocError>
+    requires { IsChecked site.now requests.now (Go call.now) }
+    ensures { IfOk result (λ ask. ask ≡ asked_by site.now memory.now requests.now call.now) }
 {
     match *call {
-        Call::Send {
-            buffer,
-            count,
-            dest,
-            tag,
-            comm,
-        } => {
-            if dest == NO_RANK {
-                return Ok(Ask::Local);
-            }
-            let Ok(bytes) = memory.read_bytes(alloc, buffer, count) else {
-                return Err(AllocError);
-            };
-            Ok(Ask::Hub(Request::Send {
-                sync: false,
-                comm: site.comm_number(comm),
-                dest: site.member(comm, dest),
-                tag: tag as u16,
-                bytes: Bytes::from_vec(bytes),
-            }))
-        }
-        Call::Recv {
+        Call::Exit { code: _ } => Ok(Ask::Local),
+        Call::Put {
             buffer: _,
-            capacity: _,
-            source: from,
-            tag: with,
-            comm,
+            count: _,
+        } => Ok(Ask::Local),
+        Call::Rank { comm: _ } => Ok(Ask::Local),
+        Call::Size { comm: _ } => Ok(Ask::Local),
+        Call::Hart => Ok(Ask::Local),
+        Call::Send(sending) => ask(alloc, memory, true, &send(site, false, &sending)),
+        Call::Ssend(sending) => ask(alloc, memory, true, &send(site, true, &sending)),
+        Call::Recv {
+            receiving,
             status: _,
-        } => {
-            if from == NO_RANK {
-                return Ok(Ask::Local);
-            }
-            Ok(Ask::Hub(Request::Recv {
-                now: true,
-                comm: site.comm_number(comm),
-                source: source(site, comm, from),
-                tag: tag(with),
-            }))
-        }
-        _ => Ok(Ask::Local),
+        } => ask(alloc, memory, true, &receive(site, &receiving)),
+        Call::Isend(sending) => ask(alloc, memory, false, &send(site, false, &sending)),
+        Call::Issend(sending) => ask(alloc, memory, false, &send(site, true, &sending)),
+        Call::Irecv(receiving) => ask(alloc, memory, false, &receive(site, &receiving)),
+        Call::Test(completing) => Ok(Pending::of(requests.get(completing.handle)).ask()),
+        Call::Wait(completing) => Ok(Pending::of(requests.get(completing.handle)).ask()),
+        Call::Iprobe(probing) => Ok(probe(site, &probing)),
+        Call::Probe(probing) => Ok(probe(site, &probing)),
+        Call::Improbe(probing) => Ok(claim(site, &probing)),
+        Call::Mprobe(probing) => Ok(claim(site, &probing)),
+        Call::Imrecv(claimed) => Ok(ask_claimed(false, &claimed)),
+        Call::Mrecv { claimed, status: _ } => Ok(ask_claimed(true, &claimed)),
+        Call::SendInit(_) => Ok(Ask::Local),
+        Call::RecvInit(_) => Ok(Ask::Local),
+        Call::Start { handle } => start(alloc, memory, requests.get(handle)),
+        Call::RequestFree { handle: _ } => Ok(Ask::Local),
+        Call::Unknown => Ok(Ask::Local),
     }
 }

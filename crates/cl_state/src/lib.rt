@@ -4,14 +4,21 @@
 #![tactic(auto)]
 
 mod asking;
+mod completing;
 mod doing;
+mod ending;
 pub mod laws;
 mod loading;
+mod opening;
+mod pending;
+mod probing;
 pub mod rows;
 mod state;
 mod telling;
+mod transfers;
 
 pub use asking::{Answer, Ask, Doing};
+pub use pending::{Manner, Pending, Target};
 pub use state::RankState;
 
 #[cfg(test)]

@@ -7,6 +7,7 @@ ghost use Rattle.cl_state.specs.Rank.{below, loaded, start_harts};
 
 use crate::state::RankState;
 use cl_calls::{Communicators, Site};
+use mp_request::Requests;
 use rv_hart::Hart;
 use rv_image::{Comms, Image, ImageParts, Links, Members};
 use rv_memory::RankMemory;
@@ -89,6 +90,7 @@ impl RankState {
         };
         let memory = memory(alloc, parts)?;
         let harts = all_harts(alloc, parts, rank)?;
-        Ok(RankState::new(alloc, site, memory, harts))
+        let requests = Requests::new(alloc)?;
+        Ok(RankState::new(alloc, site, memory, harts, requests))
     }
 }

@@ -1,5 +1,6 @@
 //! Worked rows, as theorems that compute: what a small guest's calls ask and are told.
 
+ghost use Rattle.cl_state.specs.RequestRows.{ClaimedRow, FullRow, HandleRows, NullProbeRow, OpenRow, PersistentRow, ProbeRow, ReceiveRow, SsendRow, TestRow, WaitRow};
 ghost use Rattle.cl_state.specs.Rows.{MisfitRow, NullRow, PutRow, RefusalRows, SendRow, TruncatedRow, WaitingRow};
 
 /// PUT writes behind the output, and ends with code 0.
@@ -35,4 +36,59 @@ pub fn receives_from_the_null_process()
 /// The first check that fails gives the code.
 pub fn refuses_by_the_first_check()
     ensures { RefusalRows }
+{}
+
+/// IRECV, ISEND and ISSEND open the lowest free handle.
+pub fn opens_the_lowest_free_handle()
+    ensures { OpenRow }
+{}
+
+/// With 255 handles open IRECV is refused with code 8.
+pub fn opens_no_256th_handle()
+    ensures { FullRow }
+{}
+
+/// TEST of handle 0, of an inactive request and of a standard send completes at once, with the empty status.
+pub fn tests_what_is_complete()
+    ensures { TestRow }
+{}
+
+/// TEST of a receive asks for its message: flag 0 and nothing written without one, flag 1 and a free handle with one.
+pub fn tests_a_receive()
+    ensures { ReceiveRow }
+{}
+
+/// A waiting WAIT reads its arguments anew, with all checks.
+pub fn waits_anew()
+    ensures { WaitRow }
+{}
+
+/// SSEND waits on its post, and asks whether it is complete.
+pub fn sends_synchronously()
+    ensures { SsendRow }
+{}
+
+/// Probes tell what a receive would give; matched ones give the message's handle.
+pub fn probes()
+    ensures { ProbeRow }
+{}
+
+/// Nothing comes from the null process; its message handle is -2, of which a receive asks nobody.
+pub fn probes_the_null_process()
+    ensures { NullProbeRow }
+{}
+
+/// IMRECV of a claimed message gives a request, and of one that isn't claimed code 14.
+pub fn receives_a_claimed_message()
+    ensures { ClaimedRow }
+{}
+
+/// A persistent request is made inactive, started by its post, inactive again when it completes, and freed.
+pub fn starts_and_frees()
+    ensures { PersistentRow }
+{}
+
+/// The codes of calls whose handles are wrong, and of those that find no free one.
+pub fn refuses_handles()
+    ensures { HandleRows }
 {}

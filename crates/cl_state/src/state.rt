@@ -8,18 +8,20 @@ ghost use Rattle.cl_state.specs.Told.{told};
 use crate::asking::{Answer, Ask, Doing};
 use crate::telling::answer_hart;
 use cl_calls::{Call, Site};
+use mp_request::Requests;
 use mp_types::Stamp;
 use rv_hart::Hart;
 use rv_memory::RankMemory;
 use std::alloc::{AllocError, Global};
 
-/// A rank: its memory, its harts, its output and its clock, beside what the image fixes.
+/// A rank: its memory, its harts, its open requests, its output and its clock, beside what the image fixes.
 #[derive(Drop)]
 pub struct RankState {
     alloc: Global,
     pub site: Site,
     pub memory: RankMemory,
     pub harts: Vec<Hart>,
+    pub requests: Requests,
     pub out: Vec<u8>,
     /// The bytes that the next turn puts behind the output, once `room` made them.
     pub fresh: Vec<u8>,
@@ -31,8 +33,14 @@ impl RankState {
     ghost use Rattle.cl_state.specs.Room.{HasRoom, rank_of};
 
     /// A rank with no output at clock 0.
-    pub fn new(alloc: Global, site: Site, memory: RankMemory, harts: Vec<Hart>) -> RankState
-        ensures rank { rank_of result ≡ record { site = site; memory = memory; harts = harts.items; requests = []; phases = []; out = []; clock = 0 } }
+    pub fn new(
+        alloc: Global,
+        site: Site,
+        memory: RankMemory,
+        harts: Vec<Hart>,
+        requests: Requests,
+    ) -> RankState
+        ensures rank { rank_of result ≡ record { site = site; memory = memory; harts = harts.items; requests = requests; phases = []; out = []; clock = 0 } }
         ensures harts { vec_len result.harts ≡ vec_len harts }
     {
         RankState {
@@ -40,6 +48,7 @@ impl RankState {
             site,
             memory,
             harts,
+            requests,
             out: Vec::new(alloc),
             fresh: Vec::new(alloc),
             clock: 0,
@@ -49,12 +58,13 @@ impl RankState {
     fn doing(&self, hart: u8) -> Doing
         requires { hart < vec_len self.now.harts }
         ensures doing { result ≡ doing_of self.now.site (part_of (rank_of self.now) hart) }
-        ensures right { IsChecked self.now.site self.now.memory result }
+        ensures right { IsChecked self.now.site self.now.requests result }
         ensures running { IsRunning result (get_or self.now.harts.items hart no_hart) }
     {
         Doing::of(
             &self.site,
             &self.memory,
+            &self.requests,
             self.out.as_slice(),
             &self.harts[hart as usize],
         )
@@ -66,7 +76,8 @@ impl RankState {
         requires { hart < vec_len self.now.harts }
         ensures { IfOk result (λ ask. ask ≡ asked (rank_of self.now) hart) }
     {
-        self.doing(hart).ask(self.alloc, &self.site, &self.memory)
+        self.doing(hart)
+            .ask(self.alloc, &self.site, &self.memory, &self.requests)
     }
 
     /// Makes all growths of the hart's next turn. The rank stays as it is.
@@ -106,6 +117,7 @@ impl RankState {
             hart,
             &mut self.harts[hart as usize],
             &mut self.memory,
+            &mut self.requests,
             &mut self.out,
             self.fresh.as_slice(),
             &doing,

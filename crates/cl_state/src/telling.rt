@@ -1,125 +1,34 @@
-//! What an answer does to a hart, the memory and the output.
+//! What an answer does to a hart, the memory, the requests and the output.
 
-ghost use Rattle.std.specs.Prelude.{◌≡◌, ◌≤◌, ◌<◌, ◌+◌, ◌++◌, List, ℕ, length, vec_len, vec_capacity};
-ghost use Rattle.rv_memory.specs.Memory.{Memory, bytes_of};
-ghost use Rattle.cl_state.specs.Right.{IsRunning, output_of};
-ghost use Rattle.cl_state.specs.Told.{polled as polled_by, received, received_message, returned, told_call as told_by_call, told_in, told_poll as told_by_poll, told_recv as told_by_recv, told_send as told_by_send, with_status, written as written_in};
+ghost use Rattle.std.specs.Prelude.{◌≡◌, ◌≤◌, ◌+◌, ◌++◌, List, ℕ, length, vec_len, vec_capacity, Result};
+ghost use Rattle.rv_memory.specs.Memory.{Memory};
+ghost use Rattle.mp_request.specs.Table.{Table};
+ghost use Rattle.cl_state.specs.Right.{IsChecked, IsRunning, output_of};
+ghost use Rattle.cl_state.specs.Told.{polled as polled_by, polled_done as polled_done_by, received_call, received_claimed, told_call as told_by_call, told_in, told_poll as told_by_poll, told_recv as told_by_recv, told_send as told_by_send};
 ghost use Rattle.cl_state.specs.declared.asking.Doing.TheVariants.{Go};
 
 use crate::asking::{Answer, Doing};
-use cl_calls::{ANY, Call, NO_RANK, Site, place};
+use crate::completing::complete;
+use crate::ending::{end, receive_message, receive_nothing};
+use crate::opening::{free, make, open, start};
+use crate::pending::{Manner, Target};
+use crate::probing::{answer_claim, answer_probe};
+use crate::transfers::{begun, receive, receive_claimed, send};
+use cl_calls::{Call, Claimed, NO_MESSAGE, NO_RANK, Receiving, Site, place};
+use mp_request::{Progress, Requests};
 use mp_types::{Code, Message, Reply};
-use rv_decode::Reg;
 use rv_hart::{Hart, Mode, Wait, step};
 use rv_memory::RankMemory;
 
-/// Where a receive puts a message and its status.
-#[derive(Clone, Copy, Drop)]
-pub(crate) struct Target {
-    buffer: u64,
-    capacity: u64,
-    status: u64,
-}
-
-/// Ends the call with a code and a value.
-#[tactic(auto, unfolding(crate::specs::Told::returned))]
-fn end(hart: &mut Hart, code: Code, value: u64)
-    ensures { hart.new ≡ returned code value hart.old }
+/// A send ends its call, or waits for its post.
+fn answer_send(hart: &mut Hart, begun: Result<Progress, Code>)
+    ensures { (memory : Memory) (requests : Table) (out : List ℕ) → record { hart = hart.new; memory = memory; requests = requests; out = out } ≡ told_by_send begun (record { hart = hart.old; memory = memory; requests = requests; out = out }) }
 {
-    let next = hart.pc().wrapping_add(4);
-    hart.set(Reg::new(10), u64::from(code.number()));
-    hart.set(Reg::new(11), value);
-    hart.set_pc(next);
-    hart.set_mode(Mode::Running);
-}
-
-/// Writes bytes where they may be.
-fn write_where_right(memory: &mut RankMemory, address: u64, bytes: &[u8])
-    ensures { memory.new ≡ written_in memory.old address bytes.now }
-{
-    if !bytes.is_empty() {
-        let _ = memory.write_bytes(address, bytes);
-    }
-}
-
-/// A status as a guest finds it: three words, low byte first.
-fn status_bytes(source: u64, tag: u64, count: u64) -> [u8; 24]
-    ensures { result ≡ bytes_of source 8 ++ bytes_of tag 8 ++ bytes_of count 8 }
-{
-    let s = source.to_le_bytes();
-    let t = tag.to_le_bytes();
-    let c = count.to_le_bytes();
-    [
-        s[0], s[1], s[2], s[3], s[4], s[5], s[6], s[7], t[0], t[1], t[2], t[3], t[4], t[5], t[6],
-        t[7], c[0], c[1], c[2], c[3], c[4], c[5], c[6], c[7],
-    ]
-}
-
-#[tactic(auto, unfolding(crate::specs::Told::with_status))]
-fn write_status(memory: &mut RankMemory, address: u64, source: u64, tag: u64, count: u64)
-    ensures { memory.new ≡ with_status memory.old address source tag count }
-{
-    if address != 0 {
-        let bytes = status_bytes(source, tag, count);
-        write_where_right(memory, address, &bytes);
-    }
-}
-
-/// A receive completes with these bytes.
-#[tactic(auto, unfolding(crate::specs::Told::received))]
-fn receive(
-    hart: &mut Hart,
-    memory: &mut RankMemory,
-    target: Target,
-    source: u64,
-    tag: u64,
-    bytes: &[u8],
-)
-    ensures { (out : List ℕ) → record { hart = hart.new; memory = memory.new; out = out } ≡ received target.buffer target.capacity target.status source tag bytes.now (record { hart = hart.old; memory = memory.old; out = out }) }
-{
-    if (bytes.len() as u64) <= target.capacity {
-        write_where_right(memory, target.buffer, bytes);
-        write_status(memory, target.status, source, tag, bytes.len() as u64);
-        end(hart, Code::Ok, 0);
-    } else {
-        let kept = &bytes[0..target.capacity as usize];
-        write_where_right(memory, target.buffer, kept);
-        write_status(memory, target.status, source, tag, target.capacity);
-        end(hart, Code::Truncated, 0);
-    }
-}
-
-#[tactic(auto, unfolding(crate::specs::Told::received_message))]
-fn receive_message(
-    site: &Site,
-    hart: &mut Hart,
-    memory: &mut RankMemory,
-    target: Target,
-    message: &Message,
-)
-    ensures { (out : List ℕ) → record { hart = hart.new; memory = memory.new; out = out } ≡ received_message site.now target.buffer target.capacity target.status message.now (record { hart = hart.old; memory = memory.old; out = out }) }
-{
-    let envelope = message.envelope;
-    match place(envelope.source, site.members(u64::from(envelope.comm))) {
-        None => end(hart, Code::BadRequest, 0),
-        Some(source) => receive(
-            hart,
-            memory,
-            target,
-            source,
-            u64::from(envelope.tag),
-            message.bytes.as_slice(),
-        ),
-    }
-}
-
-fn answer_send(hart: &mut Hart, answer: &Answer)
-    ensures { (memory : Memory) (out : List ℕ) → record { hart = hart.new; memory = memory; out = out } ≡ told_by_send answer.now (record { hart = hart.old; memory = memory; out = out }) }
-{
-    match answer {
-        Answer::Reply(Reply::Posted { post: _, done: _ }) => end(hart, Code::Ok, 0),
-        Answer::Reply(Reply::Code(code)) => end(hart, *code, 0),
-        _ => end(hart, Code::BadRequest, 0),
+    match begun {
+        Ok(Progress::Finished) => end(hart, Code::Ok, 0),
+        Ok(Progress::OnPost(post)) => hart.set_mode(Mode::Waiting(Wait::Post(post))),
+        Ok(Progress::InPhase) => end(hart, Code::BadRequest, 0),
+        Err(code) => end(hart, code, 0),
     }
 }
 
@@ -127,13 +36,16 @@ fn answer_recv(
     site: &Site,
     hart: &mut Hart,
     memory: &mut RankMemory,
+    requests: &mut Requests,
     target: Target,
     answer: &Answer,
 )
-    ensures { (out : List ℕ) → record { hart = hart.new; memory = memory.new; out = out } ≡ told_by_recv site.now target.buffer target.capacity target.status answer.now (record { hart = hart.old; memory = memory.old; out = out }) }
+    ensures { (out : List ℕ) → record { hart = hart.new; memory = memory.new; requests = requests.new; out = out } ≡ told_by_recv site.now target answer.now (record { hart = hart.old; memory = memory.old; requests = requests.old; out = out }) }
 {
     match answer {
-        Answer::Reply(Reply::Got(message)) => receive_message(site, hart, memory, target, message),
+        Answer::Reply(Reply::Got(message)) => {
+            receive_message(site, hart, memory, requests, target, message)
+        }
         Answer::Reply(Reply::Posted { post, done: _ }) => {
             hart.set_mode(Mode::Waiting(Wait::Post(*post)))
         }
@@ -142,37 +54,93 @@ fn answer_recv(
     }
 }
 
-fn answer_got(site: &Site, hart: &mut Hart, memory: &mut RankMemory, call: &Call, message: &Message)
-    ensures { (out : List ℕ) → record { hart = hart.new; memory = memory.new; out = out } ≡ polled_by site.now call.now message.now (record { hart = hart.old; memory = memory.old; out = out }) }
+fn answer_receive(
+    site: &Site,
+    hart: &mut Hart,
+    memory: &mut RankMemory,
+    requests: &mut Requests,
+    receiving: &Receiving,
+    status: u64,
+    answer: &Answer,
+)
+    ensures { (out : List ℕ) → record { hart = hart.new; memory = memory.new; requests = requests.new; out = out } ≡ received_call site.now receiving.now status answer.now (record { hart = hart.old; memory = memory.old; requests = requests.old; out = out }) }
+{
+    let target = Target::into(receiving.buffer, receiving.capacity, status);
+    if receiving.source == NO_RANK {
+        receive_nothing(hart, memory, requests, target)
+    } else {
+        answer_recv(site, hart, memory, requests, target, answer)
+    }
+}
+
+fn answer_claimed(
+    site: &Site,
+    hart: &mut Hart,
+    memory: &mut RankMemory,
+    requests: &mut Requests,
+    claimed: &Claimed,
+    status: u64,
+    answer: &Answer,
+)
+    ensures { (out : List ℕ) → record { hart = hart.new; memory = memory.new; requests = requests.new; out = out } ≡ received_claimed site.now claimed.now status answer.now (record { hart = hart.old; memory = memory.old; requests = requests.old; out = out }) }
+{
+    let target = Target::into(claimed.buffer, claimed.capacity, status);
+    if claimed.message == NO_MESSAGE {
+        receive_nothing(hart, memory, requests, target)
+    } else {
+        answer_recv(site, hart, memory, requests, target, answer)
+    }
+}
+
+/// What a poll of a receive got.
+fn answer_got(
+    site: &Site,
+    hart: &mut Hart,
+    memory: &mut RankMemory,
+    requests: &mut Requests,
+    call: &Call,
+    message: &Message,
+)
+    ensures { (out : List ℕ) → record { hart = hart.new; memory = memory.new; requests = requests.new; out = out } ≡ polled_by site.now call.now message.now (record { hart = hart.old; memory = memory.old; requests = requests.old; out = out }) }
 {
     match *call {
-        Call::Recv {
-            buffer,
-            capacity,
-            source: _,
-            tag: _,
-            comm: _,
-            status,
-        } => receive_message(
-            site,
-            hart,
-            memory,
-            Target {
-                buffer,
-                capacity,
-                status,
-            },
-            message,
-        ),
+        Call::Recv { receiving, status } => {
+            let target = Target::into(receiving.buffer, receiving.capacity, status);
+            receive_message(site, hart, memory, requests, target, message)
+        }
+        Call::Mrecv { claimed, status } => {
+            let target = Target::into(claimed.buffer, claimed.capacity, status);
+            receive_message(site, hart, memory, requests, target, message)
+        }
         _ => end(hart, Code::BadRequest, 0),
     }
 }
 
-fn answer_poll(site: &Site, hart: &mut Hart, memory: &mut RankMemory, call: &Call, answer: &Answer)
-    ensures { (out : List ℕ) → record { hart = hart.new; memory = memory.new; out = out } ≡ told_by_poll site.now call.now answer.now (record { hart = hart.old; memory = memory.old; out = out }) }
+/// Word that a synchronous send is complete.
+fn answer_done(hart: &mut Hart, call: &Call)
+    ensures { (memory : Memory) (requests : Table) (out : List ℕ) → record { hart = hart.new; memory = memory; requests = requests; out = out } ≡ polled_done_by call.now (record { hart = hart.old; memory = memory; requests = requests; out = out }) }
+{
+    match *call {
+        Call::Ssend(_) => end(hart, Code::Ok, 0),
+        _ => end(hart, Code::BadRequest, 0),
+    }
+}
+
+fn answer_poll(
+    site: &Site,
+    hart: &mut Hart,
+    memory: &mut RankMemory,
+    requests: &mut Requests,
+    call: &Call,
+    answer: &Answer,
+)
+    ensures { (out : List ℕ) → record { hart = hart.new; memory = memory.new; requests = requests.new; out = out } ≡ told_by_poll site.now call.now answer.now (record { hart = hart.old; memory = memory.old; requests = requests.old; out = out }) }
 {
     match answer {
-        Answer::Reply(Reply::Got(message)) => answer_got(site, hart, memory, call, message),
+        Answer::Reply(Reply::Got(message)) => {
+            answer_got(site, hart, memory, requests, call, message)
+        }
+        Answer::Reply(Reply::Done) => answer_done(hart, call),
         Answer::Reply(Reply::NotYet) => {}
         Answer::Reply(Reply::Code(code)) => end(hart, *code, 0),
         _ => end(hart, Code::BadRequest, 0),
@@ -195,14 +163,16 @@ fn answer_call(
     number: u8,
     hart: &mut Hart,
     memory: &mut RankMemory,
+    requests: &mut Requests,
     out: &mut Vec<u8>,
     fresh: &[u8],
     call: &Call,
     answer: &Answer,
 )
+    requires checked { IsChecked site.now requests.old (Go call.now) }
     requires fresh { fresh.now ≡ output_of memory.old (Go call.now) }
     requires room { vec_len out.old + length fresh.now ≤ vec_capacity out.old }
-    ensures { record { hart = hart.new; memory = memory.new; out = out.new.items } ≡ told_by_call site.now number call.now answer.now (record { hart = hart.old; memory = memory.old; out = out.old.items }) }
+    ensures { record { hart = hart.new; memory = memory.new; requests = requests.new; out = out.new.items } ≡ told_by_call site.now number call.now answer.now (record { hart = hart.old; memory = memory.old; requests = requests.old; out = out.old.items }) }
 {
     match *call {
         Call::Exit { code } => hart.set_mode(Mode::Ended(code)),
@@ -225,38 +195,52 @@ fn answer_call(
             end(hart, Code::Ok, size)
         }
         Call::Hart => end(hart, Code::Ok, u64::from(number)),
-        Call::Send {
-            buffer: _,
-            count: _,
-            dest,
-            tag: _,
-            comm: _,
-        } => {
-            if dest == NO_RANK {
-                end(hart, Code::Ok, 0)
-            } else {
-                answer_send(hart, answer)
-            }
+        Call::Send(sending) => answer_send(hart, begun(&send(site, false, &sending), answer)),
+        Call::Ssend(sending) => answer_send(hart, begun(&send(site, true, &sending), answer)),
+        Call::Recv { receiving, status } => {
+            answer_receive(site, hart, memory, requests, &receiving, status, answer)
         }
-        Call::Recv {
-            buffer,
-            capacity,
-            source,
-            tag: _,
-            comm: _,
-            status,
-        } => {
-            let target = Target {
-                buffer,
-                capacity,
-                status,
-            };
-            if source == NO_RANK {
-                receive(hart, memory, target, NO_RANK, ANY, &[])
-            } else {
-                answer_recv(site, hart, memory, target, answer)
-            }
+        Call::Isend(sending) => open(hart, requests, send(site, false, &sending), answer),
+        Call::Issend(sending) => open(hart, requests, send(site, true, &sending), answer),
+        Call::Irecv(receiving) => open(hart, requests, receive(site, &receiving), answer),
+        Call::Test(completing) => complete(
+            site,
+            hart,
+            memory,
+            requests,
+            Manner::Immediate,
+            &completing,
+            answer,
+        ),
+        Call::Wait(completing) => complete(
+            site,
+            hart,
+            memory,
+            requests,
+            Manner::Blocking,
+            &completing,
+            answer,
+        ),
+        Call::Iprobe(probing) => {
+            answer_probe(site, hart, memory, Manner::Immediate, &probing, answer)
         }
+        Call::Probe(probing) => {
+            answer_probe(site, hart, memory, Manner::Blocking, &probing, answer)
+        }
+        Call::Improbe(probing) => {
+            answer_claim(site, hart, memory, Manner::Immediate, &probing, answer)
+        }
+        Call::Mprobe(probing) => {
+            answer_claim(site, hart, memory, Manner::Blocking, &probing, answer)
+        }
+        Call::Imrecv(claimed) => open(hart, requests, receive_claimed(&claimed), answer),
+        Call::Mrecv { claimed, status } => {
+            answer_claimed(site, hart, memory, requests, &claimed, status, answer)
+        }
+        Call::SendInit(sending) => make(hart, requests, send(site, false, &sending)),
+        Call::RecvInit(receiving) => make(hart, requests, receive(site, &receiving)),
+        Call::Start { handle } => start(hart, requests, handle, answer),
+        Call::RequestFree { handle } => free(hart, requests, handle),
         Call::Unknown => {}
     }
 }
@@ -267,15 +251,17 @@ pub(crate) fn answer_hart(
     number: u8,
     hart: &mut Hart,
     memory: &mut RankMemory,
+    requests: &mut Requests,
     out: &mut Vec<u8>,
     fresh: &[u8],
     doing: &Doing,
     answer: &Answer,
 )
     requires running { IsRunning doing.now hart.old }
+    requires checked { IsChecked site.now requests.old doing.now }
     requires fresh { fresh.now ≡ output_of memory.old doing.now }
     requires room { vec_len out.old + length fresh.now ≤ vec_capacity out.old }
-    ensures { record { hart = hart.new; memory = memory.new; out = out.new.items } ≡ told_in site.now number doing.now answer.now (record { hart = hart.old; memory = memory.old; out = out.old.items }) }
+    ensures { record { hart = hart.new; memory = memory.new; requests = requests.new; out = out.new.items } ≡ told_in site.now number doing.now answer.now (record { hart = hart.old; memory = memory.old; requests = requests.old; out = out.old.items }) }
 {
     match *doing {
         Doing::Step => {
@@ -284,8 +270,10 @@ pub(crate) fn answer_hart(
             };
         }
         Doing::Refused(code) => end(hart, code, 0),
-        Doing::Go(call) => answer_call(site, number, hart, memory, out, fresh, &call, answer),
-        Doing::Poll(call, _) => answer_poll(site, hart, memory, &call, answer),
+        Doing::Go(call) => answer_call(
+            site, number, hart, memory, requests, out, fresh, &call, answer,
+        ),
+        Doing::Poll(call, _) => answer_poll(site, hart, memory, requests, &call, answer),
         Doing::Stopped => {}
     }
 }

@@ -102,6 +102,13 @@ impl Transfer {
 }
 
 impl State {
+    /// Whether the request outlives its completion (MPI 4.1, chapter 3.9).
+    pub fn is_persistent(self) -> bool
+        ensures { result ≡ entry.is_persistent self }
+    {
+        !matches!(self, State::Ordinary(_))
+    }
+
     /// Whether the request is active, as an ordinary one always is.
     pub fn is_active(self) -> bool
         ensures { result ≡ entry.is_active self }

@@ -1,6 +1,6 @@
 //! The table: what each handle names.
 
-ghost use Rattle.std.specs.Prelude.{◌≡◌, ◌+◌, ◌↔◌, filter, IsSome, IfOk, IfErr, drop, length, is_none, position, slice_index, ◌<◌, ◌==◌, IfSome, IsOk, IsNone, IsTrue, OnOk, OnErr};
+ghost use Rattle.std.specs.Prelude.{◌≡◌, ◌+◌, ◌↔◌, filter, IsSome, IfOk, IfErr, drop, length, is_none, position, slice_index, ◌<◌, ◌==◌, IfSome, IsOk, IsErr, IsNone, Some, None, IsTrue, OnOk, OnErr};
 ghost use Rattle.std.specs.List.{list_all, list_any};
 ghost use Rattle.mp_request.specs.Entries.{is_active, is_new};
 ghost use Rattle.mp_request.specs.Table.{IsActive, IsFull, IsHandle, IsInactive, IsLowestFree, IsOpen, IsPersistent, completed, has, is_done_at, is_distinct, is_testable, lowest_free, may_be_tested, no_requests, request_at, started, with_request};
@@ -73,6 +73,8 @@ impl Requests {
     pub fn open(&mut self, request: OpenRequest) -> Result<u8, Refusal>
         requires { IsTrue (is_new request.state) }
         ensures lowest { IfOk result (IsLowestFree self.old) }
+        ensures given { IfOk result (λ handle. lowest_free self.old ≡ Some handle) }
+        ensures none { IsErr result ↔ (lowest_free self.old ≡ None) }
         ensures opened { IfOk result (λ handle. self.new ≡ with_request self.old handle (Some request)) }
         ensures full { (result ≡ Err Refusal.Full) ↔ IsFull self.old }
         ensures full_only { IfErr result (λ refusal. refusal ≡ Refusal.Full) }
@@ -109,9 +111,10 @@ impl Requests {
     /// Completes a request: an ordinary one is gone and its handle free (MPI 4.1, chapter 3.7.3), a persistent one is
     /// inactive (3.9). The null request and an inactive one are complete already, and nothing changes.
     ///
-    /// `BadRequest` exactly where the handle is neither 0 nor open.
+    /// `BadRequest` exactly where the handle is neither 0 nor open, and so names nothing that could complete.
+    #[tactic(auto, using(crate::proofs::Maps::nothing_completes))]
     pub fn complete(&mut self, handle: u64) -> Result<(), Refusal>
-        ensures completed { OnOk result (self.new ≡ completed self.old handle) }
+        ensures completed { self.new ≡ completed self.old handle }
         ensures bad_request { (result ≡ Err Refusal.BadRequest) ↔ ((¬ (handle ≡ 0)) × (¬ IsOpen self.old handle)) }
         ensures bad_request_only { IfErr result (λ refusal. refusal ≡ Refusal.BadRequest) }
         ensures unchanged { OnErr result (self.new ≡ self.old) }

@@ -1,0 +1,92 @@
+-- What each call needs to be right.
+use Rattle.std.specs.Prelude.{ℕ, Some, None, Bool, true, false}
+use Rattle.cl_calls.specs.declared.calls.Call.{Call}
+use Rattle.cl_calls.specs.declared.calls.Call.TheVariants.{Exit, Put, Rank, Size, Hart, Send, Ssend, Recv, Isend, Issend, Irecv, Test, Wait, Iprobe, Probe, Improbe, Mprobe, Imrecv, Mrecv, SendInit, RecvInit, Start, RequestFree, Unknown}
+use Rattle.cl_calls.specs.declared.calls.Claimed.{Claimed}
+use Rattle.cl_calls.specs.declared.calls.Completing.{Completing}
+use Rattle.cl_calls.specs.declared.calls.Probing.{Probing}
+use Rattle.cl_calls.specs.declared.calls.Receiving.{Receiving}
+use Rattle.cl_calls.specs.declared.calls.Sending.{Sending}
+use Rattle.cl_calls.specs.declared.needs.Named.TheVariants.{Nothing, NullOrOpen, Persistent, Open}
+use Rattle.cl_calls.specs.declared.needs.Needs.{Needs}
+use Rattle.cl_calls.specs.declared.needs.Peer.{Peer}
+use Rattle.cl_calls.specs.declared.needs.Range.{Range}
+use Rattle.cl_calls.specs.declared.needs.Tag.{Tag}
+
+abbrev pub reads : ℕ → ℕ → Range
+reads address count = record { address = address; count = count; writing = false }
+
+abbrev pub writes : ℕ → ℕ → Range
+writes address count = record { address = address; count = count; writing = true }
+
+-- a destination: a member or the null process
+abbrev pub destination : ℕ → Peer
+destination rank = record { rank = rank; any = false; null = true }
+
+-- a source: a member, any of them, or the null process
+abbrev pub source : ℕ → Peer
+source rank = record { rank = rank; any = true; null = true }
+
+abbrev pub one_tag : ℕ → Tag
+one_tag tag = record { tag = tag; any = false }
+
+abbrev pub tag_or_any : ℕ → Tag
+tag_or_any tag = record { tag = tag; any = true }
+
+abbrev pub nothing : Needs
+nothing = record {
+  known = true;
+  request = Nothing;
+  comm = None;
+  peer = None;
+  tag = one_tag 0;
+  buffer = reads 0 0;
+  status = 0;
+  growth = 0;
+  slot = false;
+}
+
+-- the calls that send: with a slot where a request is opened
+abbrev pub needs_of_sending : Bool → Sending → Needs
+needs_of_sending slot s =
+    record nothing { comm = Some s.comm; peer = Some (destination s.dest); tag = one_tag s.tag; buffer = reads s.buffer s.count; slot = slot }
+
+-- the calls that receive
+abbrev pub needs_of_receiving : Bool → ℕ → Receiving → Needs
+needs_of_receiving slot status r =
+    record nothing { comm = Some r.comm; peer = Some (source r.source); tag = tag_or_any r.tag; buffer = writes r.buffer r.capacity; status = status; slot = slot }
+
+abbrev pub needs_of_claimed : Bool → ℕ → Claimed → Needs
+needs_of_claimed slot status m = record nothing { buffer = writes m.buffer m.capacity; status = status; slot = slot }
+
+abbrev pub needs_of_probing : Probing → Needs
+needs_of_probing p = record nothing { comm = Some p.comm; peer = Some (source p.source); tag = tag_or_any p.tag; status = p.status }
+
+abbrev pub needs_of_completing : Completing → Needs
+needs_of_completing c = record nothing { request = NullOrOpen c.handle; status = c.status }
+
+abbrev pub needs_of : Call → Needs
+needs_of (Exit code) = nothing
+needs_of (Put buffer count) = record nothing { buffer = reads buffer count; growth = count }
+needs_of (Rank comm) = record nothing { comm = Some comm }
+needs_of (Size comm) = record nothing { comm = Some comm }
+needs_of Hart = nothing
+needs_of (Send s) = needs_of_sending false s
+needs_of (Ssend s) = needs_of_sending false s
+needs_of (Recv r status) = needs_of_receiving false status r
+needs_of (Isend s) = needs_of_sending true s
+needs_of (Issend s) = needs_of_sending true s
+needs_of (Irecv r) = needs_of_receiving true 0 r
+needs_of (Test c) = needs_of_completing c
+needs_of (Wait c) = needs_of_completing c
+needs_of (Iprobe p) = needs_of_probing p
+needs_of (Probe p) = needs_of_probing p
+needs_of (Improbe p) = needs_of_probing p
+needs_of (Mprobe p) = needs_of_probing p
+needs_of (Imrecv m) = needs_of_claimed true 0 m
+needs_of (Mrecv m status) = needs_of_claimed false status m
+needs_of (SendInit s) = needs_of_sending true s
+needs_of (RecvInit r) = needs_of_receiving true 0 r
+needs_of (Start handle) = record nothing { request = Persistent handle }
+needs_of (RequestFree handle) = record nothing { request = Open handle }
+needs_of Unknown = record nothing { known = false }

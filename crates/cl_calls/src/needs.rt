@@ -1,0 +1,261 @@
+//! What each call needs to be right.
+
+ghost use Rattle.std.specs.Prelude.{◌≡◌};
+ghost use Rattle.cl_calls.specs.Needs.{destination as destination_of, needs_of, needs_of_claimed, needs_of_completing, needs_of_probing, needs_of_receiving, needs_of_sending, one_tag, reads, source as source_of, tag_or_any, writes};
+
+use crate::calls::{Call, Claimed, Completing, Probing, Receiving, Sending};
+
+/// A rank argument, and which of the wildcard and the null process may stand for it.
+#[derive(Clone, Copy, PartialEq, Eq, Drop, Debug)]
+pub struct Peer {
+    pub rank: u64,
+    pub any: bool,
+    pub null: bool,
+}
+
+/// A tag argument, and whether the wildcard may stand for it.
+#[derive(Clone, Copy, PartialEq, Eq, Drop, Debug)]
+pub struct Tag {
+    pub tag: u64,
+    pub any: bool,
+}
+
+/// Bytes of the memory that a call reads or writes.
+#[derive(Clone, Copy, PartialEq, Eq, Drop, Debug)]
+pub struct Range {
+    pub address: u64,
+    pub count: u64,
+    pub writing: bool,
+}
+
+/// What a handle argument has to name.
+#[derive(Clone, Copy, PartialEq, Eq, Drop, Debug)]
+pub enum Named {
+    /// The call takes no handle.
+    Nothing,
+    /// The null request or an open one.
+    NullOrOpen(u64),
+    /// A persistent request, which isn't active.
+    Persistent(u64),
+    /// An open request, which isn't active.
+    Open(u64),
+}
+
+/// What a call needs to be right. Where it needs nothing of a kind, that field is None, 0 or false.
+#[derive(Clone, Copy, PartialEq, Eq, Drop, Debug)]
+pub struct Needs {
+    /// There is such a call.
+    pub known: bool,
+    /// A request of the rank.
+    pub request: Named,
+    /// A communicator of which the caller is a member.
+    pub comm: Option<u64>,
+    /// A member of that communicator.
+    pub peer: Option<Peer>,
+    pub tag: Tag,
+    pub buffer: Range,
+    /// The address of a status, or 0.
+    pub status: u64,
+    /// How many bytes the output grows by.
+    pub growth: u64,
+    /// A handle that isn't open.
+    pub slot: bool,
+}
+
+/// What a call needs that needs nothing.
+const NOTHING: Needs = Needs {
+    known: true,
+    request: Named::Nothing,
+    comm: None,
+    peer: None,
+    tag: Tag { tag: 0, any: false },
+    buffer: Range {
+        address: 0,
+        count: 0,
+        writing: false,
+    },
+    status: 0,
+    growth: 0,
+    slot: false,
+};
+
+impl Peer {
+    fn destination(rank: u64) -> Peer
+        ensures { result ≡ destination_of rank }
+    {
+        Peer {
+            rank,
+            any: false,
+            null: true,
+        }
+    }
+
+    fn source(rank: u64) -> Peer
+        ensures { result ≡ source_of rank }
+    {
+        Peer {
+            rank,
+            any: true,
+            null: true,
+        }
+    }
+}
+
+impl Tag {
+    fn one(tag: u64) -> Tag
+        ensures { result ≡ one_tag tag }
+    {
+        Tag { tag, any: false }
+    }
+
+    fn or_any(tag: u64) -> Tag
+        ensures { result ≡ tag_or_any tag }
+    {
+        Tag { tag, any: true }
+    }
+}
+
+impl Range {
+    fn reading(address: u64, count: u64) -> Range
+        ensures { result ≡ reads address count }
+    {
+        Range {
+            address,
+            count,
+            writing: false,
+        }
+    }
+
+    fn writing(address: u64, count: u64) -> Range
+        ensures { result ≡ writes address count }
+    {
+        Range {
+            address,
+            count,
+            writing: true,
+        }
+    }
+}
+
+impl Sending {
+    fn needs(&self, slot: bool) -> Needs
+        ensures { result ≡ needs_of_sending slot self.now }
+    {
+        Needs {
+            comm: Some(self.comm),
+            peer: Some(Peer::destination(self.dest)),
+            tag: Tag::one(self.tag),
+            buffer: Range::reading(self.buffer, self.count),
+            slot,
+            ..NOTHING
+        }
+    }
+}
+
+impl Receiving {
+    fn needs(&self, slot: bool, status: u64) -> Needs
+        ensures { result ≡ needs_of_receiving slot status self.now }
+    {
+        Needs {
+            comm: Some(self.comm),
+            peer: Some(Peer::source(self.source)),
+            tag: Tag::or_any(self.tag),
+            buffer: Range::writing(self.buffer, self.capacity),
+            status,
+            slot,
+            ..NOTHING
+        }
+    }
+}
+
+impl Claimed {
+    fn needs(&self, slot: bool, status: u64) -> Needs
+        ensures { result ≡ needs_of_claimed slot status self.now }
+    {
+        Needs {
+            buffer: Range::writing(self.buffer, self.capacity),
+            status,
+            slot,
+            ..NOTHING
+        }
+    }
+}
+
+impl Probing {
+    fn needs(&self) -> Needs
+        ensures { result ≡ needs_of_probing self.now }
+    {
+        Needs {
+            comm: Some(self.comm),
+            peer: Some(Peer::source(self.source)),
+            tag: Tag::or_any(self.tag),
+            status: self.status,
+            ..NOTHING
+        }
+    }
+}
+
+impl Completing {
+    fn needs(&self) -> Needs
+        ensures { result ≡ needs_of_completing self.now }
+    {
+        Needs {
+            request: Named::NullOrOpen(self.handle),
+            status: self.status,
+            ..NOTHING
+        }
+    }
+}
+
+impl Call {
+    /// What the call needs to be right.
+    pub fn needs(&self) -> Needs
+        ensures { result ≡ needs_of self.now }
+    {
+        match *self {
+            Call::Exit { code: _ } => NOTHING,
+            Call::Put { buffer, count } => Needs {
+                buffer: Range::reading(buffer, count),
+                growth: count,
+                ..NOTHING
+            },
+            Call::Rank { comm } => Needs {
+                comm: Some(comm),
+                ..NOTHING
+            },
+            Call::Size { comm } => Needs {
+                comm: Some(comm),
+                ..NOTHING
+            },
+            Call::Hart => NOTHING,
+            Call::Send(sending) => sending.needs(false),
+            Call::Ssend(sending) => sending.needs(false),
+            Call::Recv { receiving, status } => receiving.needs(false, status),
+            Call::Isend(sending) => sending.needs(true),
+            Call::Issend(sending) => sending.needs(true),
+            Call::Irecv(receiving) => receiving.needs(true, 0),
+            Call::Test(completing) => completing.needs(),
+            Call::Wait(completing) => completing.needs(),
+            Call::Iprobe(probing) => probing.needs(),
+            Call::Probe(probing) => probing.needs(),
+            Call::Improbe(probing) => probing.needs(),
+            Call::Mprobe(probing) => probing.needs(),
+            Call::Imrecv(claimed) => claimed.needs(true, 0),
+            Call::Mrecv { claimed, status } => claimed.needs(false, status),
+            Call::SendInit(sending) => sending.needs(true),
+            Call::RecvInit(receiving) => receiving.needs(true, 0),
+            Call::Start { handle } => Needs {
+                request: Named::Persistent(handle),
+                ..NOTHING
+            },
+            Call::RequestFree { handle } => Needs {
+                request: Named::Open(handle),
+                ..NOTHING
+            },
+            Call::Unknown => Needs {
+                known: false,
+                ..NOTHING
+            },
+        }
+    }
+}

@@ -1,0 +1,140 @@
+//! What a request still needs to complete.
+
+ghost use Rattle.std.specs.Prelude.{◌≡◌};
+ghost use Rattle.cl_state.specs.Pending.{asked_pending, flag as flag_of, pending_at, pending_of, pending_on};
+
+use crate::asking::Ask;
+use mp_request::{OpenRequest, Progress, State, Transfer};
+use mp_types::Request;
+
+/// Whether a call ends at once or waits (MPI 4.1, chapters 3.7.3 and 3.8).
+#[derive(Clone, Copy, Drop, Debug)]
+pub enum Manner {
+    /// It ends at once, with a flag that tells whether there was something.
+    Immediate,
+    /// It waits until there is something.
+    Blocking,
+}
+
+/// What a request still needs to complete.
+#[derive(Clone, Copy, Drop, Debug)]
+pub enum Pending {
+    /// Nothing: the null request, an inactive one, or a send that is known to be complete.
+    Nothing,
+    /// Nothing: a receive from the null process.
+    FromNull,
+    /// The message of a receive, and where it goes.
+    Message {
+        post: u64,
+        buffer: u64,
+        capacity: u16,
+    },
+    /// Word that a send is complete.
+    Word(u64),
+}
+
+/// Where a received message goes, and what the call does then.
+#[derive(Clone, Copy, Drop, Debug)]
+pub struct Target {
+    /// The address of the buffer, and the most bytes that it takes.
+    pub buffer: u64,
+    pub capacity: u64,
+    /// The address of a status, or 0.
+    pub status: u64,
+    /// The handle of the request that completes, or 0.
+    pub handle: u64,
+    /// The value that the call gives.
+    pub value: u64,
+}
+
+impl Manner {
+    /// The flag of an immediate call that completes; a blocking one gives no value.
+    pub(crate) fn flag(self) -> u64
+        ensures { result ≡ flag_of self }
+    {
+        match self {
+            Manner::Immediate => 1,
+            Manner::Blocking => 0,
+        }
+    }
+}
+
+fn on_post(post: u64, transfer: &Transfer) -> Pending
+    ensures { result ≡ pending_on post transfer.now }
+{
+    match *transfer {
+        Transfer::Send {
+            sync: _,
+            buffer: _,
+            count: _,
+            dest: _,
+            tag: _,
+            comm: _,
+        } => Pending::Word(post),
+        Transfer::Receive {
+            buffer,
+            capacity,
+            source: _,
+            tag: _,
+            comm: _,
+        } => Pending::Message {
+            post,
+            buffer,
+            capacity,
+        },
+        Transfer::ReceiveClaimed { buffer, capacity } => Pending::Message {
+            post,
+            buffer,
+            capacity,
+        },
+        Transfer::SendToNull => Pending::Nothing,
+        Transfer::ReceiveFromNull => Pending::Nothing,
+        Transfer::SendPartitions(_) => Pending::Nothing,
+        Transfer::ReceivePartitions(_) => Pending::Nothing,
+    }
+}
+
+fn at(progress: Progress, transfer: &Transfer) -> Pending
+    ensures { result ≡ pending_at progress transfer.now }
+{
+    match progress {
+        Progress::Finished => match *transfer {
+            Transfer::ReceiveFromNull => Pending::FromNull,
+            _ => Pending::Nothing,
+        },
+        Progress::OnPost(post) => on_post(post, transfer),
+        Progress::InPhase => Pending::Nothing,
+    }
+}
+
+impl Pending {
+    /// What the request that a handle names needs to complete.
+    pub(crate) fn of(request: Option<OpenRequest>) -> Pending
+        ensures { result ≡ pending_of request }
+    {
+        match request {
+            None => Pending::Nothing,
+            Some(OpenRequest { transfer, state }) => match state {
+                State::Ordinary(progress) => at(progress, &transfer),
+                State::Inactive => Pending::Nothing,
+                State::Active(progress) => at(progress, &transfer),
+            },
+        }
+    }
+
+    /// What is asked for it.
+    pub(crate) fn ask(self) -> Ask
+        ensures { result ≡ asked_pending self }
+    {
+        match self {
+            Pending::Nothing => Ask::Local,
+            Pending::FromNull => Ask::Local,
+            Pending::Message {
+                post,
+                buffer: _,
+                capacity: _,
+            } => Ask::Hub(Request::Collect { post }),
+            Pending::Word(post) => Ask::Hub(Request::Finished { post }),
+        }
+    }
+}

@@ -1,0 +1,220 @@
+//! What a call transfers, what the hub is asked for it, and how far it is once that was answered.
+
+ghost use Rattle.std.specs.Prelude.{◌≡◌, ◌≢◌, ◌≤◌, IfOk, IsTrue, Some, false};
+ghost use Rattle.rv_memory.specs.Memory.{bytes_at};
+ghost use Rattle.cl_calls.specs.Calls.{no_rank};
+ghost use Rattle.cl_calls.specs.Checks.{is_peer, is_tag};
+ghost use Rattle.cl_calls.specs.Needs.{needs_of_receiving, needs_of_sending, source as source_peer, tag_or_any};
+ghost use Rattle.cl_state.specs.Right.{IsRight};
+ghost use Rattle.cl_state.specs.Transfers.{asked_claimed, asked_transfer, begun as begun_by, claimed_of, posted as posted_by, receive_of, send_of, sent_on, source_of, tag_of};
+
+use crate::asking::{Answer, Ask};
+use cl_calls::{ANY, Claimed, NO_MESSAGE, NO_RANK, Receiving, Sending, Site};
+use mp_request::{Progress, Transfer};
+use mp_types::{Bytes, Code, MESSAGE_MAX, Reply, Request};
+use rv_memory::RankMemory;
+use std::alloc::{AllocError, Global};
+
+/// A source argument as a rank of the cluster; None is any.
+pub(crate) fn source(site: &Site, comm: u64, source: u64) -> Option<u8>
+    requires right { IsTrue (is_peer site.now (Some comm) (Some (source_peer source))) }
+    requires there { source ≢ no_rank }
+    ensures { result ≡ source_of site.now comm source }
+{
+    if source == ANY {
+        None
+    } else {
+        Some(site.member(comm, source))
+    }
+}
+
+/// A tag argument; None is any.
+pub(crate) fn tag(tag: u64) -> Option<u16>
+    requires { IsTrue (is_tag (tag_or_any tag)) }
+    ensures { result ≡ tag_of tag }
+{
+    if tag == ANY { None } else { Some(tag as u16) }
+}
+
+/// What a send with right arguments transfers.
+pub(crate) fn send(site: &Site, sync: bool, sending: &Sending) -> Transfer
+    requires { IsRight site.now (needs_of_sending false sending.now) }
+    ensures { result ≡ send_of site.now sync sending.now }
+{
+    if sending.dest == NO_RANK {
+        return Transfer::SendToNull;
+    }
+    Transfer::Send {
+        sync,
+        buffer: sending.buffer,
+        count: sending.count as u16,
+        dest: site.member(sending.comm, sending.dest),
+        tag: sending.tag as u16,
+        comm: site.comm_number(sending.comm),
+    }
+}
+
+/// What a receive with right arguments transfers.
+pub(crate) fn receive(site: &Site, receiving: &Receiving) -> Transfer
+    requires { IsRight site.now (needs_of_receiving false 0 receiving.now) }
+    ensures { result ≡ receive_of site.now receiving.now }
+{
+    if receiving.source == NO_RANK {
+        return Transfer::ReceiveFromNull;
+    }
+    Transfer::Receive {
+        buffer: receiving.buffer,
+        capacity: receiving.capacity as u16,
+        source: source(site, receiving.comm, receiving.source),
+        tag: tag(receiving.tag),
+        comm: site.comm_number(receiving.comm),
+    }
+}
+
+/// What a receive of a claimed message transfers. Its buffer takes at most 4,096 bytes.
+pub(crate) fn receive_claimed(claimed: &Claimed) -> Transfer
+    requires { claimed.now.capacity ≤ 4096 }
+    ensures { result ≡ claimed_of claimed.now }
+{
+    if claimed.message == NO_MESSAGE {
+        return Transfer::ReceiveFromNull;
+    }
+    Transfer::ReceiveClaimed {
+        buffer: claimed.buffer,
+        capacity: claimed.capacity as u16,
+    }
+}
+
+/// The bytes of a send. They are in the memory, and at most 4,096: its range was checked when the send was made.
+fn copy(alloc: Global, memory: &RankMemory, buffer: u64, count: u16) -> Result<Bytes, AllocError>
+    ensures { IfOk result (λ bytes. bytes ≡ bytes_at memory.now buffer count) }
+{
+    let Ok(bytes) = memory.read_bytes(alloc, buffer, u64::from(count)) else {
+        return Err(AllocError);
+    };
+    if bytes.len() > MESSAGE_MAX {
+        return Err(AllocError);
+    }
+    Ok(Bytes::from_vec(bytes))
+}
+
+/// What is asked for a transfer. Only a copy of bytes to be sent takes memory.
+pub(crate) fn ask(
+    alloc: Global,
+    memory: &RankMemory,
+    now: bool,
+    transfer: &Transfer,
+) -> Result<Ask, AllocError>
+    ensures { IfOk result (λ ask. ask ≡ asked_transfer memory.now now transfer.now) }
+{
+    match *transfer {
+        Transfer::SendToNull => Ok(Ask::Local),
+        Transfer::ReceiveFromNull => Ok(Ask::Local),
+        Transfer::Send {
+            sync,
+            buffer,
+            count,
+            dest,
+            tag,
+            comm,
+        } => Ok(Ask::Hub(Request::Send {
+            sync,
+            comm,
+            dest,
+            tag,
+            bytes: copy(alloc, memory, buffer, count)?,
+        })),
+        Transfer::Receive {
+            buffer: _,
+            capacity: _,
+            source,
+            tag,
+            comm,
+        } => Ok(Ask::Hub(Request::Recv {
+            now,
+            comm,
+            source,
+            tag,
+        })),
+        Transfer::ReceiveClaimed {
+            buffer: _,
+            capacity: _,
+        } => Ok(Ask::Local),
+        Transfer::SendPartitions(_) => Ok(Ask::Local),
+        Transfer::ReceivePartitions(_) => Ok(Ask::Local),
+    }
+}
+
+/// What is asked for a receive of a claimed message.
+pub(crate) fn ask_claimed(now: bool, claimed: &Claimed) -> Ask
+    ensures { result ≡ asked_claimed now claimed.now }
+{
+    if claimed.message == NO_MESSAGE {
+        return Ask::Local;
+    }
+    Ask::Hub(Request::Claimed {
+        now,
+        message: claimed.message,
+    })
+}
+
+/// The number of a post and whether it is done, or the code of a refusal.
+fn posted(answer: &Answer) -> Result<(u64, bool), Code>
+    ensures { result ≡ posted_by answer.now }
+{
+    match answer {
+        Answer::Reply(Reply::Posted { post, done }) => Ok((*post, *done)),
+        Answer::Reply(Reply::Code(code)) => Err(*code),
+        _ => Err(Code::BadRequest),
+    }
+}
+
+fn sent(sync: bool, post: u64, done: bool) -> Progress
+    ensures { result ≡ sent_on sync post done }
+{
+    if sync && !done {
+        Progress::OnPost(post)
+    } else {
+        Progress::Finished
+    }
+}
+
+/// How far a transfer is once its post was answered, or the code of a refusal.
+pub(crate) fn begun(transfer: &Transfer, answer: &Answer) -> Result<Progress, Code>
+    ensures { result ≡ begun_by transfer.now answer.now }
+{
+    match *transfer {
+        Transfer::SendToNull => Ok(Progress::Finished),
+        Transfer::ReceiveFromNull => Ok(Progress::Finished),
+        Transfer::Send {
+            sync,
+            buffer: _,
+            count: _,
+            dest: _,
+            tag: _,
+            comm: _,
+        } => {
+            let (post, done) = posted(answer)?;
+            Ok(sent(sync, post, done))
+        }
+        Transfer::Receive {
+            buffer: _,
+            capacity: _,
+            source: _,
+            tag: _,
+            comm: _,
+        } => {
+            let (post, _) = posted(answer)?;
+            Ok(Progress::OnPost(post))
+        }
+        Transfer::ReceiveClaimed {
+            buffer: _,
+            capacity: _,
+        } => {
+            let (post, _) = posted(answer)?;
+            Ok(Progress::OnPost(post))
+        }
+        Transfer::SendPartitions(_) => Err(Code::BadRequest),
+        Transfer::ReceivePartitions(_) => Err(Code::BadRequest),
+    }
+}
