@@ -1,14 +1,31 @@
-//! Assembles the sources of standard input and prints what each gives: the words of its text, or its fault.
+//! Assembles the sources of standard input and prints what each gives: its image, or its fault.
 //!
-//! A line `%%` stands between two sources. Words are eight hex digits, one a line; a fault is `line L: NAME` and its
-//! number. The table in `stdin` and `stdout` is data from outside: the words are GNU as's, the faults were written by
-//! hand from the language's rules.
+//! A line `%%` stands between two sources. An image is its fields, where they aren't those of a source without
+//! directives, then the words of its text, eight hex digits each, one a line, the bytes of its data in one line, its
+//! communicators and its links. A fault is `line L: NAME` and its number.
+//!
+//! The table in `stdin` and `stdout` is data from outside. Words and data are those of GNU as and ld, with the text at
+//! 0 and the data at the text's length rounded up to 16 (`-Ttext=0 -Tdata=ADDRESS`, no relaxation). Fields and faults
+//! were written by hand from the language's rules.
 #![tactic(auto)]
 
 use rv_asm::assemble;
+use rv_image::ImageParts;
 use std::alloc::Global;
 use std::io;
 use std::io::Write;
+
+/// Prints the fields, if one isn't as in a source without directives.
+fn print_fields<W: Write>(out: &mut W, parts: &ImageParts) -> io::Result<()> {
+    if parts.ranks != 1 || parts.harts != 1 || parts.memory != 65_536 || parts.entry != 0 {
+        writeln!(
+            out,
+            "ranks {} harts {} memory {} entry {}",
+            parts.ranks, parts.harts, parts.memory, parts.entry
+        )?;
+    }
+    Ok(())
+}
 
 /// Prints the words of a text.
 fn print_words<W: Write>(out: &mut W, text: &[u8]) -> io::Result<()> {
@@ -21,10 +38,45 @@ fn print_words<W: Write>(out: &mut W, text: &[u8]) -> io::Result<()> {
     Ok(())
 }
 
+/// Prints the bytes of the data, if it has some.
+fn print_data<W: Write>(out: &mut W, data: &[u8]) -> io::Result<()> {
+    if data.is_empty() {
+        return Ok(());
+    }
+    write!(out, "data")?;
+    for byte in data {
+        write!(out, " {byte:02x}")?;
+    }
+    writeln!(out)
+}
+
+/// Prints the ranks of a communicator.
+fn print_communicator<W: Write>(out: &mut W, ranks: &[u8]) -> io::Result<()> {
+    write!(out, "comm")?;
+    for rank in ranks {
+        write!(out, " {rank}")?;
+    }
+    writeln!(out)
+}
+
+/// Prints an image.
+fn print_image<W: Write>(out: &mut W, parts: &ImageParts) -> io::Result<()> {
+    print_fields(out, parts)?;
+    print_words(out, parts.text.as_slice())?;
+    print_data(out, parts.init.as_slice())?;
+    for members in parts.comms.as_slice() {
+        print_communicator(out, members.as_slice())?;
+    }
+    for link in parts.links.as_slice() {
+        writeln!(out, "link {} {}", link.from, link.to)?;
+    }
+    Ok(())
+}
+
 /// Prints what one source gives.
 fn print_meaning<W: Write>(alloc: Global, out: &mut W, source: &str) -> io::Result<()> {
     match assemble(alloc, source) {
-        Ok(image) => print_words(out, image.parts().text.as_slice()),
+        Ok(image) => print_image(out, image.parts()),
         Err(fault) => writeln!(out, "{fault}"),
     }
 }

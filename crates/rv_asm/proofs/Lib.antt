@@ -1,5 +1,12 @@
 pub mod Steps
 pub mod LabelSteps
-pub mod Wholeness
+pub mod Right
+pub mod Lengths
+pub mod Kept
+pub mod Counted
+pub mod Members
+pub mod Grown
 pub mod Sound
 pub mod Placed
+pub mod Wholeness
+pub mod Staying

@@ -1,8 +1,12 @@
+pub mod Resolved
+pub mod Parts
+pub mod Fields
 pub mod Layout
 pub mod LayoutView
-pub mod Resolved
 pub mod WordsView
+pub mod Data
 pub mod Output
 pub mod OutputView
 pub mod Source
 pub mod Places
+pub mod Worked

@@ -1,33 +1,51 @@
 //! Both passes, and what is tested of the whole.
 
-ghost use Rattle.std.specs.Prelude.{◌≡◌, ◌≤◌, ◌<◌, ◌+◌, ◌^◌, length, List, ℕ, map, MatchResult, IfOk, IfErr, OnOk, Ok};
+ghost use Rattle.std.specs.Prelude.{◌≡◌, ◌≤◌, ◌<◌, ◌+◌, ◌*◌, ◌^◌, ◌&&◌, length, List, ℕ, map, nat_le, MatchResult, IfOk, IfErr, OnOk, Ok};
 ghost use Rattle.std.specs.Str.Lines.{lines};
+ghost use Rattle.rv_image.specs.Image.{data_start};
 ghost use Rattle.rv_asm_tokens.specs.Fault.{Fails};
-ghost use Rattle.rv_asm.specs.Layout.{Layout as Laid, length_of, placed, line_step, layout_of};
-ghost use Rattle.rv_asm.specs.LayoutView.{labels_view, layout_view};
+ghost use Rattle.rv_asm.specs.Layout.{Layout as Laid, addresses, fitted, placed, line_step, layout_of};
+ghost use Rattle.rv_asm.specs.LayoutView.{addresses_view, layout_view};
+ghost use Rattle.rv_asm.specs.Fields.{ranks_of as ranks_meant};
 ghost use Rattle.rv_asm.specs.Output.{items_from, empty_output};
 ghost use Rattle.rv_asm.specs.OutputView.{output_view};
 ghost use Rattle.rv_asm.specs.Places.{AreSound, HoldCode};
 ghost use Rattle.rv_asm.specs.Source.{FailsAt, IsWhole, finished, meaning};
 
+use crate::fields::{Fields, NO_FIELDS, harts_of, memory_of, ranks_of, take_fields};
 use crate::labels::take_labels;
-use crate::layout::{Item, Layout};
+use crate::layout::{Item, Layout, next_place};
 use crate::output::{Output, take_item};
-use crate::resolved::length_of_use;
+use crate::parts::{Part, length_of_statement, may_stand, part_after};
 use indexmap::IndexMap;
 use rv_asm_statements::{Statement, parse_statement};
 use rv_asm_tokens::{AsmFault, AsmFaultKind, tokens};
 use rv_image::{Comms, Image, ImageParts, Links, Segment};
 use std::alloc::{AllocError, Global};
 
-fn length_of_statement(statement: &Statement) -> u64
-    ensures value { result ≡ length_of statement.now }
-    ensures small { result ≤ 8 }
+/// Adds a statement at the end of its part: `Limit` where that grows past 1,048,576 bytes.
+fn add_item(line: u64, layout: &mut Layout, statement: Statement) -> Result<(), AsmFaultKind>
+    ensures { MatchResult result
+        (λ _. fitted line (layout_view layout.old) statement layout.old.fields ≡ Ok (layout_view layout.new))
+        (λ e. Fails e (fitted line (layout_view layout.old) statement layout.old.fields)) }
 {
-    match statement {
-        Statement::Label(_) => 0,
-        Statement::Instruction(found) => length_of_use(found),
+    let place = next_place(layout);
+    let end = u128::from(place.at) + length_of_statement(place.at, &statement);
+    if end > 1_048_576 {
+        return Err(AsmFaultKind::Limit);
     }
+    let next = part_after(place.part, &statement);
+    layout.items.push(Item {
+        line,
+        place,
+        statement,
+    })?;
+    match place.part {
+        Part::Text => layout.text = end as u32,
+        Part::Data => layout.init = end as u32,
+    }
+    layout.part = next;
+    Ok(())
 }
 
 /// Adds the statement of a line, if it has one.
@@ -40,18 +58,11 @@ fn place(line: u64, layout: &mut Layout, statement: Option<Statement>) -> Result
     let Some(statement) = statement else {
         return Ok(());
     };
-    let length = length_of_statement(&statement);
-    if layout.at > 1_048_576 - length {
-        return Err(AsmFaultKind::Limit);
+    if !may_stand(layout.part, &statement) {
+        return Err(AsmFaultKind::Directive);
     }
-    let at = layout.at;
-    layout.items.push(Item {
-        line,
-        at,
-        statement,
-    })?;
-    layout.at = at + length;
-    Ok(())
+    take_fields(&mut layout.fields, &statement)?;
+    add_item(line, layout, statement)
 }
 
 /// Adds one line.
@@ -92,7 +103,10 @@ fn layout_source(alloc: Global, source: &str) -> Result<Layout, AsmFault>
         }),
     };
     let mut layout = Layout {
-        at: 0,
+        text: 0,
+        init: 0,
+        part: Part::Text,
+        fields: NO_FIELDS,
         labels: IndexMap::new(alloc),
         items: Vec::new(alloc),
     };
@@ -111,14 +125,17 @@ fn make_output(alloc: Global, layout: &Layout) -> Result<Output, AsmFault>
     ensures output { MatchResult result
         (λ output. items_from (layout_view layout.now) empty_output layout.now.items.items ≡ Ok (output_view output))
         (λ fault. FailsAt fault (items_from (layout_view layout.now) empty_output layout.now.items.items)) }
-    ensures sound { OnOk result (AreSound (labels_view layout.now.labels.entries) layout.now.items.items) }
+    ensures sound { OnOk result (AreSound (addresses_view layout.now) layout.now.items.items) }
 {
     let mut output = Output {
         text: Vec::new(alloc),
+        init: Vec::new(alloc),
         entry: None,
+        comms: Vec::new(alloc),
+        links: Vec::new(alloc),
     };
     for item in &layout.items {
-        match take_item(layout, item, &mut output) {
+        match take_item(alloc, layout, item, &mut output) {
             Ok(()) => {}
             Err(kind) => return Err(AsmFault {
                 line: item.line,
@@ -129,22 +146,40 @@ fn make_output(alloc: Global, layout: &Layout) -> Result<Output, AsmFault>
     Ok(output)
 }
 
-/// The image of what was made: one rank of one hart with 65,536 bytes.
-#[tactic(auto, unfolding(crate::specs::Source::finished))]
-fn finish(alloc: Global, output: Output) -> Result<Image, AsmFault>
-    requires { IsWhole (output_view output) }
-    ensures { MatchResult result
-        (λ image. finished (output_view output) ≡ Ok image)
-        (λ fault. FailsAt fault (finished (output_view output))) }
+/// Whether harts, text and data fit the memory.
+fn fits(harts: u32, memory: u32, text: usize, init: usize) -> bool
+    requires { harts ≤ 4 }
+    ensures { result ≡ (nat_le (4096 * harts) memory && (nat_le text memory && nat_le (data_start text + init) memory)) }
 {
-    let length = output.text.len();
-    if length == 0 {
+    if 4_096 * harts > memory || text as u64 > u64::from(memory) {
+        return false;
+    }
+    let start = (text as u64 + 15) / 16 * 16;
+    u128::from(start) + init as u128 <= u128::from(memory)
+}
+
+/// The image of what was made, with what the fields say.
+#[tactic(auto, unfolding(crate::specs::Source::finished))]
+fn finish(fields: &Fields, output: Output) -> Result<Image, AsmFault>
+    requires { IsWhole (ranks_meant fields.now) (output_view output) }
+    ensures { MatchResult result
+        (λ image. finished fields.now (output_view output) ≡ Ok image)
+        (λ fault. FailsAt fault (finished fields.now (output_view output))) }
+{
+    let harts = harts_of(fields);
+    let memory = memory_of(fields);
+    if output.text.is_empty() {
         return Err(AsmFault {
             line: 0,
             kind: AsmFaultKind::Directive,
         });
     }
-    if length > 65_536 {
+    if !fits(
+        u32::from(harts),
+        memory,
+        output.text.len(),
+        output.init.len(),
+    ) {
         return Err(AsmFault {
             line: 0,
             kind: AsmFaultKind::Limit,
@@ -152,17 +187,17 @@ fn finish(alloc: Global, output: Output) -> Result<Image, AsmFault>
     }
     let entry = match output.entry {
         None => 0,
-        Some(at) => at as u32,
+        Some(at) => at,
     };
     Ok(Image::new(ImageParts {
-        ranks: 1,
-        harts: 1,
-        memory: 65_536,
+        ranks: ranks_of(fields),
+        harts,
+        memory,
         entry,
         text: Segment::from_vec(output.text),
-        init: Segment::from_vec(Vec::new(alloc)),
-        comms: Comms::from_vec(Vec::new(alloc)),
-        links: Links::from_vec(Vec::new(alloc)),
+        init: Segment::from_vec(output.init),
+        comms: Comms::from_vec(output.comms),
+        links: Links::from_vec(output.links),
     }))
 }
 
@@ -176,9 +211,9 @@ pub fn assemble(alloc: Global, source: &str) -> Result<Image, AsmFault>
     ensures fault { IfErr result (λ fault. FailsAt fault (meaning source.now)) }
 
     // Each instruction of the source stands at its address: the words there decode to it.
-    ensures decodes { IfOk result (λ image. (s : Laid) → layout_of source.now ≡ Ok s → HoldCode s.labels image.text s.items) }
+    ensures decodes { IfOk result (λ image. (s : Laid) → layout_of source.now ≡ Ok s → HoldCode (addresses s.text s.labels) image.text image.init s.items) }
 {
     let layout = layout_source(alloc, source)?;
     let output = make_output(alloc, &layout)?;
-    finish(alloc, output)
+    finish(&layout.fields, output)
 }

@@ -4,14 +4,14 @@ ghost use Rattle.std.specs.Prelude.{◌≡◌, ◌++◌, OnOk, MatchResult, Ok};
 ghost use Rattle.std.specs.List.{flat_map};
 ghost use Rattle.std.specs.Int.{w32, to_le_bytes};
 ghost use Rattle.rv_asm_tokens.specs.Fault.{Fails};
-ghost use Rattle.rv_asm.specs.LayoutView.{labels_view};
+ghost use Rattle.rv_asm.specs.LayoutView.{addresses_view};
 ghost use Rattle.rv_asm.specs.WordsView.{words_list};
 ghost use Rattle.rv_asm.specs.Resolved.{instrs_of};
 ghost use Rattle.rv_asm.specs.Places.{AllWritten, IfRight};
 ghost use Rattle.rv_asm.specs.Output.{with_use};
 
+use crate::layout::Layout;
 use crate::resolved::{Words, words_of};
-use indexmap::IndexMap;
 use rv_asm_statements::Use;
 use rv_asm_tokens::AsmFaultKind;
 use std::alloc::AllocError;
@@ -35,17 +35,17 @@ fn put_words(text: &mut Vec<u8>, words: &Words) -> Result<(), AllocError>
 /// Adds the instructions of a mnemonic and its operands at an address.
 #[tactic(auto, unfolding(crate::specs::Output::with_use))]
 pub fn put_use(
-    labels: &IndexMap<Vec<u8>, u64>,
+    layout: &Layout,
     at: u64,
     found: &Use,
     text: &mut Vec<u8>,
 ) -> Result<(), AsmFaultKind>
     ensures text { MatchResult result
-        (λ _. with_use (labels_view labels.now.entries) at found.now text.old.items ≡ Ok text.new.items)
-        (λ e. Fails e (with_use (labels_view labels.now.entries) at found.now text.old.items)) }
-    ensures written { OnOk result (IfRight (instrs_of (labels_view labels.now.entries) at found.now.template found.now.filled) AllWritten) }
+        (λ _. with_use (addresses_view layout.now) at found.now text.old.items ≡ Ok text.new.items)
+        (λ e. Fails e (with_use (addresses_view layout.now) at found.now text.old.items)) }
+    ensures written { OnOk result (IfRight (instrs_of (addresses_view layout.now) at found.now.template found.now.filled) AllWritten) }
 {
-    let words = words_of(labels, at, found.template, &found.filled)?;
+    let words = words_of(layout, at, found.template, &found.filled)?;
     put_words(text, &words)?;
     Ok(())
 }

@@ -4,21 +4,34 @@ ghost use Rattle.std.specs.Prelude.{◌≡◌, ◌≤◌, ◌<◌, ◌^◌, IfSo
 ghost use Rattle.std.specs.Option.{option_map};
 ghost use Rattle.rv_asm_tokens.specs.Fault.{Fails};
 ghost use Rattle.rv_asm_tokens.specs.Lexeme.{lexemes_of};
-ghost use Rattle.rv_asm.specs.Layout.{labels_at, with_label};
-ghost use Rattle.rv_asm.specs.LayoutView.{labels_view, layout_view, front_label};
+ghost use Rattle.rv_asm.specs.Layout.{labels_at, place_in, with_label};
+ghost use Rattle.rv_asm.specs.LayoutView.{addresses_view, labels_view, layout_view, front_label};
 ghost use Rattle.rv_asm.specs.Resolved.{address_in};
 
-use crate::layout::{Item, Layout};
+use crate::layout::{Item, Layout, next_place};
+use crate::parts::{Place, address_of};
 use indexmap::IndexMap;
 use rv_asm_statements::{Label, Statement};
 use rv_asm_tokens::{AsmFaultKind, Token};
 use std::alloc::{AllocError, Global};
 
-/// The address of a label.
-pub fn find_label(labels: &IndexMap<Vec<u8>, u64>, name: &[u8]) -> Option<u64>
-    ensures { result ≡ address_in name.now (labels_view labels.now.entries) }
+/// Where a label stands.
+fn find_place(labels: &IndexMap<Vec<u8>, Place>, name: &[u8]) -> Option<Place>
+    ensures { result ≡ place_in name.now (labels_view labels.now.entries) }
 {
     labels.get(name).copied()
+}
+
+/// The address of a label, where no more text follows.
+#[tactic(auto, using(crate::proofs::LabelSteps::address_of_place))]
+pub fn find_label(layout: &Layout, name: &[u8]) -> Option<u64>
+    ensures value { result ≡ address_in name.now (addresses_view layout.now) }
+    ensures small { IfSome result (λ at. at < 2 ^ 34) }
+{
+    match find_place(&layout.labels, name) {
+        None => None,
+        Some(place) => Some(address_of(layout.text, place)),
+    }
 }
 
 /// The name of tokens that begin with a name and a colon.
@@ -32,17 +45,18 @@ fn first_label<'a>(tokens: &[Token<'a>]) -> Option<&'a [u8]>
     }
 }
 
-/// Adds a label, which is new, at the end of the text.
+/// Adds a label, which is new, at the end of the part.
 fn add_label(alloc: Global, line: u64, layout: &mut Layout, name: &[u8]) -> Result<(), AllocError>
-    requires { address_in name.now (labels_view layout.old.labels.entries) ≡ None }
+    requires { place_in name.now (labels_view layout.old.labels.entries) ≡ None }
     ensures { OnOk result (layout_view layout.new ≡ with_label line (layout_view layout.old) name.now) }
 {
     let key = Vec::from_slice(alloc, name)?;
     let label = Label::copied(alloc, name)?;
-    layout.labels.insert(key, layout.at)?;
+    let place = next_place(layout);
+    layout.labels.insert(key, place)?;
     layout.items.push(Item {
         line,
-        at: layout.at,
+        place,
         statement: Statement::Label(label),
     })?;
     Ok(())
@@ -65,7 +79,7 @@ pub fn take_labels<'a, 'b>(
         let Some(name) = first_label(rest) else {
             return Ok(rest);
         };
-        if find_label(&layout.labels, name).is_some() {
+        if find_place(&layout.labels, name).is_some() {
             return Err(AsmFaultKind::LabelTwice);
         }
         add_label(alloc, line, layout, name)?;

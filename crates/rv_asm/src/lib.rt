@@ -2,12 +2,16 @@
 #![tactic(auto)]
 
 mod assembling;
+mod cluster;
+mod data;
 mod encoded;
+mod fields;
 mod labels;
 pub mod laws;
 mod layout;
 mod offsets;
 mod output;
+mod parts;
 mod resolved;
 
 pub use assembling::assemble;

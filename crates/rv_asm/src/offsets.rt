@@ -2,11 +2,11 @@
 
 ghost use Rattle.std.specs.Prelude.{◌≡◌, ◌≤ℤ◌, ◌^◌, pos, neg_ℤ, IfOk, int_rem};
 ghost use Rattle.rv_asm_tokens.specs.Fault.{Gives};
-ghost use Rattle.rv_asm.specs.LayoutView.{labels_view};
+ghost use Rattle.rv_asm.specs.LayoutView.{addresses_view};
 ghost use Rattle.rv_asm.specs.Resolved.{ranged, even_ranged, offset_of, upper_immediate};
 
 use crate::labels::find_label;
-use indexmap::IndexMap;
+use crate::layout::Layout;
 use rv_asm_statements::Target;
 use rv_asm_tokens::AsmFaultKind;
 
@@ -43,18 +43,14 @@ pub fn even_within(low: i32, high: i32, value: i128) -> Result<i32, AsmFaultKind
 
 /// What a target adds to an address: a number, or how far a label is.
 #[tactic(auto, unfolding(crate::specs::Resolved::label_offset))]
-pub fn offset(
-    labels: &IndexMap<Vec<u8>, u64>,
-    at: u64,
-    target: &Target,
-) -> Result<i128, AsmFaultKind>
-    ensures value { Gives (λ x. x) result (offset_of (labels_view labels.now.entries) at target.now) }
+pub fn offset(layout: &Layout, at: u64, target: &Target) -> Result<i128, AsmFaultKind>
+    ensures value { Gives (λ x. x) result (offset_of (addresses_view layout.now) at target.now) }
     ensures low { IfOk result (λ x. neg_ℤ (pos (2 ^ 70)) ≤ℤ x) }
     ensures high { IfOk result (λ x. x ≤ℤ pos (2 ^ 70)) }
 {
     match &target.label {
         None => Ok(target.number.value()),
-        Some(name) => match find_label(labels, name.as_slice()) {
+        Some(name) => match find_label(layout, name.as_slice()) {
             None => Err(AsmFaultKind::LabelMissing),
             Some(address) => Ok(i128::from(address) + target.number.value() - i128::from(at)),
         },

@@ -3,13 +3,13 @@
 ghost use Rattle.std.specs.Prelude.{◌≡◌, ◌≤◌, ◌∷◌, ◌++◌, ◌-◌, ◌^◌, map, IfOk, OnOk, pos, negsuc, neg_ℤ, ◌≤ℤ◌, ◌+ℤ◌, ◌-ℤ◌, ◌*ℤ◌, []};
 ghost use Rattle.rv_decode.specs.Table.{Fits, amount_bits, written_word};
 ghost use Rattle.rv_asm_tokens.specs.Fault.{Gives};
-ghost use Rattle.rv_asm.specs.LayoutView.{labels_view};
+ghost use Rattle.rv_asm.specs.LayoutView.{addresses_view};
 ghost use Rattle.rv_asm.specs.Places.{IsWritten, AllWritten, IfRight};
 ghost use Rattle.rv_asm.specs.WordsView.{words_list};
 ghost use Rattle.rv_asm.specs.Resolved.{register_at, number_at, lui_high, low_part, high_part, load_immediate, load_address, is_between, count_of, use_length, instrs_of, words_of as resolved_words, imm_12};
 
+use crate::layout::Layout;
 use crate::offsets::{even_within, offset, upper, within};
-use indexmap::IndexMap;
 use rv_asm_statements::{Amount, Filled, Slot, Template, Use};
 use rv_asm_tokens::AsmFaultKind;
 use rv_decode::{ImmOp, Instr, Reg, ShiftOp, UpperOp, encode};
@@ -185,13 +185,13 @@ fn greatest_amount(op: ShiftOp) -> i32
 /// The words of a template and its operands, at an address.
 #[tactic(auto, unfolding(crate::specs::Resolved::instrs_of))]
 pub fn words_of(
-    labels: &IndexMap<Vec<u8>, u64>,
+    layout: &Layout,
     at: u64,
     template: Template,
     o: &Filled,
 ) -> Result<Words, AsmFaultKind>
-    ensures value { Gives words_list result (resolved_words (labels_view labels.now.entries) at template o.now) }
-    ensures written { OnOk result (IfRight (instrs_of (labels_view labels.now.entries) at template o.now) AllWritten) }
+    ensures value { Gives words_list result (resolved_words (addresses_view layout.now) at template o.now) }
+    ensures written { OnOk result (IfRight (instrs_of (addresses_view layout.now) at template o.now) AllWritten) }
 {
     let written = o.target.number.value();
     match template {
@@ -204,7 +204,7 @@ pub fn words_of(
             }))
         }
         Template::Jal(d) => {
-            let off = even_within(-1_048_576, 1_048_575, offset(labels, at, &o.target)?)?;
+            let off = even_within(-1_048_576, 1_048_575, offset(layout, at, &o.target)?)?;
             Ok(one(Instr::Jal {
                 rd: register(d, o),
                 off,
@@ -219,7 +219,7 @@ pub fn words_of(
             }))
         }
         Template::Branch(op, s, t) => {
-            let off = even_within(-4096, 4095, offset(labels, at, &o.target)?)?;
+            let off = even_within(-4096, 4095, offset(layout, at, &o.target)?)?;
             Ok(one(Instr::Branch {
                 op,
                 rs1: register(s, o),
@@ -279,7 +279,7 @@ pub fn words_of(
             Ok(immediate_words(register(d, o), z))
         }
         Template::LoadAddress(d) => {
-            let address = offset(labels, 0, &o.target)?;
+            let address = offset(layout, 0, &o.target)?;
             Ok(address_words(register(d, o), address))
         }
     }

@@ -68,8 +68,45 @@ fn begins_at_the_label_start(rt: HostRuntime) -> Result<(), Fail> {
     Ok(())
 }
 
+// the fields of an image: data, and where it is loaded; by hand from the rules of docs/ASSEMBLER.md
+const DATA: [(&str, &[u8]); 12] = [
+    (".data\n.byte 1, -1, 255\n_x: .text\nnop", &[1, 255, 255]),
+    ("nop\n.data\n.half -32768, 65535", &[0, 128, 255, 255]),
+    ("nop\n.data\n.word 0x12345678", &[0x78, 0x56, 0x34, 0x12]),
+    (
+        "nop\n.data\n.dword -1",
+        &[255, 255, 255, 255, 255, 255, 255, 255],
+    ),
+    ("nop\n.data\nx: .word x, y\ny:", &[16, 0, 0, 0, 24, 0, 0, 0]),
+    (
+        ".data\nx: .dword x\n.text\nnop\nnop\nnop\nnop\nnop",
+        &[32, 0, 0, 0, 0, 0, 0, 0],
+    ),
+    (
+        "nop\n.data\n.ascii \"a\\n\"\n.asciz \"b\"",
+        &[97, 10, 98, 0],
+    ),
+    ("nop\n.data\n.byte 7\n.balign 4\n.byte 8", &[7, 0, 0, 0, 8]),
+    (
+        "nop\n.data\n.byte 7\nx: .balign 4\n.word x",
+        &[7, 0, 0, 0, 17, 0, 0, 0],
+    ),
+    ("nop\n.data\n.zero 3\n.byte 9", &[0, 0, 0, 9]),
+    ("nop\n.data\n.zero 0\n.balign 16", &[]),
+    ("nop\n.data\n.byte 1\n.text\nnop\n.data\n.byte 2", &[1, 2]),
+];
+
+#[test]
+fn makes_the_data(rt: HostRuntime) -> Result<(), Fail> {
+    for (source, data) in DATA {
+        let image = assemble(rt.alloc(), source)?;
+        assert_eq!(rt; image.parts().init.as_slice(), data, "{source}");
+    }
+    Ok(())
+}
+
 // each source has one fault: its line, and its kind
-const FAULTS: [(&str, u64, AsmFaultKind); 30] = [
+const FAULTS: [(&str, u64, AsmFaultKind); 56] = [
     ("", 0, AsmFaultKind::Directive),
     ("# nothing\n\n", 0, AsmFaultKind::Directive),
     ("addi x5, x0, 2048", 1, AsmFaultKind::Range(2048)),
@@ -101,6 +138,52 @@ const FAULTS: [(&str, u64, AsmFaultKind); 30] = [
     // a fault of the first pass comes before one of the second on an earlier line
     ("j nowhere\n@", 2, AsmFaultKind::Token),
     ("nop\n_start:", 2, AsmFaultKind::Directive),
+    ("nop\n.foo", 2, AsmFaultKind::Directive),
+    ("nop\n.ranks 9", 2, AsmFaultKind::Directive),
+    ("nop\n.ranks 2\n.ranks 2", 3, AsmFaultKind::Directive),
+    ("nop\n.harts 5", 2, AsmFaultKind::Directive),
+    ("nop\n.memory 5000", 2, AsmFaultKind::Directive),
+    ("nop\n.balign 3", 2, AsmFaultKind::Directive),
+    (".byte 1\nnop", 1, AsmFaultKind::Directive),
+    (".data\nnop", 2, AsmFaultKind::Directive),
+    (".data\nadd x1", 2, AsmFaultKind::Operand),
+    (".data\nfoo", 2, AsmFaultKind::Mnemonic),
+    ("nop\n.entry x", 2, AsmFaultKind::LabelMissing),
+    ("a: nop\n.entry a\n.entry a", 3, AsmFaultKind::Directive),
+    (
+        "nop\n.entry a\n.data\na: .byte 1",
+        2,
+        AsmFaultKind::Directive,
+    ),
+    ("nop\n.data\n_start: .byte 300", 3, AsmFaultKind::Directive),
+    ("nop\n.data\n.byte 256", 3, AsmFaultKind::Range(256)),
+    ("nop\n.data\n.byte -129", 3, AsmFaultKind::Range(-129)),
+    (
+        "nop\n.data\n.word 8589934592, missing",
+        3,
+        AsmFaultKind::Range(8_589_934_592),
+    ),
+    (
+        "nop\n.data\n.word missing, 8589934592",
+        3,
+        AsmFaultKind::LabelMissing,
+    ),
+    ("nop\n.ranks 2\n.comm 0, 0", 3, AsmFaultKind::Directive),
+    ("nop\n.comm 1", 2, AsmFaultKind::Directive),
+    ("nop\n.ranks 2\n.link 1, 1", 3, AsmFaultKind::Directive),
+    (
+        "nop\n.comm 5\n.data\n.zero 1048576\n.byte 1",
+        5,
+        AsmFaultKind::Limit,
+    ),
+    (
+        "nop\n.comm 0\n.comm 0\n.comm 0\n.comm 0\n.comm 0\n.comm 0\n.comm 0\n.comm 0",
+        9,
+        AsmFaultKind::Limit,
+    ),
+    (".harts 2\n.memory 4096\nnop", 0, AsmFaultKind::Limit),
+    ("nop\n.data\n.zero 65521", 0, AsmFaultKind::Limit),
+    (".data\n.zero 65521", 0, AsmFaultKind::Directive),
 ];
 
 #[test]

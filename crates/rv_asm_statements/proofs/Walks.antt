@@ -1,11 +1,15 @@
 -- Walks along tables and lists.
-use Rattle.std.proofs.Common.{◌≡◌, ℕ, zero, suc, ◌+◌, ◌<◌, ◌≤◌, true, false, List, [], ◌∷◌, length, drop, map, get_or, Option, Some, None, refl, sym, ap, ◌∙◌, arith}
-use Rattle.std.proofs.lemmas.List.{drop_all, length-map}
+use Rattle.std.proofs.Common.{◌≡◌, ℕ, zero, suc, ◌+◌, ◌<◌, ◌≤◌, true, false, List, [], ◌∷◌, ◌++◌, length, drop, map, get_or, Option, Some, None, refl, sym, ap, ◌∙◌, arith}
+use Rattle.std.proofs.lemmas.List.{drop_all, length-map, append_assoc, append-nil}
 use Rattle.std.specs.Str.{bytes_eq}
 use Rattle.rv_asm_statements.specs.Registers.{number_named}
 use Rattle.rv_asm_statements.specs.Walk.{first_given}
 use Rattle.rv_asm_statements.specs.Rows.{Row}
 use Rattle.rv_asm_statements.specs.Mnemonics.{row_named}
+use Rattle.rv_asm_statements.specs.declared.directive_rows.Form.{Form}
+use Rattle.rv_asm_statements.specs.Directives.{form_named, all_given}
+use Rattle.rv_asm_tokens.specs.Fault.{if_some}
+use Rattle.std.specs.Option.{option_map}
 
 -- from i on there is what stands at i, and the rest
 pub item_at : {A B : Type 0} (view : A → B) (xs : List A) (i : ℕ) (d : A) → i < length xs → drop i (map view xs) ≡ view (get_or xs i d) ∷ drop (i + 1) (map view xs)
@@ -57,3 +61,38 @@ named_other w row h = rw h refl
 
 pub named_this : (w : List ℕ) (row : Row) → bytes_eq row.name w ≡ true → row_named w row ≡ Some row
 named_this w row h = rw h refl
+
+pub form_other : (w : List ℕ) (row : List ℕ × Form) → bytes_eq row.0 w ≡ false → form_named w row ≡ None
+form_other w row h = rw h refl
+
+pub form_this : (w : List ℕ) (row : List ℕ × Form) → bytes_eq row.0 w ≡ true → form_named w row ≡ Some row.1
+form_this w row h = rw h refl
+
+-- ---- all that f gives
+
+-- what is made so far, and what is given for the rest
+abbrev pub given_behind : {A : Type 0} → List A → Option (List A) → Option (List A)
+given_behind done rest = option_map (λ ys. done ++ ys) rest
+
+behind_one : {A : Type 0} (done : List A) (c : A) (rest : Option (List A)) → given_behind (done ++ c ∷ []) rest ≡ given_behind done (if_some rest None (λ ys. Some (c ∷ ys)))
+behind_one done c None = refl
+behind_one done c (Some ys) = ap Some (append_assoc done (c ∷ []) ys)
+
+pub all_passed : {A B C : Type 0} (f : B → Option C) (view : A → B) (xs : List A) (i : ℕ) (d : A) (done : List C) (c : C) (whole : Option (List C)) → i < length xs → f (view (get_or xs i d)) ≡ Some c → given_behind done (all_given f (drop i (map view xs))) ≡ whole → given_behind (done ++ c ∷ []) (all_given f (drop (i + 1) (map view xs))) ≡ whole
+all_passed f view xs i d done c whole lt h so_far =
+    let here = item_at view xs i d lt in
+    let rest = all_given f (drop (i + 1) (map view xs)) in
+    let one : all_given f (view (get_or xs i d) ∷ drop (i + 1) (map view xs)) ≡ if_some rest None (λ ys. Some (c ∷ ys)) = rw h refl in
+    behind_one done c rest ∙ sym (ap (given_behind done) one) ∙ ap (λ l. given_behind done (all_given f l)) (sym here) ∙ so_far
+
+pub all_wrong : {A B C : Type 0} (f : B → Option C) (view : A → B) (xs : List A) (i : ℕ) (d : A) (done : List C) (whole : Option (List C)) → i < length xs → f (view (get_or xs i d)) ≡ None → given_behind done (all_given f (drop i (map view xs))) ≡ whole → whole ≡ None
+all_wrong f view xs i d done whole lt h so_far =
+    let here = item_at view xs i d lt in
+    let one : all_given f (view (get_or xs i d) ∷ drop (i + 1) (map view xs)) ≡ None = rw h refl in
+    sym so_far ∙ ap (λ l. given_behind done (all_given f l)) here ∙ ap (given_behind done) one
+
+pub all_end : {A B C : Type 0} (f : B → Option C) (view : A → B) (xs : List A) (i : ℕ) (done : List C) (whole : Option (List C)) → length xs ≤ i → given_behind done (all_given f (drop i (map view xs))) ≡ whole → whole ≡ Some done
+all_end f view xs i done whole le so_far =
+    let none : drop i (map view xs) ≡ [] = drop_all i (map view xs) (omega (arith, length-map xs view)) in
+    let one : given_behind done (all_given f []) ≡ Some done = ap Some (append-nil done) in
+    sym so_far ∙ ap (λ l. given_behind done (all_given f l)) none ∙ one

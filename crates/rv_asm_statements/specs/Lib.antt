@@ -5,4 +5,7 @@ pub mod Shapes
 pub mod Rows
 pub mod RowView
 pub mod Mnemonics
+pub mod Limits
+pub mod Directives
+pub mod DirectiveRowView
 pub mod Statements

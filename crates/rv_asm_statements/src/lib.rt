@@ -1,7 +1,12 @@
 //! The statements of assembler source: registers, operands, mnemonics and directives.
 #![tactic(auto)]
 
+mod data_lists;
+mod directive_forms;
+mod directive_rows;
+mod directives;
 mod filled;
+mod limited;
 mod mnemonics;
 mod operand_list;
 mod registers;
@@ -10,7 +15,12 @@ mod shapes;
 mod statements;
 mod values;
 
+pub use data_lists::{Bytes, Integers, Items};
+pub use directive_forms::directive;
+pub use directive_rows::{DirectiveRow, Form};
+pub use directives::{Alignment, Directive, Width};
 pub use filled::{Filled, Target};
+pub use limited::Limited;
 pub use mnemonics::{Use, instruction};
 pub use operand_list::{Operand, operands};
 pub use registers::register;

@@ -15,7 +15,7 @@ use rv_asm_tokens::{Number, ZERO};
 use rv_decode::Reg;
 use std::alloc::{AllocError, Global};
 
-fn number_target(number: Number) -> Target
+pub fn number_target(number: Number) -> Target
     ensures { result ≡ at_number (number_value number) }
 {
     Target {
@@ -24,7 +24,7 @@ fn number_target(number: Number) -> Target
     }
 }
 
-fn label_target(alloc: Global, name: &[u8], number: Number) -> Result<Target, AllocError>
+pub fn label_target(alloc: Global, name: &[u8], number: Number) -> Result<Target, AllocError>
     ensures { IfOk result (λ target. target ≡ at_label name.now (number_value number)) }
 {
     let label = Label::copied(alloc, name)?;
@@ -54,7 +54,7 @@ fn register_in(operand: &Operand<'_>) -> Option<Reg>
     }
 }
 
-fn number_in(operand: &Operand<'_>) -> Option<Number>
+pub fn number_in(operand: &Operand<'_>) -> Option<Number>
     ensures { option_map number_value result ≡ number_of (argument_view operand.now) }
 {
     match operand {

@@ -3,8 +3,10 @@
 ghost use Rattle.std.specs.Prelude.{◌≡◌};
 ghost use Rattle.rv_asm_tokens.specs.Fault.{Gives};
 ghost use Rattle.rv_asm_tokens.specs.Lexeme.{lexemes_of};
-ghost use Rattle.rv_asm_statements.specs.Statements.{statement_of};
+ghost use Rattle.rv_asm_statements.specs.Statements.{begins_with_dot as is_directive_name, statement_of};
 
+use crate::directive_forms::directive;
+use crate::directives::Directive;
 use crate::mnemonics::{Use, instruction};
 use crate::operand_list::operands;
 use crate::values::Label;
@@ -16,12 +18,19 @@ use std::alloc::Global;
 pub enum Statement {
     Label(Label),
     Instruction(Use),
+    Directive(Directive),
+}
+
+fn begins_with_dot(name: &[u8]) -> bool
+    ensures { result ≡ is_directive_name name.now }
+{
+    matches!(name, [b'.', ..])
 }
 
 /// The statement that follows a line's labels, if there is one.
 ///
-/// `Mnemonic` where it does not begin with a mnemonic, `Operand` where its operands are wrong, `Directive` where
-/// it begins with a dot, and `Memory`.
+/// `Directive` where it begins with a dot and is no directive with its operands within their limits; else
+/// `Mnemonic` where it does not begin with a mnemonic, and `Operand` where its operands are wrong; and `Memory`.
 #[tactic(auto, unfolding(crate::specs::Statements::statement_of))]
 pub fn parse_statement(
     alloc: Global,
@@ -31,11 +40,15 @@ pub fn parse_statement(
 {
     match tokens {
         [] => Ok(None),
-        [Token::Name([b'.', ..]), ..] => Err(AsmFaultKind::Directive),
         [Token::Name(name), rest @ ..] => {
             let list = operands(alloc, rest)?;
-            let found = instruction(alloc, name, &list)?;
-            Ok(Some(Statement::Instruction(found)))
+            if begins_with_dot(name) {
+                let found = directive(alloc, name, &list)?;
+                Ok(Some(Statement::Directive(found)))
+            } else {
+                let found = instruction(alloc, name, &list)?;
+                Ok(Some(Statement::Instruction(found)))
+            }
         }
         _ => Err(AsmFaultKind::Mnemonic),
     }

@@ -1,5 +1,4 @@
-use Rattle.rv_asm.proofs.Wholeness.{whole_output}
-use Rattle.rv_asm.proofs.Placed.{image_holds}
+use Rattle.rv_asm.proofs.Wholeness.{image_holds, whole_output}
 use Rattle.rv_asm.specs.LayoutView.{layout_view}
 use Rattle.rv_asm.specs.OutputView.{output_view}
 use Rattle.rv_asm.proofs.assembling.assemble.Goals as goal

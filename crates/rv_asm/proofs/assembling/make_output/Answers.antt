@@ -2,7 +2,7 @@ use Rattle.std.proofs.Common.{◌≡◌, ◌+◌, ◌<◌, ◌≤◌, ◌++◌, 
 use Rattle.std.proofs.lemmas.List.{drop_all, take_all, take_more}
 use Rattle.rv_asm.specs.declared.layout.Item.{Item}
 use Rattle.rv_asm.specs.Output.{items_from, empty_output}
-use Rattle.rv_asm.specs.LayoutView.{labels_view, layout_view}
+use Rattle.rv_asm.specs.LayoutView.{addresses_view, layout_view}
 use Rattle.rv_asm.specs.OutputView.{output_view}
 use Rattle.rv_asm.specs.Places.{AreSound}
 use Rattle.rv_asm.proofs.Sound.{AreSound-push}
@@ -10,7 +10,7 @@ use Rattle.rv_asm.proofs.Steps.{cons_at, item_stops, item_goes, items_end}
 use Rattle.rv_asm.proofs.assembling.make_output.Goals as goal
 
 pub loop-item-init : goal.loop-item-init
-loop-item-init c = record { same = rw c.new.ensures.items refl; sound = tt }
+loop-item-init c = record { same = rw (c.new.ensures.items, c.new-2.ensures.items, c.new-3.ensures.items, c.new-4.ensures.items) refl; sound = tt }
 
 pub returns-in-Err : goal.returns-in-Err
 returns-in-Err c =
@@ -24,7 +24,7 @@ returns-in-Err c =
 pub loop-item-preserved : goal.loop-item-preserved
 loop-item-preserved c =
     let items = c.args.layout.now.items.items in
-    let labels = labels_view c.args.layout.now.labels.entries in
+    let labels = addresses_view c.args.layout.now in
     let i = c.loop-item.item-index in
     let x = c.item-item.result in
     let same : c.deref-item-items.result.now ≡ items = c.deref-item-items.ensures.value in
@@ -40,7 +40,7 @@ loop-item-preserved c =
 pub returns : goal.returns
 returns c =
     let items = c.args.layout.now.items.items in
-    let labels = labels_view c.args.layout.now.labels.entries in
+    let labels = addresses_view c.args.layout.now in
     let i = c.loop-item.item-index in
     let same : c.deref-item-items.result.now ≡ items = c.deref-item-items.ensures.value in
     let le : length items ≤ i = omega (arith, c.loop-item-test.false, ap length same) in

@@ -1,6 +1,6 @@
 use Rattle.std.proofs.Common.{◌≡◌, take, drop}
 use Rattle.rv_asm.specs.Output.{items_from, empty_output}
-use Rattle.rv_asm.specs.LayoutView.{labels_view, layout_view}
+use Rattle.rv_asm.specs.LayoutView.{addresses_view, layout_view}
 use Rattle.rv_asm.specs.OutputView.{output_view}
 use Rattle.rv_asm.specs.Places.{AreSound}
 use Rattle.rv_asm.proofs.assembling.make_output.Given as goal
@@ -9,5 +9,5 @@ use Rattle.rv_asm.proofs.assembling.make_output.Given as goal
 abbrev pub invariant-loop-item : goal.invariant-loop-item
 invariant-loop-item l = record {
   same : items_from (layout_view l.layout) (output_view l.output) (drop l.item-index l.layout.items.items) ≡ items_from (layout_view l.layout) empty_output l.layout.items.items;
-  sound : AreSound (labels_view l.layout.labels.entries) (take l.item-index l.layout.items.items);
+  sound : AreSound (addresses_view l.layout) (take l.item-index l.layout.items.items);
 }

@@ -1,0 +1,274 @@
+//! A directive by its name and operands.
+
+ghost use Rattle.std.specs.Prelude.{◌≡◌, ◌<◌, map, IfOk};
+ghost use Rattle.std.specs.Option.{option_map};
+ghost use Rattle.rv_asm_tokens.specs.Fault.{Gives};
+ghost use Rattle.rv_asm_tokens.specs.Lexeme.{number_value};
+ghost use Rattle.rv_asm_statements.specs.declared.directive_rows.Form.TheVariants as forms;
+ghost use Rattle.rv_asm_statements.specs.Arguments.{argument_view, arguments_view};
+ghost use Rattle.rv_asm_statements.specs.Shapes.{number_of};
+ghost use Rattle.rv_asm_statements.specs.Walk.{first_given};
+ghost use Rattle.rv_asm_statements.specs.DirectiveRowView.{directive_row_view};
+ghost use Rattle.rv_asm_statements.specs.Directives.{only_number as number_alone, only_name as name_alone, only_text as text_alone, takes_labels as width_takes_labels, item_of, all_given, limited_number, link_of, directive_alone, only_alignment, directive_by, form_named, directive_of};
+
+use crate::data_lists::{Bytes, Integers, Items};
+use crate::directive_rows::{DIRECTIVES, DirectiveRow, Form};
+use crate::directives::{Alignment, Directive, Width};
+use crate::filled::Target;
+use crate::limited::Limited;
+use crate::operand_list::Operand;
+use crate::shapes::{label_target, number_in, number_target};
+use crate::values::{Integer, Label};
+use rv_asm_tokens::{AsmFaultKind, Number, ZERO, text_bytes, value_of};
+use std::alloc::{AllocError, Global};
+
+fn only_number(operands: &[Operand<'_>]) -> Option<Number>
+    ensures { option_map number_value result ≡ number_alone (map argument_view operands.now) }
+{
+    match operands {
+        [Operand::Number(number)] => Some(*number),
+        _ => None,
+    }
+}
+
+fn only_name<'a>(operands: &[Operand<'a>]) -> Option<&'a [u8]>
+    ensures { option_map (λ w. w.now) result ≡ name_alone (map argument_view operands.now) }
+{
+    match operands {
+        [Operand::Name(name)] => Some(name),
+        _ => None,
+    }
+}
+
+fn only_text(alloc: Global, operands: &[Operand<'_>]) -> Result<Option<Vec<u8>>, AllocError>
+    ensures { IfOk result (λ found. option_map (λ v. v.items) found ≡ text_alone (map argument_view operands.now)) }
+{
+    match operands {
+        [Operand::Text(raw)] => Ok(Some(text_bytes(alloc, raw)?)),
+        _ => Ok(None),
+    }
+}
+
+fn takes_labels(width: Width) -> bool
+    ensures { result ≡ width_takes_labels width }
+{
+    matches!(width, Width::Word | Width::Double)
+}
+
+fn item(alloc: Global, width: Width, operand: &Operand<'_>) -> Result<Option<Target>, AllocError>
+    ensures { IfOk result (λ found. found ≡ item_of width (argument_view operand.now)) }
+{
+    match *operand {
+        Operand::Number(number) => Ok(Some(number_target(number))),
+        Operand::Name(name) if takes_labels(width) => Ok(Some(label_target(alloc, name, ZERO)?)),
+        _ => Ok(None),
+    }
+}
+
+fn items(alloc: Global, width: Width, operands: &[Operand<'_>]) -> Result<Option<Items>, AllocError>
+    ensures { IfOk result (λ found. found ≡ all_given (item_of width) (map argument_view operands.now)) }
+{
+    let mut done = Vec::new(alloc);
+    for operand in operands {
+        let Some(found) = item(alloc, width, operand)? else {
+            return Ok(None);
+        };
+        done.push(found)?;
+    }
+    Ok(Some(Items::from_vec(done)))
+}
+
+fn integers(alloc: Global, operands: &[Operand<'_>]) -> Result<Option<Integers>, AllocError>
+    ensures { IfOk result (λ found. found ≡ all_given number_of (map argument_view operands.now)) }
+{
+    let mut done = Vec::new(alloc);
+    for operand in operands {
+        let Some(found) = number_in(operand) else {
+            return Ok(None);
+        };
+        done.push(Integer::from_number(found))?;
+    }
+    Ok(Some(Integers::from_vec(done)))
+}
+
+/// A directive that takes no operand.
+fn alone(what: Directive, operands: &[Operand<'_>]) -> Option<Directive>
+    ensures { result ≡ directive_alone what (map argument_view operands.now) }
+{
+    if operands.is_empty() {
+        Some(what)
+    } else {
+        None
+    }
+}
+
+/// The number of a directive that takes one within limits.
+fn limited<const LEAST: u32, const MOST: u32, const STEP: u32>(
+    operands: &[Operand<'_>],
+) -> Option<Limited<LEAST, MOST, STEP>>
+    requires { 0 < STEP }
+    ensures { result ≡ limited_number LEAST MOST STEP (map argument_view operands.now) }
+{
+    let number = only_number(operands)?;
+    Limited::from_number(number)
+}
+
+fn alignment(operands: &[Operand<'_>]) -> Option<Alignment>
+    ensures { result ≡ only_alignment (map argument_view operands.now) }
+{
+    let number = only_number(operands)?;
+    match value_of(number) {
+        1 => Some(Alignment::One),
+        2 => Some(Alignment::Two),
+        4 => Some(Alignment::Four),
+        8 => Some(Alignment::Eight),
+        16 => Some(Alignment::Sixteen),
+        _ => None,
+    }
+}
+
+#[tactic(auto, unfolding(crate::specs::Directives::directive_by))]
+fn entry(alloc: Global, operands: &[Operand<'_>]) -> Result<Option<Directive>, AllocError>
+    ensures { IfOk result (λ found. found ≡ directive_by forms.Entry (map argument_view operands.now)) }
+{
+    match only_name(operands) {
+        None => Ok(None),
+        Some(name) => Ok(Some(Directive::Entry(Label::copied(alloc, name)?))),
+    }
+}
+
+#[tactic(auto, unfolding(crate::specs::Directives::directive_by))]
+fn global(operands: &[Operand<'_>]) -> Option<Directive>
+    ensures { result ≡ directive_by forms.Global (map argument_view operands.now) }
+{
+    only_name(operands)?;
+    Some(Directive::Global)
+}
+
+#[tactic(auto, unfolding(crate::specs::Directives::directive_by))]
+fn communicator(alloc: Global, operands: &[Operand<'_>]) -> Result<Option<Directive>, AllocError>
+    ensures { IfOk result (λ found. found ≡ directive_by forms.Comm (map argument_view operands.now)) }
+{
+    if operands.is_empty() {
+        return Ok(None);
+    }
+    match integers(alloc, operands)? {
+        None => Ok(None),
+        Some(ranks) => Ok(Some(Directive::Comm(ranks))),
+    }
+}
+
+fn link(operands: &[Operand<'_>]) -> Option<Directive>
+    ensures { result ≡ link_of (map argument_view operands.now) }
+{
+    match operands {
+        [Operand::Number(from), Operand::Number(to)] => Some(Directive::Link(
+            Integer::from_number(*from),
+            Integer::from_number(*to),
+        )),
+        _ => None,
+    }
+}
+
+#[tactic(auto, unfolding(crate::specs::Directives::directive_by))]
+fn data(
+    alloc: Global,
+    width: Width,
+    operands: &[Operand<'_>],
+) -> Result<Option<Directive>, AllocError>
+    ensures { IfOk result (λ found. found ≡ directive_by (forms.Items width) (map argument_view operands.now)) }
+{
+    if operands.is_empty() {
+        return Ok(None);
+    }
+    match items(alloc, width, operands)? {
+        None => Ok(None),
+        Some(found) => Ok(Some(Directive::Items(width, found))),
+    }
+}
+
+#[tactic(auto, unfolding(crate::specs::Directives::directive_by))]
+fn string(alloc: Global, operands: &[Operand<'_>]) -> Result<Option<Directive>, AllocError>
+    ensures { IfOk result (λ found. found ≡ directive_by forms.String (map argument_view operands.now)) }
+{
+    match only_text(alloc, operands)? {
+        None => Ok(None),
+        Some(bytes) => Ok(Some(Directive::Bytes(Bytes::from_vec(bytes)))),
+    }
+}
+
+#[tactic(auto, unfolding(crate::specs::Directives::directive_by))]
+fn string_and_zero(alloc: Global, operands: &[Operand<'_>]) -> Result<Option<Directive>, AllocError>
+    ensures { IfOk result (λ found. found ≡ directive_by forms.StringAndZero (map argument_view operands.now)) }
+{
+    match only_text(alloc, operands)? {
+        None => Ok(None),
+        Some(mut bytes) => {
+            bytes.push(0)?;
+            Ok(Some(Directive::Bytes(Bytes::from_vec(bytes))))
+        }
+    }
+}
+
+/// What a directive is with these operands, if it takes them.
+#[tactic(auto, unfolding(crate::specs::Directives::directive_by))]
+fn directive_for(
+    alloc: Global,
+    form: Form,
+    operands: &[Operand<'_>],
+) -> Result<Option<Directive>, AllocError>
+    ensures { IfOk result (λ found. found ≡ directive_by form (map argument_view operands.now)) }
+{
+    match form {
+        Form::Ranks => Ok(limited(operands).map(Directive::Ranks)),
+        Form::Harts => Ok(limited(operands).map(Directive::Harts)),
+        Form::Memory => Ok(limited(operands).map(Directive::Memory)),
+        Form::Zero => Ok(limited(operands).map(Directive::Zero)),
+        Form::Align => Ok(alignment(operands).map(Directive::Align)),
+        Form::Entry => entry(alloc, operands),
+        Form::Global => Ok(global(operands)),
+        Form::Comm => communicator(alloc, operands),
+        Form::Link => Ok(link(operands)),
+        Form::Text => Ok(alone(Directive::Text, operands)),
+        Form::Data => Ok(alone(Directive::Data, operands)),
+        Form::Items(width) => data(alloc, width, operands),
+        Form::String => string(alloc, operands),
+        Form::StringAndZero => string_and_zero(alloc, operands),
+    }
+}
+
+/// What the row of a name says that its directive is.
+fn form_in(table: &[DirectiveRow], name: &[u8]) -> Option<Form>
+    ensures { result ≡ first_given (form_named name.now) (map directive_row_view table.now) }
+{
+    for row in table {
+        if row.name == name {
+            return Some(row.form);
+        }
+    }
+    None
+}
+
+/// The directive of a name and its operands, which are None where no operands stand there.
+///
+/// `Directive` where there is no such directive, where it does not take these operands, and where a number is
+/// outside its limits; and `Memory`.
+#[tactic(auto, unfolding(crate::specs::Directives::directive_of))]
+pub fn directive(
+    alloc: Global,
+    name: &[u8],
+    operands: &Option<Vec<Operand<'_>>>,
+) -> Result<Directive, AsmFaultKind>
+    ensures { Gives (λ found. found) result (directive_of name.now (option_map arguments_view operands.now)) }
+{
+    let Some(form) = form_in(&DIRECTIVES, name) else {
+        return Err(AsmFaultKind::Directive);
+    };
+    let Some(operands) = operands else {
+        return Err(AsmFaultKind::Directive);
+    };
+    match directive_for(alloc, form, operands)? {
+        None => Err(AsmFaultKind::Directive),
+        Some(found) => Ok(found),
+    }
+}
