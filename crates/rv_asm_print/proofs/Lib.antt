@@ -1,0 +1,11 @@
+pub mod Branches
+pub mod Words
+pub mod Numbers
+pub mod Operands
+pub mod Mnemonics
+pub mod Shapes
+pub mod Immediates
+pub mod Instructions
+pub mod Steps
+pub mod Sources
+pub mod Programs
