@@ -68,7 +68,7 @@ fn begins_at_the_label_start(rt: HostRuntime) -> Result<(), Fail> {
     Ok(())
 }
 
-// the fields of an image: data, and where it is loaded; by hand from the rules of docs/ASSEMBLER.md
+// sources and their data, by hand from the rules of docs/ASSEMBLER.md
 const DATA: [(&str, &[u8]); 12] = [
     (".data\n.byte 1, -1, 255\n_x: .text\nnop", &[1, 255, 255]),
     ("nop\n.data\n.half -32768, 65535", &[0, 128, 255, 255]),
