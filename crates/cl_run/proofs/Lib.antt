@@ -1,4 +1,11 @@
 pub mod Lists
+pub mod Rounds
+pub mod Hubs
+pub mod Stations
+pub mod UnderWay
+pub mod Seats
+pub mod Slots
+pub mod Ends
 pub mod Orders
 pub mod Products
 pub mod Picks

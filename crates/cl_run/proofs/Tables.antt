@@ -17,7 +17,7 @@ use Rattle.cl_run.specs.Parts.{PartsMove}
 use Rattle.cl_run.specs.Product.{BoxMoves, Goes, JournalMoves, box_at, entry_of, rank_at}
 
 -- writing back what stands there changes nothing
-set-same : {X : Type 0} (xs : List X) (k : ℕ) (x : X) → slice_get xs k ≡ Some x → slice_set xs k x ≡ xs
+pub set-same : {X : Type 0} (xs : List X) (k : ℕ) (x : X) → slice_get xs k ≡ Some x → slice_set xs k x ≡ xs
 set-same [] k x h = refl
 set-same (y ∷ xs) zero x h = (let e : y ≡ x = (cc) in ap (λ z. z ∷ xs) (sym e))
 set-same (y ∷ xs) (suc k) x h = ap (λ zs. y ∷ zs) (set-same xs k x h)

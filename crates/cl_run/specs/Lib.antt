@@ -7,4 +7,9 @@ pub mod Parts
 pub mod Product
 pub mod Joined
 pub mod Laws
+pub mod Plans
+pub mod Rounds
+pub mod Runs
+pub mod Driver
+pub mod UnderWay
 pub mod Rows

@@ -1,0 +1,126 @@
+-- What a hub's journal shows, and what a deed does to it.
+use Rattle.std.specs.Prelude.{ℕ, ◌≡◌, ◌<◌, ◌≤◌, ◌+◌, ◌^◌, ◌⊎◌, false, cond, List, [], ◌∷◌, ◌++◌, length, map, eqb, Option, None}
+use Rattle.std.specs.List.{cons_option}
+use Rattle.std.proofs.lemmas.Bool.{eq-eqb}
+use Rattle.cl_run.proofs.Lists.{filter-keeps, filter-skips}
+use Rattle.std.proofs.Common.{refl, sym, ap, ◌∙◌, subst, arith}
+use Rattle.std.proofs.lemmas.List.{append-nil}
+use mathlib.Core.Logic.{inl, inr}
+use Rattle.mp_types.specs.declared.requests.Request.{Request}
+use Rattle.mp_types.specs.declared.replies.Reply.{Reply}
+use Rattle.cl_journal.specs.Calls.{Calls, entry}
+use Rattle.cl_journal.specs.Journal.{Journal, clock_of, entries_by, is_by, stamp_after}
+use Rattle.cl_journal.specs.declared.entries.Entry.{Entry}
+use Rattle.cl_journal.proofs.History.{stamp_after-snoc}
+use Rattle.cl_state.specs.declared.asking.Ask.{Ask}
+use Rattle.cl_state.specs.Asked.{asked}
+use Rattle.cl_state.specs.Rank.{Rank}
+use Rattle.cl_rank.specs.Deeds.{Act, Answers, Deed, event_of, kind_of, request_of}
+use Rattle.cl_rank.specs.Turns.{Answered, AsksNoBox, Tells, TellsAct}
+use Rattle.cl_rank.proofs.Boxless.{boxless}
+use Rattle.cl_run.specs.Boxes.{Box}
+use Rattle.cl_run.specs.Journal.{Enters, reply_in}
+use Rattle.cl_run.specs.Parts.{PartsMove, PartsMoveAt}
+use Rattle.cl_run.specs.Product.{BoxMoves, JournalMoves, box_at, entry_of}
+use Rattle.cl_run.specs.Runs.{is_hub}
+use Rattle.cl_run.specs.UnderWay.{shown}
+
+-- a call of the hub enters one entry of the cluster's journal
+pub enters : (before after : Journal) (rank hart clock : ℕ) (request : Request) (told : Reply × ℕ) → Calls before after rank hart clock request told
+    → Enters (shown before) (entry rank hart clock request told) (shown after)
+unfolding reply_in
+enters before after rank hart clock request told c = (
+  c.reply,
+  c.stamp,
+  λ i. record {
+    links = c.links i;
+    entries = c.entries i;
+    clock = (ap (stamp_after 0) c.entries ∙ stamp_after-snoc 0 before.entries (entry rank hart clock request told)) i;
+  },
+)
+
+-- one entry or none, as a list
+abbrev pub listed : {X : Type 0} → Option X → List X
+listed o = cons_option o []
+
+-- what the hub's part of a deed comes to: the entry of a call, or nothing
+pub record HubPart (before after : Journal) (d : Deed) : Type 0 where
+  pub journal_moves : JournalMoves (shown before) (entry_of d) (shown after)
+  pub boxes_stay : (boxes : List Box) → PartsMove BoxMoves box_at boxes d boxes
+  pub links_stay : after.links ≡ before.links
+  pub entries_are : after.entries ≡ before.entries ++ listed (entry_of d)
+  pub own : entries_by d.rank (listed (entry_of d)) ≡ listed (entry_of d)
+  pub of_others : (r : ℕ) → eqb d.rank r ≡ false → entries_by r (listed (entry_of d)) ≡ []
+  pub requests_are : map (λ (e : Entry). e.request) (listed (entry_of d)) ≡ listed (request_of d.act)
+  pub count_is : length (cond (is_hub (kind_of d.act)) (event_of d ∷ []) []) ≡ length (listed (entry_of d))
+  pub few : length (entries_by d.rank before.entries) ≤ 1048576 → length (entries_by d.rank before.entries) + length (listed (entry_of d)) ≤ 1048576
+  pub low : clock_of before < 2 ^ 62 → clock_of after < 2 ^ 62
+  -- the clock rises where a call was made
+  pub rises : (after ≡ before) ⊎ (clock_of before < clock_of after)
+
+quiet : (before after : Journal) (d : Deed) → after ≡ before → entry_of d ≡ None → request_of d.act ≡ None → is_hub (kind_of d.act) ≡ false
+    → box_at d ≡ None → HubPart before after d
+quiet before after d same none nothing no_hub no_box = record {
+  journal_moves = subst (λ o. JournalMoves (shown before) o (shown after)) (sym none) (ap shown same);
+  boxes_stay = λ boxes. subst (λ o. PartsMoveAt BoxMoves o boxes d boxes) (sym no_box) refl;
+  links_stay = ap (λ (j : Journal). j.links) same;
+  entries_are = ap (λ (j : Journal). j.entries) same ∙ sym (append-nil before.entries) ∙ ap (λ (o : Option Entry). before.entries ++ listed o) (sym none);
+  own = ap (λ (o : Option Entry). entries_by d.rank (listed o)) none ∙ ap (λ (o : Option Entry). listed o) (sym none);
+  of_others = λ r _. ap (λ (o : Option Entry). entries_by r (listed o)) none;
+  requests_are = ap (λ (o : Option Entry). map (λ (e : Entry). e.request) (listed o)) none ∙ ap (λ (o : Option Request). listed o) (sym nothing);
+  count_is = ap (λ b. length (cond b (event_of d ∷ []) [])) no_hub ∙ ap (λ (o : Option Entry). length (listed o)) (sym none);
+  few = λ h. subst (λ (o : Option Entry). length (entries_by d.rank before.entries) + length (listed o) ≤ 1048576) (sym none) (omega (arith, h));
+  low = λ h. subst (λ j. clock_of j < 2 ^ 62) (sym same) h;
+  rises = inl same;
+}
+
+called : (before after : Journal) (rank hart stamp clock : ℕ) (request : Request) (reply : Reply) → Calls before after rank hart clock request (reply, stamp)
+    → HubPart before after (record { rank = rank; hart = hart; stamp = stamp; act = Act.Hub clock request reply })
+called before after rank hart stamp clock request reply c =
+    let e : Entry = entry rank hart clock request (reply, stamp) in
+    let last : clock_of after ≡ stamp = ap (stamp_after 0) c.entries ∙ stamp_after-snoc 0 before.entries e in
+    record {
+      journal_moves = enters before after rank hart clock request (reply, stamp) c;
+      boxes_stay = λ boxes. refl;
+      links_stay = c.links;
+      entries_are = c.entries;
+      own = filter-keeps (is_by rank) e [] (eq-eqb rank rank refl);
+      of_others = λ r other. filter-skips (is_by r) e [] other;
+      requests_are = refl;
+      count_is = refl;
+      few = λ _. omega (arith, c.few);
+      low = λ _. subst (λ n. n < 2 ^ 62) (sym last) c.below;
+      rises = inr (omega (arith, c.stamp, last));
+    }
+
+abbrev NoBox : Act → Type 0
+NoBox (Act.Ready link part bytes) = ⊥
+NoBox (Act.Take link part gate bytes) = ⊥
+NoBox (Act.Freed link part gate) = ⊥
+NoBox _ = Unit {0}
+
+no_act : (asks : Ask) (a : Act) → AsksNoBox asks → Answers asks a → NoBox a
+no_act asks Act.Plain h k = tt
+no_act asks Act.Local h k = tt
+no_act asks (Act.Hub clock request reply) h k = tt
+no_act asks (Act.Ready link part bytes) h k = subst AsksNoBox k h
+no_act asks (Act.Take link part gate bytes) h k = subst AsksNoBox k h
+no_act asks (Act.Miss link part) h k = tt
+no_act asks (Act.Freed link part gate) h k = subst AsksNoBox k h
+no_act asks Act.Held h k = tt
+no_act asks Act.Idle h k = tt
+
+pub hub_part : (before after : Journal) (rank : Rank) (d : Deed) → Answers (asked rank d.hart) d.act → Tells Answered before after d → HubPart before after d
+hub_part before after rank d answers h = by_act d.act (no_act (asked rank d.hart) d.act (boxless rank d.hart) answers) h
+  where
+    by_act : (a : Act) → NoBox a → TellsAct Answered d.rank d.hart d.stamp before after a
+        → HubPart before after (record { rank = d.rank; hart = d.hart; stamp = d.stamp; act = a })
+    by_act Act.Plain n h = quiet before after _ h refl refl refl refl
+    by_act Act.Local n h = quiet before after _ h refl refl refl refl
+    by_act (Act.Hub clock request reply) n h = called before after d.rank d.hart d.stamp clock request reply h
+    by_act (Act.Ready link part bytes) n h = absurd n
+    by_act (Act.Take link part gate bytes) n h = absurd n
+    by_act (Act.Miss link part) n h = quiet before after _ h refl refl refl refl
+    by_act (Act.Freed link part gate) n h = absurd n
+    by_act Act.Held n h = quiet before after _ h refl refl refl refl
+    by_act Act.Idle n h = quiet before after _ h refl refl refl refl

@@ -1,0 +1,198 @@
+-- What holds of one rank as a run goes on.
+use Rattle.std.specs.Prelude.{ℕ, zero, suc, ◌≡◌, ◌<◌, ◌≤◌, ◌+◌, ◌%◌, ◌^◌, ◌⊎◌, false, cond, List, [], ◌∷◌, ◌++◌, length, map, eqb, slice_get, slice_index, Option, None, Some, IfSome}
+use Rattle.std.specs.List.{filter, filter_map}
+use Rattle.std.proofs.Common.{refl, sym, ap, ◌∙◌, subst, arith}
+use Rattle.std.proofs.Math.Nat.{mod-add-mod}
+use Rattle.std.proofs.lemmas.Bool.{eq-eqb}
+use Rattle.std.proofs.lemmas.Bool.Decides.{eqb_tells}
+use Rattle.std.proofs.lemmas.List.{append-nil, length-append, map-append}
+use Rattle.std.proofs.lemmas.List.Elements.{filter-append, filter_map-append}
+use Rattle.std.proofs.lemmas.Option.{same_Some}
+use mathlib.Core.Logic.{inl, inr}
+use Rattle.cl_journal.specs.Calls.{IsRefusal}
+use Rattle.cl_journal.specs.Journal.{Journal, clock_of, entries_by, is_by}
+use Rattle.cl_journal.specs.declared.entries.Entry.{Entry}
+use Rattle.cl_journal.specs.declared.journal.HubFault.{HubFault}
+use Rattle.cl_journal.specs.declared.journal.HubFault.TheVariants as fault
+use Rattle.cl_trace.specs.declared.events.Event.{Event}
+use Rattle.cl_state.specs.Rank.{Rank}
+use Rattle.cl_state.proofs.Moves.{told_at}
+use Rattle.cl_rank.proofs.Alone.{clock_moved}
+use Rattle.cl_rank.specs.Deeds.{Deed, answer_of, event_of, kind_of}
+use Rattle.cl_rank.specs.Turns.{Answered, IsCause, StopHolds, stop_of}
+use Rattle.cl_rank.specs.declared.stops.Stop.{Stop}
+use Rattle.cl_run.specs.declared.plans.Plan.{Plan}
+use Rattle.cl_run.specs.declared.steps.Step.{Step}
+use Rattle.cl_run.specs.Driver.{Station, Stops, TakesTurn}
+use Rattle.cl_run.specs.Order.{of_rank}
+use Rattle.cl_run.specs.Plans.{in_slot}
+use Rattle.cl_run.specs.Product.{entry_of, step_of}
+use Rattle.cl_run.specs.Runs.{HasCause, hub_calls, is_hub, step_by}
+use Rattle.cl_run.specs.UnderWay.{IsSoFar}
+use Rattle.cl_run.proofs.Hubs.{HubPart, hub_part, listed}
+use Rattle.cl_run.proofs.Lists.{filter-keeps, filter-skips}
+
+-- an element of a list with one more
+pub last_or_before : {X : Type 0} (xs : List X) (x y : X) (n : ℕ) → slice_get (xs ++ x ∷ []) n ≡ Some y → (slice_get xs n ≡ Some y) ⊎ ((n ≡ length xs) × (x ≡ y))
+last_or_before [] x y zero h = inr (refl, same_Some x y h)
+last_or_before [] x y (suc n) h = absurd (cc)
+last_or_before (z ∷ xs) x y zero h = inl h
+last_or_before (z ∷ xs) x y (suc n) h = elim (last_or_before xs x y n h) [ inl e ↦ inl e | inr e ↦ inr (ap suc e.0, e.1) ]
+
+entries_more : (r : ℕ) (before after : List Entry) (more : List Entry) → after ≡ before ++ more → entries_by r after ≡ entries_by r before ++ entries_by r more
+entries_more r before after more e = ap (entries_by r) e ∙ filter-append (is_by r) before more
+
+hub_calls_more : (es : List Event) (e : Event) → hub_calls (es ++ e ∷ []) ≡ hub_calls es + length (cond (is_hub e.kind) (e ∷ []) [])
+hub_calls_more es e =
+    ap (λ (xs : List Event). length xs) (filter-append (λ (x : Event). is_hub x.kind) es (e ∷ []))
+    ∙ length-append (filter (λ (x : Event). is_hub x.kind) es) (filter (λ (x : Event). is_hub x.kind) (e ∷ []))
+
+-- the rank took a turn
+module _ (steps : List Step) (before after : Journal) (r : ℕ) (plan : Plan) (s t : Station) (turn : TakesTurn plan s before t after)
+    (so : IsSoFar steps before.entries r plan s) where
+  d : Deed
+  d = turn.deed
+
+  is : d.rank ≡ r
+  unfolding d
+  is = turn.rank_is ∙ so.number_is
+
+  part : HubPart before after d
+  unfolding d
+  part = hub_part before after s.rank turn.deed turn.moves.2 turn.tells
+
+  own_entries : entries_by r after.entries ≡ entries_by r before.entries ++ listed (entry_of d)
+  own_entries = entries_more r before.entries after.entries (listed (entry_of d)) part.entries_are
+      ∙ ap (λ es. entries_by r before.entries ++ es) (subst (λ q. entries_by q (listed (entry_of d)) ≡ listed (entry_of d)) is part.own)
+
+  few : length (entries_by r before.entries) + length (listed (entry_of d)) ≤ 1048576
+  few = subst (λ q. length (entries_by q before.entries) ≤ 1048576 → length (entries_by q before.entries) + length (listed (entry_of d)) ≤ 1048576) is part.few so.few_calls
+
+  same_step : step_of d ≡ step_by r (event_of d)
+  same_step = λ i. record { rank = is i; hart = d.hart; stamp = d.stamp; kind = kind_of d.act }
+
+  pub after_turn : IsSoFar (steps ++ step_of turn.deed ∷ []) after.entries r plan t
+  unfolding d
+  after_turn = record {
+    number_is = ap (λ (x : Rank). x.site.number) turn.moves.4 ∙ ap (λ site. site.number) (told_at s.rank d.hart (answer_of d.act) d.stamp).site ∙ so.number_is;
+    low = subst (λ n. n < 2 ^ 62) (sym (clock_moved s.rank t.rank d turn.moves)) turn.moves.1;
+    budget_is = turn.budget_stays ∙ so.budget_is;
+    next_is = turn.next_is
+        ∙ ap (λ n. (n + 1) % length plan.order.items) so.next_is
+        ∙ mod-add-mod (length s.events) (length plan.order.items) 1
+        ∙ ap (λ n. n % length plan.order.items) (sym (length-append s.events (event_of d ∷ [])))
+        ∙ ap (λ (es : List Event). length es % length plan.order.items) (sym turn.traced);
+    steps_are = filter-append (λ (e : Step). eqb e.rank r) steps (step_of d ∷ [])
+        ∙ ap (λ es. of_rank (λ (e : Step). e.rank) r steps ++ es) (filter-keeps (λ (e : Step). eqb e.rank r) (step_of d) [] (eq-eqb d.rank r is))
+        ∙ ap (λ es. es ++ step_of d ∷ []) so.steps_are
+        ∙ ap (λ e. map (step_by r) s.events ++ e ∷ []) same_step
+        ∙ sym (map-append (step_by r) s.events (event_of d ∷ []))
+        ∙ ap (map (step_by r)) (sym turn.traced);
+    requests_are = ap (filter_map (λ (e : Event). e.request)) turn.traced
+        ∙ filter_map-append (λ (e : Event). e.request) s.events (event_of d ∷ [])
+        ∙ (λ i. so.requests_are i ++ (sym part.requests_are) i)
+        ∙ sym (map-append (λ (e : Entry). e.request) (entries_by r before.entries) (listed (entry_of d)))
+        ∙ ap (map (λ (e : Entry). e.request)) (sym own_entries);
+    follows_plan = λ n e at. elim (last_or_before s.events (event_of d) e n (subst (λ es. slice_get es n ≡ Some e) turn.traced at)) [
+      | inl old ↦ so.follows_plan n e old
+      | inr new ↦ ap (λ (x : Event). x.hart) (sym new.1) ∙ turn.hart_is ∙ ap (slice_index plan.order.items) so.next_is
+          ∙ ap (in_slot plan.order.items) (sym new.0)
+    ];
+    calls_are = ap hub_calls turn.traced ∙ hub_calls_more s.events (event_of d)
+        ∙ (λ i. so.calls_are i + part.count_is i)
+        ∙ sym (length-append (entries_by r before.entries) (listed (entry_of d)))
+        ∙ ap (λ (es : List Entry). length es) (sym own_entries);
+    few_calls = subst (λ (es : List Entry). length es ≤ 1048576) (sym own_entries)
+        (subst (λ n. n ≤ 1048576) (sym (length-append (entries_by r before.entries) (listed (entry_of d)))) few);
+    has_cause = subst (λ o. IfSome o (HasCause plan t.rank t.events after.entries)) (sym turn.goes_on) tt;
+  }
+
+-- another rank took a turn
+module _ (steps : List Step) (before after : Journal) (r : ℕ) (plan : Plan) (s : Station) (d : Deed) (part : HubPart before after d)
+    (other : eqb d.rank r ≡ false) (below : clock_of before < 2 ^ 62) where
+  same_entries : entries_by r after.entries ≡ entries_by r before.entries
+  same_entries = entries_more r before.entries after.entries (listed (entry_of d)) part.entries_are
+      ∙ ap (λ es. entries_by r before.entries ++ es) (part.of_others r other)
+      ∙ append-nil (entries_by r before.entries)
+
+  -- a full clock of the hub stays the last one
+  same_cause : (stop : Stop) → HasCause plan s.rank s.events before.entries stop → HasCause plan s.rank s.events after.entries stop
+  same_cause Stop.AllEnded h = h
+  same_cause Stop.Budget h = h
+  same_cause Stop.Memory h = h
+  same_cause (Stop.Calls n) h = h
+  same_cause (Stop.ClockFull c) h = (
+    h.0,
+    elim h.1 [
+      | inl own ↦ inl own
+      | inr hub ↦ inr (elim part.rises [
+        | inl same ↦ hub ∙ ap (λ (j : Journal). clock_of j) (sym same)
+        | inr up ↦ absurd (omega (arith, part.low below, up, hub, h.0))
+      ])
+    ],
+  )
+
+  same_causes : (o : Option Stop) → IfSome o (HasCause plan s.rank s.events before.entries) → IfSome o (HasCause plan s.rank s.events after.entries)
+  same_causes None h = tt
+  same_causes (Some stop) h = same_cause stop h
+
+  pub after_others_turn : IsSoFar steps before.entries r plan s → IsSoFar (steps ++ step_of d ∷ []) after.entries r plan s
+  after_others_turn so = record {
+    number_is = so.number_is;
+    low = so.low;
+    budget_is = so.budget_is;
+    next_is = so.next_is;
+    steps_are = filter-append (λ (e : Step). eqb e.rank r) steps (step_of d ∷ [])
+        ∙ ap (λ es. of_rank (λ (e : Step). e.rank) r steps ++ es) (filter-skips (λ (e : Step). eqb e.rank r) (step_of d) [] other)
+        ∙ append-nil (of_rank (λ (e : Step). e.rank) r steps)
+        ∙ so.steps_are;
+    requests_are = so.requests_are ∙ ap (map (λ (e : Entry). e.request)) (sym same_entries);
+    follows_plan = so.follows_plan;
+    calls_are = so.calls_are ∙ ap (λ (es : List Entry). length es) (sym same_entries);
+    few_calls = subst (λ (es : List Entry). length es ≤ 1048576) (sym same_entries) so.few_calls;
+    has_cause = same_causes s.stop so.has_cause;
+  }
+
+-- the rank stops
+module _ (steps : List Step) (before : Journal) (r : ℕ) (plan : Plan) (s t : Station) (so : IsSoFar steps before.entries r plan s)
+    (below : clock_of before < 2 ^ 62) where
+  own_cause : (stop : Stop) → IsCause s.rank (length s.events) s.budget stop → HasCause plan s.rank s.events before.entries stop
+  own_cause Stop.AllEnded h = h
+  own_cause Stop.Budget h = (h.0, h.1 ∙ so.budget_is)
+  own_cause Stop.Memory h = tt
+  own_cause (Stop.ClockFull c) h = (omega (arith, h.3), inl (sym h.2))
+  own_cause (Stop.Calls n) h = absurd h
+
+  refused_cause : (f : HubFault) → IsRefusal before s.rank.site.number s.rank.clock f → HasCause plan s.rank s.events before.entries (stop_of f)
+  refused_cause fault.Memory h = tt
+  refused_cause (fault.ClockFull c) h = (
+    omega (arith, below, so.low, h.1, h.2),
+    elim (eqb_tells c s.rank.clock) [ inl own ↦ inl own.1 | inr other ↦ inr (omega (arith, h.1, other.1)) ],
+  )
+  refused_cause (fault.Calls n) h =
+      let many = subst (λ q. 1048576 ≤ length (entries_by q before.entries)) so.number_is h.1 in
+      (h.0, omega (arith, h.0, many, so.calls_are, so.few_calls))
+
+  cause : (hart : ℕ) (stop : Stop) (after : Journal) → StopHolds Answered hart s.rank (length s.events) s.budget before after stop
+      → HasCause plan s.rank s.events before.entries stop
+  cause hart stop after h = elim h [
+    | inl own ↦ own_cause stop own.0
+    | inr refused ↦ subst (HasCause plan s.rank s.events before.entries) (sym refused.1.1) (refused_cause refused.1.0 refused.1.3.2.0)
+  ]
+
+  pub after_stop : (after : Journal) → Stops s before t after → IsSoFar steps before.entries r plan t
+  after_stop after h =
+      let is : record s { stop = Some h.stop } ≡ t =
+      (λ i. record { rank = (sym h.rank_stays) i; events = (sym h.events_stay) i; next = (sym h.next_stays) i; budget = (sym h.budget_stays) i; stop = (sym h.stops) i }) in
+      subst (IsSoFar steps before.entries r plan) is (record {
+        number_is = so.number_is;
+        low = so.low;
+        budget_is = so.budget_is;
+        next_is = so.next_is;
+        steps_are = so.steps_are;
+        requests_are = so.requests_are;
+        follows_plan = so.follows_plan;
+        calls_are = so.calls_are;
+        few_calls = so.few_calls;
+        has_cause = cause h.hart h.stop after h.holds;
+      })

@@ -1,0 +1,139 @@
+-- A run that is under way, slot by slot.
+use Rattle.std.specs.Prelude.{ℕ, ◌≡◌, ◌+◌, List, [], ◌∷◌, ◌++◌, map, eqb, slice_get, slice_set, None, Some, option_map}
+use Rattle.std.proofs.Common.{sym, ap, ◌∙◌, subst}
+use Rattle.std.proofs.lemmas.Bool.Decides.{eqb_tells}
+use Rattle.std.proofs.lemmas.List.{map-append, map-set}
+use Rattle.std.proofs.lemmas.Option.{same_Some, slice_get-map}
+use mathlib.Core.Logic.{inl, inr}
+use Rattle.rv_image.specs.declared.images.ImageParts.{ImageParts}
+use Rattle.cl_journal.specs.Journal.{Journal}
+use Rattle.cl_run.specs.declared.plans.Plan.{Plan}
+use Rattle.cl_run.specs.declared.steps.Step.{Step}
+use Rattle.cl_run.specs.Cluster.{IsRun, IsStep, loaded_cluster}
+use Rattle.cl_run.specs.Driver.{IsStoppedAt, Station, Stops, TakesTurn}
+use Rattle.cl_run.specs.Plans.{in_slot}
+use Rattle.cl_run.specs.Product.{step_of}
+use Rattle.cl_run.specs.UnderWay.{IsSoFar, IsUnderWay, Round, cluster_of, shown}
+use Rattle.cl_run.proofs.Hubs.{HubPart, hub_part}
+use Rattle.cl_run.proofs.Lists.{get-set_same, get-set_other}
+use Rattle.cl_run.proofs.Rounds.{more_done, one_turn_more, passed_over}
+use Rattle.cl_run.proofs.Stations.{after_others_turn, after_stop, after_turn}
+use Rattle.cl_run.proofs.Tables.{case_of_deed, run_more, set-same}
+
+module _ (image : ImageParts) (plans : List Plan) (order : List ℕ) (ss : List Station) (slot : ℕ) where
+  -- a rank that is stopped is passed over
+  pub slot_passed : (hub : Journal) → IsStoppedAt ss (in_slot order slot) → IsUnderWay image plans order ss hub slot
+      → IsUnderWay image plans order ss hub (slot + 1)
+  slot_passed hub stopped w = record {
+    links_are = w.links_are;
+    low = w.low;
+    steps = w.steps;
+    run = w.run;
+    round = passed_over order (IsStoppedAt ss) 0 (map (λ (e : Step). e.rank) w.steps) slot stopped w.round;
+    each = w.each;
+  }
+
+  module _ (s t : Station) (plan : Plan) (there : slice_get ss (in_slot order slot) ≡ Some s) (planned : slice_get plans (in_slot order slot) ≡ Some plan)
+      (running : s.stop ≡ None) where
+    -- whoever was stopped still is
+    still : (q : ℕ) → IsStoppedAt ss q → IsStoppedAt (slice_set ss (in_slot order slot) t) q
+    still q h = elim (eqb_tells (in_slot order slot) q) [
+      | inl same ↦ absurd (not_running (same_Some s h.0 (sym there ∙ ap (slice_get ss) same.1 ∙ h.2)))
+      | inr other ↦ (h.0, h.1, get-set_other ss (in_slot order slot) q t other.1 ∙ h.2, h.3)
+    ]
+      where
+        not_running : s ≡ h.0 → ⊥
+        not_running e = let stop = sym running ∙ ap (λ (x : Station). x.stop) e ∙ h.3 in (cc)
+
+    open_now : IsStoppedAt ss (in_slot order slot) → ⊥
+    open_now h =
+        let same : s ≡ h.0 = same_Some s h.0 (sym there ∙ h.2) in
+        let stop = sym running ∙ ap (λ (x : Station). x.stop) same ∙ h.3 in (cc)
+
+    ranks_then : map (λ (x : Station). x.rank) (slice_set ss (in_slot order slot) t) ≡ slice_set (map (λ (x : Station). x.rank) ss) (in_slot order slot) t.rank
+    ranks_then = map-set (λ (x : Station). x.rank) ss (in_slot order slot) t
+
+    rank_there : slice_get (map (λ (x : Station). x.rank) ss) (in_slot order slot) ≡ Some s.rank
+    rank_there = slice_get-map (λ (x : Station). x.rank) ss (in_slot order slot) ∙ ap (option_map (λ (x : Station). x.rank)) there
+
+    -- a rank that isn't stopped stops
+    pub slot_stopped : (before after : Journal) → Stops s before t after → IsUnderWay image plans order ss before slot
+        → IsUnderWay image plans order (slice_set ss (in_slot order slot) t) after (slot + 1)
+    slot_stopped before after h w = subst (λ hub. IsUnderWay image plans order (slice_set ss (in_slot order slot) t) hub (slot + 1)) (sym h.hub_stays) (record {
+      links_are = w.links_are;
+      low = w.low;
+      steps = w.steps;
+      run = subst (IsRun (loaded_cluster image) w.steps) same_cluster w.run;
+      round = passed_over order (IsStoppedAt (slice_set ss (in_slot order slot) t)) 0 (map (λ (e : Step). e.rank) w.steps) slot
+          (t, h.stop, get-set_same ss (in_slot order slot) s t there, h.stops)
+          (more_done order (IsStoppedAt ss) (IsStoppedAt (slice_set ss (in_slot order slot) t)) still 0 (map (λ (e : Step). e.rank) w.steps) slot w.round);
+      each = each_then;
+    })
+      where
+        same_cluster : cluster_of image ss before ≡ cluster_of image (slice_set ss (in_slot order slot) t) before
+        same_cluster = λ i. record {
+          ranks = (sym (ranks_then ∙ ap (slice_set (map (λ (x : Station). x.rank) ss) (in_slot order slot)) h.rank_stays
+              ∙ set-same (map (λ (x : Station). x.rank) ss) (in_slot order slot) s.rank rank_there)) i;
+          journal = shown before;
+          boxes = (loaded_cluster image).boxes;
+        }
+
+        each_then : (q : ℕ) (p : Plan) (x : Station) → slice_get plans q ≡ Some p → slice_get (slice_set ss (in_slot order slot) t) q ≡ Some x → IsSoFar w.steps before.entries q p x
+        each_then q p x at_plan at = elim (eqb_tells (in_slot order slot) q) [
+          | inl same ↦
+              let is : t ≡ x = same_Some t x (sym (get-set_same ss (in_slot order slot) s t there) ∙ ap (slice_get (slice_set ss (in_slot order slot) t)) same.1 ∙ at) in
+              let so = w.each q p s at_plan (ap (slice_get ss) (sym same.1) ∙ there) in
+              subst (IsSoFar w.steps before.entries q p) is (after_stop w.steps before q p s t so w.low after h)
+          | inr other ↦ w.each q p x at_plan (sym (get-set_other ss (in_slot order slot) q t other.1) ∙ at)
+        ]
+
+    -- a rank that isn't stopped takes a turn
+    pub slot_taken : (before after : Journal) → TakesTurn plan s before t after → IsUnderWay image plans order ss before slot
+        → IsUnderWay image plans order (slice_set ss (in_slot order slot) t) after (slot + 1)
+    slot_taken before after turn w = record {
+      links_are = part.links_stay ∙ w.links_are;
+      low = part.low w.low;
+      steps = w.steps ++ step_of turn.deed ∷ [];
+      run = run_more w.steps (loaded_cluster image) (cluster_of image ss before) (cluster_of image (slice_set ss (in_slot order slot) t) after) (step_of turn.deed) w.run goes;
+      round = subst (λ takers. Round order (IsStoppedAt (slice_set ss (in_slot order slot) t)) 0 takers (slot + 1)) (sym (map-append (λ (e : Step). e.rank) w.steps (step_of turn.deed ∷ [])))
+          (more_done order (IsStoppedAt ss) (IsStoppedAt (slice_set ss (in_slot order slot) t)) still 0 (map (λ (e : Step). e.rank) w.steps ++ turn.deed.rank ∷ []) (slot + 1)
+          (one_turn_more order (IsStoppedAt ss) 0 (map (λ (e : Step). e.rank) w.steps) slot turn.deed.rank (sym is)
+          (λ h. open_now (subst (IsStoppedAt ss) is h)) w.round));
+      each = each_then;
+    }
+      where
+        own : IsSoFar w.steps before.entries (in_slot order slot) plan s
+        own = w.each (in_slot order slot) plan s planned there
+
+        is : turn.deed.rank ≡ in_slot order slot
+        is = turn.rank_is ∙ own.number_is
+
+        part : HubPart before after turn.deed
+        part = hub_part before after s.rank turn.deed turn.moves.2 turn.tells
+
+        goes : IsStep (cluster_of image ss before) (step_of turn.deed) (cluster_of image (slice_set ss (in_slot order slot) t) after)
+        goes = case_of_deed (cluster_of image ss before) turn.deed.rank turn.deed.hart turn.deed.stamp turn.deed.act (cluster_of image (slice_set ss (in_slot order slot) t) after) (
+          (
+            s.rank,
+            t.rank,
+            ap (slice_get (map (λ (x : Station). x.rank) ss)) is ∙ rank_there,
+            turn.moves,
+            ranks_then ∙ ap (λ k. slice_set (map (λ (x : Station). x.rank) ss) k t.rank) (sym is),
+          ),
+          part.journal_moves,
+          part.boxes_stay (loaded_cluster image).boxes,
+        )
+
+        each_then : (q : ℕ) (p : Plan) (x : Station) → slice_get plans q ≡ Some p → slice_get (slice_set ss (in_slot order slot) t) q ≡ Some x
+            → IsSoFar (w.steps ++ step_of turn.deed ∷ []) after.entries q p x
+        each_then q p x at_plan at = elim (eqb_tells (in_slot order slot) q) [
+          | inl same ↦
+              let is : t ≡ x = same_Some t x (sym (get-set_same ss (in_slot order slot) s t there) ∙ ap (slice_get (slice_set ss (in_slot order slot) t)) same.1 ∙ at) in
+              let p_is : plan ≡ p = same_Some plan p (sym planned ∙ ap (slice_get plans) same.1 ∙ at_plan) in
+              let so = w.each q p s at_plan (ap (slice_get ss) (sym same.1) ∙ there) in
+              subst (IsSoFar (w.steps ++ step_of turn.deed ∷ []) after.entries q p) is
+              (after_turn w.steps before after q p s t (subst (λ y. TakesTurn y s before t after) p_is turn) so)
+          | inr other ↦
+              after_others_turn w.steps before after q p x turn.deed part (ap (λ k. eqb k q) is ∙ other.0) w.low
+              (w.each q p x at_plan (sym (get-set_other ss (in_slot order slot) q t other.1) ∙ at))
+        ]

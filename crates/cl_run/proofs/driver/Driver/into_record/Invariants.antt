@@ -1,0 +1,11 @@
+use Rattle.std.proofs.Common.{◌≡◌, ◌++◌, map, Some}
+use Rattle.cl_run.specs.declared.driver.Seat.{Seat}
+use Rattle.cl_run.proofs.driver.Driver.into_record.Given as goal
+
+abbrev pub invariant-loop-seat : goal.invariant-loop-seat
+invariant-loop-seat l = record {
+  rest : l.yielded ++ l.seat-iterator.rest.items ≡ l.fn.self.seats.items;
+  traces : l.traces.items ≡ map (λ (seat : Seat). seat.rank.trace) l.yielded;
+  ranks : l.ranks.items ≡ map (λ (seat : Seat). seat.rank.state) l.yielded;
+  stops : map Some l.stops.items ≡ map (λ (seat : Seat). seat.stop) l.yielded;
+}

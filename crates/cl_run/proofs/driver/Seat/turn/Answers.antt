@@ -1,0 +1,21 @@
+use Rattle.std.proofs.Common.{◌∙◌, ap, ◌%◌, ◌+◌}
+use Rattle.std.proofs.lemmas.List.{get_or_read}
+use mathlib.Core.Logic.{inl}
+use Rattle.cl_run.proofs.driver.Seat.turn.Goals as goal
+
+pub returns-in-Ok-clause-goes : goal.returns-in-Ok-clause-goes
+returns-in-Ok-clause-goes c =
+    let turn = c.in-Ok.ensures.turned in
+    let order = c.args.plan.now.order in
+    inl (record {
+      deed = turn.deed;
+      rank_is = turn.rank;
+      hart_is = turn.by ∙ get_or_read order.items c.args.self.now.next c.index-hart.result.now c.requires.seated.next_there c.index-hart.ensures 0;
+      moves = turn.moves;
+      tells = turn.tells;
+      turns_left = c.in-Ok.ensures.active.left;
+      traced = turn.event;
+      next_is = c.place_after-self.ensures.place ∙ ap (λ n. (c.args.self.now.next + 1) % n) (c.len.ensures ∙ order.ok.0);
+      budget_stays = c.turn_plain.ensures.budget;
+      goes_on = c.requires.running;
+    })
