@@ -8,6 +8,7 @@ use Rattle.cl_calls.specs.declared.calls.Completing.{Completing}
 use Rattle.cl_calls.specs.declared.calls.Probing.{Probing}
 use Rattle.cl_calls.specs.declared.calls.Receiving.{Receiving}
 use Rattle.cl_calls.specs.declared.calls.Sending.{Sending}
+use Rattle.cl_calls.specs.declared.calls.Several.{Several}
 
 -- ANY_SOURCE and ANY_TAG are -1, PROC_NULL is -2 (MPI 4.1, 3.2.4 and 3.11), in 64 bits
 abbrev pub any : ℕ
@@ -41,6 +42,10 @@ probing_by a = record { source = a 0; tag = a 1; comm = a 2; status = a 3 }
 abbrev pub completing_by : (ℕ → ℕ) → Completing
 completing_by a = record { handle = a 0; status = a 1 }
 
+-- and of the calls that complete several
+abbrev pub several_by : (ℕ → ℕ) → Several
+several_by a = record { array = a 0; count = a 1; statuses = a 2 }
+
 -- the call of each number, with its arguments
 abbrev pub call_rows : (ℕ → ℕ) → List (ℕ × Call)
 call_rows a =
@@ -67,6 +72,8 @@ call_rows a =
     (31, call.RecvInit (receiving_by a)) ∷
     (32, call.Start (a 0)) ∷
     (33, call.RequestFree (a 0)) ∷
+    (34, call.Testall (several_by a)) ∷
+    (35, call.Waitall (several_by a)) ∷
     []
 
 -- the row of a number; where there is none, no call

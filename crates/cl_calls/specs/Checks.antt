@@ -1,16 +1,19 @@
 -- The checks of a call, in their order. The first that fails gives the code.
-use Rattle.std.specs.Prelude.{ℕ, ◌+◌, ◌^◌, ◌==◌, if◌then◌else◌, List, [], ◌∷◌, length, Option, Some, None, Bool, true, not, ◌&&◌, ◌||◌, nat_le, nat_lt, is_some}
+use Rattle.std.specs.Prelude.{ℕ, ◌+◌, ◌*◌, ◌^◌, ◌==◌, if◌then◌else◌, List, [], ◌∷◌, length, Option, Some, None, Bool, true, not, ◌&&◌, ◌||◌, nat_le, nat_lt, is_some}
 use Rattle.rv_memory.specs.Memory.{Memory}
 use Rattle.rv_memory.specs.Access.{is_readable, is_writable}
 use Rattle.mp_types.specs.declared.codes.Code.{Code}
 use Rattle.mp_types.specs.declared.codes.Code.TheVariants.{BadCall, BadRequest, BadComm, BadRank, BadTag, BadCount, BadBuffer, Active, Full}
 use Rattle.mp_request.specs.Entries.{is_persistent, is_active}
-use Rattle.mp_request.specs.Table.{Table, request_at, has, lowest_free}
+use Rattle.mp_request.specs.Table.{Table, request_at, has, lowest_free, may_be_tested}
+use Rattle.cl_calls.specs.Handles.{handles_in}
+use Rattle.cl_calls.specs.declared.needs.Array.{Array}
 use Rattle.cl_calls.specs.declared.needs.Named.{Named}
 use Rattle.cl_calls.specs.declared.needs.Named.TheVariants.{Nothing, NullOrOpen, Persistent, Open}
 use Rattle.cl_calls.specs.declared.needs.Needs.{Needs}
 use Rattle.cl_calls.specs.declared.needs.Peer.{Peer}
 use Rattle.cl_calls.specs.declared.needs.Range.{Range}
+use Rattle.cl_calls.specs.declared.needs.Statuses.{Statuses}
 use Rattle.cl_calls.specs.declared.needs.Tag.{Tag}
 use Rattle.cl_calls.specs.Calls.{any, no_rank}
 use Rattle.cl_calls.specs.declared.sites.Site.{Site}
@@ -29,6 +32,18 @@ is_idle table Nothing = true
 is_idle table (NullOrOpen handle) = true
 is_idle table (Persistent handle) = not (has is_active table handle)
 is_idle table (Open handle) = not (has is_active table handle)
+
+-- at most as many handles as a rank has
+abbrev pub is_few : Array → Bool
+is_few handles = nat_le handles.count 255
+
+-- the array lies in the memory
+abbrev pub is_array : Memory → Array → Bool
+is_array memory handles = is_readable memory handles.address (8 * handles.count)
+
+-- requests that may be completed together (3.7.5): none is partitioned, and no active one is named twice
+abbrev pub are_named : Memory → Table → Array → Bool
+are_named memory table handles = may_be_tested table (handles_in memory handles)
 
 -- the caller is a member of the communicator
 abbrev pub is_comm : Site → Option ℕ → Bool
@@ -54,8 +69,8 @@ is_buffer memory buffer =
     if buffer.writing then is_writable memory buffer.address buffer.count else is_readable memory buffer.address buffer.count
 
 -- a status has 24 bytes; address 0 means that none is wanted
-abbrev pub is_status : Memory → ℕ → Bool
-is_status memory status = (status == 0) || is_writable memory status 24
+abbrev pub are_statuses : Memory → Statuses → Bool
+are_statuses memory statuses = (statuses.address == 0) || is_writable memory statuses.address (24 * statuses.count)
 
 -- the output has at most 1,048,576 bytes
 abbrev pub has_room : ℕ → ℕ → Bool
@@ -65,15 +80,18 @@ has_room written growth = (growth == 0) || nat_le (written + growth) (2 ^ 20)
 abbrev pub has_slot : Table → Bool → Bool
 has_slot table slot = not slot || is_some (lowest_free table)
 
+-- where an array is too long or isn't in the memory, no handle is read
 abbrev pub checks : Site → Memory → Table → ℕ → Needs → List (Bool × Code)
 checks site memory table written needs =
     (needs.known, BadCall) ∷
-    (is_named table needs.request, BadRequest) ∷
+    (is_few needs.handles, BadCount) ∷
+    (is_array memory needs.handles, BadBuffer) ∷
+    (is_named table needs.request && are_named memory table needs.handles, BadRequest) ∷
     (is_comm site needs.comm, BadComm) ∷
     (is_peer site needs.comm needs.peer, BadRank) ∷
     (is_tag needs.tag, BadTag) ∷
     (is_count needs.buffer, BadCount) ∷
-    (is_buffer memory needs.buffer && is_status memory needs.status, BadBuffer) ∷
+    (is_buffer memory needs.buffer && are_statuses memory needs.statuses, BadBuffer) ∷
     (is_idle table needs.request, Active) ∷
     (has_room written needs.growth && has_slot table needs.slot, Full) ∷
     []

@@ -1,4 +1,5 @@
 pub mod Site
 pub mod Calls
 pub mod Needs
+pub mod Handles
 pub mod Checks

@@ -1,16 +1,19 @@
 -- What each call needs to be right.
 use Rattle.std.specs.Prelude.{ℕ, Some, None, Bool, true, false}
 use Rattle.cl_calls.specs.declared.calls.Call.{Call}
-use Rattle.cl_calls.specs.declared.calls.Call.TheVariants.{Exit, Put, Rank, Size, Hart, Send, Ssend, Recv, Isend, Issend, Irecv, Test, Wait, Iprobe, Probe, Improbe, Mprobe, Imrecv, Mrecv, SendInit, RecvInit, Start, RequestFree, Unknown}
+use Rattle.cl_calls.specs.declared.calls.Call.TheVariants.{Exit, Put, Rank, Size, Hart, Send, Ssend, Recv, Isend, Issend, Irecv, Test, Wait, Iprobe, Probe, Improbe, Mprobe, Imrecv, Mrecv, SendInit, RecvInit, Start, RequestFree, Testall, Waitall, Unknown}
 use Rattle.cl_calls.specs.declared.calls.Claimed.{Claimed}
 use Rattle.cl_calls.specs.declared.calls.Completing.{Completing}
 use Rattle.cl_calls.specs.declared.calls.Probing.{Probing}
 use Rattle.cl_calls.specs.declared.calls.Receiving.{Receiving}
 use Rattle.cl_calls.specs.declared.calls.Sending.{Sending}
+use Rattle.cl_calls.specs.declared.calls.Several.{Several}
+use Rattle.cl_calls.specs.declared.needs.Array.{Array}
 use Rattle.cl_calls.specs.declared.needs.Named.TheVariants.{Nothing, NullOrOpen, Persistent, Open}
 use Rattle.cl_calls.specs.declared.needs.Needs.{Needs}
 use Rattle.cl_calls.specs.declared.needs.Peer.{Peer}
 use Rattle.cl_calls.specs.declared.needs.Range.{Range}
+use Rattle.cl_calls.specs.declared.needs.Statuses.{Statuses}
 use Rattle.cl_calls.specs.declared.needs.Tag.{Tag}
 
 abbrev pub reads : ℕ → ℕ → Range
@@ -33,15 +36,26 @@ one_tag tag = record { tag = tag; any = false }
 abbrev pub tag_or_any : ℕ → Tag
 tag_or_any tag = record { tag = tag; any = true }
 
+-- statuses from an address on, or none where it is 0
+abbrev pub statuses_at : ℕ → ℕ → Statuses
+statuses_at address count = record { address = address; count = count }
+
+abbrev pub one_status : ℕ → Statuses
+one_status address = statuses_at address 1
+
+abbrev pub array_at : ℕ → ℕ → Array
+array_at address count = record { address = address; count = count }
+
 abbrev pub nothing : Needs
 nothing = record {
   known = true;
+  handles = array_at 0 0;
   request = Nothing;
   comm = None;
   peer = None;
   tag = one_tag 0;
   buffer = reads 0 0;
-  status = 0;
+  statuses = statuses_at 0 0;
   growth = 0;
   slot = false;
 }
@@ -54,16 +68,20 @@ needs_of_sending slot s =
 -- the calls that receive
 abbrev pub needs_of_receiving : Bool → ℕ → Receiving → Needs
 needs_of_receiving slot status r =
-    record nothing { comm = Some r.comm; peer = Some (source r.source); tag = tag_or_any r.tag; buffer = writes r.buffer r.capacity; status = status; slot = slot }
+    record nothing { comm = Some r.comm; peer = Some (source r.source); tag = tag_or_any r.tag; buffer = writes r.buffer r.capacity; statuses = one_status status; slot = slot }
 
 abbrev pub needs_of_claimed : Bool → ℕ → Claimed → Needs
-needs_of_claimed slot status m = record nothing { buffer = writes m.buffer m.capacity; status = status; slot = slot }
+needs_of_claimed slot status m = record nothing { buffer = writes m.buffer m.capacity; statuses = one_status status; slot = slot }
 
 abbrev pub needs_of_probing : Probing → Needs
-needs_of_probing p = record nothing { comm = Some p.comm; peer = Some (source p.source); tag = tag_or_any p.tag; status = p.status }
+needs_of_probing p = record nothing { comm = Some p.comm; peer = Some (source p.source); tag = tag_or_any p.tag; statuses = one_status p.status }
 
 abbrev pub needs_of_completing : Completing → Needs
-needs_of_completing c = record nothing { request = NullOrOpen c.handle; status = c.status }
+needs_of_completing c = record nothing { request = NullOrOpen c.handle; statuses = one_status c.status }
+
+-- as many statuses as handles
+abbrev pub needs_of_several : Several → Needs
+needs_of_several s = record nothing { handles = array_at s.array s.count; statuses = statuses_at s.statuses s.count }
 
 abbrev pub needs_of : Call → Needs
 needs_of (Exit code) = nothing
@@ -89,4 +107,6 @@ needs_of (SendInit s) = needs_of_sending true s
 needs_of (RecvInit r) = needs_of_receiving true 0 r
 needs_of (Start handle) = record nothing { request = Persistent handle }
 needs_of (RequestFree handle) = record nothing { request = Open handle }
+needs_of (Testall s) = needs_of_several s
+needs_of (Waitall s) = needs_of_several s
 needs_of Unknown = record nothing { known = false }

@@ -1,7 +1,7 @@
 //! The calls of a guest, as its registers spell them.
 
 ghost use Rattle.std.specs.Prelude.{◌≡◌, ◌<◌};
-ghost use Rattle.cl_calls.specs.Calls.{argument as argument_of, call_of, claimed_by, completing_by, probing_by, receiving_by, sending_by};
+ghost use Rattle.cl_calls.specs.Calls.{argument as argument_of, call_of, claimed_by, completing_by, probing_by, receiving_by, sending_by, several_by};
 
 use rv_decode::Reg;
 use rv_hart::Hart;
@@ -59,6 +59,15 @@ pub struct Completing {
     pub status: u64,
 }
 
+/// The arguments of a call that completes several requests: an array of handles, 8 bytes each, how many there are, and
+/// the address of as many statuses, or 0.
+#[derive(Clone, Copy, PartialEq, Eq, Drop, Debug)]
+pub struct Several {
+    pub array: u64,
+    pub count: u64,
+    pub statuses: u64,
+}
+
 /// A call, with its arguments as the registers spell them. The sections are those of MPI 4.1.
 #[derive(Clone, Copy, PartialEq, Eq, Drop, Debug)]
 pub enum Call {
@@ -108,6 +117,10 @@ pub enum Call {
     Start { handle: u64 },
     /// Frees a persistent request (3.7.3, MPI_REQUEST_FREE).
     RequestFree { handle: u64 },
+    /// Completes all of several requests if all can be (3.7.5, MPI_TESTALL).
+    Testall(Several),
+    /// Completes all of several requests as soon as all can be (3.7.5, MPI_WAITALL).
+    Waitall(Several),
     /// A number that is no call's.
     Unknown,
 }
@@ -183,6 +196,18 @@ impl Completing {
     }
 }
 
+impl Several {
+    fn of(hart: &Hart) -> Several
+        ensures { result ≡ several_by (argument_of hart.now) }
+    {
+        Several {
+            array: argument(hart, 0),
+            count: argument(hart, 1),
+            statuses: argument(hart, 2),
+        }
+    }
+}
+
 impl Call {
     /// The call that a hart's registers spell.
     pub fn of(hart: &Hart) -> Call
@@ -222,6 +247,8 @@ impl Call {
             31 => Call::RecvInit(Receiving::of(hart)),
             32 => Call::Start { handle: a0 },
             33 => Call::RequestFree { handle: a0 },
+            34 => Call::Testall(Several::of(hart)),
+            35 => Call::Waitall(Several::of(hart)),
             _ => Call::Unknown,
         }
     }

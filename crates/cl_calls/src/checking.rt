@@ -1,12 +1,13 @@
 //! The checks of a call, in their order.
 
-ghost use Rattle.std.specs.Prelude.{◌≡◌, IsTrue, IsNone, not};
+ghost use Rattle.std.specs.Prelude.{◌≡◌, ◌≤◌, IsTrue, IsNone, not};
 ghost use Rattle.mp_request.specs.Entries.{is_active as active, is_persistent as persistent};
 ghost use Rattle.mp_request.specs.Table.{has};
-ghost use Rattle.cl_calls.specs.Checks.{checks, first_fault, has_room as has_room_of, has_slot as has_slot_of, is_buffer as is_buffer_of, is_comm, is_count, is_idle as is_idle_of, is_named as is_named_of, is_peer, is_status as is_status_of, is_tag as is_tag_of};
+ghost use Rattle.cl_calls.specs.Checks.{are_named as are_named_of, are_statuses as are_statuses_of, checks, first_fault, has_room as has_room_of, has_slot as has_slot_of, is_array as is_array_of, is_buffer as is_buffer_of, is_comm, is_count, is_few, is_idle as is_idle_of, is_named as is_named_of, is_peer, is_tag as is_tag_of};
 
 use crate::calls::ANY;
-use crate::needs::{Named, Needs, Range, Tag};
+use crate::handles::handles_at;
+use crate::needs::{Array, Named, Needs, Range, Statuses, Tag};
 use crate::sites::Site;
 use mp_request::Requests;
 use mp_types::Code;
@@ -64,10 +65,26 @@ fn is_buffer(memory: &RankMemory, range: Range) -> bool
     memory.in_range(range.address, range.count, range.writing)
 }
 
-fn is_status(memory: &RankMemory, status: u64) -> bool
-    ensures { result ≡ is_status_of memory.now status }
+fn are_statuses(memory: &RankMemory, statuses: Statuses) -> bool
+    requires { statuses.count ≤ 255 }
+    ensures { result ≡ are_statuses_of memory.now statuses }
 {
-    status == 0 || memory.in_range(status, 24, true)
+    statuses.address == 0 || memory.in_range(statuses.address, 24 * statuses.count, true)
+}
+
+fn is_array(memory: &RankMemory, handles: Array) -> bool
+    requires { handles.count ≤ 255 }
+    ensures { result ≡ is_array_of memory.now handles }
+{
+    memory.in_range(handles.address, 8 * handles.count, false)
+}
+
+fn are_named(memory: &RankMemory, requests: &Requests, handles: Array) -> bool
+    requires few { IsTrue (is_few handles) }
+    requires inside { IsTrue (is_array_of memory.now handles) }
+    ensures { result ≡ are_named_of memory.now requests.now handles }
+{
+    handles.count == 0 || requests.may_be_tested(handles_at(memory, handles).as_slice())
 }
 
 fn has_room(written: usize, growth: u64) -> bool
@@ -90,7 +107,10 @@ pub fn fault(
     written: usize,
     needs: &Needs,
 ) -> Option<Code>
+    requires { needs.now.handles.count ≤ 255 → needs.now.statuses.count ≤ 255 }
     ensures fault { result ≡ first_fault (checks site.now memory.now requests.now written needs.now) }
+    ensures few { IsNone result → IsTrue (is_few needs.now.handles) }
+    ensures array { IsNone result → IsTrue (is_array_of memory.now needs.now.handles) }
     ensures named { IsNone result → IsTrue (is_named_of requests.now needs.now.request) }
     ensures comm { IsNone result → IsTrue (is_comm site.now needs.now.comm) }
     ensures peer { IsNone result → IsTrue (is_peer site.now needs.now.comm needs.now.peer) }
@@ -102,7 +122,13 @@ pub fn fault(
     if !needs.known {
         return Some(Code::BadCall);
     }
-    if !is_named(requests, needs.request) {
+    if needs.handles.count > 255 {
+        return Some(Code::BadCount);
+    }
+    if !is_array(memory, needs.handles) {
+        return Some(Code::BadBuffer);
+    }
+    if !is_named(requests, needs.request) || !are_named(memory, requests, needs.handles) {
         return Some(Code::BadRequest);
     }
     if !site.is_comm(needs.comm) {
@@ -117,7 +143,7 @@ pub fn fault(
     if needs.buffer.count > 4096 {
         return Some(Code::BadCount);
     }
-    if !is_buffer(memory, needs.buffer) || !is_status(memory, needs.status) {
+    if !is_buffer(memory, needs.buffer) || !are_statuses(memory, needs.statuses) {
         return Some(Code::BadBuffer);
     }
     if !is_idle(requests, needs.request) {

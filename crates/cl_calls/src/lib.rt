@@ -6,10 +6,14 @@
 
 mod calls;
 mod checking;
+mod handles;
 mod needs;
 mod sites;
 
-pub use calls::{ANY, Call, Claimed, Completing, NO_MESSAGE, NO_RANK, Probing, Receiving, Sending};
+pub use calls::{
+    ANY, Call, Claimed, Completing, NO_MESSAGE, NO_RANK, Probing, Receiving, Sending, Several,
+};
 pub use checking::fault;
-pub use needs::{Named, Needs, Peer, Range, Tag};
+pub use handles::{Handles, handles_at};
+pub use needs::{Array, Named, Needs, Peer, Range, Statuses, Tag};
 pub use sites::{Communicators, Site, place};

@@ -1,9 +1,9 @@
 //! What each call needs to be right.
 
 ghost use Rattle.std.specs.Prelude.{◌≡◌};
-ghost use Rattle.cl_calls.specs.Needs.{destination as destination_of, needs_of, needs_of_claimed, needs_of_completing, needs_of_probing, needs_of_receiving, needs_of_sending, one_tag, reads, source as source_of, tag_or_any, writes};
+ghost use Rattle.cl_calls.specs.Needs.{destination as destination_of, needs_of, needs_of_claimed, needs_of_completing, needs_of_probing, needs_of_receiving, needs_of_sending, needs_of_several, one_status, one_tag, reads, source as source_of, tag_or_any, writes};
 
-use crate::calls::{Call, Claimed, Completing, Probing, Receiving, Sending};
+use crate::calls::{Call, Claimed, Completing, Probing, Receiving, Sending, Several};
 
 /// A rank argument, and which of the wildcard and the null process may stand for it.
 #[derive(Clone, Copy, PartialEq, Eq, Drop, Debug)]
@@ -28,6 +28,20 @@ pub struct Range {
     pub writing: bool,
 }
 
+/// An array of handles, 8 bytes each.
+#[derive(Clone, Copy, PartialEq, Eq, Drop, Debug)]
+pub struct Array {
+    pub address: u64,
+    pub count: u64,
+}
+
+/// Statuses that a call writes, 24 bytes each and one after the other. Address 0 means that none is wanted.
+#[derive(Clone, Copy, PartialEq, Eq, Drop, Debug)]
+pub struct Statuses {
+    pub address: u64,
+    pub count: u64,
+}
+
 /// What a handle argument has to name.
 #[derive(Clone, Copy, PartialEq, Eq, Drop, Debug)]
 pub enum Named {
@@ -46,6 +60,8 @@ pub enum Named {
 pub struct Needs {
     /// There is such a call.
     pub known: bool,
+    /// Handles of requests that may be completed together.
+    pub handles: Array,
     /// A request of the rank.
     pub request: Named,
     /// A communicator of which the caller is a member.
@@ -54,8 +70,7 @@ pub struct Needs {
     pub peer: Option<Peer>,
     pub tag: Tag,
     pub buffer: Range,
-    /// The address of a status, or 0.
-    pub status: u64,
+    pub statuses: Statuses,
     /// How many bytes the output grows by.
     pub growth: u64,
     /// A handle that isn't open.
@@ -65,6 +80,10 @@ pub struct Needs {
 /// What a call needs that needs nothing.
 const NOTHING: Needs = Needs {
     known: true,
+    handles: Array {
+        address: 0,
+        count: 0,
+    },
     request: Named::Nothing,
     comm: None,
     peer: None,
@@ -74,7 +93,10 @@ const NOTHING: Needs = Needs {
         count: 0,
         writing: false,
     },
-    status: 0,
+    statuses: Statuses {
+        address: 0,
+        count: 0,
+    },
     growth: 0,
     slot: false,
 };
@@ -112,6 +134,14 @@ impl Tag {
         ensures { result ≡ tag_or_any tag }
     {
         Tag { tag, any: true }
+    }
+}
+
+impl Statuses {
+    fn one(address: u64) -> Statuses
+        ensures { result ≡ one_status address }
+    {
+        Statuses { address, count: 1 }
     }
 }
 
@@ -161,7 +191,7 @@ impl Receiving {
             peer: Some(Peer::source(self.source)),
             tag: Tag::or_any(self.tag),
             buffer: Range::writing(self.buffer, self.capacity),
-            status,
+            statuses: Statuses::one(status),
             slot,
             ..NOTHING
         }
@@ -174,7 +204,7 @@ impl Claimed {
     {
         Needs {
             buffer: Range::writing(self.buffer, self.capacity),
-            status,
+            statuses: Statuses::one(status),
             slot,
             ..NOTHING
         }
@@ -189,7 +219,7 @@ impl Probing {
             comm: Some(self.comm),
             peer: Some(Peer::source(self.source)),
             tag: Tag::or_any(self.tag),
-            status: self.status,
+            statuses: Statuses::one(self.status),
             ..NOTHING
         }
     }
@@ -201,7 +231,25 @@ impl Completing {
     {
         Needs {
             request: Named::NullOrOpen(self.handle),
-            status: self.status,
+            statuses: Statuses::one(self.status),
+            ..NOTHING
+        }
+    }
+}
+
+impl Several {
+    fn needs(&self) -> Needs
+        ensures { result ≡ needs_of_several self.now }
+    {
+        Needs {
+            handles: Array {
+                address: self.array,
+                count: self.count,
+            },
+            statuses: Statuses {
+                address: self.statuses,
+                count: self.count,
+            },
             ..NOTHING
         }
     }
@@ -252,6 +300,8 @@ impl Call {
                 request: Named::Open(handle),
                 ..NOTHING
             },
+            Call::Testall(several) => several.needs(),
+            Call::Waitall(several) => several.needs(),
             Call::Unknown => Needs {
                 known: false,
                 ..NOTHING

@@ -1,5 +1,5 @@
 -- What a hart asks is nothing of a box, as long as no call speaks of partitions.
-use Rattle.std.proofs.Common.{ℕ, Bool, true, false, Option, Some, None}
+use Rattle.std.proofs.Common.{ℕ, Bool, true, false, List, [], ◌∷◌, Option, Some, None}
 use Rattle.std.specs.Prelude.{◌==◌, if◌then◌else◌}
 use Rattle.rv_memory.specs.Memory.{Memory}
 use Rattle.mp_types.specs.declared.requests.Request.TheVariants as request
@@ -12,6 +12,9 @@ use Rattle.cl_calls.specs.declared.calls.Call.{Call}
 use Rattle.cl_calls.specs.declared.calls.Call.TheVariants as call
 use Rattle.cl_calls.specs.declared.calls.Claimed.{Claimed}
 use Rattle.cl_calls.specs.declared.calls.Probing.{Probing}
+use Rattle.cl_calls.specs.declared.calls.Several.{Several}
+use Rattle.cl_calls.specs.Handles.{handles_in}
+use Rattle.cl_calls.specs.Needs.{array_at}
 use Rattle.cl_calls.specs.declared.sites.Site.{Site}
 use Rattle.cl_state.specs.declared.asking.Ask.{Ask}
 use Rattle.cl_state.specs.declared.asking.Ask.TheVariants as ask
@@ -21,8 +24,9 @@ use Rattle.cl_state.specs.declared.pending.Pending.{Pending}
 use Rattle.cl_state.specs.declared.pending.Pending.TheVariants.{Nothing, FromNull, Message, Word}
 use Rattle.cl_state.specs.Pending.{pending_of, asked_pending}
 use Rattle.cl_state.specs.Rank.{Rank}
+use Rattle.cl_state.specs.Several.{pendings, posts_of, asked_all}
 use Rattle.cl_state.specs.Transfers.{source_of, tag_of, send_of, receive_of, asked_transfer, asked_claimed}
-use Rattle.cl_state.specs.Asked.{part_of, doing, asked, asked_in, asked_by, asked_poll, asked_probe, asked_claim, asked_start}
+use Rattle.cl_state.specs.Asked.{part_of, doing, asked, asked_in, asked_by, asked_poll, asked_probe, asked_claim, asked_start, asked_several}
 use Rattle.cl_rank.specs.Turns.{AsksNoBox}
 
 either : (b : Bool) (x y : Ask) → AsksNoBox x → AsksNoBox y → AsksNoBox (if b then x else y)
@@ -59,6 +63,13 @@ by_start : (memory : Memory) (r : Option OpenRequest) → AsksNoBox (asked_start
 by_start memory None = tt
 by_start memory (Some r) = by_transfer memory false r.transfer
 
+by_all : (posts : List ℕ) → AsksNoBox (asked_all posts)
+by_all [] = tt
+by_all (post ∷ posts) = tt
+
+by_several : (memory : Memory) (table : Table) (s : Several) → AsksNoBox (asked_several memory table s)
+by_several memory table s = by_all (posts_of (pendings table (handles_in memory (array_at s.array s.count))))
+
 by_call : (site : Site) (memory : Memory) (table : Table) (c : Call) → AsksNoBox (asked_by site memory table c)
 by_call site memory table (call.Send s) = by_transfer memory true (send_of site false s)
 by_call site memory table (call.Ssend s) = by_transfer memory true (send_of site true s)
@@ -75,6 +86,8 @@ by_call site memory table (call.Mprobe p) = by_claim site p
 by_call site memory table (call.Imrecv m) = by_claimed false m
 by_call site memory table (call.Mrecv m status) = by_claimed true m
 by_call site memory table (call.Start handle) = by_start memory (request_at table handle)
+by_call site memory table (call.Testall s) = by_several memory table s
+by_call site memory table (call.Waitall s) = by_several memory table s
 by_call site memory table _ = tt
 
 by_poll : (c : Call) (post : ℕ) → AsksNoBox (asked_poll c post)

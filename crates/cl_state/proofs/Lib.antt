@@ -3,3 +3,4 @@ pub mod Moves
 pub mod Starts
 pub mod Worked
 pub mod WorkedRequests
+pub mod WorkedSeveral

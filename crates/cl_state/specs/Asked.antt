@@ -13,9 +13,11 @@ use Rattle.mp_request.specs.Table.{Table, request_at}
 use Rattle.cl_calls.specs.declared.calls.Call.{Call}
 use Rattle.cl_calls.specs.declared.calls.Call.TheVariants as call
 use Rattle.cl_calls.specs.declared.calls.Probing.{Probing}
+use Rattle.cl_calls.specs.declared.calls.Several.{Several}
 use Rattle.cl_calls.specs.declared.sites.Site.{Site}
 use Rattle.cl_calls.specs.Calls.{no_rank, call_of}
-use Rattle.cl_calls.specs.Needs.{needs_of}
+use Rattle.cl_calls.specs.Handles.{handles_in}
+use Rattle.cl_calls.specs.Needs.{array_at, needs_of}
 use Rattle.cl_calls.specs.Checks.{checks, first_fault}
 use Rattle.cl_state.specs.declared.asking.Ask.{Ask}
 use Rattle.cl_state.specs.declared.asking.Ask.TheVariants as ask
@@ -24,6 +26,7 @@ use Rattle.cl_state.specs.declared.asking.Doing.TheVariants.{Step, Refused, Go, 
 use Rattle.cl_state.specs.Rank.{Rank}
 use Rattle.cl_state.specs.Transfers.{source_of, tag_of, send_of, receive_of, asked_transfer, asked_claimed}
 use Rattle.cl_state.specs.Pending.{pending_of, asked_pending}
+use Rattle.cl_state.specs.Several.{pendings, posts_of, asked_all}
 
 -- what one hart's turn may change of its rank, but for the clock
 pub record Part : Type 0 where
@@ -81,6 +84,9 @@ abbrev pub asked_start : Memory → Option OpenRequest → Ask
 asked_start memory None = ask.Local
 asked_start memory (Some r) = asked_transfer memory false r.transfer
 
+abbrev pub asked_several : Memory → Table → Several → Ask
+asked_several memory table s = asked_all (posts_of (pendings table (handles_in memory (array_at s.array s.count))))
+
 -- what a right call asks: nothing, or a request to the hub
 abbrev pub asked_by : Site → Memory → Table → Call → Ask
 asked_by site memory table (call.Exit value) = ask.Local
@@ -106,6 +112,8 @@ asked_by site memory table (call.SendInit s) = ask.Local
 asked_by site memory table (call.RecvInit r) = ask.Local
 asked_by site memory table (call.Start handle) = asked_start memory (request_at table handle)
 asked_by site memory table (call.RequestFree handle) = ask.Local
+asked_by site memory table (call.Testall s) = asked_several memory table s
+asked_by site memory table (call.Waitall s) = asked_several memory table s
 asked_by site memory table call.Unknown = ask.Local
 
 -- a poll asks whether a synchronous send is complete, or for the message of a receive

@@ -2,6 +2,8 @@ pub mod Phases
 pub mod Rank
 pub mod Transfers
 pub mod Pending
+pub mod Written
+pub mod Several
 pub mod Asked
 pub mod Right
 pub mod Room
@@ -9,3 +11,4 @@ pub mod Told
 pub mod Laws
 pub mod Rows
 pub mod RequestRows
+pub mod SeveralRows

@@ -10,7 +10,7 @@ use Rattle.cl_calls.specs.declared.calls.Call.TheVariants as call
 use Rattle.cl_calls.specs.declared.needs.Needs.{Needs}
 use Rattle.cl_calls.specs.declared.sites.Site.{Site}
 use Rattle.cl_calls.specs.Needs.{needs_of}
-use Rattle.cl_calls.specs.Checks.{is_named, is_comm, is_peer, is_tag, is_count, is_idle}
+use Rattle.cl_calls.specs.Checks.{is_named, is_comm, is_peer, is_tag, is_count, is_idle, is_few, is_array}
 
 -- what the checks make sure of, and the code leans on: arguments that name a member of a communicator, a tag and a length
 abbrev pub IsRight : Site → Needs → Type 0
@@ -24,10 +24,14 @@ IsRight site needs =
 abbrev pub IsThere : Table → Needs → Type 0
 IsThere table needs = IsTrue (is_named table needs.request) × IsTrue (is_idle table needs.request)
 
+-- and an array of handles, not too long, that is in the memory
+abbrev pub HasHandles : Memory → Needs → Type 0
+HasHandles memory needs = IsTrue (is_few needs.handles) × IsTrue (is_array memory needs.handles)
+
 -- a call that goes on has passed the checks
-abbrev pub IsChecked : Site → Table → Doing → Type 0
-IsChecked site table (Go call) = IsRight site (needs_of call) × IsThere table (needs_of call)
-IsChecked site table _ = Unit {0}
+abbrev pub IsChecked : Site → Memory → Table → Doing → Type 0
+IsChecked site memory table (Go call) = IsRight site (needs_of call) × IsThere table (needs_of call) × HasHandles memory (needs_of call)
+IsChecked site memory table _ = Unit {0}
 
 -- an instruction is a running hart's
 abbrev pub IsRunning : Doing → State → Type 0

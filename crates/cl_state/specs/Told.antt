@@ -1,8 +1,7 @@
 -- The rank after the answer. A reply that isn't one for its request is told as the code BadRequest.
-use Rattle.std.specs.Prelude.{ℕ, ◌==◌, if◌then◌else◌, List, [], ◌++◌, length, take, set, Option, Some, None, Result, Ok, Err, true, false, nat_lt}
+use Rattle.std.specs.Prelude.{ℕ, ◌==◌, if◌then◌else◌, List, [], ◌++◌, length, take, set, Option, Some, None, Result, Ok, Err, Bool, true, false, nat_lt}
 use Rattle.std.specs.Option.{unwrap_or}
-use Rattle.rv_memory.specs.Memory.{Memory, bytes_of, bytes_at, with_bytes}
-use Rattle.rv_memory.specs.Access.{is_writable}
+use Rattle.rv_memory.specs.Memory.{Memory, bytes_of, bytes_at}
 use Rattle.rv_hart.specs.State.{State, write, at_pc, in_mode}
 use Rattle.rv_hart.specs.Effect.{next}
 use Rattle.rv_hart.specs.Stepped.{stepped}
@@ -26,9 +25,12 @@ use Rattle.cl_calls.specs.declared.calls.Claimed.{Claimed}
 use Rattle.cl_calls.specs.declared.calls.Completing.{Completing}
 use Rattle.cl_calls.specs.declared.calls.Probing.{Probing}
 use Rattle.cl_calls.specs.declared.calls.Receiving.{Receiving}
+use Rattle.cl_calls.specs.declared.calls.Several.{Several}
 use Rattle.cl_calls.specs.declared.sites.Site.{Site}
 use Rattle.cl_calls.specs.Site.{members, place_of}
 use Rattle.cl_calls.specs.Calls.{any, no_rank, no_message}
+use Rattle.cl_calls.specs.Handles.{handles_in}
+use Rattle.cl_calls.specs.Needs.{array_at}
 use Rattle.cl_state.specs.declared.asking.Answer.{Answer}
 use Rattle.cl_state.specs.declared.asking.Answer.TheVariants as answer
 use Rattle.cl_state.specs.declared.asking.Doing.{Doing}
@@ -41,6 +43,8 @@ use Rattle.cl_state.specs.declared.pending.Target.{Target}
 use Rattle.cl_state.specs.Rank.{Rank}
 use Rattle.cl_state.specs.Transfers.{send_of, receive_of, claimed_of, begun}
 use Rattle.cl_state.specs.Pending.{flag, pending_of}
+use Rattle.cl_state.specs.Several.{pendings, posts_of, has_posts, are_fit, given, with_all_bytes, with_statuses, code_of, completed_each}
+use Rattle.cl_state.specs.Written.{written}
 use Rattle.cl_state.specs.Asked.{Part, part_of, doing}
 
 -- ---- how a call ends
@@ -66,13 +70,6 @@ not_yet Immediate part = ended code.Ok 0 part
 not_yet Blocking part = again part
 
 -- ---- what is written
-
--- bytes written where they may be; no bytes change nothing, whatever their address
-abbrev pub written : Memory → ℕ → List ℕ → Memory
-written memory address bytes =
-    if is_writable memory address (length bytes)
-    then (if (length bytes == 0) then memory else with_bytes memory address bytes)
-    else memory
 
 -- a status is three words: source, tag and count (MPI 4.1, 3.2.5); at address 0 none is wanted
 unfoldable pub with_status : Memory → ℕ → ℕ → ℕ → ℕ → Memory
@@ -184,6 +181,39 @@ told_completing site m c FromNull a part = received_nothing (completing m c 0 0)
 told_completing site m c (Awaited post buffer capacity) a part = told_message site m (completing m c buffer capacity) a part
 told_completing site m c (Word post) a part = told_word m (completing m c 0 0) a part
 
+-- ---- several requests
+
+-- all complete: all bytes, then all statuses (MPI 4.1, 3.7.5)
+unfoldable pub completed_all : Site → Manner → ℕ → List ℕ → List (Option Message) → Part → Part
+completed_all site m statuses handles gots part =
+    let gs = given site (pendings part.requests handles) gots in
+    ended (code_of gs) (flag m) (record part {
+      memory = with_statuses (with_all_bytes part.memory gs) statuses gs;
+      requests = completed_each part.requests handles;
+    })
+
+abbrev pub completed_if : Bool → Site → Manner → ℕ → List ℕ → List (Option Message) → Part → Part
+completed_if true site m statuses handles gots part = completed_all site m statuses handles gots part
+completed_if false site m statuses handles gots part = ended code.BadRequest 0 part
+
+abbrev pub told_gots : Site → Manner → ℕ → List ℕ → Answer → Part → Part
+told_gots site m statuses handles (answer.Reply (reply.AllGot gots)) part =
+    completed_if (are_fit site (pendings part.requests handles) gots) site m statuses handles gots part
+told_gots site m statuses handles (answer.Reply reply.NotYet) part = not_yet m part
+told_gots site m statuses handles (answer.Reply (reply.Code c)) part = ended c 0 part
+told_gots site m statuses handles _ part = ended code.BadRequest 0 part
+
+-- where no post was asked for all complete at once, and else all or none
+abbrev pub told_handles : Site → Manner → ℕ → List ℕ → Answer → Part → Part
+told_handles site m statuses handles a part =
+    if has_posts (posts_of (pendings part.requests handles))
+    then told_gots site m statuses handles a part
+    else completed_all site m statuses handles [] part
+
+-- the handles are read before anything is written
+abbrev pub told_all : Site → Manner → Several → Answer → Part → Part
+told_all site m s a part = told_handles site m s.statuses (handles_in part.memory (array_at s.array s.count)) a part
+
 -- ---- probes
 
 -- a message was found: its status, with the whole count, and this value
@@ -258,6 +288,8 @@ told_call site hart (call.SendInit s) a part = made (send_of site false s) part
 told_call site hart (call.RecvInit r) a part = made (receive_of site r) part
 told_call site hart (call.Start handle) a part = told_start handle (request_at part.requests handle) a part
 told_call site hart (call.RequestFree handle) a part = freed handle part
+told_call site hart (call.Testall s) a part = told_all site Immediate s a part
+told_call site hart (call.Waitall s) a part = told_all site Blocking s a part
 told_call site hart call.Unknown a part = part
 
 -- what a poll of a receive got

@@ -8,6 +8,7 @@ ghost use Rattle.cl_state.specs.declared.asking.Doing.TheVariants.{Go};
 
 use crate::asking::{Ask, Doing};
 use crate::pending::Pending;
+use crate::several::ask_several;
 use crate::transfers::{ask, ask_claimed, receive, send, source, tag};
 use cl_calls::{Call, NO_RANK, Probing, Site, fault};
 use mp_request::{OpenRequest, Requests};
@@ -30,7 +31,7 @@ pub(crate) fn is_ecall(word: Option<u32>) -> bool
 /// The call that a hart's registers spell, if all its checks hold.
 fn checked(site: &Site, memory: &RankMemory, requests: &Requests, out: &[u8], hart: &Hart) -> Doing
     ensures doing { result ≡ checked_of site.now (record { hart = hart.now; memory = memory.now; requests = requests.now; out = out.now }) }
-    ensures right { IsChecked site.now requests.now result }
+    ensures right { IsChecked site.now memory.now requests.now result }
     ensures call { IsNoStep result }
 {
     let call = Call::of(hart);
@@ -51,7 +52,7 @@ impl Doing {
         hart: &Hart,
     ) -> Doing
         ensures doing { result ≡ doing_of site.now (record { hart = hart.now; memory = memory.now; requests = requests.now; out = out.now }) }
-        ensures right { IsChecked site.now requests.now result }
+        ensures right { IsChecked site.now memory.now requests.now result }
         ensures running { IsRunning result hart.now }
     {
         match hart.mode() {
@@ -69,7 +70,7 @@ impl Doing {
         }
     }
 
-    /// What such a turn asks. Only a copy of bytes to be sent takes memory.
+    /// What such a turn asks. Only a copy of bytes to be sent, or a list of posts, takes memory.
     pub fn ask(
         &self,
         alloc: Global,
@@ -77,7 +78,7 @@ impl Doing {
         memory: &RankMemory,
         requests: &Requests,
     ) -> Result<Ask, AllocError>
-        requires { IsChecked site.now requests.now self.now }
+        requires { IsChecked site.now memory.now requests.now self.now }
         ensures { IfOk result (λ ask. ask ≡ asked_in site.now memory.now requests.now self.now) }
     {
         match *self {
@@ -148,7 +149,7 @@ fn ask_by(
     requests: &Requests,
     call: &Call,
 ) -> Result<Ask, AllocError>
-    requires { IsChecked site.now requests.now (Go call.now) }
+    requires { IsChecked site.now memory.now requests.now (Go call.now) }
     ensures { IfOk result (λ ask. ask ≡ asked_by site.now memory.now requests.now call.now) }
 {
     match *call {
@@ -181,6 +182,8 @@ fn ask_by(
         Call::RecvInit(_) => Ok(Ask::Local),
         Call::Start { handle } => start(alloc, memory, requests.get(handle)),
         Call::RequestFree { handle: _ } => Ok(Ask::Local),
+        Call::Testall(several) => ask_several(alloc, memory, requests, &several),
+        Call::Waitall(several) => ask_several(alloc, memory, requests, &several),
         Call::Unknown => Ok(Ask::Local),
     }
 }

@@ -3,7 +3,8 @@
 ghost use Rattle.std.specs.Prelude.{◌≡◌, ◌++◌, List, ℕ};
 ghost use Rattle.rv_memory.specs.Memory.{Memory, bytes_of};
 ghost use Rattle.mp_request.specs.Table.{Table, completed};
-ghost use Rattle.cl_state.specs.Told.{into as into_of, not_yet as not_yet_of, received, received_message, received_nothing, returned, with_status, written as written_in};
+ghost use Rattle.cl_state.specs.Told.{into as into_of, not_yet as not_yet_of, received, received_message, received_nothing, returned, with_status};
+ghost use Rattle.cl_state.specs.Written.{written as written_in};
 
 use crate::pending::{Manner, Target};
 use cl_calls::{ANY, NO_RANK, Site, place};
@@ -45,7 +46,7 @@ pub(crate) fn write_where_right(memory: &mut RankMemory, address: u64, bytes: &[
 }
 
 /// A status as a guest finds it: three words, low byte first.
-fn status_bytes(source: u64, tag: u64, count: u64) -> [u8; 24]
+pub(crate) fn status_bytes(source: u64, tag: u64, count: u64) -> [u8; 24]
     ensures { result ≡ bytes_of source 8 ++ bytes_of tag 8 ++ bytes_of count 8 }
 {
     let s = source.to_le_bytes();

@@ -13,6 +13,7 @@ mod opening;
 mod pending;
 mod probing;
 pub mod rows;
+mod several;
 mod state;
 mod telling;
 mod transfers;

@@ -1,6 +1,7 @@
 //! What a request still needs to complete.
 
 ghost use Rattle.std.specs.Prelude.{◌≡◌};
+ghost use Rattle.cl_state.specs.Several.{post_of};
 ghost use Rattle.cl_state.specs.Pending.{asked_pending, flag as flag_of, pending_at, pending_of, pending_on};
 
 use crate::asking::Ask;
@@ -119,6 +120,22 @@ impl Pending {
                 State::Inactive => Pending::Nothing,
                 State::Active(progress) => at(progress, &transfer),
             },
+        }
+    }
+
+    /// The post that is asked for it, where it needs the hub.
+    pub(crate) fn post(self) -> Option<u64>
+        ensures { result ≡ post_of self }
+    {
+        match self {
+            Pending::Nothing => None,
+            Pending::FromNull => None,
+            Pending::Message {
+                post,
+                buffer: _,
+                capacity: _,
+            } => Some(post),
+            Pending::Word(post) => Some(post),
         }
     }
 

@@ -1,6 +1,7 @@
 //! Worked rows, as theorems that compute: what a small guest's calls ask and are told.
 
 ghost use Rattle.cl_state.specs.RequestRows.{ClaimedRow, FullRow, HandleRows, NullProbeRow, OpenRow, PersistentRow, ProbeRow, ReceiveRow, SsendRow, TestRow, WaitRow};
+ghost use Rattle.cl_state.specs.SeveralRows.{DoneAndPendingRow, NoneRow, OverlapRow, SeveralRefusals, StatusesRow, TwoPendingRow, UnfitRow};
 ghost use Rattle.cl_state.specs.Rows.{MisfitRow, NullRow, PutRow, RefusalRows, SendRow, TruncatedRow, WaitingRow};
 
 /// PUT writes behind the output, and ends with code 0.
@@ -91,4 +92,39 @@ pub fn starts_and_frees()
 /// The codes of calls whose handles are wrong, and of those that find no free one.
 pub fn refuses_handles()
     ensures { HandleRows }
+{}
+
+/// TESTALL of one done and one pending changes neither until both can complete.
+pub fn completes_all_or_none()
+    ensures { DoneAndPendingRow }
+{}
+
+/// One truncated message is enough for the code of TESTALL and of WAITALL.
+pub fn truncates_one_of_several()
+    ensures { TwoPendingRow }
+{}
+
+/// Messages that aren't those asked for end TESTALL with code 6, and nothing changes.
+pub fn refuses_unfit_messages()
+    ensures { UnfitRow }
+{}
+
+/// Null and inactive requests have the empty status; the statuses may lie over the array of handles.
+pub fn writes_all_statuses()
+    ensures { StatusesRow }
+{}
+
+/// Statuses that lie over a buffer are written last.
+pub fn writes_bytes_before_statuses()
+    ensures { OverlapRow }
+{}
+
+/// WAITALL of no handles ends at once, whatever its addresses.
+pub fn completes_none()
+    ensures { NoneRow }
+{}
+
+/// The codes of TESTALL whose count, array, handles or statuses are wrong.
+pub fn refuses_several()
+    ensures { SeveralRefusals }
 {}

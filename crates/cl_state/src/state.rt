@@ -58,7 +58,7 @@ impl RankState {
     fn doing(&self, hart: u8) -> Doing
         requires { hart < vec_len self.now.harts }
         ensures doing { result ≡ doing_of self.now.site (part_of (rank_of self.now) hart) }
-        ensures right { IsChecked self.now.site self.now.requests result }
+        ensures right { IsChecked self.now.site self.now.memory self.now.requests result }
         ensures running { IsRunning result (get_or self.now.harts.items hart no_hart) }
     {
         Doing::of(
@@ -70,7 +70,7 @@ impl RankState {
         )
     }
 
-    /// What the hart asks in its next turn. Only a copy of bytes to be sent takes memory.
+    /// What the hart asks in its next turn. Only a copy of bytes to be sent, or a list of posts, takes memory.
     #[tactic(auto, unfolding(crate::specs::Asked::asked))]
     pub fn ask(&self, hart: u8) -> Result<Ask, AllocError>
         requires { hart < vec_len self.now.harts }

@@ -13,6 +13,7 @@ use crate::ending::{end, receive_message, receive_nothing};
 use crate::opening::{free, make, open, start};
 use crate::pending::{Manner, Target};
 use crate::probing::{answer_claim, answer_probe};
+use crate::several::complete_several;
 use crate::transfers::{begun, receive, receive_claimed, send};
 use cl_calls::{Call, Claimed, NO_MESSAGE, NO_RANK, Receiving, Site, place};
 use mp_request::{Progress, Requests};
@@ -169,7 +170,7 @@ fn answer_call(
     call: &Call,
     answer: &Answer,
 )
-    requires checked { IsChecked site.now requests.old (Go call.now) }
+    requires checked { IsChecked site.now memory.old requests.old (Go call.now) }
     requires fresh { fresh.now ≡ output_of memory.old (Go call.now) }
     requires room { vec_len out.old + length fresh.now ≤ vec_capacity out.old }
     ensures { record { hart = hart.new; memory = memory.new; requests = requests.new; out = out.new.items } ≡ told_by_call site.now number call.now answer.now (record { hart = hart.old; memory = memory.old; requests = requests.old; out = out.old.items }) }
@@ -241,6 +242,14 @@ fn answer_call(
         Call::RecvInit(receiving) => make(hart, requests, receive(site, &receiving)),
         Call::Start { handle } => start(hart, requests, handle, answer),
         Call::RequestFree { handle } => free(hart, requests, handle),
+        Call::Testall(several) => {
+            let manner = Manner::Immediate;
+            complete_several(site, hart, memory, requests, manner, &several, answer)
+        }
+        Call::Waitall(several) => {
+            let manner = Manner::Blocking;
+            complete_several(site, hart, memory, requests, manner, &several, answer)
+        }
         Call::Unknown => {}
     }
 }
@@ -258,7 +267,7 @@ pub(crate) fn answer_hart(
     answer: &Answer,
 )
     requires running { IsRunning doing.now hart.old }
-    requires checked { IsChecked site.now requests.old doing.now }
+    requires checked { IsChecked site.now memory.old requests.old doing.now }
     requires fresh { fresh.now ≡ output_of memory.old doing.now }
     requires room { vec_len out.old + length fresh.now ≤ vec_capacity out.old }
     ensures { record { hart = hart.new; memory = memory.new; requests = requests.new; out = out.new.items } ≡ told_in site.now number doing.now answer.now (record { hart = hart.old; memory = memory.old; requests = requests.old; out = out.old.items }) }

@@ -180,8 +180,9 @@ impl Requests {
         self.slots.iter().position(|slot| slot.is_none())
     }
 
-    // Each may be tested, and no active request is named twice.
-    fn may_be_tested(&self, handles: &[u64]) -> bool
+    /// Whether handles may be tested together: each is 0 or that of an open request which isn't partitioned, and no
+    /// active request is named twice (MPI 4.1, chapter 3.7.5).
+    pub fn may_be_tested(&self, handles: &[u64]) -> bool
         ensures { result ≡ may_be_tested self.now handles.now }
     {
         self.are_testable(handles) && self.names_active_once(handles)

@@ -203,6 +203,14 @@ impl RankMemory {
         Ok(())
     }
 
+    /// The value of the 8 bytes at an address in the memory, which needs no alignment.
+    pub fn word(&self, address: u64) -> u64
+        requires { address + 8 ≤ length self.now.bytes }
+        ensures { result ≡ value_at self.now.bytes address 8 }
+    {
+        value(self.bytes.as_slice(), address as usize, 8)
+    }
+
     /// Whether `count` bytes from an address on may be read, or with `writing` be written: they are all in the memory
     /// and, where they are written, none is text. A range of 0 bytes is always right, whatever its address.
     pub fn in_range(&self, address: u64, count: u64, writing: bool) -> bool
