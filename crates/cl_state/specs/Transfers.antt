@@ -27,7 +27,7 @@ source_of site comm source = if (source == any) then None else Some (member site
 abbrev pub tag_of : ℕ → Option ℕ
 tag_of tag = if (tag == any) then None else Some tag
 
--- a send, in synchronous mode or in standard mode (MPI 4.1, 3.4); with the null process nothing is moved (3.10)
+-- a send, in synchronous mode or in standard mode (MPI 4.1, 3.4); with the null process nothing is moved (3.11)
 abbrev pub send_of : Site → Bool → Sending → Transfer
 send_of site sync s =
     if (s.dest == no_rank) then SendToNull else Send sync s.buffer s.count (member site s.comm s.dest) s.tag s.comm

@@ -7,7 +7,7 @@ ghost use Rattle.mp_request.specs.Entries as entry;
 /// What a request moves, with the arguments of the call that made it.
 #[derive(Clone, Copy, PartialEq, Eq, Debug, Drop)]
 pub enum Transfer {
-    /// A send to the null process, which moves nothing (MPI 4.1, chapter 3.10).
+    /// A send to the null process, which moves nothing (MPI 4.1, chapter 3.11).
     SendToNull,
     /// A receive from the null process, which moves nothing. Its status has the source -2.
     ReceiveFromNull,
@@ -31,7 +31,7 @@ pub enum Transfer {
         tag: Option<u16>,
         comm: u8,
     },
-    /// A receive of a message that a matched probe claimed (MPI 4.1, chapter 3.8.2).
+    /// A receive of a message that a matched probe claimed (MPI 4.1, chapter 3.8.3).
     ReceiveClaimed {
         buffer: u64,
         capacity: u16,
