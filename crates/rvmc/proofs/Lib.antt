@@ -1,5 +1,4 @@
-pub mod Calls
 pub mod Digits
+pub mod Ends
 pub mod Known
 pub mod Sources
-pub mod Turns

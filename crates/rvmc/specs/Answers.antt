@@ -1,9 +1,12 @@
 -- What each command answers: the text on standard output, and the status.
-use Rattle.std.specs.Prelude.{◌≡◌, ⊤, ℕ, ◌+◌, ◌≤◌, ◌==◌, ◌&&◌, ◌⊎◌, if◌then◌else◌, Bool, true, false, List, [], ◌∷◌, length, take, count_by, MatchBool, MatchOption, Option, Some, None, Result, Ok, Err, string_bytes}
+use Rattle.std.specs.Prelude.{◌≡◌, ⊤, ℕ, ◌+◌, ◌≤◌, ◌==◌, ◌⊎◌, if◌then◌else◌, Bool, true, false, List, [], length, take, count_by, MatchOption, Option, Some, None, Result, Ok, Err, string_bytes}
 use Rattle.std.specs.Io.KnownBytes.{Appends, Keeps}
-use Rattle.std.specs.List.{list_all}
 use Rattle.std.specs.Result.{result_ok}
 use Rattle.std.specs.Str.Lossy.{utf8_valid_len}
+use Rattle.cl_run.specs.Plans.{ArePlans}
+use Rattle.cl_run.specs.Runs.{IsOneRun}
+use Rattle.cl_run.specs.declared.plans.Plan.{Plan}
+use Rattle.cl_run.specs.declared.records.Record.{Record}
 use Rattle.rv_asm.specs.Source.{meaning}
 use Rattle.rv_asm_tokens.specs.declared.fault.AsmFaultKind.TheVariants as kinds
 use Rattle.rv_image.specs.Reading.{reading}
@@ -15,11 +18,9 @@ use Rattle.rvmc_cli.specs.declared.parsing.CommandLine.TheVariants.{Asm, Dis, On
 use Rattle.rvmc_cli.specs.declared.parsing.ParseFault.{ParseFault}
 use Rattle.rvmc_cli.specs.declared.parsing.ParseFault.TheVariants as parse
 use Rattle.rvmc.specs.Listing.{listing}
-use Rattle.rvmc.specs.Machine.{Machine, loaded}
-use Rattle.rvmc.specs.Report.{rank_end, report, status_of}
-use Rattle.rvmc.specs.Run.{IsRun}
+use Rattle.rvmc.specs.Plans.{ArePlansOf, listed}
+use Rattle.rvmc.specs.Report.{rank_ends, report, status_of}
 use Rattle.rvmc.specs.declared.answers.Answer.{Answer}
-use Rattle.rvmc.specs.declared.ending.Ending.{Ending}
 use Rattle.rvmc.specs.declared.faults.Fault.{Fault}
 use Rattle.rvmc.specs.declared.faults.Fault.TheVariants as faults
 
@@ -52,22 +53,22 @@ IsFaulty text status = (text ≡ []) × (status ≡ 1)
 abbrev pub IsDone : List ℕ → List ℕ → ℕ → Type 0
 IsDone meant text status = (text ≡ meant) × (status ≡ 0)
 
--- one rank with one hart, which is all that is run today
-abbrev pub is_alone : ImageParts → Bool
-is_alone image = (image.ranks == 1) && (image.harts == 1)
+-- the report and the status of a run of the image on one thread, by these plans, with the ranks in this order
+pub record IsReported (image : ImageParts) (plans : List Plan) (order : List ℕ) (text : List ℕ) (status : ℕ) : Type 0 where
+  pub left : Record
+  pub run : IsOneRun image plans order left
+  pub told : text ≡ report (rank_ends left)
+  pub status_is : status ≡ status_of (rank_ends left)
 
--- a list that names nothing but number 0, or none
-abbrev pub names_only_0 : Option (List ℕ) → Bool
-names_only_0 (Some numbers) = list_all (λ number. number == 0) numbers
-names_only_0 None = true
+-- a run, if the image may be run so: else there is a fault
+pub record IsRunBy (image : ImageParts) (plans : List Plan) (order : List ℕ) (text : List ℕ) (status : ℕ) : Type 0 where
+  pub reported : ArePlans image plans order → IsReported image plans order text status
+  pub refused : ¬ (ArePlans image plans order) → IsFaulty text status
 
--- the report and the status of a run of the image
-pub record IsReported (image : ImageParts) (budget : ℕ) (text : List ℕ) (status : ℕ) : Type 0 where
-  pub end : Machine
-  pub ending : Ending
-  pub run : IsRun budget (loaded image) end ending
-  pub told : text ≡ report (rank_end end ending ∷ [])
-  pub status_is : status ≡ status_of (rank_end end ending ∷ [])
+-- `one`: a run with the same plan for each rank. What isn't listed is all, in order
+abbrev pub IsOne : ImageParts → ℕ → Option (List ℕ) → Option (List ℕ) → List ℕ → ℕ → Type 0
+IsOne image budget harts ranks text status =
+    (plans : List Plan) × ArePlansOf image.ranks (listed harts image.harts) budget plans × IsRunBy image plans (listed ranks image.ranks) text status
 
 -- one case a command, of the bytes that are read
 abbrev pub Says : CommandLine → List ℕ → List ℕ → ℕ → Type 0
@@ -76,8 +77,7 @@ Says Asm bytes text status =
 Says Dis bytes text status =
     MatchOption (spelled_image bytes) (IsFaulty text status) (λ image. IsDone (listing image.text) text status)
 Says (One source budget plan order) bytes text status =
-    MatchOption (image_of source bytes) (IsFaulty text status)
-    (λ image. MatchBool (is_alone image && (names_only_0 plan && names_only_0 order)) (IsReported image budget text status) (IsFaulty text status))
+    MatchOption (image_of source bytes) (IsFaulty text status) (λ image. IsOne image budget plan order text status)
 
 -- ---- the program
 

@@ -1,5 +1,7 @@
 -- The faults of the program.
 use Rattle.std.specs.Prelude.{ℕ}
+use Rattle.cl_run.specs.declared.records.RunFault.{RunFault}
+use Rattle.cl_run.specs.declared.records.RunFault.TheVariants as run
 use Rattle.rv_asm_tokens.specs.declared.fault.AsmFault.{AsmFault}
 use Rattle.rv_asm_tokens.specs.declared.fault.AsmFaultKind.{AsmFaultKind}
 use Rattle.rv_asm_tokens.specs.declared.fault.AsmFaultKind.TheVariants as kinds
@@ -28,3 +30,7 @@ fault_of_source fault = fault_of_kind fault.kind fault
 abbrev pub fault_of_image : ImageFault → Fault
 fault_of_image image.Memory = Memory
 fault_of_image fault = Image fault
+
+abbrev pub fault_of_run : RunFault → Fault
+fault_of_run run.Plans = Plans
+fault_of_run run.Memory = Memory

@@ -1,6 +1,5 @@
-pub mod Machine
-pub mod Run
 pub mod Report
+pub mod Plans
 pub mod Listing
 pub mod Faults
 pub mod Answers

@@ -1,15 +1,16 @@
 -- What the report of a run tells.
-use Rattle.std.specs.Prelude.{ℕ, Bool, true, false, if◌then◌else◌, List, [], ◌∷◌, ◌++◌, length, codes}
+use Rattle.std.specs.Prelude.{◌≡◌, ℕ, Bool, true, false, if◌then◌else◌, List, [], ◌∷◌, ◌++◌, length, codes}
 use Rattle.std.specs.Fmt.{decimal, digits}
 use Rattle.std.specs.List.{enumerate_from, flat_map, list_any}
+use Rattle.cl_rank.specs.declared.stops.Stop.{Stop}
+use Rattle.cl_rank.specs.declared.stops.Stop.TheVariants.{AllEnded, Budget, Calls, ClockFull, Memory}
+use Rattle.cl_run.specs.declared.records.Record.{Record}
+use Rattle.cl_state.specs.declared.state.RankState.{RankState}
+use Rattle.cl_trace.specs.Traces.{TraceView}
 use Rattle.rv_hart.specs.State.{State}
 use Rattle.rv_hart.specs.declared.state.Mode.{Mode}
 use Rattle.rv_hart.specs.declared.state.Mode.TheVariants.{Running, Waiting, Ended, Trapped}
 use Rattle.rv_memory.specs.Fault.{cause_number}
-use Rattle.rvmc.specs.Machine.{Machine}
-use Rattle.rvmc.specs.declared.ending.Ending.{Ending}
-use Rattle.rvmc.specs.declared.ending.Stop.{Stop}
-use Rattle.rvmc.specs.declared.ending.Stop.TheVariants.{AllEnded, Budget, Memory}
 
 -- ---- the ranks
 
@@ -20,9 +21,23 @@ pub record RankEnd : Type 0 where
   pub stop : Stop
   pub turns : ℕ
 
--- the end of a run of a machine with one hart
-abbrev pub rank_end : Machine → Ending → RankEnd
-rank_end m ending = record { output = m.output; harts = m.hart ∷ []; stop = ending.stop; turns = ending.turns }
+-- the end of a rank in this state
+abbrev pub rank_end : RankState → ℕ → Stop → RankEnd
+rank_end state turns stop = record { output = state.out.items; harts = state.harts.items; stop = stop; turns = turns }
+
+-- the end of each rank, of the ranks' states, their events and their stops
+abbrev pub ends_of : List RankState → List TraceView → List Stop → List RankEnd
+ends_of (state ∷ states) (trace ∷ traces) (stop ∷ stops) = rank_end state (length trace.events) stop ∷ ends_of states traces stops
+ends_of states traces stops = []
+
+-- the end of each rank of a record
+abbrev pub rank_ends : Record → List RankEnd
+rank_ends left = ends_of left.ranks.items left.traces.items left.stops.items
+
+-- there is a state, a trace and a stop of each rank
+pub record HasEachRank (left : Record) : Type 0 where
+  pub traces : length left.traces.items ≡ length left.ranks.items
+  pub stops : length left.stops.items ≡ length left.ranks.items
 
 -- ---- their text
 
@@ -44,6 +59,8 @@ abbrev pub stop_text : Stop → List ℕ
 stop_text AllEnded = codes "all-ended"
 stop_text Budget = codes "budget"
 stop_text Memory = codes "memory"
+stop_text (ClockFull clock) = codes "clock"
+stop_text (Calls count) = codes "calls"
 
 -- `rank R output N`
 abbrev pub output_head : ℕ → ℕ → List ℕ
@@ -63,16 +80,21 @@ abbrev pub stop_line : ℕ → Stop → ℕ → List ℕ
 stop_line rank stop turns =
     codes "rank " ++ (decimal rank ++ (codes " stop " ++ (stop_text stop ++ (codes " turns " ++ (decimal turns ++ newline)))))
 
+-- these harts of a rank in order, the first of which has this number
+abbrev pub harts_text : ℕ → ℕ → List State → List ℕ
+harts_text rank number harts = flat_map (λ hart. hart_text rank hart.0 hart.1) (enumerate_from number harts)
+
 -- a rank's output, its harts in order, and its stop
 abbrev pub rank_text : ℕ → RankEnd → List ℕ
-rank_text rank end =
-    output_text rank end.output
-    ++ (flat_map (λ hart. hart_text rank hart.0 hart.1) (enumerate_from 0 end.harts)
-    ++ stop_line rank end.stop end.turns)
+rank_text rank end = output_text rank end.output ++ (harts_text rank 0 end.harts ++ stop_line rank end.stop end.turns)
+
+-- these ranks in order, the first of which has this number
+abbrev pub ranks_text : ℕ → List RankEnd → List ℕ
+ranks_text number ranks = flat_map (λ rank. rank_text rank.0 rank.1) (enumerate_from number ranks)
 
 -- all ranks in order
 abbrev pub report : List RankEnd → List ℕ
-report ranks = flat_map (λ rank. rank_text rank.0 rank.1) (enumerate_from 0 ranks)
+report ranks = ranks_text 0 ranks
 
 -- ---- their status
 
@@ -84,6 +106,8 @@ wants_memory other = false
 -- the rank stopped before all its harts did
 abbrev pub is_cut_short : Stop → Bool
 is_cut_short Budget = true
+is_cut_short (ClockFull clock) = true
+is_cut_short (Calls count) = true
 is_cut_short other = false
 
 abbrev pub is_trapped : Mode → Bool
@@ -93,7 +117,8 @@ is_trapped other = false
 abbrev pub has_trapped : List State → Bool
 has_trapped harts = list_any (λ hart. is_trapped hart.mode) harts
 
--- 5 where memory was wanting for a rank, else 3 where a hart trapped, else 4 where a rank's budget was used, else 0
+-- 5 where memory was wanting for a rank, else 3 where a hart trapped, else 4 where a rank stopped by its budget, a full clock
+-- or too many calls, else 0
 abbrev pub status_of : List RankEnd → ℕ
 status_of ranks =
     if list_any (λ rank. wants_memory rank.stop) ranks then 5

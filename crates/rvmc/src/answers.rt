@@ -2,13 +2,14 @@
 
 ghost use Rattle.std.specs.Prelude.{◌≡◌, ◌+◌, ◌==◌, count_by};
 ghost use Rattle.std.specs.Str.{IsUtf8};
-ghost use Rattle.rvmc.specs.Answers.{Finds, Gives, IsReported, Says, names_only_0, source_image, spelled_image, wrong_bytes};
+ghost use Rattle.rvmc.specs.Answers.{Finds, Gives, IsOne, IsRunBy, Says, image_of, source_image, spelled_image, wrong_bytes};
 ghost use Rattle.rvmc_cli.specs.declared.parsing.CommandLine.TheVariants.{Asm, Dis, One};
 
 use crate::faults::Fault;
 use crate::listing::listing;
-use crate::machine::Machine;
+use crate::plans::{listed, plans};
 use crate::report::{report, status};
+use cl_run::{Plan, run_one};
 use rv_asm::{AsmFault, AsmFaultKind, assemble};
 use rv_image::{Image, read_image, write_image};
 use rvmc_cli::{CommandLine, Numbers};
@@ -59,6 +60,17 @@ fn rebuilt_image(alloc: Global, bytes: &[u8]) -> Result<Image, Fault>
     Ok(read_image(alloc, &text)?)
 }
 
+/// The image of a source or of an image.
+fn image_of(alloc: Global, source: bool, bytes: &[u8]) -> Result<Image, Fault>
+    ensures { Finds (image_of source bytes.now) result }
+{
+    if source {
+        rebuilt_image(alloc, bytes)
+    } else {
+        spelled_image(alloc, bytes)
+    }
+}
+
 /// `asm`.
 fn asm(alloc: Global, bytes: &[u8]) -> Result<Answer, Fault>
     ensures { Gives (Says Asm bytes.now) result }
@@ -77,25 +89,31 @@ fn dis(alloc: Global, bytes: &[u8]) -> Result<Answer, Fault>
     Ok(Answer { text, status: 0 })
 }
 
-/// A run of an image of one rank with one hart.
-fn run(alloc: Global, image: &Image, budget: u64) -> Result<Answer, Fault>
-    ensures { Gives (IsReported image.now budget) result }
+/// A run of an image on one thread.
+fn run(alloc: Global, image: &Image, plans: &[Plan], order: &[u8]) -> Result<Answer, Fault>
+    ensures { Gives (IsRunBy image.now plans.now order.now) result }
 {
-    let mut machine = Machine::load(alloc, image)?;
-    let ending = machine.run(budget);
-    let text = report(alloc, &machine, &ending)?;
-    let status = status(&machine, &ending);
+    let record = run_one(alloc, image, plans, order)?;
+    let text = report(alloc, &record)?;
+    let status = status(&record);
     Ok(Answer { text, status })
 }
 
-/// Whether a list names nothing but number 0, which is the one hart or rank that there is.
-fn names_only_0(list: &Option<Numbers>) -> bool
-    ensures { result ≡ names_only_0 list.now }
+/// A run of an image by the same plan for each rank.
+fn run_all(
+    alloc: Global,
+    image: &Image,
+    budget: u64,
+    harts: &Option<Numbers>,
+    ranks: &Option<Numbers>,
+) -> Result<Answer, Fault>
+    ensures { Gives (IsOne image.now budget harts.now ranks.now) result }
 {
-    match list {
-        Some(numbers) => numbers.as_slice().iter().all(|number| *number == 0),
-        None => true,
-    }
+    let parts = image.parts();
+    let harts = listed(alloc, harts, parts.harts)?;
+    let order = listed(alloc, ranks, parts.ranks)?;
+    let plans = plans(alloc, parts.ranks, &harts, budget)?;
+    run(alloc, image, &plans, &order)
 }
 
 /// `one`.
@@ -103,25 +121,14 @@ fn one(
     alloc: Global,
     source: bool,
     budget: u64,
-    plan: Option<Numbers>,
-    order: Option<Numbers>,
+    plan: &Option<Numbers>,
+    order: &Option<Numbers>,
     bytes: &[u8],
 ) -> Result<Answer, Fault>
-    ensures { Gives (Says (One source budget plan order) bytes.now) result }
+    ensures { Gives (Says (One source budget plan.now order.now) bytes.now) result }
 {
-    let image = if source {
-        rebuilt_image(alloc, bytes)?
-    } else {
-        spelled_image(alloc, bytes)?
-    };
-    let parts = image.parts();
-    if parts.ranks != 1 || parts.harts != 1 {
-        return Err(Fault::Plans);
-    }
-    if !names_only_0(&plan) || !names_only_0(&order) {
-        return Err(Fault::Plans);
-    }
-    run(alloc, &image, budget)
+    let image = image_of(alloc, source, bytes)?;
+    run_all(alloc, &image, budget, plan, order)
 }
 
 /// What a command answers to its input. A fault of the input is an `Err`, as want of memory is.
@@ -136,6 +143,6 @@ pub fn answer_to(alloc: Global, line: CommandLine, bytes: &[u8]) -> Result<Answe
             budget,
             plan,
             order,
-        } => one(alloc, source, budget, plan, order, bytes),
+        } => one(alloc, source, budget, &plan, &order, bytes),
     }
 }

@@ -1,9 +1,10 @@
 //! Why there is no answer.
 
 ghost use Rattle.std.specs.Prelude.{◌≡◌};
-ghost use Rattle.rvmc.specs.Faults.{fault_of_image, fault_of_source, fault_status};
+ghost use Rattle.rvmc.specs.Faults.{fault_of_image, fault_of_run, fault_of_source, fault_status};
 ghost use Rattle.rvmc.specs.declared.faults.Fault.TheVariants as faults;
 
+use cl_run::RunFault;
 use rv_asm::{AsmFault, AsmFaultKind};
 use rv_image::ImageFault;
 use std::alloc::{AllocError, AllocFailed};
@@ -18,7 +19,7 @@ pub enum Fault {
     /// The image's first fault.
     #[error("image: {0}")]
     Image(ImageFault),
-    /// The image has more ranks or harts than are run.
+    /// The plan or the order names a hart or a rank that isn't there, or the order misses a rank.
     #[error("plans")]
     Plans,
     /// Memory was refused.
@@ -63,6 +64,17 @@ impl From<ImageFault> for Fault {
         match fault {
             ImageFault::Memory => Fault::Memory,
             _ => Fault::Image(fault),
+        }
+    }
+}
+
+impl From<RunFault> for Fault {
+    ghost from_gives = { λ fault e. e ≡ fault_of_run fault };
+
+    fn from(fault: RunFault) -> Fault {
+        match fault {
+            RunFault::Plans => Fault::Plans,
+            RunFault::Memory => Fault::Memory,
         }
     }
 }

@@ -2,11 +2,10 @@
 #![tactic(auto)]
 
 mod answers;
-mod ending;
 mod faults;
 mod input;
 mod listing;
-mod machine;
+mod plans;
 mod report;
 #[cfg(test)]
 mod tests;

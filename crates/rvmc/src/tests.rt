@@ -1,5 +1,8 @@
 //! The program on readers and writers in memory. Expected texts are the ISA manual's and the format documents'.
 
+mod calls;
+mod clusters;
+
 use crate::tool::tool_plain;
 use std::alloc::Global;
 use std::io::{self, Read, Write};
@@ -158,13 +161,34 @@ fn faults_of_an_image(rt: HostRuntime) {
 }
 
 #[test]
-fn more_ranks_or_harts_than_one(rt: HostRuntime) {
+fn each_rank_and_each_hart_runs_the_image(rt: HostRuntime) {
     let mut two_ranks = HI_IMAGE;
     two_ranks[6] = 2;
-    expect(&rt, &["one"], &two_ranks, 1, b"", b"rvmc: plans\n");
+    let report = b"\
+rank 0 output 3
+hi
+
+rank 0 hart 0 ended 0
+rank 0 stop all-ended turns 10
+rank 1 output 3
+hi
+
+rank 1 hart 0 ended 0
+rank 1 stop all-ended turns 10
+";
+    expect(&rt, &["one"], &two_ranks, 0, report, b"");
     let mut two_harts = HI_IMAGE;
     two_harts[7] = 2;
-    expect(&rt, &["one"], &two_harts, 1, b"", b"rvmc: plans\n");
+    let report = b"\
+rank 0 output 6
+hi
+hi
+
+rank 0 hart 0 ended 0
+rank 0 hart 1 ended 0
+rank 0 stop all-ended turns 20
+";
+    expect(&rt, &["one"], &two_harts, 0, report, b"");
 }
 
 #[test]

@@ -88,8 +88,8 @@ fn show<O: Write, E: Write>(fault: &ParseFault, out: &mut O, err: &mut E) -> u8
 }
 
 /// The whole program: `words` are those of the command line after the program's name. The result is its status:
-/// 0 done, 1 a fault of the input, 2 of the command line, 3 a hart trapped, 4 the budget was used, 5 memory was
-/// refused, 6 a read or a write failed. A fault stands as one line on `err`.
+/// 0 done, 1 a fault of the input, 2 of the command line, 3 a hart trapped, 4 a rank was stopped by its budget, a full
+/// clock or too many calls, 5 memory was refused, 6 a read or a write failed. A fault stands as one line on `err`.
 pub fn tool_plain<'a, R: Read, O: Write, E: Write>(
     alloc: Global,
     words: &'a [&'a str],

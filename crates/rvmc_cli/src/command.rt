@@ -18,7 +18,8 @@ Examples:
 
 Status:
   0 done, 1 fault of the input, 2 fault of the command line, 3 a hart trapped,
-  4 the budget is used up, 5 out of memory, 6 a read or write failed";
+  4 a rank stopped by its budget, a full clock or too many calls,
+  5 out of memory, 6 a read or write failed";
 
 const ASM_EXAMPLES: &str = "\
 Example:
