@@ -1,4 +1,5 @@
 # Stores of each width, read back byte by byte and put out as hex digits; then what a trap looks like.
+# run: one --source; status 3
         addi s0, sp, -16            # eight bytes on the stack
         addi s3, sp, -8             # three more: two digits and a blank
         li   t0, 0x01234567
