@@ -2,6 +2,12 @@
 
 mod calls;
 mod clusters;
+mod guest;
+mod persistent;
+mod probes;
+mod requests;
+mod several;
+mod waiting;
 
 use crate::tool::tool_plain;
 use std::alloc::Global;
