@@ -3,12 +3,14 @@ use Rattle.std.specs.Prelude.{ℕ, zero, suc, ◌≡◌, ◌<◌, ◌^◌, List,
 use Rattle.std.proofs.Common.{refl, sym, ap, ◌∙◌, subst, arith}
 use Rattle.std.proofs.Math.Nat.{zero-mod}
 use Rattle.std.proofs.lemmas.List.{get_or_read, length-map}
+use Rattle.std.proofs.lemmas.List.Elements.{All-nil}
 use Rattle.std.proofs.lemmas.Simd.{map-map}
 use Rattle.std.proofs.lemmas.Option.{get_or_from_slice_get, same_Some, slice_get-map, slice_get_within}
 use Rattle.rv_image.specs.declared.images.ImageParts.{ImageParts}
 use Rattle.cl_journal.specs.Journal.{stamp_after}
 use Rattle.cl_journal.specs.declared.entries.Entry.{Entry}
 use Rattle.cl_trace.specs.Traces.{TraceView}
+use Rattle.cl_trace.specs.declared.events.Event.{Event}
 use Rattle.cl_state.specs.Rank.{below, loaded}
 use Rattle.cl_state.specs.Room.{rank_of}
 use Rattle.cl_state.specs.declared.state.RankState.{RankState}
@@ -21,7 +23,7 @@ use Rattle.cl_run.specs.declared.steps.Step.{Step}
 use Rattle.cl_run.specs.Cluster.{IsRun, loaded_cluster}
 use Rattle.cl_run.specs.Driver.{AreFresh, AreSeated, IsRecordOf, IsStoppedAt, Station, station, stations}
 use Rattle.cl_run.specs.Plans.{ArePlans, IsPlan}
-use Rattle.cl_run.specs.Runs.{HasCause, IsOneRun, IsRankOf, end_of}
+use Rattle.cl_run.specs.Runs.{HasCause, IsOneRun, IsRankOf, end_of, is_hub}
 use Rattle.cl_run.specs.UnderWay.{IsSoFar, IsUnderWay, cluster_of}
 use Rattle.cl_run.proofs.Rounds.{goes_round}
 use Rattle.cl_run.proofs.Seats.{station_at}
@@ -40,6 +42,8 @@ rank_of_run : (steps : List Step) (entries : List Entry) (r : ℕ) (plan : Plan)
     → IsRankOf steps entries r plan s.events s.rank stop
 rank_of_run steps entries r plan s stop so e = record {
   steps_are = so.steps_are;
+  in_budget = so.in_budget;
+  requests_stand = so.requests_stand;
   requests_are = so.requests_are;
   follows_plan = so.follows_plan;
   has_cause = subst (λ o. IfSome o (HasCause plan s.rank s.events entries)) e so.has_cause;
@@ -67,6 +71,8 @@ module _ (image : ImageParts) (plans : List Plan) (order : List ℕ) (are : AreP
     number_is = refl;
     low = omega arith;
     budget_is = refl;
+    in_budget = omega arith;
+    requests_stand = All-nil (λ (e : Event). is_some e.request ≡ is_hub e.kind);
     next_is = sym (zero-mod (length plan.order.items));
     steps_are = refl;
     requests_are = refl;
@@ -90,6 +96,7 @@ module _ (image : ImageParts) (plans : List Plan) (order : List ℕ) (are : AreP
       journal = record { links = links i; entries = calls i; clock = stamp_after 0 (calls i) };
       boxes = (loaded_cluster image).boxes;
     };
+    none_idles = tt;
     round = (omega arith, λ passed low high. absurd (omega (arith, high)));
     each = λ r plan s at_plan at.
         let seat = from_map station driver.seats.items r s at in
@@ -126,6 +133,7 @@ module _ (image : ImageParts) (plans : List Plan) (order : List ℕ) (are : AreP
         record {
           steps = w.steps;
           run = subst (IsRun (loaded_cluster image) w.steps) ends w.run;
+          none_idles = w.none_idles;
           round = goes_round order (IsStoppedAt (stations driver)) 0 (map (λ (e : Step). e.rank) w.steps) slot w.round;
           traces_count = ap (λ (xs : List TraceView). length xs) is.traces_are ∙ length-map driver.seats.items (λ (seat : Seat). seat.rank.trace) ∙ count;
           ranks_count = ap (λ (xs : List RankState). length xs) is.ranks_are ∙ length-map driver.seats.items (λ (seat : Seat). seat.rank.state) ∙ count;

@@ -1,12 +1,12 @@
 -- What holds of one rank as a run goes on.
-use Rattle.std.specs.Prelude.{ℕ, zero, suc, ◌≡◌, ◌<◌, ◌≤◌, ◌+◌, ◌%◌, ◌^◌, ◌⊎◌, false, cond, List, [], ◌∷◌, ◌++◌, length, map, eqb, slice_get, slice_index, Option, None, Some, IfSome}
+use Rattle.std.specs.Prelude.{ℕ, zero, suc, ◌≡◌, ◌<◌, ◌≤◌, ◌+◌, ◌%◌, ◌^◌, ◌⊎◌, false, cond, List, [], ◌∷◌, ◌++◌, length, map, eqb, slice_get, slice_index, Option, None, Some, IfSome, is_some, All}
 use Rattle.std.specs.List.{filter, filter_map}
 use Rattle.std.proofs.Common.{refl, sym, ap, ◌∙◌, subst, arith}
 use Rattle.std.proofs.Math.Nat.{mod-add-mod}
 use Rattle.std.proofs.lemmas.Bool.{eq-eqb}
 use Rattle.std.proofs.lemmas.Bool.Decides.{eqb_tells}
 use Rattle.std.proofs.lemmas.List.{append-nil, length-append, map-append}
-use Rattle.std.proofs.lemmas.List.Elements.{filter-append, filter_map-append}
+use Rattle.std.proofs.lemmas.List.Elements.{filter-append, filter_map-append, All-append, All-cons, All-nil}
 use Rattle.std.proofs.lemmas.Option.{same_Some}
 use mathlib.Core.Logic.{inl, inr}
 use Rattle.cl_journal.specs.Calls.{IsRefusal}
@@ -18,7 +18,7 @@ use Rattle.cl_trace.specs.declared.events.Event.{Event}
 use Rattle.cl_state.specs.Rank.{Rank}
 use Rattle.cl_state.proofs.Moves.{told_at}
 use Rattle.cl_rank.proofs.Alone.{clock_moved}
-use Rattle.cl_rank.specs.Deeds.{Deed, answer_of, event_of, kind_of}
+use Rattle.cl_rank.specs.Deeds.{Deed, answer_of, event_of, kind_of, Act, request_of}
 use Rattle.cl_rank.specs.Turns.{Answered, IsCause, StopHolds, stop_of}
 use Rattle.cl_rank.specs.declared.stops.Stop.{Stop}
 use Rattle.cl_run.specs.declared.plans.Plan.{Plan}
@@ -47,6 +47,21 @@ hub_calls_more es e =
     ap (λ (xs : List Event). length xs) (filter-append (λ (x : Event). is_hub x.kind) es (e ∷ []))
     ∙ length-append (filter (λ (x : Event). is_hub x.kind) es) (filter (λ (x : Event). is_hub x.kind) (e ∷ []))
 
+-- a hub event has a request, any other none
+abbrev stands : Event → Type 0
+stands e = is_some e.request ≡ is_hub e.kind
+
+request_stands : (a : Act) → is_some (request_of a) ≡ is_hub (kind_of a)
+request_stands Act.Plain = refl
+request_stands Act.Local = refl
+request_stands (Act.Hub clock request reply) = refl
+request_stands (Act.Ready link part bytes) = refl
+request_stands (Act.Take link part gate bytes) = refl
+request_stands (Act.Miss link part) = refl
+request_stands (Act.Freed link part gate) = refl
+request_stands Act.Held = refl
+request_stands Act.Idle = refl
+
 -- the rank took a turn
 module _ (steps : List Step) (before after : Journal) (r : ℕ) (plan : Plan) (s t : Station) (turn : TakesTurn plan s before t after)
     (so : IsSoFar steps before.entries r plan s) where
@@ -68,6 +83,9 @@ module _ (steps : List Step) (before after : Journal) (r : ℕ) (plan : Plan) (s
   few : length (entries_by r before.entries) + length (listed (entry_of d)) ≤ 1048576
   few = subst (λ q. length (entries_by q before.entries) ≤ 1048576 → length (entries_by q before.entries) + length (listed (entry_of d)) ≤ 1048576) is part.few so.few_calls
 
+  longer : length t.events ≡ length s.events + 1
+  longer = ap (λ (es : List Event). length es) turn.traced ∙ length-append s.events (event_of turn.deed ∷ [])
+
   same_step : step_of d ≡ step_by r (event_of d)
   same_step = λ i. record { rank = is i; hart = d.hart; stamp = d.stamp; kind = kind_of d.act }
 
@@ -77,6 +95,9 @@ module _ (steps : List Step) (before after : Journal) (r : ℕ) (plan : Plan) (s
     number_is = ap (λ (x : Rank). x.site.number) turn.moves.4 ∙ ap (λ site. site.number) (told_at s.rank d.hart (answer_of d.act) d.stamp).site ∙ so.number_is;
     low = subst (λ n. n < 2 ^ 62) (sym (clock_moved s.rank t.rank d turn.moves)) turn.moves.1;
     budget_is = turn.budget_stays ∙ so.budget_is;
+    in_budget = omega (arith, turn.turns_left, so.budget_is, longer);
+    requests_stand = subst (All stands) (sym turn.traced)
+        (All-append stands s.events (event_of d ∷ []) so.requests_stand (All-cons stands (event_of d) [] (request_stands d.act) (All-nil stands)));
     next_is = turn.next_is
         ∙ ap (λ n. (n + 1) % length plan.order.items) so.next_is
         ∙ mod-add-mod (length s.events) (length plan.order.items) 1
@@ -141,6 +162,8 @@ module _ (steps : List Step) (before after : Journal) (r : ℕ) (plan : Plan) (s
     number_is = so.number_is;
     low = so.low;
     budget_is = so.budget_is;
+    in_budget = so.in_budget;
+    requests_stand = so.requests_stand;
     next_is = so.next_is;
     steps_are = filter-append (λ (e : Step). eqb e.rank r) steps (step_of d ∷ [])
         ∙ ap (λ es. of_rank (λ (e : Step). e.rank) r steps ++ es) (filter-skips (λ (e : Step). eqb e.rank r) (step_of d) [] other)
@@ -188,6 +211,8 @@ module _ (steps : List Step) (before : Journal) (r : ℕ) (plan : Plan) (s t : S
         number_is = so.number_is;
         low = so.low;
         budget_is = so.budget_is;
+        in_budget = so.in_budget;
+        requests_stand = so.requests_stand;
         next_is = so.next_is;
         steps_are = so.steps_are;
         requests_are = so.requests_are;

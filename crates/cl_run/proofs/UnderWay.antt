@@ -7,9 +7,12 @@ use Rattle.std.proofs.lemmas.Option.{same_Some, slice_get-map}
 use mathlib.Core.Logic.{inl, inr}
 use Rattle.rv_image.specs.declared.images.ImageParts.{ImageParts}
 use Rattle.cl_journal.specs.Journal.{Journal}
+use Rattle.cl_rank.specs.Turns.{AllStopped}
+use Rattle.cl_state.specs.Rank.{Rank}
+use Rattle.cl_run.specs.Runs.{NoneIdles}
 use Rattle.cl_run.specs.declared.plans.Plan.{Plan}
 use Rattle.cl_run.specs.declared.steps.Step.{Step}
-use Rattle.cl_run.specs.Cluster.{IsRun, IsStep, loaded_cluster}
+use Rattle.cl_run.specs.Cluster.{Cluster, IsRun, IsStep, loaded_cluster}
 use Rattle.cl_run.specs.Driver.{IsStoppedAt, Station, Stops, TakesTurn}
 use Rattle.cl_run.specs.Plans.{in_slot}
 use Rattle.cl_run.specs.Product.{step_of}
@@ -18,7 +21,14 @@ use Rattle.cl_run.proofs.Hubs.{HubPart, hub_part}
 use Rattle.cl_run.proofs.Lists.{get-set_same, get-set_other}
 use Rattle.cl_run.proofs.Rounds.{more_done, one_turn_more, passed_over}
 use Rattle.cl_run.proofs.Stations.{after_others_turn, after_stop, after_turn}
-use Rattle.cl_run.proofs.Tables.{case_of_deed, run_more, set-same}
+use Rattle.cl_run.proofs.Tables.{case_of_deed, run_more, set-same, step_once}
+
+none_idles_more : (es : List Step) (old mid : Cluster) (e : Step) → NoneIdles old es → IsRun old es mid
+    → ((rank : Rank) → slice_get mid.ranks e.rank ≡ Some rank → ¬ (AllStopped rank)) → NoneIdles old (es ++ e ∷ [])
+none_idles_more [] old mid e h run runs =
+    ((λ rank at. runs rank (subst (λ (c : Cluster). slice_get c.ranks e.rank ≡ Some rank) (sym run) at)), λ m s. tt)
+none_idles_more (x ∷ es) old mid e h run runs =
+    (h.0, λ m s. none_idles_more es m mid e (h.1 m s) (subst (λ c. IsRun c es mid) (step_once old x run.0 m run.1 s) run.2) runs)
 
 module _ (image : ImageParts) (plans : List Plan) (order : List ℕ) (ss : List Station) (slot : ℕ) where
   -- a rank that is stopped is passed over
@@ -29,6 +39,7 @@ module _ (image : ImageParts) (plans : List Plan) (order : List ℕ) (ss : List 
     low = w.low;
     steps = w.steps;
     run = w.run;
+    none_idles = w.none_idles;
     round = passed_over order (IsStoppedAt ss) 0 (map (λ (e : Step). e.rank) w.steps) slot stopped w.round;
     each = w.each;
   }
@@ -64,6 +75,7 @@ module _ (image : ImageParts) (plans : List Plan) (order : List ℕ) (ss : List 
       low = w.low;
       steps = w.steps;
       run = subst (IsRun (loaded_cluster image) w.steps) same_cluster w.run;
+      none_idles = w.none_idles;
       round = passed_over order (IsStoppedAt (slice_set ss (in_slot order slot) t)) 0 (map (λ (e : Step). e.rank) w.steps) slot
           (t, h.stop, get-set_same ss (in_slot order slot) s t there, h.stops)
           (more_done order (IsStoppedAt ss) (IsStoppedAt (slice_set ss (in_slot order slot) t)) still 0 (map (λ (e : Step). e.rank) w.steps) slot w.round);
@@ -95,6 +107,8 @@ module _ (image : ImageParts) (plans : List Plan) (order : List ℕ) (ss : List 
       low = part.low w.low;
       steps = w.steps ++ step_of turn.deed ∷ [];
       run = run_more w.steps (loaded_cluster image) (cluster_of image ss before) (cluster_of image (slice_set ss (in_slot order slot) t) after) (step_of turn.deed) w.run goes;
+      none_idles = none_idles_more w.steps (loaded_cluster image) (cluster_of image ss before) (step_of turn.deed) w.none_idles w.run
+          (λ rank at. subst (λ x. ¬ (AllStopped x)) (same_Some s.rank rank (sym rank_here ∙ at)) turn.runs);
       round = subst (λ takers. Round order (IsStoppedAt (slice_set ss (in_slot order slot) t)) 0 takers (slot + 1)) (sym (map-append (λ (e : Step). e.rank) w.steps (step_of turn.deed ∷ [])))
           (more_done order (IsStoppedAt ss) (IsStoppedAt (slice_set ss (in_slot order slot) t)) still 0 (map (λ (e : Step). e.rank) w.steps ++ turn.deed.rank ∷ []) (slot + 1)
           (one_turn_more order (IsStoppedAt ss) 0 (map (λ (e : Step). e.rank) w.steps) slot turn.deed.rank (sym is)
@@ -108,6 +122,9 @@ module _ (image : ImageParts) (plans : List Plan) (order : List ℕ) (ss : List 
         is : turn.deed.rank ≡ in_slot order slot
         is = turn.rank_is ∙ own.number_is
 
+        rank_here : slice_get (map (λ (x : Station). x.rank) ss) turn.deed.rank ≡ Some s.rank
+        rank_here = ap (slice_get (map (λ (x : Station). x.rank) ss)) is ∙ rank_there
+
         part : HubPart before after turn.deed
         part = hub_part before after s.rank turn.deed turn.moves.2 turn.tells
 
@@ -116,7 +133,7 @@ module _ (image : ImageParts) (plans : List Plan) (order : List ℕ) (ss : List 
           (
             s.rank,
             t.rank,
-            ap (slice_get (map (λ (x : Station). x.rank) ss)) is ∙ rank_there,
+            rank_here,
             turn.moves,
             ranks_then ∙ ap (λ k. slice_set (map (λ (x : Station). x.rank) ss) k t.rank) (sym is),
           ),

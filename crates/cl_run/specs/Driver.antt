@@ -2,7 +2,7 @@
 use Rattle.std.specs.Prelude.{ℕ, ◌≡◌, ◌<◌, ◌+◌, ◌%◌, List, [], ◌∷◌, ◌++◌, length, slice_index, ◌-◌, sum_by, Option, None, Some, Bool, true, false, All, ◌⊎◌, map, slice_get, slice_set, vec_len, is_some, if◌then◌else◌}
 use Rattle.cl_journal.specs.Journal.{Journal}
 use Rattle.cl_rank.specs.Deeds.{Deed, RankMoves, event_of}
-use Rattle.cl_rank.specs.Turns.{Answered, StopHolds, Tells}
+use Rattle.cl_rank.specs.Turns.{AllStopped, Answered, StopHolds, Tells}
 use Rattle.cl_rank.specs.declared.stops.Stop.{Stop}
 use Rattle.cl_state.specs.Rank.{Rank, loaded}
 use Rattle.rv_image.specs.declared.images.ImageParts.{ImageParts}
@@ -34,6 +34,7 @@ pub record TakesTurn (plan : Plan) (old : Station) (before : Journal) (new : Sta
   pub hart_is : deed.hart ≡ slice_index plan.order.items old.next
   pub moves : RankMoves old.rank deed new.rank
   pub tells : Tells Answered before after deed
+  pub runs : ¬ (AllStopped old.rank)
   pub turns_left : length old.events < old.budget
   pub traced : new.events ≡ old.events ++ event_of deed ∷ []
   pub next_is : new.next ≡ (old.next + 1) % length plan.order.items

@@ -1,5 +1,5 @@
 -- A run that is under way.
-use Rattle.std.specs.Prelude.{ℕ, ◌≡◌, ◌≢◌, ◌<◌, ◌≤◌, ◌+◌, ◌%◌, ◌^◌, List, [], ◌∷◌, length, map, slice_get, Some, IfSome, All}
+use Rattle.std.specs.Prelude.{ℕ, ◌≡◌, ◌≢◌, ◌<◌, ◌≤◌, ◌+◌, ◌%◌, ◌^◌, List, [], ◌∷◌, length, map, slice_get, Some, IfSome, All, is_some}
 use Rattle.std.specs.List.{filter_map}
 use Rattle.rv_image.specs.declared.images.ImageParts.{ImageParts}
 use Rattle.cl_journal.specs.Journal.{Journal, clock_of, entries_by}
@@ -11,7 +11,7 @@ use Rattle.cl_run.specs.Journal.{journal_of}
 use Rattle.cl_run.specs.Journal as cluster
 use Rattle.cl_run.specs.Order.{of_rank}
 use Rattle.cl_run.specs.Plans.{in_slot}
-use Rattle.cl_run.specs.Runs.{FollowsPlan, HasCause, hub_calls, step_by}
+use Rattle.cl_run.specs.Runs.{FollowsPlan, HasCause, NoneIdles, hub_calls, is_hub, step_by}
 use Rattle.cl_run.specs.declared.plans.Plan.{Plan}
 use Rattle.cl_run.specs.declared.steps.Step.{Step}
 
@@ -30,8 +30,10 @@ pub record IsSoFar (steps : List Step) (entries : List Entry) (r : ℕ) (plan : 
   pub number_is : s.rank.site.number ≡ r
   pub low : s.rank.clock < 2 ^ 62
   pub budget_is : s.budget ≡ plan.budget
+  pub in_budget : length s.events ≤ plan.budget
   pub next_is : s.next ≡ length s.events % length plan.order.items
   pub steps_are : of_rank (λ (e : Step). e.rank) r steps ≡ map (step_by r) s.events
+  pub requests_stand : All (λ (e : Event). is_some e.request ≡ is_hub e.kind) s.events
   pub requests_are : filter_map (λ (e : Event). e.request) s.events ≡ map (λ (e : Entry). e.request) (entries_by r entries)
   pub follows_plan : FollowsPlan plan s.events
   pub calls_are : hub_calls s.events ≡ length (entries_by r entries)
@@ -52,5 +54,6 @@ pub record IsUnderWay (image : ImageParts) (plans : List Plan) (order : List ℕ
   pub low : clock_of hub < 2 ^ 62
   pub steps : List Step
   pub run : IsRun (loaded_cluster image) steps (cluster_of image ss hub)
+  pub none_idles : NoneIdles (loaded_cluster image) steps
   pub round : Round order (IsStoppedAt ss) 0 (map (λ (e : Step). e.rank) steps) slot
   pub each : (r : ℕ) (plan : Plan) (s : Station) → slice_get plans r ≡ Some plan → slice_get ss r ≡ Some s → IsSoFar steps hub.entries r plan s

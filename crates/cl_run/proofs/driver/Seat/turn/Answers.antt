@@ -13,6 +13,7 @@ returns-in-Ok-clause-goes c =
       hart_is = turn.by ∙ get_or_read order.items c.args.self.now.next c.index-hart.result.now c.requires.seated.next_there c.index-hart.ensures 0;
       moves = turn.moves;
       tells = turn.tells;
+      runs = c.in-Ok.ensures.active.runs;
       turns_left = c.in-Ok.ensures.active.left;
       traced = turn.event;
       next_is = c.place_after-self.ensures.place ∙ ap (λ n. (c.args.self.now.next + 1) % n) (c.len.ensures ∙ order.ok.0);
