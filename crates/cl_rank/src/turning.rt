@@ -111,18 +111,18 @@ fn into_reply(answer: Answer) -> Reply
     }
 }
 
-/// Makes the call that a hart asked for, and tells the rank its reply.
+/// Makes the call that a hart asked for, and tells the rank its reply. The event keeps a copy of the request, made before the
+/// call: nothing can fail once the hub has answered.
 fn tell_reply<R, D: Desk<R>>(
+    alloc: Global,
     state: &mut RankState,
     rt: &R,
     desk: &mut D,
     hart: u8,
     request: Request,
-    copy: Request,
 ) -> Result<Event, Stop>
     requires hart { hart < vec_len state.old.harts }
     requires asked { asked (rank_of state.old) hart ≡ ask.Hub request }
-    requires copy { copy ≡ request }
     requires room { HasRoom state.old hart }
     requires low { state.old.clock + 1 < 2 ^ 62 }
     requires active { ¬ (AllStopped (rank_of state.old)) }
@@ -133,6 +133,9 @@ fn tell_reply<R, D: Desk<R>>(
     ensures clock { OnOk result (state.new.clock < 2 ^ 62) }
     ensures harts { vec_len state.new.harts ≡ vec_len state.old.harts }
 {
+    let Ok(copy) = request.try_copy(alloc) else {
+        return Err(Stop::Memory);
+    };
     let clock = state.clock;
     match desk.call(rt, state.site.number, hart, clock, request) {
         Err(fault) => Err(stop_of(fault)),
@@ -174,12 +177,7 @@ pub(crate) fn take_turn<R, D: Desk<R>>(
         return Err(Stop::Memory);
     };
     match ask {
-        Ask::Hub(request) => {
-            let Ok(copy) = request.try_copy(alloc) else {
-                return Err(Stop::Memory);
-            };
-            tell_reply(state, rt, desk, hart, request, copy)
-        }
+        Ask::Hub(request) => tell_reply(alloc, state, rt, desk, hart, request),
         Ask::Plain => Ok(tell_alone(state, hart, Kind::Plain)),
         Ask::Local => Ok(tell_alone(state, hart, Kind::Local)),
         Ask::Held => Ok(tell_alone(state, hart, Kind::Held)),
