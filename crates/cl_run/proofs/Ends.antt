@@ -1,5 +1,5 @@
 -- How a run begins and ends.
-use Rattle.std.specs.Prelude.{ℕ, zero, suc, ◌≡◌, ◌<◌, ◌^◌, List, [], ◌∷◌, length, map, get_or, slice_get, slice_index, Option, None, Some, option_map, is_some, All, IsTrue, IfSome}
+use Rattle.std.specs.Prelude.{ℕ, zero, suc, ◌≡◌, ◌<◌, ◌≤◌, ◌^◌, List, [], ◌∷◌, length, map, get_or, slice_get, slice_index, Option, None, Some, option_map, is_some, All, IsTrue, IfSome}
 use Rattle.std.proofs.Common.{refl, sym, ap, ◌∙◌, subst, arith}
 use Rattle.std.proofs.Math.Nat.{zero-mod}
 use Rattle.std.proofs.lemmas.List.{get_or_read, length-map}
@@ -45,6 +45,7 @@ rank_of_run steps entries r plan s stop so e = record {
   in_budget = so.in_budget;
   requests_stand = so.requests_stand;
   requests_are = so.requests_are;
+  few_calls = subst (λ n. n ≤ 1048576) (sym so.calls_are) so.few_calls;
   follows_plan = so.follows_plan;
   has_cause = subst (λ o. IfSome o (HasCause plan s.rank s.events entries)) e so.has_cause;
 }

@@ -19,7 +19,8 @@ use Rattle.cl_state.specs.Rank.{Rank}
 use Rattle.cl_state.proofs.Moves.{told_at}
 use Rattle.cl_rank.proofs.Alone.{clock_moved}
 use Rattle.cl_rank.specs.Deeds.{Deed, answer_of, event_of, kind_of, Act, request_of}
-use Rattle.cl_rank.specs.Turns.{Answered, IsCause, StopHolds, stop_of}
+use Rattle.cl_state.specs.Asked.{asked}
+use Rattle.cl_rank.specs.Turns.{Answered, IsActive, IsCause, Refuses, StopHolds, stop_of}
 use Rattle.cl_rank.specs.declared.stops.Stop.{Stop}
 use Rattle.cl_run.specs.declared.plans.Plan.{Plan}
 use Rattle.cl_run.specs.declared.steps.Step.{Step}
@@ -27,7 +28,7 @@ use Rattle.cl_run.specs.Driver.{Station, Stops, TakesTurn}
 use Rattle.cl_run.specs.Order.{of_rank}
 use Rattle.cl_run.specs.Plans.{in_slot}
 use Rattle.cl_run.specs.Product.{entry_of, step_of}
-use Rattle.cl_run.specs.Runs.{HasCause, hub_calls, is_hub, step_by}
+use Rattle.cl_run.specs.Runs.{AsksHub, HasCause, HasTurn, hub_calls, is_hub, step_by}
 use Rattle.cl_run.specs.UnderWay.{IsSoFar}
 use Rattle.cl_run.proofs.Hubs.{HubPart, hub_part, listed}
 use Rattle.cl_run.proofs.Lists.{filter-keeps, filter-skips}
@@ -146,10 +147,14 @@ module _ (steps : List Step) (before after : Journal) (r : ℕ) (plan : Plan) (s
     h.0,
     elim h.1 [
       | inl own ↦ inl own
-      | inr hub ↦ inr (elim part.rises [
-        | inl same ↦ hub ∙ ap (λ (j : Journal). clock_of j) (sym same)
-        | inr up ↦ absurd (omega (arith, part.low below, up, hub, h.0))
-      ])
+      | inr hub ↦ inr (
+        elim part.rises [
+          | inl same ↦ hub.0 ∙ ap (λ (j : Journal). clock_of j) (sym same)
+          | inr up ↦ absurd (omega (arith, part.low below, up, hub.0, h.0))
+        ],
+        hub.1,
+        hub.2,
+      )
     ],
   )
 
@@ -179,31 +184,44 @@ module _ (steps : List Step) (before after : Journal) (r : ℕ) (plan : Plan) (s
 -- the rank stops
 module _ (steps : List Step) (before : Journal) (r : ℕ) (plan : Plan) (s t : Station) (so : IsSoFar steps before.entries r plan s)
     (below : clock_of before < 2 ^ 62) where
+  -- the place in the plan is that of the turn that comes next
+  next_hart : (hart : ℕ) → hart ≡ slice_index plan.order.items s.next → hart ≡ in_slot plan.order.items (length s.events)
+  next_hart hart is = is ∙ ap (slice_index plan.order.items) so.next_is
+
+  asks : (hart : ℕ) (f : HubFault) (after : Journal) → hart ≡ slice_index plan.order.items s.next → Refuses Answered hart s.rank before after f → AsksHub plan s.rank s.events
+  asks hart f after is refused = (refused.0, ap (asked s.rank) (sym (next_hart hart is)) ∙ refused.1)
+
+  has_turn : IsActive s.rank (length s.events) s.budget → HasTurn plan s.rank s.events
+  has_turn active = record { runs = active.runs; left = omega (arith, active.left, so.budget_is); low = active.low }
+
   own_cause : (stop : Stop) → IsCause s.rank (length s.events) s.budget stop → HasCause plan s.rank s.events before.entries stop
   own_cause Stop.AllEnded h = h
   own_cause Stop.Budget h = (h.0, h.1 ∙ so.budget_is)
-  own_cause Stop.Memory h = tt
-  own_cause (Stop.ClockFull c) h = (omega (arith, h.3), inl (sym h.2))
+  own_cause Stop.Memory h = has_turn h
+  own_cause (Stop.ClockFull c) h = (omega (arith, h.3), inl (sym h.2, h.0, omega (arith, h.1, so.budget_is)))
   own_cause (Stop.Calls n) h = absurd h
 
-  refused_cause : (f : HubFault) → IsRefusal before s.rank.site.number s.rank.clock f → HasCause plan s.rank s.events before.entries (stop_of f)
-  refused_cause fault.Memory h = tt
-  refused_cause (fault.ClockFull c) h = (
-    omega (arith, below, so.low, h.1, h.2),
-    elim (eqb_tells c s.rank.clock) [ inl own ↦ inl own.1 | inr other ↦ inr (omega (arith, h.1, other.1)) ],
-  )
-  refused_cause (fault.Calls n) h =
+  refused_cause : (f : HubFault) → HasTurn plan s.rank s.events → AsksHub plan s.rank s.events
+      → IsRefusal before s.rank.site.number s.rank.clock f → HasCause plan s.rank s.events before.entries (stop_of f)
+  refused_cause fault.Memory turn asks h = turn
+  refused_cause (fault.ClockFull c) turn asks h =
+      (omega (arith, below, so.low, h.1, h.2), inr (omega (arith, turn.low, h.1, h.2), turn, asks))
+  refused_cause (fault.Calls n) turn asks h =
       let many = subst (λ q. 1048576 ≤ length (entries_by q before.entries)) so.number_is h.1 in
-      (h.0, omega (arith, h.0, many, so.calls_are, so.few_calls))
+      (h.0, omega (arith, h.0, many, so.calls_are, so.few_calls), turn, asks)
 
-  cause : (hart : ℕ) (stop : Stop) (after : Journal) → StopHolds Answered hart s.rank (length s.events) s.budget before after stop
+  cause : (hart : ℕ) (stop : Stop) (after : Journal) → hart ≡ slice_index plan.order.items s.next
+      → StopHolds Answered hart s.rank (length s.events) s.budget before after stop
       → HasCause plan s.rank s.events before.entries stop
-  cause hart stop after h = elim h [
+  cause hart stop after is h = elim h [
     | inl own ↦ own_cause stop own.0
-    | inr refused ↦ subst (HasCause plan s.rank s.events before.entries) (sym refused.1.1) (refused_cause refused.1.0 refused.1.3.2.0)
+    | inr refused ↦
+        let f = refused.1.0 in
+        subst (HasCause plan s.rank s.events before.entries) (sym refused.1.1)
+        (refused_cause f (has_turn refused.0) (asks hart f after is refused.1.3) refused.1.3.2.0)
   ]
 
-  pub after_stop : (after : Journal) → Stops s before t after → IsSoFar steps before.entries r plan t
+  pub after_stop : (after : Journal) → Stops plan s before t after → IsSoFar steps before.entries r plan t
   after_stop after h =
       let is : record s { stop = Some h.stop } ≡ t =
       (λ i. record { rank = (sym h.rank_stays) i; events = (sym h.events_stay) i; next = (sym h.next_stays) i; budget = (sym h.budget_stays) i; stop = (sym h.stops) i }) in
@@ -219,5 +237,5 @@ module _ (steps : List Step) (before : Journal) (r : ℕ) (plan : Plan) (s t : S
         follows_plan = so.follows_plan;
         calls_are = so.calls_are;
         few_calls = so.few_calls;
-        has_cause = cause h.hart h.stop after h.holds;
+        has_cause = cause h.hart h.stop after h.hart_is h.holds;
       })

@@ -68,7 +68,7 @@ module _ (image : ImageParts) (plans : List Plan) (order : List ℕ) (ss : List 
     rank_there = slice_get-map (λ (x : Station). x.rank) ss (in_slot order slot) ∙ ap (option_map (λ (x : Station). x.rank)) there
 
     -- a rank that isn't stopped stops
-    pub slot_stopped : (before after : Journal) → Stops s before t after → IsUnderWay image plans order ss before slot
+    pub slot_stopped : (before after : Journal) → Stops plan s before t after → IsUnderWay image plans order ss before slot
         → IsUnderWay image plans order (slice_set ss (in_slot order slot) t) after (slot + 1)
     slot_stopped before after h w = subst (λ hub. IsUnderWay image plans order (slice_set ss (in_slot order slot) t) hub (slot + 1)) (sym h.hub_stays) (record {
       links_are = w.links_are;
@@ -94,8 +94,9 @@ module _ (image : ImageParts) (plans : List Plan) (order : List ℕ) (ss : List 
         each_then q p x at_plan at = elim (eqb_tells (in_slot order slot) q) [
           | inl same ↦
               let is : t ≡ x = same_Some t x (sym (get-set_same ss (in_slot order slot) s t there) ∙ ap (slice_get (slice_set ss (in_slot order slot) t)) same.1 ∙ at) in
+              let p_is : plan ≡ p = same_Some plan p (sym planned ∙ ap (slice_get plans) same.1 ∙ at_plan) in
               let so = w.each q p s at_plan (ap (slice_get ss) (sym same.1) ∙ there) in
-              subst (IsSoFar w.steps before.entries q p) is (after_stop w.steps before q p s t so w.low after h)
+              subst (IsSoFar w.steps before.entries q p) is (after_stop w.steps before q p s t so w.low after (subst (λ y. Stops y s before t after) p_is h))
           | inr other ↦ w.each q p x at_plan (sym (get-set_other ss (in_slot order slot) q t other.1) ∙ at)
         ]
 

@@ -41,9 +41,10 @@ pub record TakesTurn (plan : Plan) (old : Station) (before : Journal) (new : Sta
   pub budget_stays : new.budget ≡ old.budget
   pub goes_on : new.stop ≡ None
 
--- a running rank takes no turn from now on, for a cause that held before a turn of some hart
-pub record Stops (old : Station) (before : Journal) (new : Station) (after : Journal) : Type 0 where
+-- a running rank takes no turn from now on, for a cause that held before a turn of the hart that its plan names
+pub record Stops (plan : Plan) (old : Station) (before : Journal) (new : Station) (after : Journal) : Type 0 where
   pub hart : ℕ
+  pub hart_is : hart ≡ slice_index plan.order.items old.next
   pub stop : Stop
   pub holds : StopHolds Answered hart old.rank (length old.events) old.budget before after stop
   pub hub_stays : after ≡ before
@@ -69,7 +70,7 @@ IsStoppedAt all r = (s : Station) × (stop : Stop) × (slice_get all r ≡ Some 
 
 -- a running rank takes a turn or stops
 abbrev pub GoesOn : Plan → Station → Journal → Station → Journal → Type 0
-GoesOn plan old before new after = TakesTurn plan old before new after ⊎ Stops old before new after
+GoesOn plan old before new after = TakesTurn plan old before new after ⊎ Stops plan old before new after
 
 -- what one slot does to rank number r: nothing where it is stopped
 abbrev pub SlotGoes : Plan → ℕ → Driver → Driver → Bool → Type 0

@@ -1,6 +1,6 @@
-use Rattle.std.proofs.Common.{◌∙◌, ap, ◌%◌, ◌+◌}
+use Rattle.std.proofs.Common.{refl, ◌∙◌, ap, ◌%◌, ◌+◌}
 use Rattle.std.proofs.lemmas.List.{get_or_read}
-use mathlib.Core.Logic.{inl}
+use mathlib.Core.Logic.{inl, inr}
 use Rattle.cl_run.proofs.driver.Seat.turn.Goals as goal
 
 pub returns-in-Ok-clause-goes : goal.returns-in-Ok-clause-goes
@@ -19,4 +19,20 @@ returns-in-Ok-clause-goes c =
       next_is = c.place_after-self.ensures.place ∙ ap (λ n. (c.args.self.now.next + 1) % n) (c.len.ensures ∙ order.ok.0);
       budget_stays = c.turn_plain.ensures.budget;
       goes_on = c.requires.running;
+    })
+
+pub returns-in-Err-clause-goes : goal.returns-in-Err-clause-goes
+returns-in-Err-clause-goes c =
+    let order = c.args.plan.now.order in
+    inr (record {
+      hart = c.index-hart.result.now;
+      hart_is = get_or_read order.items c.args.self.now.next c.index-hart.result.now c.requires.seated.next_there c.index-hart.ensures 0;
+      stop = c.in-Err.stop;
+      holds = c.in-Err.ensures.stop;
+      hub_stays = c.in-Err.ensures.hub;
+      rank_stays = c.in-Err.ensures.state;
+      events_stay = c.in-Err.ensures.events;
+      next_stays = refl;
+      budget_stays = c.turn_plain.ensures.budget;
+      stops = refl;
     })
