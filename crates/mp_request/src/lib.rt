@@ -11,7 +11,7 @@ mod rows;
 mod table;
 
 pub use entries::{OpenRequest, Partitions, Progress, State, Transfer};
-pub use laws::map_law;
+pub use laws::{completion_law, map_law};
 pub use refusals::Refusal;
 pub use rows::{
     completion_rows, done_rows, lowest_free_rows, named_rows, refusal_rows, testable_rows,
