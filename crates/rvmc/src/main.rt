@@ -30,13 +30,26 @@ fn run(rt: &HostRuntime) -> io::Result<u8> {
     ))
 }
 
+/// Tells on standard error why the words couldn't be had, and gives the status: 2 where one isn't UTF-8, which no command line
+/// takes, 5 for want of memory, 6 where the line can't be written.
+fn refuse_words(rt: &HostRuntime, error: &io::Error) -> u8 {
+    let (line, status) = match error.kind() {
+        io::ErrorKind::InvalidData => (
+            "error: invalid UTF-8 was detected in one or more arguments",
+            2,
+        ),
+        _ => ("rvmc: memory", 5),
+    };
+    match eprintln!(rt; "{line}") {
+        Ok(()) => status,
+        Err(_) => 6,
+    }
+}
+
 fn main(rt: HostRuntime) -> ExitCode {
     let status = match run(&rt) {
         Ok(status) => status,
-        Err(_) => {
-            let _ = eprintln!(rt; "rvmc: memory");
-            5
-        }
+        Err(error) => refuse_words(&rt, &error),
     };
     ExitCode::from(status)
 }
