@@ -7,7 +7,6 @@ use Rattle.rv_asm_tokens.specs.declared.fault.AsmFaultKind.{AsmFaultKind}
 use Rattle.rv_asm_tokens.specs.declared.fault.AsmFaultKind.TheVariants as kinds
 use Rattle.rv_asm_tokens.specs.Digits.{digits_from, magnitude, with_digit}
 use Rattle.rv_asm_tokens.specs.Scan.{front_at, tokens_from}
-use Rattle.rv_asm_statements.specs.Arguments.{arguments_from}
 use Rattle.rv_asm_statements.specs.Directives.{directive_by, directive_of}
 use Rattle.rv_asm_statements.specs.Limits.{limited}
 use Rattle.rv_asm_statements.specs.Mnemonics.{instruction_of, row_use}
@@ -81,7 +80,7 @@ pub data_of_sources : map meaning (
     ∷ (7 ∷ 1 ∷ 0 ∷ 17 ∷ 0 ∷ 0 ∷ 0 ∷ [])
     ∷ []
     )
-unfolding meaning lines_from line_step labels_at placed items_from finished stated_step directive_step directive_bytes items_bytes item_bytes low_bytes ranged label_offset with_use with_entry instrs_of written_word use_length label_step tokens_from front_at statement_of arguments_from instruction_of directive_of row_use filled_by directive_by magnitude digits_from with_digit fields_after limited members_of members_from link_of
+unfolding meaning lines_from line_step labels_at placed items_from finished stated_step directive_step directive_bytes items_bytes item_bytes low_bytes ranged label_offset with_use with_entry instrs_of written_word use_length label_step tokens_from front_at statement_of instruction_of directive_of row_use filled_by directive_by magnitude digits_from with_digit fields_after limited members_of members_from link_of
 data_of_sources = refl
 
 -- a source, and the line and the kind of its first fault
@@ -113,5 +112,5 @@ faults =
     told source line kind = (source, record { line = line; kind = kind })
 
 pub faults_of_sources : map (λ row. meaning row.0) faults ≡ map (λ row. Err row.1) faults
-unfolding meaning lines_from line_step labels_at placed items_from finished stated_step directive_step directive_bytes items_bytes item_bytes low_bytes ranged label_offset with_use with_entry instrs_of written_word use_length label_step tokens_from front_at statement_of arguments_from instruction_of directive_of row_use filled_by directive_by magnitude digits_from with_digit fields_after limited members_of members_from link_of
+unfolding meaning lines_from line_step labels_at placed items_from finished stated_step directive_step directive_bytes items_bytes item_bytes low_bytes ranged label_offset with_use with_entry instrs_of written_word use_length label_step tokens_from front_at statement_of instruction_of directive_of row_use filled_by directive_by magnitude digits_from with_digit fields_after limited members_of members_from link_of
 faults_of_sources = refl

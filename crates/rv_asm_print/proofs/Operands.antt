@@ -1,15 +1,15 @@
 -- Operands with commas between them, read as arguments.
-use Rattle.std.proofs.Common.{◌≡◌, ℕ, zero, suc, ◌^◌, ◌<◌, ◌≤◌, ◌==◌, List, [], ◌∷◌, ◌++◌, Bool, true, false, not, ◌&&◌, Option, Some, None, Ok, ℤ, pos, negsuc, codes, nat_le, refl, sym, ap, ◌∙◌, arith, tests, append_assoc, append-nil, eqb-true, if◌then◌else◌, eq-or-lt_of_le, ◌⊎◌, inl, inr}
+use Rattle.std.proofs.Common.{◌≡◌, ℕ, zero, suc, ◌^◌, ◌<◌, ◌≤◌, ◌==◌, List, [], ◌∷◌, ◌++◌, Bool, true, false, not, ◌&&◌, cond, Option, Some, None, Ok, ℤ, pos, negsuc, codes, nat_le, refl, sym, ap, ◌∙◌, arith, tests, append_assoc, append-nil, eqb-true, eq-or-lt_of_le, ◌⊎◌, inl, inr}
 use Rattle.std.specs.Fmt.{digits, decimal, signed_decimal}
-use Rattle.std.specs.List.{list_all}
+use Rattle.std.specs.List.{list_all, onto_first, slice_split}
 use Rattle.std.proofs.lemmas.List.Folds.{list_all-append}
 use Rattle.rv_decode.specs.Text.{register_text, address_text, operands_text, statement_text}
-use Rattle.rv_asm_tokens.specs.Fault.{if_some}
 use Rattle.rv_asm_tokens.specs.Lexeme.{Lexeme, name, number, comma, opens, closes}
 use Rattle.rv_asm_tokens.specs.Digits.{between}
 use Rattle.rv_asm_tokens.specs.Scan.{is_name_byte, word_length, front_at, tokens_from, tokens_of}
-use Rattle.rv_asm_statements.specs.Arguments.{Argument, word, value, place, argument_of, is_comma, arguments_from, arguments_of}
+use Rattle.rv_asm_statements.specs.Arguments.{Argument, word, value, place, argument_of, is_comma, arguments_of}
 use Rattle.rv_asm_statements.specs.Registers.{register_named}
+use Rattle.rv_asm_statements.specs.Walk.{all_given}
 use Rattle.rv_asm_print.proofs.Branches.{both, both_hold}
 use Rattle.rv_asm_print.proofs.Words.{Reads, is_word, word_reads}
 use Rattle.rv_asm_print.proofs.Numbers.{IsSmall, decimal_reads, signed_reads, hex_reads, decimal_names, hex_names}
@@ -126,44 +126,50 @@ operands_read x p a [] (q ∷ qs) args all = absurd all.1
 operands_read x p a (y ∷ ys) [] args all = absurd all.1
 operands_read x p a (y ∷ ys) (q ∷ qs) [] all = absurd all.1
 
--- tokens with no comma among them go to the present operand
-pass_step : (t : Lexeme) (done : List Argument) (piece ts : List Lexeme) → not (is_comma t) ≡ true → arguments_from done piece (t ∷ ts) ≡ arguments_from done (piece ++ t ∷ []) ts
-unfolding arguments_from
-pass_step t done piece ts h = go (is_comma t) h
+-- tokens with no comma among them are one piece
+no_comma : (t : Lexeme) (ps : List (List Lexeme)) → not (is_comma t) ≡ true → cond (is_comma t) ([] ∷ ps) (onto_first t ps) ≡ onto_first t ps
+no_comma t ps h = go (is_comma t) h
   where
-    go : (b : Bool) → not b ≡ true → (if b then if_some (argument_of piece) None (λ a. arguments_from (done ++ a ∷ []) [] ts) else arguments_from done (piece ++ t ∷ []) ts) ≡ arguments_from done (piece ++ t ∷ []) ts
+    go : (b : Bool) → not b ≡ true → cond b ([] ∷ ps) (onto_first t ps) ≡ onto_first t ps
     go true h = absurd cc
     go false h = refl
 
-pass : (p : List Lexeme) (done : List Argument) (piece ts : List Lexeme) → list_all (λ t. not (is_comma t)) p ≡ true → arguments_from done piece (p ++ ts) ≡ arguments_from done (piece ++ p) ts
-pass [] done piece ts h = rw append-nil refl
-pass (t ∷ p) done piece ts h =
+last_piece : (p : List Lexeme) → list_all (λ t. not (is_comma t)) p ≡ true → slice_split is_comma p ≡ p ∷ []
+last_piece [] h = refl
+last_piece (t ∷ p) h =
     let k = both (not (is_comma t)) (list_all (λ t. not (is_comma t)) p) h in
-    pass_step t done piece (p ++ ts) k.0 ∙ pass p done (piece ++ t ∷ []) ts k.1 ∙ ap (λ (xs : List Lexeme). arguments_from done xs ts) (append_assoc piece (t ∷ []) p)
+    no_comma t (slice_split is_comma p) k.0 ∙ ap (onto_first t) (last_piece p k.1)
 
-last_argument : (p : List Lexeme) (a : Argument) (done : List Argument) → argument_of p ≡ Some a → arguments_from done p [] ≡ Some (done ++ a ∷ [])
-unfolding arguments_from
-last_argument p a done h = rw h refl
+first_piece : (p ts : List Lexeme) → list_all (λ t. not (is_comma t)) p ≡ true → slice_split is_comma (p ++ comma ∷ ts) ≡ p ∷ slice_split is_comma ts
+first_piece [] ts h = refl
+first_piece (t ∷ p) ts h =
+    let k = both (not (is_comma t)) (list_all (λ t. not (is_comma t)) p) h in
+    no_comma t (slice_split is_comma (p ++ comma ∷ ts)) k.0 ∙ ap (onto_first t) (first_piece p ts k.1)
 
-next_argument : (p ts : List Lexeme) (a : Argument) (done : List Argument) → argument_of p ≡ Some a → arguments_from done p (comma ∷ ts) ≡ arguments_from (done ++ a ∷ []) [] ts
-unfolding arguments_from
-next_argument p ts a done h = rw h refl
+pieces_joined : (x : List ℕ) (p : List Lexeme) (a : Argument) (xs : List (List ℕ)) (ps : List (List Lexeme)) (args : List Argument) → AreOperands (x ∷ xs) (p ∷ ps) (a ∷ args) → slice_split is_comma (joined (p ∷ ps)) ≡ p ∷ ps
+pieces_joined x p a [] [] [] all = last_piece p all.0.apart
+pieces_joined x p a (y ∷ ys) (q ∷ qs) (b ∷ bs) all = first_piece p (joined (q ∷ qs)) all.0.apart ∙ ap (λ (r : List (List Lexeme)). p ∷ r) (pieces_joined y q b ys qs bs all.1)
+pieces_joined x p a [] [] (b ∷ bs) all = absurd all.1
+pieces_joined x p a [] (q ∷ qs) args all = absurd all.1
+pieces_joined x p a (y ∷ ys) [] args all = absurd all.1
+pieces_joined x p a (y ∷ ys) (q ∷ qs) [] all = absurd all.1
 
-joined_arguments : (x : List ℕ) (p : List Lexeme) (a : Argument) (xs : List (List ℕ)) (ps : List (List Lexeme)) (args done : List Argument) → AreOperands (x ∷ xs) (p ∷ ps) (a ∷ args) → arguments_from done [] (joined (p ∷ ps)) ≡ Some (done ++ a ∷ args)
-joined_arguments x p a [] [] [] done all =
-    ap (arguments_from done []) (sym (append-nil p)) ∙ pass p done [] [] all.0.apart ∙ last_argument p a done all.0.means
-joined_arguments x p a (y ∷ ys) (q ∷ qs) (b ∷ bs) done all =
-    pass p done [] (comma ∷ joined (q ∷ qs)) all.0.apart ∙ next_argument p (joined (q ∷ qs)) a done all.0.means
-    ∙ joined_arguments y q b ys qs bs (done ++ a ∷ []) all.1 ∙ ap Some (append_assoc done (a ∷ []) (b ∷ bs))
-joined_arguments x p a [] [] (b ∷ bs) done all = absurd all.1
-joined_arguments x p a [] (q ∷ qs) args done all = absurd all.1
-joined_arguments x p a (y ∷ ys) [] args done all = absurd all.1
-joined_arguments x p a (y ∷ ys) (q ∷ qs) [] done all = absurd all.1
+-- each piece means its argument
+all_mean : (xs : List (List ℕ)) (ps : List (List Lexeme)) (args : List Argument) → AreOperands xs ps args → all_given argument_of ps ≡ Some args
+all_mean [] [] [] all = refl
+all_mean (x ∷ xs) (p ∷ ps) (a ∷ args) all = rw (all.0.means, all_mean xs ps args all.1) refl
+all_mean [] [] (a ∷ args) all = absurd all
+all_mean [] (p ∷ ps) args all = absurd all
+all_mean (x ∷ xs) [] args all = absurd all
+all_mean (x ∷ xs) (p ∷ ps) [] all = absurd all
+
+joined_arguments : (x : List ℕ) (p : List Lexeme) (a : Argument) (xs : List (List ℕ)) (ps : List (List Lexeme)) (args : List Argument) → AreOperands (x ∷ xs) (p ∷ ps) (a ∷ args) → all_given argument_of (slice_split is_comma (joined (p ∷ ps))) ≡ Some (a ∷ args)
+joined_arguments x p a xs ps args all = ap (all_given argument_of) (pieces_joined x p a xs ps args all) ∙ all_mean (x ∷ xs) (p ∷ ps) (a ∷ args) all
 
 pub arguments_read : (x : List ℕ) (p : List Lexeme) (a : Argument) (xs : List (List ℕ)) (ps : List (List Lexeme)) (args : List Argument) → AreOperands (x ∷ xs) (p ∷ ps) (a ∷ args) → arguments_of (joined (p ∷ ps)) ≡ Some (a ∷ args)
 arguments_read x [] a xs ps args all = absurd (let h = all.0.means in cc)
-arguments_read x (t ∷ ts) a xs [] args all = joined_arguments x (t ∷ ts) a xs [] args [] all
-arguments_read x (t ∷ ts) a xs (q ∷ qs) args all = joined_arguments x (t ∷ ts) a xs (q ∷ qs) args [] all
+arguments_read x (t ∷ ts) a xs [] args all = joined_arguments x (t ∷ ts) a xs [] args all
+arguments_read x (t ∷ ts) a xs (q ∷ qs) args all = joined_arguments x (t ∷ ts) a xs (q ∷ qs) args all
 
 pub operands_plain : (x : List ℕ) (p : List Lexeme) (a : Argument) (xs : List (List ℕ)) (ps : List (List Lexeme)) (args : List Argument) → AreOperands (x ∷ xs) (p ∷ ps) (a ∷ args) → list_all is_plain (operands_text (x ∷ xs)) ≡ true
 operands_plain x p a [] [] [] all = all.0.plain

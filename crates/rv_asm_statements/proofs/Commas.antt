@@ -1,53 +1,51 @@
--- One step along the tokens of a statement.
-use Rattle.std.proofs.Common.{◌≡◌, ℕ, ◌+◌, ◌-◌, ◌≤◌, ◌<◌, true, false, List, [], ◌∷◌, ◌++◌, length, get_or, take, drop, Option, Some, None, refl, sym, ap, ◌∙◌, add-one, length-drop, arith}
-use Rattle.std.proofs.Math.Seq.{drop-cons}
-use Rattle.std.proofs.lemmas.List.{drop_all, take_more, get_or-drop}
-use Rattle.rv_asm_tokens.specs.Lexeme.{Lexeme, comma}
-use Rattle.rv_asm_statements.specs.Arguments.{Argument, argument_of, is_comma, arguments_from}
+-- The pieces between commas.
+use denote.Ref.{Bor}
+use denote.Param.Members.{Mut}
+use Rattle.std.proofs.Common.{◌≡◌, ◌<◌, Bool, true, false, cond, List, [], ◌∷◌, length, get_or, map, Option, Some, None, refl, ap, ◌∙◌, arith}
+use Rattle.std.proofs.lemmas.Iterator.{YieldsList}
+use Rattle.std.proofs.lemmas.Iterator.Consumers.{YieldsList-turn, YieldsList-end}
+use Rattle.std.proofs.lemmas.Iterator.Splits.{YieldsList-from_slice_split}
+use Rattle.std.specs.Fn.{CalledAt}
+use Rattle.std.specs.Iterator.{Yields}
+use Rattle.std.specs.Slice.Iter.{split_steps, split_rest, split_done, split_callee}
+use Rattle.std.specs.List.{slice_split, onto_first}
+use Rattle.rv_asm_tokens.specs.declared.token.Token.{Token}
+use Rattle.rv_asm_tokens.specs.Lexeme.{lexeme_of, lexemes_of}
+use Rattle.rv_asm_statements.specs.Arguments.{argument_of, arguments_of, is_comma}
+use Rattle.rv_asm_statements.specs.Walk.{all_given}
 
--- from i on there is the token at i, and the rest
-cons_at : (xs : List Lexeme) (i : ℕ) (d : Lexeme) → i < length xs → drop i xs ≡ get_or xs i d ∷ drop (i + 1) xs
-cons_at xs i d lt = rw (add-one, drop-cons xs i d) refl
+module _ {A B : Type 0} (v : A → B) (p : B → Bool) where
+  onto_first-map : (x : A) (ps : List (List A)) → map (map v) (onto_first x ps) ≡ onto_first (v x) (map (map v) ps)
+  onto_first-map x [] = refl
+  onto_first-map x (y ∷ ys) = refl
 
-pub piece_goes : (done : List Argument) (piece : List Lexeme) (i : ℕ) (xs : List Lexeme) (whole : Option (List Argument)) → i < length xs → is_comma (get_or xs i comma) ≡ false → arguments_from done piece (drop i xs) ≡ whole → arguments_from done (piece ++ get_or xs i comma ∷ []) (drop (i + 1) xs) ≡ whole
-unfolding arguments_from
-piece_goes done piece i xs whole lt h so_far =
-    let one : arguments_from done piece (get_or xs i comma ∷ drop (i + 1) xs) ≡ arguments_from done (piece ++ get_or xs i comma ∷ []) (drop (i + 1) xs) = rw h refl in
-    sym one ∙ ap (arguments_from done piece) (sym (cons_at xs i comma lt)) ∙ so_far
+  parted : (b : Bool) (x : A) (ps : List (List A)) (qs : List (List B)) → map (map v) ps ≡ qs → map (map v) (cond b ([] ∷ ps) (onto_first x ps)) ≡ cond b ([] ∷ qs) (onto_first (v x) qs)
+  parted true x ps qs e = ap (λ r. [] ∷ r) e
+  parted false x ps qs e = onto_first-map x ps ∙ ap (onto_first (v x)) e
 
-pub piece_ends : (done : List Argument) (piece : List Lexeme) (a : Argument) (i : ℕ) (xs : List Lexeme) (whole : Option (List Argument)) → i < length xs → is_comma (get_or xs i comma) ≡ true → argument_of piece ≡ Some a → arguments_from done piece (drop i xs) ≡ whole → arguments_from (done ++ a ∷ []) [] (drop (i + 1) xs) ≡ whole
-unfolding arguments_from
-piece_ends done piece a i xs whole lt h is so_far =
-    let one : arguments_from done piece (get_or xs i comma ∷ drop (i + 1) xs) ≡ arguments_from (done ++ a ∷ []) [] (drop (i + 1) xs) = rw (h, is) refl in
-    sym one ∙ ap (arguments_from done piece) (sym (cons_at xs i comma lt)) ∙ so_far
+  -- pieces, seen piece by piece, are the pieces of what is seen
+  pub slice_split-map : (xs : List A) → map (map v) (slice_split (λ x. p (v x)) xs) ≡ slice_split p (map v xs)
+  slice_split-map [] = refl
+  slice_split-map (x ∷ xs) = parted (p (v x)) x (slice_split (λ y. p (v y)) xs) (slice_split p (map v xs)) (slice_split-map xs)
 
-pub piece_wrong : (done : List Argument) (piece : List Lexeme) (i : ℕ) (xs : List Lexeme) (whole : Option (List Argument)) → i < length xs → is_comma (get_or xs i comma) ≡ true → argument_of piece ≡ None → arguments_from done piece (drop i xs) ≡ whole → whole ≡ None
-unfolding arguments_from
-piece_wrong done piece i xs whole lt h is so_far =
-    let one : arguments_from done piece (get_or xs i comma ∷ drop (i + 1) xs) ≡ None = rw (h, is) refl in
-    sym so_far ∙ ap (arguments_from done piece) (cons_at xs i comma lt) ∙ one
+-- the pieces of tokens between commas
+abbrev pub pieces : List Token → List (List Token)
+pieces ts = slice_split (λ t. is_comma (lexeme_of t)) ts
 
-pub last_right : (done : List Argument) (piece : List Lexeme) (a : Argument) (i : ℕ) (xs : List Lexeme) (whole : Option (List Argument)) → length xs ≤ i → argument_of piece ≡ Some a → arguments_from done piece (drop i xs) ≡ whole → whole ≡ Some (done ++ a ∷ [])
-unfolding arguments_from
-last_right done piece a i xs whole le is so_far =
-    let one : arguments_from done piece [] ≡ Some (done ++ a ∷ []) = rw is refl in
-    sym so_far ∙ ap (arguments_from done piece) (drop_all i xs le) ∙ one
+pub arguments_between : (ts : List Token) → 0 < length ts → all_given argument_of (map lexemes_of (pieces ts)) ≡ arguments_of (lexemes_of ts)
+arguments_between [] h = absurd (omega arith)
+arguments_between (t ∷ ts) h = ap (all_given argument_of) (slice_split-map lexeme_of is_comma (t ∷ ts))
 
-pub last_wrong : (done : List Argument) (piece : List Lexeme) (i : ℕ) (xs : List Lexeme) (whole : Option (List Argument)) → length xs ≤ i → argument_of piece ≡ None → arguments_from done piece (drop i xs) ≡ whole → whole ≡ None
-unfolding arguments_from
-last_wrong done piece i xs whole le is so_far =
-    let one : arguments_from done piece [] ≡ None = rw is refl in
-    sym so_far ∙ ap (arguments_from done piece) (drop_all i xs le) ∙ one
+-- ---- the walk over them
 
--- the present operand's tokens, and one more
-pub piece_longer : (from i : ℕ) (xs : List Lexeme) → from ≤ i → i < length xs → take (i + 1 - from) (drop from xs) ≡ take (i - from) (drop from xs) ++ get_or xs i comma ∷ []
-piece_longer from i xs le lt =
-    let count : i + 1 - from ≡ (i - from) + 1 = omega arith in
-    let place : from + (i - from) ≡ i = omega arith in
-    let more = take_more (drop from xs) (i - from) comma (omega (arith, length-drop from xs)) in
-    rw count (more ∙ ap (λ (x : Lexeme). take (i - from) (drop from xs) ++ x ∷ []) (get_or-drop from xs (i - from) comma ∙ ap (λ (k : ℕ). get_or xs k comma) place))
+module _ {F : Type 0} {g : Mut F (Bor Token × Unit {0}) Bool} (s t : _) (ts : List Token) (yielded : List (Bor (List Token))) (y : Yields (split_steps g) s yielded t) {f : F} (rest : split_rest s ≡ ts) (done : split_done s ≡ false) (closure : split_callee s ≡ f)
+    (tests : (x : Token) (b : Bool) (q : F) → CalledAt g f x b q → (q ≡ f) × (b ≡ is_comma (lexeme_of x))) where
+  gives : YieldsList (split_steps g) (λ x. x.now) s (pieces ts)
+  gives = YieldsList-from_slice_split g (λ x. is_comma (lexeme_of x)) ts rest done closure tests
 
-pub piece_empty : (from i : ℕ) (xs : List Lexeme) → from ≡ i → take (i - from) (drop from xs) ≡ []
-piece_empty from i xs same =
-    let none : i - from ≡ 0 = omega arith in
-    rw none refl
+  -- the next piece, and the end
+  pub piece_next : (r : Option (Bor (List Token))) (u : _) (x : Bor (List Token)) → r ≡ Some x → split_steps g t r u → (length yielded < length (pieces ts)) × (x.now ≡ get_or (pieces ts) (length yielded) x.now)
+  piece_next r u x is step = YieldsList-turn gives yielded _ y r u x is step
+
+  pub pieces_end : (r : Option (Bor (List Token))) (u : _) → r ≡ None → split_steps g t r u → length yielded ≡ length (pieces ts)
+  pieces_end r u is step = (YieldsList-end gives yielded _ y r u is step).1

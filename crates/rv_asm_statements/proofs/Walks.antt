@@ -2,12 +2,9 @@
 use Rattle.std.proofs.Common.{◌≡◌, ℕ, zero, suc, ◌+◌, ◌<◌, ◌≤◌, true, false, List, [], ◌∷◌, ◌++◌, length, drop, map, get_or, Option, Some, None, refl, sym, ap, ◌∙◌, arith}
 use Rattle.std.proofs.lemmas.List.{drop_all, length-map, append_assoc, append-nil}
 use Rattle.std.specs.Str.{bytes_eq}
-use Rattle.rv_asm_statements.specs.Registers.{number_named}
-use Rattle.rv_asm_statements.specs.Walk.{first_given}
+use Rattle.rv_asm_statements.specs.Walk.{all_given, beside, first_given}
 use Rattle.rv_asm_statements.specs.Rows.{Row}
 use Rattle.rv_asm_statements.specs.Mnemonics.{row_named}
-use Rattle.rv_asm_statements.specs.declared.directive_rows.Form.{Form}
-use Rattle.rv_asm_statements.specs.Directives.{form_named, all_given}
 use Rattle.rv_asm_tokens.specs.Fault.{if_some}
 use Rattle.std.specs.Option.{option_map}
 
@@ -18,23 +15,6 @@ item_at view (x ∷ xs) zero d lt = refl
 item_at view (x ∷ xs) (suc i) d lt =
     let e : suc (i + 1) ≡ suc i + 1 = omega arith in
     item_at view xs i d (omega arith) ∙ ap (λ (k : ℕ). view (get_or xs i d) ∷ drop k (view x ∷ map view xs)) e
-
-pub row_at : {A : Type 0} (view : A → List ℕ × ℕ) (xs : List A) (i : ℕ) (d : A) → i < length xs → drop i (map view xs) ≡ view (get_or xs i d) ∷ drop (i + 1) (map view xs)
-row_at view [] i d lt = absurd (omega arith)
-row_at view (x ∷ xs) zero d lt = refl
-row_at view (x ∷ xs) (suc i) d lt =
-    let e : suc (i + 1) ≡ suc i + 1 = omega arith in
-    row_at view xs i d (omega arith) ∙ ap (λ (k : ℕ). view (get_or xs i d) ∷ drop k (view x ∷ map view xs)) e
-
-pub passed : (name : List ℕ) (ls : List (List ℕ × ℕ)) (l : List ℕ × ℕ) (others : List (List ℕ × ℕ)) (whole : Option ℕ) → ls ≡ l ∷ others → bytes_eq l.0 name ≡ false → number_named name ls ≡ whole → number_named name others ≡ whole
-passed name ls l others whole is h so_far =
-    let one : number_named name (l ∷ others) ≡ number_named name others = rw h refl in
-    sym one ∙ ap (number_named name) (sym is) ∙ so_far
-
-pub met : (name : List ℕ) (ls : List (List ℕ × ℕ)) (l : List ℕ × ℕ) (others : List (List ℕ × ℕ)) (whole : Option ℕ) → ls ≡ l ∷ others → bytes_eq l.0 name ≡ true → number_named name ls ≡ whole → whole ≡ Some l.1
-met name ls l others whole is h so_far =
-    let one : number_named name (l ∷ others) ≡ Some l.1 = rw h refl in
-    sym so_far ∙ ap (number_named name) is ∙ one
 
 -- ---- the first that f gives
 
@@ -62,11 +42,11 @@ named_other w row h = rw h refl
 pub named_this : (w : List ℕ) (row : Row) → bytes_eq row.name w ≡ true → row_named w row ≡ Some row
 named_this w row h = rw h refl
 
-pub form_other : (w : List ℕ) (row : List ℕ × Form) → bytes_eq row.0 w ≡ false → form_named w row ≡ None
-form_other w row h = rw h refl
+pub beside_other : {A : Type 0} (w : List ℕ) (row : List ℕ × A) → bytes_eq row.0 w ≡ false → beside w row ≡ None
+beside_other w row h = rw h refl
 
-pub form_this : (w : List ℕ) (row : List ℕ × Form) → bytes_eq row.0 w ≡ true → form_named w row ≡ Some row.1
-form_this w row h = rw h refl
+pub beside_this : {A : Type 0} (w : List ℕ) (row : List ℕ × A) → bytes_eq row.0 w ≡ true → beside w row ≡ Some row.1
+beside_this w row h = rw h refl
 
 -- ---- all that f gives
 

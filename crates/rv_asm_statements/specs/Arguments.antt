@@ -1,8 +1,9 @@
 -- What stands between the commas of a statement.
-use Rattle.std.specs.Prelude.{ℕ, ℤ, List, [], ◌∷◌, ◌++◌, map, Bool, true, false, Option, Some, None, if◌then◌else◌}
-use Rattle.rv_asm_tokens.specs.Fault.{if_some}
+use Rattle.std.specs.Prelude.{ℕ, ℤ, List, [], ◌∷◌, map, Bool, true, false, Option, Some, None}
+use Rattle.std.specs.List.{slice_split}
 use Rattle.rv_asm_tokens.specs.Lexeme.{Lexeme, name, number, text, comma, opens, closes, plus, number_value}
 use Rattle.std.specs.Global.{Vec}
+use Rattle.rv_asm_statements.specs.Walk.{all_given}
 use Rattle.rv_asm_statements.specs.declared.operand_list.Operand.{Operand}
 use Rattle.rv_asm_statements.specs.declared.operand_list.Operand.TheVariants.{Name, Number, Text, Sum, Place}
 
@@ -35,15 +36,10 @@ abbrev pub is_comma : Lexeme → Bool
 is_comma comma = true
 is_comma _ = false
 
--- the operands behind those that are done; `piece` are the tokens of the present one so far
-unfoldable pub arguments_from : List Argument → List Lexeme → List Lexeme → Option (List Argument)
-arguments_from done piece [] = if_some (argument_of piece) None (λ a. Some (done ++ a ∷ []))
-arguments_from done piece (t ∷ ts) = if is_comma t then if_some (argument_of piece) None (λ a. arguments_from (done ++ a ∷ []) [] ts) else arguments_from done (piece ++ t ∷ []) ts
-
--- none, or operands with a comma between two
+-- none, or what stands between the commas, if each is an operand
 abbrev pub arguments_of : List Lexeme → Option (List Argument)
 arguments_of [] = Some []
-arguments_of (t ∷ ts) = arguments_from [] [] (t ∷ ts)
+arguments_of (t ∷ ts) = all_given argument_of (slice_split is_comma (t ∷ ts))
 
 -- the operands of the code
 abbrev pub arguments_view : Vec Operand → List Argument

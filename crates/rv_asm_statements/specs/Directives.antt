@@ -2,7 +2,6 @@
 use Rattle.std.specs.Prelude.{ℕ, ℤ, pos, List, [], ◌∷◌, ◌++◌, codes, Bool, true, false, Option, Some, None, Result, if◌then◌else◌}
 use Rattle.std.specs.Option.{option_map}
 use Rattle.std.specs.Ordering.{int_eq}
-use Rattle.std.specs.Str.{bytes_eq}
 use Rattle.rv_asm_tokens.specs.declared.fault.AsmFaultKind.{AsmFaultKind}
 use Rattle.rv_asm_tokens.specs.declared.fault.AsmFaultKind.TheVariants as kinds
 use Rattle.rv_asm_tokens.specs.Fault.{if_some, wanted}
@@ -19,7 +18,7 @@ use Rattle.rv_asm_statements.specs.declared.directive_rows.Form.TheVariants.{Ran
 use Rattle.rv_asm_statements.specs.Arguments.{Argument, word, value, quoted}
 use Rattle.rv_asm_statements.specs.Limits.{limited}
 use Rattle.rv_asm_statements.specs.Shapes.{at_number, at_label, number_of}
-use Rattle.rv_asm_statements.specs.Walk.{first_given}
+use Rattle.rv_asm_statements.specs.Walk.{all_given, beside, first_given}
 
 -- a directive's name and what it is
 abbrev pub directives : List (List ℕ × Form)
@@ -57,11 +56,6 @@ only_name _ = None
 abbrev pub only_text : List Argument → Option (List ℕ)
 only_text (quoted raw ∷ []) = Some (text_of raw)
 only_text _ = None
-
--- all that f gives, if it gives each
-abbrev pub all_given : {A B : Type 0} → (A → Option B) → List A → Option (List B)
-all_given f [] = Some []
-all_given f (x ∷ xs) = if_some (f x) None (λ y. if_some (all_given f xs) None (λ ys. Some (y ∷ ys)))
 
 -- one or more
 abbrev pub some_given : {A B : Type 0} → (A → Option B) → List A → Option (List B)
@@ -117,10 +111,6 @@ directive_by (Items width) xs = option_map (directive.Items width) (some_given (
 directive_by String xs = option_map directive.Bytes (only_text xs)
 directive_by StringAndZero xs = option_map (λ bytes. directive.Bytes (bytes ++ 0 ∷ [])) (only_text xs)
 
--- what stands beside a name, if it is this row's
-abbrev pub form_named : List ℕ → List ℕ × Form → Option Form
-form_named w row = if bytes_eq row.0 w then Some row.1 else None
-
 -- the directive of a name and its operands, which may not be operands at all
 unfoldable pub directive_of : List ℕ → Option (List Argument) → Result Directive AsmFaultKind
-directive_of w operands = wanted (if_some (first_given (form_named w) directives) None (λ form. if_some operands None (directive_by form))) kinds.Directive
+directive_of w operands = wanted (if_some (first_given (beside w) directives) None (λ form. if_some operands None (directive_by form))) kinds.Directive

@@ -1,7 +1,7 @@
 -- The names of the integer registers (RISC-V ABIs specification, integer register convention).
-use Rattle.std.specs.Prelude.{ℕ, List, [], ◌∷◌, codes, Option, Some, None, if◌then◌else◌}
-use Rattle.std.specs.Str.{bytes_eq}
+use Rattle.std.specs.Prelude.{ℕ, List, [], ◌∷◌, codes, Option}
 use Rattle.rv_asm_statements.specs.declared.registers.RegisterName.{RegisterName}
+use Rattle.rv_asm_statements.specs.Walk.{beside, first_given}
 
 -- each name and its number
 abbrev pub registers : List (List ℕ × ℕ)
@@ -73,13 +73,8 @@ registers =
     ∷ (codes "t6", 31)
     ∷ []
 
--- what stands beside a name in a table
-abbrev pub number_named : List ℕ → List (List ℕ × ℕ) → Option ℕ
-number_named name [] = None
-number_named name (row ∷ others) = if bytes_eq row.0 name then Some row.1 else number_named name others
-
 abbrev pub register_named : List ℕ → Option ℕ
-register_named name = number_named name registers
+register_named name = first_given (beside name) registers
 
 -- a row of the code's table
 abbrev pub register_view : RegisterName → List ℕ × ℕ

@@ -7,9 +7,9 @@ ghost use Rattle.rv_asm_tokens.specs.Lexeme.{number_value};
 ghost use Rattle.rv_asm_statements.specs.declared.directive_rows.Form.TheVariants as forms;
 ghost use Rattle.rv_asm_statements.specs.Arguments.{argument_view, arguments_view};
 ghost use Rattle.rv_asm_statements.specs.Shapes.{number_of};
-ghost use Rattle.rv_asm_statements.specs.Walk.{first_given};
+ghost use Rattle.rv_asm_statements.specs.Walk.{all_given, beside, first_given};
 ghost use Rattle.rv_asm_statements.specs.DirectiveRowView.{directive_row_view};
-ghost use Rattle.rv_asm_statements.specs.Directives.{only_number as number_alone, only_name as name_alone, only_text as text_alone, takes_labels as width_takes_labels, item_of, all_given, limited_number, link_of, directive_alone, only_alignment, directive_by, form_named, directive_of};
+ghost use Rattle.rv_asm_statements.specs.Directives.{only_number as number_alone, only_name as name_alone, only_text as text_alone, takes_labels as width_takes_labels, item_of, limited_number, link_of, directive_alone, only_alignment, directive_by, directive_of};
 
 use crate::data_lists::{Bytes, Integers, Items};
 use crate::directive_rows::{DIRECTIVES, DirectiveRow, Form};
@@ -239,7 +239,7 @@ fn directive_for(
 
 /// What the row of a name says that its directive is.
 fn form_in(table: &[DirectiveRow], name: &[u8]) -> Option<Form>
-    ensures { result ≡ first_given (form_named name.now) (map directive_row_view table.now) }
+    ensures { result ≡ first_given (beside name.now) (map directive_row_view table.now) }
 {
     for row in table {
         if row.name == name {

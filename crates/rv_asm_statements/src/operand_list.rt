@@ -1,9 +1,9 @@
 //! What stands between the commas of a statement.
 
-ghost use Rattle.std.specs.Prelude.{◌≡◌, ◌<◌, ◌≤◌, ◌-◌, IfOk, take, drop, length, slice_index_or};
+ghost use Rattle.std.specs.Prelude.{◌≡◌, IfOk};
 ghost use Rattle.std.specs.Option.{option_map};
-ghost use Rattle.rv_asm_tokens.specs.Lexeme.{lexemes_of, comma};
-ghost use Rattle.rv_asm_statements.specs.Arguments.{arguments_view, argument_view, argument_of, arguments_of, is_comma};
+ghost use Rattle.rv_asm_tokens.specs.Lexeme.{lexeme_of, lexemes_of};
+ghost use Rattle.rv_asm_statements.specs.Arguments.{arguments_view, argument_view, argument_of, arguments_of, is_comma as is_comma_meant};
 
 use rv_asm_tokens::{Number, Token};
 use std::alloc::{AllocError, Global};
@@ -42,20 +42,10 @@ fn single_operand<'a>(tokens: &[Token<'a>]) -> Option<Operand<'a>>
     }
 }
 
-fn is_comma_at(tokens: &[Token<'_>], at: usize) -> bool
-    requires { at < length tokens.now }
-    ensures { result ≡ is_comma (slice_index_or (lexemes_of tokens.now) at comma) }
+fn is_comma(token: &Token<'_>) -> bool
+    ensures { result ≡ is_comma_meant (lexeme_of token.now) }
 {
-    matches!(tokens[at], Token::Comma)
-}
-
-/// The tokens from one place to another.
-fn part<'a, 'b>(tokens: &'b [Token<'a>], from: usize, to: usize) -> &'b [Token<'a>]
-    requires order { from ≤ to }
-    requires within { to ≤ length tokens.now }
-    ensures { lexemes_of result.now ≡ take (to - from) (drop from (lexemes_of tokens.now)) }
-{
-    &tokens[from..to]
+    matches!(token, Token::Comma)
 }
 
 /// The operands of a statement, or none where what stands between two commas is no operand.
@@ -69,19 +59,11 @@ pub fn operands<'a>(
     if tokens.is_empty() {
         return Ok(Some(done));
     }
-    let mut from: usize = 0;
-    for i in 0..tokens.len() {
-        if is_comma_at(tokens, i) {
-            let Some(found) = single_operand(part(tokens, from, i)) else {
-                return Ok(None);
-            };
-            done.push(found)?;
-            from = i + 1;
-        }
+    for part in tokens.split(|token| is_comma(token)) {
+        let Some(found) = single_operand(part) else {
+            return Ok(None);
+        };
+        done.push(found)?;
     }
-    let Some(found) = single_operand(part(tokens, from, tokens.len())) else {
-        return Ok(None);
-    };
-    done.push(found)?;
     Ok(Some(done))
 }

@@ -1,7 +1,8 @@
 //! The names of the integer registers.
 
 ghost use Rattle.std.specs.Prelude.{◌≡◌, map};
-ghost use Rattle.rv_asm_statements.specs.Registers.{register_view, number_named, register_named};
+ghost use Rattle.rv_asm_statements.specs.Registers.{register_view, register_named};
+ghost use Rattle.rv_asm_statements.specs.Walk.{beside, first_given};
 
 use rv_decode::Reg;
 
@@ -276,7 +277,7 @@ static REGISTERS: [RegisterName; 65] = [
 ];
 
 fn number_in(table: &[RegisterName], name: &[u8]) -> Option<u8>
-    ensures { result ≡ number_named name.now (map register_view table.now) }
+    ensures { result ≡ first_given (beside name.now) (map register_view table.now) }
 {
     for row in table {
         if row.name == name {

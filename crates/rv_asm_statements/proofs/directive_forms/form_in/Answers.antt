@@ -1,21 +1,20 @@
 use Rattle.std.proofs.Common.{map, sym, ◌∙◌}
-use Rattle.rv_asm_statements.specs.Walk.{first_given}
+use Rattle.rv_asm_statements.specs.Walk.{beside, first_given}
 use Rattle.rv_asm_statements.specs.DirectiveRowView.{directive_row_view}
-use Rattle.rv_asm_statements.specs.Directives.{form_named}
-use Rattle.rv_asm_statements.proofs.Walks.{given_passed, given_met, given_end, form_other, form_this}
+use Rattle.rv_asm_statements.proofs.Walks.{given_passed, given_met, given_end, beside_other, beside_this}
 use Rattle.rv_asm_statements.proofs.directive_forms.form_in.Goals as goal
 
 pub returns-then-eq : goal.returns-then-eq
 returns-then-eq c =
-    let f = form_named c.args.name.now in
-    sym (given_met f directive_row_view c.args.table.now c.loop-row.row-index _ _ (first_given f (map directive_row_view c.args.table.now)) c.loop-row-test.true (form_this c.args.name.now _ (sym c.eq.ensures ∙ c.if-eq.true)) c.loop-row.invariant)
+    let f = beside c.args.name.now in
+    sym (given_met f directive_row_view c.args.table.now c.loop-row.row-index _ _ (first_given f (map directive_row_view c.args.table.now)) c.loop-row-test.true (beside_this c.args.name.now _ (sym c.eq.ensures ∙ c.if-eq.true)) c.loop-row.invariant)
 
 pub loop-row-preserved : goal.loop-row-preserved
 loop-row-preserved c =
-    let f = form_named c.args.name.now in
-    given_passed f directive_row_view c.args.table.now c.loop-row.row-index _ (first_given f (map directive_row_view c.args.table.now)) c.loop-row-test.true (form_other c.args.name.now _ (sym c.eq.ensures ∙ c.if-eq.false)) c.loop-row.invariant
+    let f = beside c.args.name.now in
+    given_passed f directive_row_view c.args.table.now c.loop-row.row-index _ (first_given f (map directive_row_view c.args.table.now)) c.loop-row-test.true (beside_other c.args.name.now _ (sym c.eq.ensures ∙ c.if-eq.false)) c.loop-row.invariant
 
 pub returns : goal.returns
 returns c =
-    let f = form_named c.args.name.now in
+    let f = beside c.args.name.now in
     sym (given_end f directive_row_view c.args.table.now c.loop-row.row-index (first_given f (map directive_row_view c.args.table.now)) c.loop-row-test.false c.loop-row.invariant)

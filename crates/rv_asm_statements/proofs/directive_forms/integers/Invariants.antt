@@ -1,7 +1,7 @@
 use Rattle.std.proofs.Common.{◌≡◌, drop, map}
 use Rattle.rv_asm_statements.specs.Arguments.{argument_view}
 use Rattle.rv_asm_statements.specs.Shapes.{number_of}
-use Rattle.rv_asm_statements.specs.Directives.{all_given}
+use Rattle.rv_asm_statements.specs.Walk.{all_given}
 use Rattle.rv_asm_statements.proofs.Walks.{given_behind}
 use Rattle.rv_asm_statements.proofs.directive_forms.integers.Given as goal
 

@@ -1,6 +1,7 @@
 use Rattle.std.proofs.Common.{map, sym}
 use Rattle.rv_asm_statements.specs.Arguments.{argument_view}
-use Rattle.rv_asm_statements.specs.Directives.{item_of, all_given}
+use Rattle.rv_asm_statements.specs.Directives.{item_of}
+use Rattle.rv_asm_statements.specs.Walk.{all_given}
 use Rattle.rv_asm_statements.proofs.Walks.{all_passed, all_wrong}
 use Rattle.rv_asm_statements.proofs.directive_forms.items.Goals as goal
 

@@ -1,17 +1,20 @@
-use Rattle.std.proofs.Common.{◌+◌, drop, map, sym, ◌∙◌}
-use Rattle.rv_asm_statements.specs.Registers.{number_named}
+use Rattle.std.proofs.Common.{map, sym, ◌∙◌}
+use Rattle.rv_asm_statements.specs.Walk.{beside, first_given}
 use Rattle.rv_asm_statements.specs.Registers.{register_view}
-use Rattle.rv_asm_statements.proofs.Walks.{row_at, passed, met}
+use Rattle.rv_asm_statements.proofs.Walks.{given_passed, given_met, given_end, beside_other, beside_this}
 use Rattle.rv_asm_statements.proofs.registers.number_in.Goals as goal
 
 pub returns-then-eq : goal.returns-then-eq
 returns-then-eq c =
-    let rows = map register_view c.args.table.now in
-    let i = c.loop-row.row-index in
-    sym (met c.args.name.now (drop i rows) _ (drop (i + 1) rows) (number_named c.args.name.now rows) (row_at register_view c.args.table.now i _ c.loop-row-test.true) (sym c.eq.ensures ∙ c.if-eq.true) c.loop-row.invariant)
+    let f = beside c.args.name.now in
+    sym (given_met f register_view c.args.table.now c.loop-row.row-index _ _ (first_given f (map register_view c.args.table.now)) c.loop-row-test.true (beside_this c.args.name.now _ (sym c.eq.ensures ∙ c.if-eq.true)) c.loop-row.invariant)
 
 pub loop-row-preserved : goal.loop-row-preserved
 loop-row-preserved c =
-    let rows = map register_view c.args.table.now in
-    let i = c.loop-row.row-index in
-    passed c.args.name.now (drop i rows) _ (drop (i + 1) rows) (number_named c.args.name.now rows) (row_at register_view c.args.table.now i _ c.loop-row-test.true) (sym c.eq.ensures ∙ c.if-eq.false) c.loop-row.invariant
+    let f = beside c.args.name.now in
+    given_passed f register_view c.args.table.now c.loop-row.row-index _ (first_given f (map register_view c.args.table.now)) c.loop-row-test.true (beside_other c.args.name.now _ (sym c.eq.ensures ∙ c.if-eq.false)) c.loop-row.invariant
+
+pub returns : goal.returns
+returns c =
+    let f = beside c.args.name.now in
+    sym (given_end f register_view c.args.table.now c.loop-row.row-index (first_given f (map register_view c.args.table.now)) c.loop-row-test.false c.loop-row.invariant)
