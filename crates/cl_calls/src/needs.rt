@@ -261,37 +261,29 @@ impl Call {
         ensures { result ≡ needs_of self.now }
     {
         match *self {
-            Call::Exit { code: _ } => NOTHING,
+            Call::Exit { .. } | Call::Hart => NOTHING,
             Call::Put { buffer, count } => Needs {
                 buffer: Range::reading(buffer, count),
                 growth: count,
                 ..NOTHING
             },
-            Call::Rank { comm } => Needs {
+            Call::Rank { comm } | Call::Size { comm } => Needs {
                 comm: Some(comm),
                 ..NOTHING
             },
-            Call::Size { comm } => Needs {
-                comm: Some(comm),
-                ..NOTHING
-            },
-            Call::Hart => NOTHING,
-            Call::Send(sending) => sending.needs(false),
-            Call::Ssend(sending) => sending.needs(false),
+            Call::Send(sending) | Call::Ssend(sending) => sending.needs(false),
+            Call::Isend(sending) | Call::Issend(sending) | Call::SendInit(sending) => {
+                sending.needs(true)
+            }
             Call::Recv { receiving, status } => receiving.needs(false, status),
-            Call::Isend(sending) => sending.needs(true),
-            Call::Issend(sending) => sending.needs(true),
-            Call::Irecv(receiving) => receiving.needs(true, 0),
-            Call::Test(completing) => completing.needs(),
-            Call::Wait(completing) => completing.needs(),
-            Call::Iprobe(probing) => probing.needs(),
-            Call::Probe(probing) => probing.needs(),
-            Call::Improbe(probing) => probing.needs(),
-            Call::Mprobe(probing) => probing.needs(),
+            Call::Irecv(receiving) | Call::RecvInit(receiving) => receiving.needs(true, 0),
+            Call::Test(completing) | Call::Wait(completing) => completing.needs(),
+            Call::Iprobe(probing)
+            | Call::Probe(probing)
+            | Call::Improbe(probing)
+            | Call::Mprobe(probing) => probing.needs(),
             Call::Imrecv(claimed) => claimed.needs(true, 0),
             Call::Mrecv { claimed, status } => claimed.needs(false, status),
-            Call::SendInit(sending) => sending.needs(true),
-            Call::RecvInit(receiving) => receiving.needs(true, 0),
             Call::Start { handle } => Needs {
                 request: Named::Persistent(handle),
                 ..NOTHING
@@ -300,8 +292,7 @@ impl Call {
                 request: Named::Open(handle),
                 ..NOTHING
             },
-            Call::Testall(several) => several.needs(),
-            Call::Waitall(several) => several.needs(),
+            Call::Testall(several) | Call::Waitall(several) => several.needs(),
             Call::Unknown => Needs {
                 known: false,
                 ..NOTHING
