@@ -5,7 +5,6 @@ use Rattle.std.specs.Int.{w32, to_le_bytes}
 use Rattle.std.specs.Ordering.{int_eq}
 use Rattle.std.specs.Prelude.{if◌then◌else◌}
 use Rattle.rv_decode.specs.declared.instruction.Instr.{Instr}
-use Rattle.rv_decode.specs.declared.instruction.Instr.TheVariants as instr
 use Rattle.rv_decode.specs.Table.{written_word}
 use Rattle.rv_asm_tokens.specs.declared.fault.AsmFaultKind.{AsmFaultKind}
 use Rattle.rv_asm_tokens.specs.declared.fault.AsmFaultKind.TheVariants as kinds
@@ -22,7 +21,7 @@ use Rattle.rv_asm_statements.specs.declared.rows.Template.TheVariants as templat
 use Rattle.rv_asm.specs.Data.{low_bytes, item_ranged, item_bytes, items_bytes, directive_bytes}
 use Rattle.rv_asm.specs.Output.{word_bytes, with_use}
 use Rattle.rv_asm.specs.Parts.{alignment_bytes, directive_length, padding, width_bytes}
-use Rattle.rv_asm.specs.Resolved.{ranged, even_ranged, imm_32, offset_of, upper_immediate, amount_of, is_between, low_part, load_immediate, load_address, register_at, instrs_of, words_of, count_of, use_length}
+use Rattle.rv_asm.specs.Resolved.{ranged, imm_32, offset_of, is_between, low_part, load_immediate, load_address, register_at, one, single, jal_of, branch_of, instrs_of, words_of, count_of, use_length}
 use Rattle.rv_asm.proofs.Right.{bind_ok, ok, ok_is}
 
 -- ---- instructions
@@ -43,26 +42,26 @@ ranged-between low high z y h = go (is_between low high z) h
     go true h = (refl, sym (ok_is z y h))
     go false h = absurd cc
 
-one_counted : {A : Type 0} (r : Result A AsmFaultKind) (f : A → Instr) (is : List Instr) → (r >>= λ x. ok (f x ∷ [])) ≡ Ok is → length is ≡ 1
-one_counted r f is h =
-    let a = bind_ok r (λ x. ok (f x ∷ [])) is h in
-    ap length (sym (ok_is (f a.value ∷ []) is a.second))
+one_counted : (r : Result Instr AsmFaultKind) (is : List Instr) → single r ≡ Ok is → length is ≡ 1
+one_counted r is h =
+    let a = bind_ok r (λ i. ok (one i)) is h in
+    ap length (sym (ok_is (one a.value) is a.second))
 
-two_steps : {A B : Type 0} (r : Result A AsmFaultKind) (g : A → Result B AsmFaultKind) (f : B → Instr) (is : List Instr) → (r >>= λ x. g x >>= λ y. ok (f y ∷ [])) ≡ Ok is → length is ≡ 1
-two_steps r g f is h =
-    let a = bind_ok r (λ x. g x >>= λ y. ok (f y ∷ [])) is h in
-    one_counted (g a.value) f is a.second
+two_steps : {A : Type 0} (r : Result A AsmFaultKind) (f : A → Result Instr AsmFaultKind) (is : List Instr) → (r >>= λ x. single (f x)) ≡ Ok is → length is ≡ 1
+two_steps r f is h =
+    let a = bind_ok r (λ x. single (f x)) is h in
+    one_counted (f a.value) is a.second
 
 pub instrs_of-length : (labels : List (List ℕ × ℕ)) (at : ℕ) (t : Template) (o : Filled) (is : List Instr) → instrs_of labels at t o ≡ Ok is → length is ≡ count_of t o
 unfolding instrs_of
-instrs_of-length labels at (template.Upper op d) o is h = one_counted _ (λ z. instr.Upper op (register_at d o) (upper_immediate z)) is h
-instrs_of-length labels at (template.Jal d) o is h = two_steps _ (λ n. even_ranged (negsuc 1048575) (pos 1048575) n) (λ z. instr.Jal (register_at d o) z) is h
-instrs_of-length labels at (template.Jalr d s n) o is h = one_counted _ (λ z. instr.Jalr (register_at d o) (register_at s o) z) is h
-instrs_of-length labels at (template.Branch op s t) o is h = two_steps _ (λ n. even_ranged (negsuc 4095) (pos 4095) n) (λ z. instr.Branch op (register_at s o) (register_at t o) z) is h
-instrs_of-length labels at (template.Load op d s) o is h = one_counted _ (λ z. instr.Load op (register_at d o) (register_at s o) z) is h
-instrs_of-length labels at (template.Store op s t) o is h = one_counted _ (λ z. instr.Store op (register_at s o) (register_at t o) z) is h
-instrs_of-length labels at (template.Imm op d s n) o is h = one_counted _ (λ z. instr.Imm op (register_at d o) (register_at s o) z) is h
-instrs_of-length labels at (template.Shift op d s) o is h = one_counted _ (λ z. instr.Shift op (register_at d o) (register_at s o) (amount_of z)) is h
+instrs_of-length labels at (template.Upper op d) o is h = one_counted _ is h
+instrs_of-length labels at (template.Jal d) o is h = two_steps _ (jal_of (register_at d o)) is h
+instrs_of-length labels at (template.Jalr d s n) o is h = one_counted _ is h
+instrs_of-length labels at (template.Branch op s t) o is h = two_steps _ (branch_of op (register_at s o) (register_at t o)) is h
+instrs_of-length labels at (template.Load op d s) o is h = one_counted _ is h
+instrs_of-length labels at (template.Store op s t) o is h = one_counted _ is h
+instrs_of-length labels at (template.Imm op d s n) o is h = one_counted _ is h
+instrs_of-length labels at (template.Shift op d s) o is h = one_counted _ is h
 instrs_of-length labels at (template.Arith op d s t) o is h = ap length (sym (ok_is _ is h))
 instrs_of-length labels at template.Fence o is h = ap length (sym (ok_is _ is h))
 instrs_of-length labels at template.Ecall o is h = ap length (sym (ok_is _ is h))

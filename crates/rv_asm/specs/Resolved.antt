@@ -5,8 +5,14 @@ use Rattle.std.specs.Int.{int_div_euclid, int_rem_euclid}
 use Rattle.std.specs.Str.{bytes_eq}
 use Rattle.rv_decode.specs.declared.instruction.Instr.{Instr}
 use Rattle.rv_decode.specs.declared.instruction.Instr.TheVariants as instr
+use Rattle.rv_decode.specs.declared.instruction.UpperOp.{UpperOp}
 use Rattle.rv_decode.specs.declared.instruction.UpperOp.TheVariants.{Lui}
+use Rattle.rv_decode.specs.declared.instruction.BranchOp.{BranchOp}
+use Rattle.rv_decode.specs.declared.instruction.LoadOp.{LoadOp}
+use Rattle.rv_decode.specs.declared.instruction.StoreOp.{StoreOp}
+use Rattle.rv_decode.specs.declared.instruction.ImmOp.{ImmOp}
 use Rattle.rv_decode.specs.declared.instruction.ImmOp.TheVariants.{Addi, Addiw}
+use Rattle.rv_decode.specs.declared.instruction.ShiftOp.{ShiftOp}
 use Rattle.rv_decode.specs.Table.{amount_bits, written_word}
 use Rattle.rv_asm_tokens.specs.declared.fault.AsmFaultKind.{AsmFaultKind}
 use Rattle.rv_asm_tokens.specs.declared.fault.AsmFaultKind.TheVariants as kinds
@@ -80,7 +86,38 @@ abbrev pub amount_of : ℤ → ℕ
 amount_of (pos n) = n
 amount_of (negsuc n) = 0
 
--- ---- instructions
+-- ---- instructions of registers and a number, which has to fit
+
+-- a number of 20 bits
+abbrev pub upper_of : UpperOp → ℕ → ℤ → Result Instr AsmFaultKind
+upper_of op d z = ranged (pos 0) (pos 1048575) z >>= λ n. Ok (instr.Upper op d (upper_immediate n))
+
+-- an even offset of 21 bits with a sign
+abbrev pub jal_of : ℕ → ℤ → Result Instr AsmFaultKind
+jal_of d z = even_ranged (negsuc 1048575) (pos 1048575) z >>= λ off. Ok (instr.Jal d off)
+
+-- an even offset of 13 bits with a sign
+abbrev pub branch_of : BranchOp → ℕ → ℕ → ℤ → Result Instr AsmFaultKind
+branch_of op s t z = even_ranged (negsuc 4095) (pos 4095) z >>= λ off. Ok (instr.Branch op s t off)
+
+-- 12 bits with a sign
+abbrev pub jalr_of : ℕ → ℕ → ℤ → Result Instr AsmFaultKind
+jalr_of d s z = imm_12 z >>= λ off. Ok (instr.Jalr d s off)
+
+abbrev pub load_of : LoadOp → ℕ → ℕ → ℤ → Result Instr AsmFaultKind
+load_of op d s z = imm_12 z >>= λ off. Ok (instr.Load op d s off)
+
+abbrev pub store_of : StoreOp → ℕ → ℕ → ℤ → Result Instr AsmFaultKind
+store_of op s t z = imm_12 z >>= λ off. Ok (instr.Store op s t off)
+
+abbrev pub imm_of : ImmOp → ℕ → ℕ → ℤ → Result Instr AsmFaultKind
+imm_of op d s z = imm_12 z >>= λ imm. Ok (instr.Imm op d s imm)
+
+-- less than the number of bits that are shifted
+abbrev pub shift_of : ShiftOp → ℕ → ℕ → ℤ → Result Instr AsmFaultKind
+shift_of op d s z = ranged (pos 0) (pos (2 ^ amount_bits op - 1)) z >>= λ n. Ok (instr.Shift op d s (amount_of n))
+
+-- ---- the instructions of a mnemonic
 
 -- lui of a high part, less whole multiples of 2 ^ 20
 abbrev pub lui_high : ℕ → ℤ → Instr
@@ -104,16 +141,19 @@ load_address d z = lui_high d z ∷ instr.Imm Addi d d (low_part z) ∷ []
 abbrev pub one : Instr → List Instr
 one i = i ∷ []
 
+abbrev pub single : Result Instr AsmFaultKind → Result (List Instr) AsmFaultKind
+single r = r >>= λ i. Ok (one i)
+
 -- the instructions of a template and its operands, at an address
 unfoldable pub instrs_of : List (List ℕ × ℕ) → ℕ → Template → Filled → Result (List Instr) AsmFaultKind
-instrs_of labels at (template.Upper op d) o = ranged (pos 0) (pos 1048575) o.target.number >>= λ z. Ok (one (instr.Upper op (register_at d o) (upper_immediate z)))
-instrs_of labels at (template.Jal d) o = offset_of labels at o.target >>= λ n. even_ranged (negsuc 1048575) (pos 1048575) n >>= λ z. Ok (one (instr.Jal (register_at d o) z))
-instrs_of labels at (template.Jalr d s n) o = imm_12 (number_at n o) >>= λ z. Ok (one (instr.Jalr (register_at d o) (register_at s o) z))
-instrs_of labels at (template.Branch op s t) o = offset_of labels at o.target >>= λ n. even_ranged (negsuc 4095) (pos 4095) n >>= λ z. Ok (one (instr.Branch op (register_at s o) (register_at t o) z))
-instrs_of labels at (template.Load op d s) o = imm_12 o.target.number >>= λ z. Ok (one (instr.Load op (register_at d o) (register_at s o) z))
-instrs_of labels at (template.Store op s t) o = imm_12 o.target.number >>= λ z. Ok (one (instr.Store op (register_at s o) (register_at t o) z))
-instrs_of labels at (template.Imm op d s n) o = imm_12 (number_at n o) >>= λ z. Ok (one (instr.Imm op (register_at d o) (register_at s o) z))
-instrs_of labels at (template.Shift op d s) o = ranged (pos 0) (pos (2 ^ amount_bits op - 1)) o.target.number >>= λ z. Ok (one (instr.Shift op (register_at d o) (register_at s o) (amount_of z)))
+instrs_of labels at (template.Upper op d) o = single (upper_of op (register_at d o) o.target.number)
+instrs_of labels at (template.Jal d) o = offset_of labels at o.target >>= λ n. single (jal_of (register_at d o) n)
+instrs_of labels at (template.Jalr d s n) o = single (jalr_of (register_at d o) (register_at s o) (number_at n o))
+instrs_of labels at (template.Branch op s t) o = offset_of labels at o.target >>= λ n. single (branch_of op (register_at s o) (register_at t o) n)
+instrs_of labels at (template.Load op d s) o = single (load_of op (register_at d o) (register_at s o) o.target.number)
+instrs_of labels at (template.Store op s t) o = single (store_of op (register_at s o) (register_at t o) o.target.number)
+instrs_of labels at (template.Imm op d s n) o = single (imm_of op (register_at d o) (register_at s o) (number_at n o))
+instrs_of labels at (template.Shift op d s) o = single (shift_of op (register_at d o) (register_at s o) o.target.number)
 instrs_of labels at (template.Arith op d s t) o = Ok (one (instr.Arith op (register_at d o) (register_at s o) (register_at t o)))
 instrs_of labels at template.Fence o = Ok (one instr.Fence)
 instrs_of labels at template.Ecall o = Ok (one instr.Ecall)

@@ -6,6 +6,7 @@ mod cluster;
 mod data;
 mod encoded;
 mod fields;
+mod instructions;
 mod labels;
 pub mod laws;
 mod layout;

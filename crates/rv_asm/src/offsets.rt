@@ -3,7 +3,7 @@
 ghost use Rattle.std.specs.Prelude.{◌≡◌, ◌≤ℤ◌, ◌^◌, pos, neg_ℤ, IfOk, int_rem};
 ghost use Rattle.rv_asm_tokens.specs.Fault.{Gives};
 ghost use Rattle.rv_asm.specs.LayoutView.{addresses_view};
-ghost use Rattle.rv_asm.specs.Resolved.{ranged, even_ranged, offset_of, upper_immediate};
+ghost use Rattle.rv_asm.specs.Resolved.{ranged, even_ranged, offset_of, upper_immediate as upper_meant};
 
 use crate::labels::find_label;
 use crate::layout::Layout;
@@ -59,10 +59,10 @@ pub fn offset(layout: &Layout, at: u64, target: &Target) -> Result<i128, AsmFaul
 
 /// The immediate of lui and auipc, whose number has 20 bits.
 #[tactic(auto, unfolding(crate::specs::Resolved::upper_immediate))]
-pub fn upper(number: i32) -> i32
+pub fn upper_immediate(number: i32) -> i32
     requires low { pos 0 ≤ℤ number }
     requires high { number ≤ℤ pos 1048575 }
-    ensures value { result ≡ upper_immediate number }
+    ensures value { result ≡ upper_meant number }
     ensures whole { int_rem result (pos 4096) ≡ pos 0 }
 {
     if number <= 524_287 {

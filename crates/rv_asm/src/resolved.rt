@@ -1,18 +1,19 @@
 //! The instructions of a mnemonic and its operands.
 
-ghost use Rattle.std.specs.Prelude.{◌≡◌, ◌≤◌, ◌∷◌, ◌++◌, ◌-◌, ◌^◌, map, IfOk, OnOk, pos, negsuc, neg_ℤ, ◌≤ℤ◌, ◌+ℤ◌, ◌-ℤ◌, ◌*ℤ◌, []};
-ghost use Rattle.rv_decode.specs.Table.{Fits, amount_bits, written_word};
+ghost use Rattle.std.specs.Prelude.{◌≡◌, ◌≤◌, ◌∷◌, ◌^◌, map, OnOk, pos, negsuc, neg_ℤ, ◌≤ℤ◌, ◌+ℤ◌, ◌-ℤ◌, ◌*ℤ◌, []};
+ghost use Rattle.rv_decode.specs.Table.{Fits, written_word};
 ghost use Rattle.rv_asm_tokens.specs.Fault.{Gives};
 ghost use Rattle.rv_asm.specs.LayoutView.{addresses_view};
 ghost use Rattle.rv_asm.specs.Places.{IsWritten, AllWritten, IfRight};
 ghost use Rattle.rv_asm.specs.WordsView.{words_list};
-ghost use Rattle.rv_asm.specs.Resolved.{register_at, number_at, lui_high, low_part, high_part, load_immediate, load_address, is_between, count_of, use_length, instrs_of, words_of as resolved_words, imm_12};
+ghost use Rattle.rv_asm.specs.Resolved.{register_at, number_at, lui_high, low_part, high_part, load_immediate, load_address, use_length, instrs_of, words_of as resolved_words};
 
+use crate::instructions::{branch, imm, jal, jalr, load, shift, store, upper};
 use crate::layout::Layout;
-use crate::offsets::{even_within, offset, upper, within};
+use crate::offsets::{offset, upper_immediate, within};
 use rv_asm_statements::{Amount, Filled, Slot, Template, Use};
 use rv_asm_tokens::AsmFaultKind;
-use rv_decode::{ImmOp, Instr, Reg, ShiftOp, UpperOp, encode};
+use rv_decode::{ImmOp, Instr, Reg, UpperOp, encode};
 
 /// The words of one instruction or two.
 #[derive(Clone, Copy, Debug)]
@@ -40,14 +41,6 @@ fn number(amount: Amount, o: &Filled) -> i128
         Amount::Written => o.target.number.value(),
         Amount::Given(given) => i128::from(given),
     }
-}
-
-fn immediate(number: i128) -> Result<i32, AsmFaultKind>
-    ensures value { Gives (λ x. x) result (imm_12 number) }
-    ensures low { IfOk result (λ x. negsuc 2047 ≤ℤ x) }
-    ensures high { IfOk result (λ x. x ≤ℤ pos 2047) }
-{
-    within(-2048, 2047, number)
 }
 
 fn one(instr: Instr) -> Words
@@ -120,7 +113,7 @@ fn load_high(d: Reg, z: i128) -> Instr
     Instr::Upper {
         op: UpperOp::Lui,
         rd: d,
-        imm: upper(bits as i32),
+        imm: upper_immediate(bits as i32),
     }
 }
 
@@ -172,16 +165,6 @@ fn address_words(d: Reg, z: i128) -> Words
     )
 }
 
-fn greatest_amount(op: ShiftOp) -> i32
-    ensures value { pos (2 ^ amount_bits op - 1) ≡ result }
-    ensures bound { result ≤ℤ pos 63 }
-{
-    match op {
-        ShiftOp::Slli | ShiftOp::Srli | ShiftOp::Srai => 63,
-        ShiftOp::Slliw | ShiftOp::Srliw | ShiftOp::Sraiw => 31,
-    }
-}
-
 /// The words of a template and its operands, at an address.
 #[tactic(auto, unfolding(crate::specs::Resolved::instrs_of))]
 pub fn words_of(
@@ -194,95 +177,34 @@ pub fn words_of(
     ensures written { OnOk result (IfRight (instrs_of (addresses_view layout.now) at template o.now) AllWritten) }
 {
     let written = o.target.number.value();
-    match template {
-        Template::Upper(op, d) => {
-            let z = within(0, 1_048_575, written)?;
-            Ok(one(Instr::Upper {
-                op,
-                rd: register(d, o),
-                imm: upper(z),
-            }))
-        }
-        Template::Jal(d) => {
-            let off = even_within(-1_048_576, 1_048_575, offset(layout, at, &o.target)?)?;
-            Ok(one(Instr::Jal {
-                rd: register(d, o),
-                off,
-            }))
-        }
-        Template::Jalr(d, s, n) => {
-            let off = immediate(number(n, o))?;
-            Ok(one(Instr::Jalr {
-                rd: register(d, o),
-                rs1: register(s, o),
-                off,
-            }))
-        }
+    let words = match template {
+        Template::Upper(op, d) => one(upper(op, register(d, o), written)?),
+        Template::Jal(d) => one(jal(register(d, o), offset(layout, at, &o.target)?)?),
+        Template::Jalr(d, s, n) => one(jalr(register(d, o), register(s, o), number(n, o))?),
         Template::Branch(op, s, t) => {
-            let off = even_within(-4096, 4095, offset(layout, at, &o.target)?)?;
-            Ok(one(Instr::Branch {
-                op,
-                rs1: register(s, o),
-                rs2: register(t, o),
-                off,
-            }))
+            let far = offset(layout, at, &o.target)?;
+            one(branch(op, register(s, o), register(t, o), far)?)
         }
-        Template::Load(op, d, s) => {
-            let off = immediate(written)?;
-            Ok(one(Instr::Load {
-                op,
-                rd: register(d, o),
-                rs1: register(s, o),
-                off,
-            }))
-        }
-        Template::Store(op, s, t) => {
-            let off = immediate(written)?;
-            Ok(one(Instr::Store {
-                op,
-                rs1: register(s, o),
-                rs2: register(t, o),
-                off,
-            }))
-        }
-        Template::Imm(op, d, s, n) => {
-            let imm = immediate(number(n, o))?;
-            Ok(one(Instr::Imm {
-                op,
-                rd: register(d, o),
-                rs1: register(s, o),
-                imm,
-            }))
-        }
-        Template::Shift(op, d, s) => {
-            let amount = within(0, greatest_amount(op), written)?;
-            Ok(one(Instr::Shift {
-                op,
-                rd: register(d, o),
-                rs1: register(s, o),
-                amount: amount as u8,
-            }))
-        }
-        Template::Arith(op, d, s, t) => {
-            Ok(one(Instr::Arith {
-                op,
-                rd: register(d, o),
-                rs1: register(s, o),
-                rs2: register(t, o),
-            }))
-        }
-        Template::Fence => Ok(one(Instr::Fence)),
-        Template::Ecall => Ok(one(Instr::Ecall)),
-        Template::Ebreak => Ok(one(Instr::Ebreak)),
+        Template::Load(op, d, s) => one(load(op, register(d, o), register(s, o), written)?),
+        Template::Store(op, s, t) => one(store(op, register(s, o), register(t, o), written)?),
+        Template::Imm(op, d, s, n) => one(imm(op, register(d, o), register(s, o), number(n, o))?),
+        Template::Shift(op, d, s) => one(shift(op, register(d, o), register(s, o), written)?),
+        Template::Arith(op, d, s, t) => one(Instr::Arith {
+            op,
+            rd: register(d, o),
+            rs1: register(s, o),
+            rs2: register(t, o),
+        }),
+        Template::Fence => one(Instr::Fence),
+        Template::Ecall => one(Instr::Ecall),
+        Template::Ebreak => one(Instr::Ebreak),
         Template::LoadImmediate(d) => {
             let z = within(i32::MIN, i32::MAX, written)?;
-            Ok(immediate_words(register(d, o), z))
+            immediate_words(register(d, o), z)
         }
-        Template::LoadAddress(d) => {
-            let address = offset(layout, 0, &o.target)?;
-            Ok(address_words(register(d, o), address))
-        }
-    }
+        Template::LoadAddress(d) => address_words(register(d, o), offset(layout, 0, &o.target)?),
+    };
+    Ok(words)
 }
 
 /// How many bytes the instructions of a mnemonic take.

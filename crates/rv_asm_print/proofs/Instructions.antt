@@ -27,7 +27,7 @@ use Rattle.rv_asm_statements.specs.declared.rows.Template.{Template}
 use Rattle.rv_asm_statements.specs.declared.rows.Template.TheVariants as template
 use Rattle.rv_asm_statements.specs.Arguments.{Argument, word, value, place}
 use Rattle.rv_asm_statements.specs.Shapes.{at_number, filled, filled_by}
-use Rattle.rv_asm.specs.Resolved.{imm_12, ranged, even_ranged, label_offset, upper_immediate, amount_of, one, instrs_of, use_length}
+use Rattle.rv_asm.specs.Resolved.{imm_12, ranged, even_ranged, label_offset, upper_immediate, amount_of, one, single, instrs_of, use_length}
 use Rattle.rv_asm_print.specs.Range.{IsInRange}
 use Rattle.rv_asm_print.specs.Read.{IsRead}
 use Rattle.rv_asm_print.proofs.Words.{word_reads}
@@ -95,8 +95,8 @@ bare i w t first makes = record {
 
 -- ---- what the templates make
 
-taken : {A : Type 0} (r : Result A AsmFaultKind) (z : A) (f : A → Instr) → r ≡ Ok z → (r >>= λ x. Ok (one (f x))) ≡ Ok (f z ∷ [])
-taken {A = A} r z f h = ap (λ (q : Result A AsmFaultKind). q >>= λ x. Ok (one (f x))) h
+taken : {A : Type 0} (r : Result A AsmFaultKind) (z : A) (f : A → Instr) → r ≡ Ok z → single (r >>= λ x. Ok (f x)) ≡ Ok (f z ∷ [])
+taken {A = A} r z f h = ap (λ (q : Result A AsmFaultKind). single (q >>= λ x. Ok (f x))) h
 
 module _ (d : ℕ) (z : ℤ) where
   makes_upper : (op : UpperOp) → mag z < 2 ^ 31 → Fits (instr.Upper op d z) → Makes (template.Upper op First) (filled d 0 0 (at_number (pos (upper_part z)))) (instr.Upper op d z)
