@@ -8,12 +8,22 @@ use Rattle.mp_request.specs.declared.entries.State.{State}
 use Rattle.mp_request.specs.declared.entries.State.TheVariants.{Ordinary, Inactive, Active}
 use Rattle.mp_request.specs.declared.entries.Transfer.{Transfer}
 use Rattle.mp_request.specs.declared.entries.Transfer.TheVariants.{SendToNull, ReceiveFromNull, Send, Receive, ReceiveClaimed, SendPartitions, ReceivePartitions}
+use Rattle.cl_calls.specs.declared.calls.Call.{Call}
+use Rattle.cl_calls.specs.declared.calls.Call.TheVariants as call
 use Rattle.cl_state.specs.declared.asking.Ask.{Ask}
 use Rattle.cl_state.specs.declared.asking.Ask.TheVariants as ask
 use Rattle.cl_state.specs.declared.pending.Manner.{Manner}
 use Rattle.cl_state.specs.declared.pending.Manner.TheVariants.{Immediate, Blocking}
 use Rattle.cl_state.specs.declared.pending.Pending.{Pending}
 use Rattle.cl_state.specs.declared.pending.Pending.TheVariants.{Nothing, FromNull, Message, Word}
+
+-- the calls that end at once, whether or not there is something (MPI 4.1, 3.7.3, 3.7.5 and 3.8); the others wait
+abbrev pub manner_of : Call → Manner
+manner_of (call.Test c) = Immediate
+manner_of (call.Iprobe p) = Immediate
+manner_of (call.Improbe p) = Immediate
+manner_of (call.Testall s) = Immediate
+manner_of _ = Blocking
 
 -- the flag of an immediate call that completes; a blocking one gives no value
 abbrev pub flag : Manner → ℕ

@@ -1,6 +1,6 @@
 -- Several requests that complete together (MPI 4.1, chapter 3.7.5).
-use Rattle.std.specs.Prelude.{ℕ, ◌==◌, if◌then◌else◌, List, [], ◌∷◌, ◌++◌, length, map, take, Option, Some, None, Bool, true, false, ◌&&◌, nat_lt, is_some}
-use Rattle.std.specs.List.{list_any}
+use Rattle.std.specs.Prelude.{ℕ, ◌==◌, if◌then◌else◌, List, [], ◌∷◌, ◌++◌, fold, length, map, take, Option, Some, None, Bool, true, false, ◌&&◌, nat_lt, is_some}
+use Rattle.std.specs.List.{filter_map, flat_map, list_all, list_any}
 use Rattle.std.specs.Option.{unwrap_or}
 use Rattle.rv_memory.specs.Memory.{Memory, bytes_of}
 use Rattle.mp_types.specs.declared.codes.Code.{Code}
@@ -29,14 +29,9 @@ post_of FromNull = None
 post_of (Awaited post buffer capacity) = Some post
 post_of (Word post) = Some post
 
-abbrev pub with_post : Option ℕ → List ℕ → List ℕ
-with_post None posts = posts
-with_post (Some post) posts = post ∷ posts
-
 -- the posts of those that need the hub, in the array's order
 abbrev pub posts_of : List Pending → List ℕ
-posts_of [] = []
-posts_of (p ∷ ps) = with_post (post_of p) (posts_of ps)
+posts_of ps = filter_map post_of ps
 
 abbrev pub has_posts : List ℕ → Bool
 has_posts [] = false
@@ -47,33 +42,39 @@ abbrev pub asked_all : List ℕ → Ask
 asked_all [] = ask.Local
 asked_all (post ∷ posts) = ask.Hub (request.All (post ∷ posts))
 
--- ---- what the hub gave, one by one for those that it was asked for
+-- ---- what the hub gave: one thing for each request that it was asked for, in the array's order
 
--- what is left for the requests behind this one
+-- what is there for this request, and what is left for those behind it
+abbrev pub got_of : Option ℕ → List (Option Message) → Option Message
+got_of None gots = None
+got_of (Some post) [] = None
+got_of (Some post) (got ∷ gots) = got
+
 abbrev pub left_of : Option ℕ → List (Option Message) → List (Option Message)
 left_of None gots = gots
 left_of (Some post) [] = []
 left_of (Some post) (got ∷ gots) = gots
 
+-- each request beside what the hub gave for it
+abbrev pub dealt : List Pending → List (Option Message) → List (Pending × Option Message)
+dealt [] gots = []
+dealt (p ∷ ps) gots = (p, got_of (post_of p) gots) ∷ dealt ps (left_of (post_of p) gots)
+
 abbrev pub is_member : Site → Message → Bool
 is_member site message = is_some (place_of message.envelope.source (members site message.envelope.comm))
 
 -- a receive got a message whose source is a member, and a send got none
-abbrev pub fits_one : Site → Pending → List (Option Message) → Bool
-fits_one site Nothing gots = true
-fits_one site FromNull gots = true
-fits_one site (Awaited post buffer capacity) [] = false
-fits_one site (Awaited post buffer capacity) (None ∷ gots) = false
-fits_one site (Awaited post buffer capacity) (Some message ∷ gots) = is_member site message
-fits_one site (Word post) [] = false
-fits_one site (Word post) (None ∷ gots) = true
-fits_one site (Word post) (Some message ∷ gots) = false
+abbrev pub fits_one : Site → Pending → Option Message → Bool
+fits_one site (Awaited post buffer capacity) None = false
+fits_one site (Awaited post buffer capacity) (Some message) = is_member site message
+fits_one site (Word post) None = true
+fits_one site (Word post) (Some message) = false
+fits_one site Nothing got = true
+fits_one site FromNull got = true
 
 -- as many as were asked for, and each of the right kind
 abbrev pub are_fit : Site → List Pending → List (Option Message) → Bool
-are_fit site [] [] = true
-are_fit site [] (got ∷ gots) = false
-are_fit site (p ∷ ps) gots = fits_one site p gots && are_fit site ps (left_of (post_of p) gots)
+are_fit site ps gots = (length gots == length (posts_of ps)) && list_all (λ d. fits_one site d.0 d.1) (dealt ps gots)
 
 -- ---- what each request writes
 
@@ -99,22 +100,19 @@ given_message site buffer capacity message = record {
   truncated = nat_lt capacity (length message.bytes);
 }
 
-abbrev pub given_one : Site → Pending → List (Option Message) → Given
-given_one site Nothing gots = given_nothing any
-given_one site FromNull gots = given_nothing no_rank
-given_one site (Awaited post buffer capacity) [] = given_nothing any
-given_one site (Awaited post buffer capacity) (None ∷ gots) = given_nothing any
-given_one site (Awaited post buffer capacity) (Some message ∷ gots) = given_message site buffer capacity message
-given_one site (Word post) gots = given_nothing any
+abbrev pub given_one : Site → Pending → Option Message → Given
+given_one site (Awaited post buffer capacity) (Some message) = given_message site buffer capacity message
+given_one site (Awaited post buffer capacity) None = given_nothing any
+given_one site (Word post) got = given_nothing any
+given_one site Nothing got = given_nothing any
+given_one site FromNull got = given_nothing no_rank
 
 abbrev pub given : Site → List Pending → List (Option Message) → List Given
-given site [] gots = []
-given site (p ∷ ps) gots = given_one site p gots ∷ given site ps (left_of (post_of p) gots)
+given site ps gots = map (λ d. given_one site d.0 d.1) (dealt ps gots)
 
 -- all bytes, in the array's order
 abbrev pub with_all_bytes : Memory → List Given → Memory
-with_all_bytes memory [] = memory
-with_all_bytes memory (g ∷ gs) = with_all_bytes (written memory g.buffer g.bytes) gs
+with_all_bytes memory gs = fold (λ m (g : Given). written m g.buffer g.bytes) memory gs
 
 -- a status: source, tag and count (3.2.5)
 unfoldable pub status_of : Given → List ℕ
@@ -122,8 +120,7 @@ status_of g = bytes_of g.source 8 ++ bytes_of g.tag 8 ++ bytes_of (length g.byte
 
 -- one status after the other
 abbrev pub statuses_of : List Given → List ℕ
-statuses_of [] = []
-statuses_of (g ∷ gs) = status_of g ++ statuses_of gs
+statuses_of gs = flat_map status_of gs
 
 -- at address 0 none is wanted
 abbrev pub with_statuses : Memory → ℕ → List Given → Memory
@@ -134,5 +131,4 @@ abbrev pub code_of : List Given → Code
 code_of gs = if list_any (λ (g : Given). g.truncated) gs then code.Truncated else code.Ok
 
 abbrev pub completed_each : Table → List ℕ → Table
-completed_each table [] = table
-completed_each table (handle ∷ handles) = completed_each (completed table handle) handles
+completed_each table handles = fold completed table handles

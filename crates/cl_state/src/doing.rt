@@ -153,37 +153,31 @@ fn ask_by(
     ensures { IfOk result (λ ask. ask ≡ asked_by site.now memory.now requests.now call.now) }
 {
     match *call {
-        Call::Exit { code: _ } => Ok(Ask::Local),
-        Call::Put {
-            buffer: _,
-            count: _,
-        } => Ok(Ask::Local),
-        Call::Rank { comm: _ } => Ok(Ask::Local),
-        Call::Size { comm: _ } => Ok(Ask::Local),
-        Call::Hart => Ok(Ask::Local),
         Call::Send(sending) => ask(alloc, memory, true, &send(site, false, &sending)),
         Call::Ssend(sending) => ask(alloc, memory, true, &send(site, true, &sending)),
-        Call::Recv {
-            receiving,
-            status: _,
-        } => ask(alloc, memory, true, &receive(site, &receiving)),
+        Call::Recv { receiving, .. } => ask(alloc, memory, true, &receive(site, &receiving)),
         Call::Isend(sending) => ask(alloc, memory, false, &send(site, false, &sending)),
         Call::Issend(sending) => ask(alloc, memory, false, &send(site, true, &sending)),
         Call::Irecv(receiving) => ask(alloc, memory, false, &receive(site, &receiving)),
-        Call::Test(completing) => Ok(Pending::of(requests.get(completing.handle)).ask()),
-        Call::Wait(completing) => Ok(Pending::of(requests.get(completing.handle)).ask()),
-        Call::Iprobe(probing) => Ok(probe(site, &probing)),
-        Call::Probe(probing) => Ok(probe(site, &probing)),
-        Call::Improbe(probing) => Ok(claim(site, &probing)),
-        Call::Mprobe(probing) => Ok(claim(site, &probing)),
-        Call::Imrecv(claimed) => Ok(ask_claimed(false, &claimed)),
-        Call::Mrecv { claimed, status: _ } => Ok(ask_claimed(true, &claimed)),
-        Call::SendInit(_) => Ok(Ask::Local),
-        Call::RecvInit(_) => Ok(Ask::Local),
         Call::Start { handle } => start(alloc, memory, requests.get(handle)),
-        Call::RequestFree { handle: _ } => Ok(Ask::Local),
-        Call::Testall(several) => ask_several(alloc, memory, requests, &several),
-        Call::Waitall(several) => ask_several(alloc, memory, requests, &several),
-        Call::Unknown => Ok(Ask::Local),
+        Call::Imrecv(claimed) => Ok(ask_claimed(false, &claimed)),
+        Call::Mrecv { claimed, .. } => Ok(ask_claimed(true, &claimed)),
+        Call::Test(completing) | Call::Wait(completing) => {
+            Ok(Pending::of(requests.get(completing.handle)).ask())
+        }
+        Call::Testall(several) | Call::Waitall(several) => {
+            ask_several(alloc, memory, requests, &several)
+        }
+        Call::Iprobe(probing) | Call::Probe(probing) => Ok(probe(site, &probing)),
+        Call::Improbe(probing) | Call::Mprobe(probing) => Ok(claim(site, &probing)),
+        Call::Exit { .. }
+        | Call::Put { .. }
+        | Call::Rank { .. }
+        | Call::Size { .. }
+        | Call::Hart
+        | Call::SendInit(_)
+        | Call::RecvInit(_)
+        | Call::RequestFree { .. }
+        | Call::Unknown => Ok(Ask::Local),
     }
 }

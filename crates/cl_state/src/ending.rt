@@ -1,6 +1,6 @@
 //! How a call ends: what is written, and what the registers hold then.
 
-ghost use Rattle.std.specs.Prelude.{◌≡◌, ◌++◌, List, ℕ};
+ghost use Rattle.std.specs.Prelude.{◌≡◌, ◌++◌, List, ℕ, length, nat_lt, take};
 ghost use Rattle.rv_memory.specs.Memory.{Memory, bytes_of};
 ghost use Rattle.mp_request.specs.Table.{Table, completed};
 ghost use Rattle.cl_state.specs.Told.{into as into_of, not_yet as not_yet_of, received, received_message, received_nothing, returned, with_status};
@@ -43,6 +43,24 @@ pub(crate) fn write_where_right(memory: &mut RankMemory, address: u64, bytes: &[
     if !bytes.is_empty() {
         let _ = memory.write_bytes(address, bytes);
     }
+}
+
+/// As many bytes as a buffer takes.
+pub(crate) fn kept(capacity: u64, bytes: &[u8]) -> &[u8]
+    ensures { result.now ≡ take capacity bytes.now }
+{
+    if bytes.len() as u64 <= capacity {
+        bytes
+    } else {
+        &bytes[0..capacity as usize]
+    }
+}
+
+/// Whether a message has more bytes than its buffer takes.
+pub(crate) fn is_longer(capacity: u64, bytes: &[u8]) -> bool
+    ensures { result ≡ nat_lt capacity (length bytes.now) }
+{
+    capacity < bytes.len() as u64
 }
 
 /// A status as a guest finds it: three words, low byte first.
@@ -104,15 +122,13 @@ pub(crate) fn receive(
     ensures { (out : List ℕ) → record { hart = hart.new; memory = memory.new; requests = requests.new; out = out } ≡ received target source tag bytes.now (record { hart = hart.old; memory = memory.old; requests = requests.old; out = out }) }
 {
     close(requests, target.handle);
-    if (bytes.len() as u64) <= target.capacity {
-        write_where_right(memory, target.buffer, bytes);
-        write_status(memory, target.status, source, tag, bytes.len() as u64);
-        end(hart, Code::Ok, target.value);
-    } else {
-        let kept = &bytes[0..target.capacity as usize];
-        write_where_right(memory, target.buffer, kept);
-        write_status(memory, target.status, source, tag, target.capacity);
+    let kept = kept(target.capacity, bytes);
+    write_where_right(memory, target.buffer, kept);
+    write_status(memory, target.status, source, tag, kept.len() as u64);
+    if is_longer(target.capacity, bytes) {
         end(hart, Code::Truncated, target.value);
+    } else {
+        end(hart, Code::Ok, target.value);
     }
 }
 

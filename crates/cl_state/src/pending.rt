@@ -2,9 +2,10 @@
 
 ghost use Rattle.std.specs.Prelude.{◌≡◌};
 ghost use Rattle.cl_state.specs.Several.{post_of};
-ghost use Rattle.cl_state.specs.Pending.{asked_pending, flag as flag_of, pending_at, pending_of, pending_on};
+ghost use Rattle.cl_state.specs.Pending.{asked_pending, flag as flag_of, manner_of, pending_at, pending_of, pending_on};
 
 use crate::asking::Ask;
+use cl_calls::Call;
 use mp_request::{OpenRequest, Progress, State, Transfer};
 use mp_types::Request;
 
@@ -49,6 +50,18 @@ pub struct Target {
 }
 
 impl Manner {
+    /// The manner of a call that completes requests or probes.
+    pub(crate) fn of(call: &Call) -> Manner
+        ensures { result ≡ manner_of call.now }
+    {
+        match *call {
+            Call::Test(_) | Call::Iprobe(_) | Call::Improbe(_) | Call::Testall(_) => {
+                Manner::Immediate
+            }
+            _ => Manner::Blocking,
+        }
+    }
+
     /// The flag of an immediate call that completes; a blocking one gives no value.
     pub(crate) fn flag(self) -> u64
         ensures { result ≡ flag_of self }
@@ -64,34 +77,21 @@ fn on_post(post: u64, transfer: &Transfer) -> Pending
     ensures { result ≡ pending_on post transfer.now }
 {
     match *transfer {
-        Transfer::Send {
-            sync: _,
-            buffer: _,
-            count: _,
-            dest: _,
-            tag: _,
-            comm: _,
-        } => Pending::Word(post),
+        Transfer::Send { .. } => Pending::Word(post),
         Transfer::Receive {
             buffer,
             capacity,
-            source: _,
-            tag: _,
-            comm: _,
-        } => Pending::Message {
+            ..
+        }
+        | Transfer::ReceiveClaimed { buffer, capacity } => Pending::Message {
             post,
             buffer,
             capacity,
         },
-        Transfer::ReceiveClaimed { buffer, capacity } => Pending::Message {
-            post,
-            buffer,
-            capacity,
-        },
-        Transfer::SendToNull => Pending::Nothing,
-        Transfer::ReceiveFromNull => Pending::Nothing,
-        Transfer::SendPartitions(_) => Pending::Nothing,
-        Transfer::ReceivePartitions(_) => Pending::Nothing,
+        Transfer::SendToNull
+        | Transfer::ReceiveFromNull
+        | Transfer::SendPartitions(_)
+        | Transfer::ReceivePartitions(_) => Pending::Nothing,
     }
 }
 
@@ -128,14 +128,8 @@ impl Pending {
         ensures { result ≡ post_of self }
     {
         match self {
-            Pending::Nothing => None,
-            Pending::FromNull => None,
-            Pending::Message {
-                post,
-                buffer: _,
-                capacity: _,
-            } => Some(post),
-            Pending::Word(post) => Some(post),
+            Pending::Nothing | Pending::FromNull => None,
+            Pending::Message { post, .. } | Pending::Word(post) => Some(post),
         }
     }
 
@@ -144,13 +138,8 @@ impl Pending {
         ensures { result ≡ asked_pending self }
     {
         match self {
-            Pending::Nothing => Ask::Local,
-            Pending::FromNull => Ask::Local,
-            Pending::Message {
-                post,
-                buffer: _,
-                capacity: _,
-            } => Ask::Hub(Request::Collect { post }),
+            Pending::Nothing | Pending::FromNull => Ask::Local,
+            Pending::Message { post, .. } => Ask::Hub(Request::Collect { post }),
             Pending::Word(post) => Ask::Hub(Request::Finished { post }),
         }
     }

@@ -1,18 +1,18 @@
 //! Calls that complete several requests together.
 
-ghost use Rattle.std.specs.Prelude.{◌≡◌, ◌≤◌, List, ℕ, IfOk, IsTrue, length, take};
+ghost use Rattle.std.specs.Prelude.{◌≡◌, ◌≤◌, List, ℕ, IfOk, IsTrue, length};
 ghost use Rattle.std.specs.List.{list_any};
 ghost use Rattle.cl_calls.specs.Checks.{is_array, is_few};
 ghost use Rattle.cl_calls.specs.Needs.{array_at};
 ghost use Rattle.cl_state.specs.Asked.{asked_several};
 ghost use Rattle.cl_state.specs.Pending.{pending_of};
-ghost use Rattle.cl_state.specs.Several.{Given, are_fit, completed_each, fits_one, given, given_message, given_nothing, given_one, has_posts, left_of, pendings, post_of, posts_of, status_of, statuses_of, with_all_bytes};
+ghost use Rattle.cl_state.specs.Several.{Given, are_fit, completed_each, fits_one, given, given_message, given_nothing, given_one, got_of, has_posts, left_of, pendings, post_of, posts_of, status_of, statuses_of, with_all_bytes};
 ghost use Rattle.cl_state.specs.Told.{completed_all, told_all, told_gots};
 ghost use Rattle.cl_state.specs.Written.{written};
 ghost use Rattle.mp_request.specs.Table.{request_at};
 
 use crate::asking::{Answer, Ask};
-use crate::ending::{end, not_yet, status_bytes, write_where_right};
+use crate::ending::{end, is_longer, kept, not_yet, status_bytes, write_where_right};
 use crate::pending::{Manner, Pending};
 use arrayvec::ArrayVec;
 use cl_calls::{ANY, Array, NO_RANK, Several, Site, handles_at, place};
@@ -87,7 +87,7 @@ fn left(pending: Pending, gots: &[Option<Message>]) -> &[Option<Message>]
 
 /// Whether a request got what it needs.
 fn fits(site: &Site, pending: Pending, gots: &[Option<Message>]) -> bool
-    ensures { result ≡ fits_one site.now pending gots.now }
+    ensures { result ≡ fits_one site.now pending (got_of (post_of pending) gots.now) }
 {
     match pending {
         Pending::Nothing => true,
@@ -107,16 +107,35 @@ fn fits(site: &Site, pending: Pending, gots: &[Option<Message>]) -> bool
             },
         },
         Pending::Word(_) => match gots.split_first() {
-            None => false,
+            None => true,
             Some((got, _)) => got.is_none(),
         },
     }
+}
+
+/// How many requests need the hub.
+fn count_posts(requests: &Requests, handles: &[u64]) -> usize
+    ensures { result ≡ length (posts_of (pendings requests.now handles.now)) }
+{
+    let mut count = 0;
+    let mut rest = handles;
+    while let Some((handle, after)) = rest.split_first() {
+        match pending(requests, *handle).post() {
+            None => {}
+            Some(_) => count += 1,
+        }
+        rest = after;
+    }
+    count
 }
 
 /// Whether all requests got what they need.
 fn all_fit(site: &Site, requests: &Requests, handles: &[u64], gots: &[Option<Message>]) -> bool
     ensures { result ≡ are_fit site.now (pendings requests.now handles.now) gots.now }
 {
+    if gots.len() != count_posts(requests, handles) {
+        return false;
+    }
     let mut rest = handles;
     let mut behind = gots;
     while let Some((handle, after)) = rest.split_first() {
@@ -127,14 +146,13 @@ fn all_fit(site: &Site, requests: &Requests, handles: &[u64], gots: &[Option<Mes
         behind = left(pending, behind);
         rest = after;
     }
-    behind.is_empty()
+    true
 }
 
 /// Writes the bytes that a request got.
-fn write_one(site: &Site, memory: &mut RankMemory, pending: Pending, gots: &[Option<Message>])
-    ensures { memory.new ≡ written memory.old (given_one site.now pending gots.now).buffer (given_one site.now pending gots.now).bytes }
+fn write_one(memory: &mut RankMemory, pending: Pending, gots: &[Option<Message>])
+    ensures { (site : Site) → memory.new ≡ written memory.old (given_one site pending (got_of (post_of pending) gots.now)).buffer (given_one site pending (got_of (post_of pending) gots.now)).bytes }
 {
-    let _ = site;
     match pending {
         Pending::Message {
             post: _,
@@ -144,30 +162,15 @@ fn write_one(site: &Site, memory: &mut RankMemory, pending: Pending, gots: &[Opt
             None => {}
             Some((got, _)) => match got {
                 None => {}
-                Some(message) => write_kept(memory, buffer, capacity, message.bytes.as_slice()),
+                Some(message) => {
+                    let kept = kept(u64::from(capacity), message.bytes.as_slice());
+                    write_where_right(memory, buffer, kept)
+                }
             },
         },
         Pending::Nothing => {}
         Pending::FromNull => {}
         Pending::Word(_) => {}
-    }
-}
-
-/// Writes as many bytes as fit.
-fn write_kept(memory: &mut RankMemory, buffer: u64, capacity: u16, bytes: &[u8])
-    ensures { memory.new ≡ written memory.old buffer (take capacity bytes.now) }
-{
-    write_where_right(memory, buffer, kept(capacity, bytes));
-}
-
-/// As many bytes as fit.
-fn kept(capacity: u16, bytes: &[u8]) -> &[u8]
-    ensures { result.now ≡ take capacity bytes.now }
-{
-    if bytes.len() <= capacity as usize {
-        bytes
-    } else {
-        &bytes[0..capacity as usize]
     }
 }
 
@@ -185,7 +188,7 @@ fn write_all(
     let mut behind = gots;
     while let Some((handle, after)) = rest.split_first() {
         let pending = pending(requests, *handle);
-        write_one(site, memory, pending, behind);
+        write_one(memory, pending, behind);
         behind = left(pending, behind);
         rest = after;
     }
@@ -209,13 +212,13 @@ fn message_status(site: &Site, capacity: u16, message: &Message) -> [u8; 24]
         None => 0,
         Some(source) => source,
     };
-    let count = kept(capacity, message.bytes.as_slice()).len() as u64;
+    let count = kept(u64::from(capacity), message.bytes.as_slice()).len() as u64;
     status_bytes(source, u64::from(envelope.tag), count)
 }
 
 /// The status of a request that completes.
 fn status(site: &Site, pending: Pending, gots: &[Option<Message>]) -> [u8; 24]
-    ensures { result ≡ status_of (given_one site.now pending gots.now) }
+    ensures { result ≡ status_of (given_one site.now pending (got_of (post_of pending) gots.now)) }
 {
     match pending {
         Pending::Nothing => empty_status(ANY),
@@ -255,10 +258,9 @@ fn statuses(site: &Site, requests: &Requests, handles: &[u64], gots: &[Option<Me
 }
 
 /// Whether the message of a request is longer than its buffer.
-fn is_truncated(site: &Site, pending: Pending, gots: &[Option<Message>]) -> bool
-    ensures { result ≡ (given_one site.now pending gots.now).truncated }
+fn is_truncated(pending: Pending, gots: &[Option<Message>]) -> bool
+    ensures { (site : Site) → result ≡ (given_one site pending (got_of (post_of pending) gots.now)).truncated }
 {
-    let _ = site;
     match pending {
         Pending::Message {
             post: _,
@@ -268,7 +270,7 @@ fn is_truncated(site: &Site, pending: Pending, gots: &[Option<Message>]) -> bool
             None => false,
             Some((got, _)) => match got {
                 None => false,
-                Some(message) => message.bytes.as_slice().len() > capacity as usize,
+                Some(message) => is_longer(u64::from(capacity), message.bytes.as_slice()),
             },
         },
         Pending::Nothing => false,
@@ -290,7 +292,7 @@ fn any_truncated(
     let mut behind = gots;
     while let Some((handle, after)) = rest.split_first() {
         let pending = pending(requests, *handle);
-        if is_truncated(site, pending, behind) {
+        if is_truncated(pending, behind) {
             return true;
         }
         behind = left(pending, behind);

@@ -177,78 +177,45 @@ fn answer_call(
 {
     match *call {
         Call::Exit { code } => hart.set_mode(Mode::Ended(code)),
-        Call::Put {
-            buffer: _,
-            count: _,
-        } => {
+        Call::Put { .. } => {
             put(out, fresh);
             end(hart, Code::Ok, 0)
         }
         Call::Rank { comm } => {
-            let own = match place(site.number, site.members(comm)) {
-                Some(own) => own,
-                None => 0,
-            };
+            let own = place(site.number, site.members(comm)).unwrap_or(0);
             end(hart, Code::Ok, own)
         }
-        Call::Size { comm } => {
-            let size = site.members(comm).len() as u64;
-            end(hart, Code::Ok, size)
-        }
+        Call::Size { comm } => end(hart, Code::Ok, site.members(comm).len() as u64),
         Call::Hart => end(hart, Code::Ok, u64::from(number)),
         Call::Send(sending) => answer_send(hart, begun(&send(site, false, &sending), answer)),
         Call::Ssend(sending) => answer_send(hart, begun(&send(site, true, &sending), answer)),
         Call::Recv { receiving, status } => {
             answer_receive(site, hart, memory, requests, &receiving, status, answer)
         }
-        Call::Isend(sending) => open(hart, requests, send(site, false, &sending), answer),
-        Call::Issend(sending) => open(hart, requests, send(site, true, &sending), answer),
-        Call::Irecv(receiving) => open(hart, requests, receive(site, &receiving), answer),
-        Call::Test(completing) => complete(
-            site,
-            hart,
-            memory,
-            requests,
-            Manner::Immediate,
-            &completing,
-            answer,
-        ),
-        Call::Wait(completing) => complete(
-            site,
-            hart,
-            memory,
-            requests,
-            Manner::Blocking,
-            &completing,
-            answer,
-        ),
-        Call::Iprobe(probing) => {
-            answer_probe(site, hart, memory, Manner::Immediate, &probing, answer)
-        }
-        Call::Probe(probing) => {
-            answer_probe(site, hart, memory, Manner::Blocking, &probing, answer)
-        }
-        Call::Improbe(probing) => {
-            answer_claim(site, hart, memory, Manner::Immediate, &probing, answer)
-        }
-        Call::Mprobe(probing) => {
-            answer_claim(site, hart, memory, Manner::Blocking, &probing, answer)
-        }
-        Call::Imrecv(claimed) => open(hart, requests, receive_claimed(&claimed), answer),
         Call::Mrecv { claimed, status } => {
             answer_claimed(site, hart, memory, requests, &claimed, status, answer)
         }
+        Call::Isend(sending) => open(hart, requests, send(site, false, &sending), answer),
+        Call::Issend(sending) => open(hart, requests, send(site, true, &sending), answer),
+        Call::Irecv(receiving) => open(hart, requests, receive(site, &receiving), answer),
+        Call::Imrecv(claimed) => open(hart, requests, receive_claimed(&claimed), answer),
         Call::SendInit(sending) => make(hart, requests, send(site, false, &sending)),
         Call::RecvInit(receiving) => make(hart, requests, receive(site, &receiving)),
         Call::Start { handle } => start(hart, requests, handle, answer),
         Call::RequestFree { handle } => free(hart, requests, handle),
-        Call::Testall(several) => {
-            let manner = Manner::Immediate;
+        Call::Test(completing) | Call::Wait(completing) => {
+            let manner = Manner::of(call);
+            complete(site, hart, memory, requests, manner, &completing, answer)
+        }
+        Call::Testall(several) | Call::Waitall(several) => {
+            let manner = Manner::of(call);
             complete_several(site, hart, memory, requests, manner, &several, answer)
         }
-        Call::Waitall(several) => {
-            let manner = Manner::Blocking;
-            complete_several(site, hart, memory, requests, manner, &several, answer)
+        Call::Iprobe(probing) | Call::Probe(probing) => {
+            answer_probe(site, hart, memory, Manner::of(call), &probing, answer)
+        }
+        Call::Improbe(probing) | Call::Mprobe(probing) => {
+            answer_claim(site, hart, memory, Manner::of(call), &probing, answer)
         }
         Call::Unknown => {}
     }

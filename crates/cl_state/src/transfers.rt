@@ -108,8 +108,6 @@ pub(crate) fn ask(
     ensures { IfOk result (λ ask. ask ≡ asked_transfer memory.now now transfer.now) }
 {
     match *transfer {
-        Transfer::SendToNull => Ok(Ask::Local),
-        Transfer::ReceiveFromNull => Ok(Ask::Local),
         Transfer::Send {
             sync,
             buffer,
@@ -125,23 +123,21 @@ pub(crate) fn ask(
             bytes: copy(alloc, memory, buffer, count)?,
         })),
         Transfer::Receive {
-            buffer: _,
-            capacity: _,
             source,
             tag,
             comm,
+            ..
         } => Ok(Ask::Hub(Request::Recv {
             now,
             comm,
             source,
             tag,
         })),
-        Transfer::ReceiveClaimed {
-            buffer: _,
-            capacity: _,
-        } => Ok(Ask::Local),
-        Transfer::SendPartitions(_) => Ok(Ask::Local),
-        Transfer::ReceivePartitions(_) => Ok(Ask::Local),
+        Transfer::SendToNull
+        | Transfer::ReceiveFromNull
+        | Transfer::ReceiveClaimed { .. }
+        | Transfer::SendPartitions(_)
+        | Transfer::ReceivePartitions(_) => Ok(Ask::Local),
     }
 }
 
@@ -184,37 +180,15 @@ pub(crate) fn begun(transfer: &Transfer, answer: &Answer) -> Result<Progress, Co
     ensures { result ≡ begun_by transfer.now answer.now }
 {
     match *transfer {
-        Transfer::SendToNull => Ok(Progress::Finished),
-        Transfer::ReceiveFromNull => Ok(Progress::Finished),
-        Transfer::Send {
-            sync,
-            buffer: _,
-            count: _,
-            dest: _,
-            tag: _,
-            comm: _,
-        } => {
+        Transfer::SendToNull | Transfer::ReceiveFromNull => Ok(Progress::Finished),
+        Transfer::Send { sync, .. } => {
             let (post, done) = posted(answer)?;
             Ok(sent(sync, post, done))
         }
-        Transfer::Receive {
-            buffer: _,
-            capacity: _,
-            source: _,
-            tag: _,
-            comm: _,
-        } => {
+        Transfer::Receive { .. } | Transfer::ReceiveClaimed { .. } => {
             let (post, _) = posted(answer)?;
             Ok(Progress::OnPost(post))
         }
-        Transfer::ReceiveClaimed {
-            buffer: _,
-            capacity: _,
-        } => {
-            let (post, _) = posted(answer)?;
-            Ok(Progress::OnPost(post))
-        }
-        Transfer::SendPartitions(_) => Err(Code::BadRequest),
-        Transfer::ReceivePartitions(_) => Err(Code::BadRequest),
+        Transfer::SendPartitions(_) | Transfer::ReceivePartitions(_) => Err(Code::BadRequest),
     }
 }
