@@ -1,4 +1,5 @@
 pub mod Inits
 pub mod Hub
-pub mod Rows
 pub mod Laws
+pub mod Made
+pub mod Rows

@@ -1,4 +1,5 @@
 pub mod Places
 pub mod Lines
 pub mod OrderKept
+pub mod Probed
 pub mod Rows

@@ -1,6 +1,6 @@
 //! All posts with their pairs, over plain lists.
 
-ghost use Rattle.std.specs.Prelude.{◌≡◌, ◌+◌, ◌<◌, ◌≤◌, ◌^◌, ◌∷◌, ◌↔◌, [], length, not, ◌||◌, is_some, IfOk, OnErr, Err, None, Some, ◌-◌, slice_get, slice_set};
+ghost use Rattle.std.specs.Prelude.{◌≡◌, ◌+◌, ◌<◌, ◌≤◌, ◌^◌, ◌∷◌, ◌↔◌, [], length, not, ◌||◌, is_some, IfOk, IsOk, OnErr, Err, None, Some, ◌-◌, slice_get, slice_set};
 ghost use Rattle.mp_match.specs.Pairs.{accepts, fits, partner_at, partner_for, partner_set, partners_set};
 ghost use Rattle.mp_match.specs.Board.{bytes_in, claim_of, claim_posted, claimed_if, collect, envelope_at, held_count, is_collected, is_finished, is_held, is_receive_at, is_receive_of, is_send_of, line_of, no_posts, partner_of, posted, probed, receive_posted, send_posted};
 
@@ -219,19 +219,21 @@ impl Queues {
         }
     }
 
-    /// What a receive would be given, if anything. (MPI 4.1, chapter 3.8.1.)
+    /// What a receive would be given, if anything, and so what a claim would be given. (MPI 4.1, chapter 3.8.1.)
     pub fn probe(&self, selection: Selection) -> Option<Envelope>
-        ensures { result ≡ probed self.now (Post.Receive selection) }
+        ensures receive { result ≡ probed self.now (Post.Receive selection) }
+        ensures claim { result ≡ probed self.now (Post.Claim selection) }
     {
         self.probe_for(Post::Receive(selection))
     }
 
     /// Takes a message out of matching, where there is one: a claim is then the last post.
-    /// (MPI 4.1, chapter 3.8.2.) After a refusal for memory all is as it was.
+    /// (MPI 4.1, chapter 3.8.2.) After a refusal for memory all is as it was. Where there is none no memory is taken.
     pub fn claim(&mut self, selection: Selection) -> Result<Option<Envelope>, AllocError>
         requires { length self.old.lines < 2 ^ 64 - 1 }
         ensures envelope { IfOk result (λ envelope. envelope ≡ probed self.old (Post.Claim selection)) }
         ensures claimed { IfOk result (λ envelope. self.new ≡ claimed_if self.old selection envelope) }
+        ensures free { probed self.old (Post.Claim selection) ≡ None → IsOk result }
         ensures err { OnErr result (self.new ≡ self.old) }
     {
         match self.probe_for(Post::Claim(selection)) {

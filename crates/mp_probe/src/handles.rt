@@ -1,6 +1,6 @@
 //! Claimed messages and their handles.
 
-ghost use Rattle.std.specs.Prelude.{◌≡◌, ◌+◌, ◌-◌, ◌<◌, ◌^◌, ◌↔◌, [], length, false, IfOk, IfErr, OnErr, OnOk, Err};
+ghost use Rattle.std.specs.Prelude.{◌≡◌, ◌+◌, ◌-◌, ◌<◌, ◌^◌, ◌↔◌, [], length, false, IfOk, IfErr, IsOk, OnErr, OnOk, Err, None};
 ghost use Rattle.mp_match.specs.Board.{claimed_if, probed};
 ghost use Rattle.mp_probe.specs.Claims.{handle_if, is_claim, is_waiting, may_receive, next_number, received, waiting_if};
 ghost use Rattle.mp_match.specs.declared.posts.Post.TheVariants as post;
@@ -54,7 +54,7 @@ impl Claims {
 
     /// Takes a message out of matching where there is one, and gives its handle: the number of the claim's post.
     ///
-    /// Refused for memory alone; then all is as it was.
+    /// Refused for memory alone, and never where there is no message; after a refusal all is as it was.
     pub fn claim(
         &mut self,
         queues: &mut Queues,
@@ -64,10 +64,14 @@ impl Claims {
         ensures held { IfOk result (λ held. held ≡ handle_if (next_number queues.old) (probed queues.old (post.Claim selection))) }
         ensures posted { OnOk result (queues.new ≡ claimed_if queues.old selection (probed queues.old (post.Claim selection))) }
         ensures waiting { OnOk result (self.new ≡ waiting_if self.old selection.rank (next_number queues.old) (probed queues.old (post.Claim selection))) }
+        ensures free { probed queues.old (post.Claim selection) ≡ None → IsOk result }
         ensures refusal { IfErr result (λ fault. fault ≡ ClaimFault.Memory) }
         ensures err { OnErr result (self.new ≡ self.old) }
         ensures queues_err { OnErr result (queues.new ≡ queues.old) }
     {
+        if queues.probe(selection).is_none() {
+            return Ok(None);
+        }
         let message = queues.posts() + 1;
         if self.waiting.reserve(1).is_err() {
             return Err(ClaimFault::Memory);

@@ -1,6 +1,6 @@
 //! The small lists that requests and replies carry, which contracts see as lists.
 
-ghost use Rattle.std.specs.Prelude.{◌≡◌, ◌≤◌, [], length, nat_eq, IfOk};
+ghost use Rattle.std.specs.Prelude.{◌≡◌, ◌≤◌, [], length, nat_eq, IfOk, IsOk};
 ghost use Rattle.std.specs.Cmp.{partial_equiv_from_equiv};
 ghost use Rattle.std.specs.Cmp.Lexicographic.{nat_list_eq_equiv, pointwise};
 
@@ -50,11 +50,15 @@ impl Bytes {
         }
     }
 
-    /// A copy of the slice.
+    /// A copy of the slice. One of no bytes takes no memory.
     pub fn from_slice(alloc: Global, items: &[u8]) -> Result<Bytes, AllocError>
         requires { length items.now ≤ 4096 }
-        ensures { IfOk result (λ bytes. bytes ≡ items.now) }
+        ensures copy { IfOk result (λ bytes. bytes ≡ items.now) }
+        ensures free { items.now ≡ [] → IsOk result }
     {
+        if items.is_empty() {
+            return Ok(Bytes::empty(alloc));
+        }
         let items = Vec::from_slice(alloc, items)?;
         Ok(Bytes { items })
     }
@@ -82,9 +86,10 @@ impl Bytes {
         self.items.as_slice()
     }
 
-    /// The same bytes in memory of their own.
+    /// The same bytes in memory of their own. A copy of no bytes takes no memory.
     pub fn try_copy(&self, alloc: Global) -> Result<Bytes, AllocError>
-        ensures { IfOk result (λ copy. copy ≡ self.now) }
+        ensures copy { IfOk result (λ copy. copy ≡ self.now) }
+        ensures free { self.now ≡ [] → IsOk result }
     {
         Bytes::from_slice(alloc, self.items.as_slice())
     }
@@ -119,10 +124,16 @@ impl Eq for Posts {
 }
 
 impl Posts {
-    /// A copy of the slice.
+    /// A copy of the slice. One of no numbers takes no memory.
     pub fn from_slice(alloc: Global, items: &[u64]) -> Result<Posts, AllocError>
-        ensures { IfOk result (λ posts. posts ≡ items.now) }
+        ensures copy { IfOk result (λ posts. posts ≡ items.now) }
+        ensures free { items.now ≡ [] → IsOk result }
     {
+        if items.is_empty() {
+            return Ok(Posts {
+                items: Vec::new(alloc),
+            });
+        }
         let items = Vec::from_slice(alloc, items)?;
         Ok(Posts { items })
     }
@@ -141,9 +152,10 @@ impl Posts {
         self.items.as_slice()
     }
 
-    /// The same numbers in memory of their own.
+    /// The same numbers in memory of their own. A copy of no numbers takes no memory.
     pub fn try_copy(&self, alloc: Global) -> Result<Posts, AllocError>
-        ensures { IfOk result (λ copy. copy ≡ self.now) }
+        ensures copy { IfOk result (λ copy. copy ≡ self.now) }
+        ensures free { self.now ≡ [] → IsOk result }
     {
         Posts::from_slice(alloc, self.items.as_slice())
     }

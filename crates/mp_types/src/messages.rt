@@ -1,6 +1,6 @@
 //! Messages, and what is told of them.
 
-ghost use Rattle.std.specs.Prelude.{◌≡◌, [], IfOk};
+ghost use Rattle.std.specs.Prelude.{◌≡◌, [], IfOk, IsOk};
 
 use crate::lists::Bytes;
 use std::alloc::{AllocError, Global};
@@ -31,9 +31,10 @@ pub struct Message {
 }
 
 impl Message {
-    /// The same message in memory of its own.
+    /// The same message in memory of its own. A copy of a message of no bytes takes no memory.
     pub fn try_copy(&self, alloc: Global) -> Result<Message, AllocError>
-        ensures { IfOk result (λ copy. copy ≡ self.now) }
+        ensures copy { IfOk result (λ copy. copy ≡ self.now) }
+        ensures free { self.now.bytes ≡ [] → IsOk result }
     {
         let bytes = self.bytes.try_copy(alloc)?;
         Ok(Message {
@@ -123,9 +124,10 @@ impl Gots {
         self.items.as_slice()
     }
 
-    /// The same messages in memory of their own.
+    /// The same messages in memory of their own. A copy of no messages takes no memory.
     pub fn try_copy(&self, alloc: Global) -> Result<Gots, AllocError>
-        ensures { IfOk result (λ copy. copy ≡ self.now) }
+        ensures copy { IfOk result (λ copy. copy ≡ self.now) }
+        ensures free { self.now ≡ [] → IsOk result }
     {
         let mut items = Vec::with_capacity(alloc, self.items.len())?;
         for got in &self.items {

@@ -1,6 +1,7 @@
 //! What the hub answers.
 
-ghost use Rattle.std.specs.Prelude.{◌≡◌, ◌↔◌, IfOk, IsTrue};
+ghost use Rattle.std.specs.Prelude.{◌≡◌, ◌↔◌, IfOk, IsOk, IsTrue};
+ghost use Rattle.mp_types.specs.Carried.{carried_by_reply};
 
 use crate::codes::Code;
 use crate::messages::{Envelope, Gots, Message};
@@ -37,9 +38,10 @@ impl Reply {
         self == other
     }
 
-    /// The same reply in memory of its own.
+    /// The same reply in memory of its own. A copy of one that carries no elements takes no memory.
     pub fn try_copy(&self, alloc: Global) -> Result<Reply, AllocError>
-        ensures { IfOk result (λ copy. copy ≡ self.now) }
+        ensures copy { IfOk result (λ copy. copy ≡ self.now) }
+        ensures free { carried_by_reply self.now ≡ 0 → IsOk result }
     {
         match self {
             Reply::Code(code) => Ok(Reply::Code(*code)),

@@ -1,6 +1,7 @@
 //! What a rank asks of the hub.
 
-ghost use Rattle.std.specs.Prelude.{◌≡◌, ◌↔◌, IfOk, IsTrue};
+ghost use Rattle.std.specs.Prelude.{◌≡◌, ◌↔◌, IfOk, IsOk, IsTrue};
+ghost use Rattle.mp_types.specs.Carried.{carried_by_request};
 
 use crate::lists::{Bytes, Posts};
 use std::alloc::{AllocError, Global};
@@ -71,9 +72,10 @@ impl Request {
         self == other
     }
 
-    /// The same request in memory of its own.
+    /// The same request in memory of its own. A copy of one that carries no elements takes no memory.
     pub fn try_copy(&self, alloc: Global) -> Result<Request, AllocError>
-        ensures { IfOk result (λ copy. copy ≡ self.now) }
+        ensures copy { IfOk result (λ copy. copy ≡ self.now) }
+        ensures free { carried_by_request self.now ≡ 0 → IsOk result }
     {
         match self {
             Request::Send {

@@ -1,0 +1,38 @@
+-- What a call makes, for which the hub takes memory, and where a send finds no room.
+use Rattle.std.specs.Prelude.{ℕ, ◌≤◌, Bool, true, false, [], ◌∷◌}
+use Rattle.mp_types.specs.declared.requests.Request.{Request}
+use Rattle.mp_types.specs.declared.requests.Request.TheVariants as request
+use Rattle.mp_types.specs.declared.replies.Reply.{Reply}
+use Rattle.mp_types.specs.declared.replies.Reply.TheVariants.{Code, Posted, Got, NotYet, Done, Seen, Held, AllGot, Link as OnLink}
+use Rattle.mp_match.specs.Board.{held_count}
+use Rattle.mp_hub.specs.Hub.{HubView}
+
+-- whether a reply tells of a post, a claim or a side, or has a message
+abbrev pub brings : Reply → Bool
+brings (Code code) = false
+brings (Posted post done) = true
+brings (Got message) = true
+brings NotYet = false
+brings Done = false
+brings (Seen envelope) = false
+brings (Held message envelope) = true
+brings (AllGot []) = false
+brings (AllGot (got ∷ gots)) = true
+brings (OnLink link) = true
+
+-- whether a call makes what wasn't there: a post, a claim, a side, or a list of messages
+abbrev pub makes : Request → Reply → Bool
+makes (request.Send sync comm dest tag bytes) r = brings r
+makes (request.Recv now comm source tag) r = true
+makes (request.Collect post) r = false
+makes (request.Finished post) r = false
+makes (request.Probe comm source tag) r = false
+makes (request.Claim comm source tag) r = brings r
+makes (request.Claimed now message) r = false
+makes (request.All posts) r = brings r
+makes (request.Init sends comm peer tag parts size) r = brings r
+
+-- a send where 65,536 messages are held
+abbrev pub IsFullFor : HubView → Request → Type 0
+IsFullFor h (request.Send sync comm dest tag bytes) = 65536 ≤ held_count h.board.bodies
+IsFullFor h _ = ⊥

@@ -1,0 +1,18 @@
+-- The lists that requests and replies carry. A copy takes memory for the elements, and for nothing else.
+use Rattle.std.specs.Prelude.{ℕ, length}
+use Rattle.mp_types.specs.declared.requests.Request.{Request}
+use Rattle.mp_types.specs.declared.requests.Request.TheVariants.{Send, All}
+use Rattle.mp_types.specs.declared.replies.Reply.{Reply}
+use Rattle.mp_types.specs.declared.replies.Reply.TheVariants.{Got, AllGot}
+
+-- how many elements the list has that a request carries: the bytes of a send, or the numbers of posts
+abbrev pub carried_by_request : Request → ℕ
+carried_by_request (Send sync comm dest tag bytes) = length bytes
+carried_by_request (All posts) = length posts
+carried_by_request _ = 0
+
+-- how many elements the list has that a reply carries: the bytes of its message, or what several posts gave
+abbrev pub carried_by_reply : Reply → ℕ
+carried_by_reply (Got message) = length message.bytes
+carried_by_reply (AllGot gots) = length gots
+carried_by_reply _ = 0
