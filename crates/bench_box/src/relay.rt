@@ -18,7 +18,7 @@ const LOOKS_AT_ONCE: u32 = 64;
 pub fn passed<R: Threads + Sync>(rt: &R, alloc: Global, things: u32) -> Result<u32, AllocError>
     ensures { IfOk result (λ whole. whole ≤ things) }
 {
-    let (place, send, recv) = PartBox::new(alloc)?;
+    let (place, send, recv) = PartBox::new(alloc, 8)?;
     let shared = &place;
     let ((), whole) = thread::join(
         rt,

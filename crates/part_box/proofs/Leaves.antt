@@ -23,15 +23,15 @@ even_gate : (gate : ℕ) → (gate % 2 == 1) ≡ false → IsEmptyGate gate
 even_gate gate e = ⊎_elim (λ (even : IsEmptyGate gate). even) (λ (odd : IsFullGate gate). absurd (eqb-false (gate % 2) 1 e odd)) (parity gate)
 
 -- as many words as the box is wide are all words behind the gate
-data_whole : (width : ℕ) (words read : List ℕ) → length words ≡ width + 1 → width ≤ 8 → IsDataOf width words read → take width read ≡ drop 1 words
+data_whole : (width : ℕ) (words read : List ℕ) → length words ≡ width + 1 → width ≤ 16 → IsDataOf width words read → take width read ≡ drop 1 words
 data_whole width words read counted most h =
-    let long : length read ≡ 8 = h.long in
+    let long : length read ≡ 16 = h.long in
     let short : length (take width read) ≡ width = length-take-le width read (omega arith) in
     let behind_long : length (drop 1 words) ≡ width = length-behind words width counted in
     same_lists (take width read) (drop 1 words) (short ∙ sym behind_long) (λ i low. let low' : i < width = omega arith in get_or-take width read i 0 low' ∙ (h.same i low' ∙ sym (behind words i)))
 
 -- what is left is what lies in the box
-contents_left : (width : ℕ) (words : List ℕ) (b : Settled) → length words ≡ width + 1 → width ≤ 8 → Spells width words b → (full : Bool) → b.full ≡ full → contents_of words ≡ leftover width b
+contents_left : (width : ℕ) (words : List ℕ) (b : Settled) → length words ≡ width + 1 → width ≤ 16 → Spells width words b → (full : Bool) → b.full ≡ full → contents_of words ≡ leftover width b
 contents_left width words b counted most h true is =
     let odd : IsFullGate (gate_of words) = eqb-true (gate_of words % 2) 1 (sym h.full ∙ is) in
     let whole : take width b.words ≡ drop 1 words = data_whole width words b.words counted most (h.there is) in
@@ -42,10 +42,10 @@ contents_left width words b counted most h false is =
 
 past_zero : (width : ℕ) (words : List ℕ) (b : Settled) → Spells width words b → (full : Bool) → b.full ≡ full → (i : ℕ) → width ≤ i → slice_index b.words i ≡ 0
 past_zero width words b h true is i high = (h.there is).past i high
-past_zero width words b h false is i high = ap (λ l. slice_index l i) (h.nothing is) ∙ zero_at 8 i
+past_zero width words b h false is i high = ap (λ l. slice_index l i) (h.nothing is) ∙ zero_at 16 i
 
 -- a box that keeps the rule is settled by what its words spell
-pub settled : (width : ℕ) (words : List ℕ) (s : Sending) (r : Receiving) (b : Settled) → width ≤ 8 → GateRule width words s r → Spells width words b → IsSettled width s r b
+pub settled : (width : ℕ) (words : List ℕ) (s : Sending) (r : Receiving) (b : Settled) → width ≤ 16 → GateRule width words s r → Spells width words b → IsSettled width s r b
 settled width words s r b most g h = record {
   made = g.made ∙ ap (λ l. things_of r.got ++ l) (contents_left width words b g.counted most h b.full refl);
   empty = λ off. (h.stamp ∙ g.empty (even_gate (gate_of words) (sym h.full ∙ off)), h.nothing off);

@@ -123,9 +123,9 @@ get_elem_or (x ∷ xs) zero n e = some-injective x n e
 get_elem_or (x ∷ xs) (suc i) n e = get_elem_or xs i n e
 
 -- one more data word was read
-pub data_read : (words read : List ℕ) (i n : ℕ) → i < 8 → get_elem? words (i + 1) ≡ some n → IsDataOf i words read → IsDataOf (i + 1) words (set read i n)
+pub data_read : (words read : List ℕ) (i n : ℕ) → i < 16 → get_elem? words (i + 1) ≡ some n → IsDataOf i words read → IsDataOf (i + 1) words (set read i n)
 data_read words read i n room found h =
-    let long : length read ≡ 8 = h.long in
+    let long : length read ≡ 16 = h.long in
     let inside : i < length read = omega arith in record {
       long = length-set read i n ∙ h.long;
       same = λ k low. ⊎_elim

@@ -11,9 +11,9 @@ pub record IsBox (at : TableId) (key width : ℕ) : Type 0 where
   pub slots : at.slots ≡ 0
   -- the rule reads the width off the key
   pub keyed : key ≡ width
-  -- a thing has at least one word, and what is settled has room for 8
+  -- a thing has at least one word, and what is settled has room for 16
   pub least : 0 < width
-  pub most : width ≤ 8
+  pub most : width ≤ 16
 
 -- a seat that sends, and the number of words that it has filled
 pub record IsSender (me : Me Unit View) (filled : ℕ) : Type 0 where

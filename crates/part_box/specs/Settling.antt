@@ -9,7 +9,7 @@ use Rattle.part_box.specs.Rule.{gate_of, data_word}
 
 -- these are the data words of a box of this width, and 0 past them
 pub record IsDataOf (width : ℕ) (words read : List ℕ) : Type 0 where
-  pub long : length read ≡ 8
+  pub long : length read ≡ 16
   pub same : (i : ℕ) → i < width → slice_index read i ≡ data_word words i
   pub past : (i : ℕ) → width ≤ i → slice_index read i ≡ 0
 
@@ -18,7 +18,7 @@ pub record Spells (width : ℕ) (words : List ℕ) (b : Settled) : Type 0 where
   pub full : b.full ≡ (gate_of words % 2 == 1)
   pub stamp : b.stamp ≡ stamp_of (gate_of words)
   pub there : b.full ≡ true → IsDataOf width words b.words
-  pub nothing : b.full ≡ false → b.words ≡ replicate 8 0
+  pub nothing : b.full ≡ false → b.words ≡ replicate 16 0
 
 -- what is left in a box of this width: one thing where it is full
 abbrev pub leftover : ℕ → Settled → List Made
@@ -29,7 +29,7 @@ pub record IsSettled (width : ℕ) (s : Sending) (r : Receiving) (b : Settled) :
   -- what was made is what was got, stamps included, and then what is left
   pub made : s.made ≡ things_of r.got ++ leftover width b
   -- an empty box has the stamp of the last take, and words 0
-  pub empty : b.full ≡ false → (b.stamp ≡ last_take r.got) × (b.words ≡ replicate 8 0)
+  pub empty : b.full ≡ false → (b.stamp ≡ last_take r.got) × (b.words ≡ replicate 16 0)
   -- words past the width are 0
   pub past : (i : ℕ) → width ≤ i → slice_index b.words i ≡ 0
   -- the stamp of the box is below 2^62

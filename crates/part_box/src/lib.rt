@@ -1,6 +1,6 @@
 //! A box that carries one thing at a time from a sender to a receiver.
 //!
-//! A box is a gate and eight data words. The sender fills the data words and makes them ready under a stamp. The
+//! A box is a gate and 8 or 16 data words. The sender fills the data words and makes them ready under a stamp. The
 //! receiver looks, copies the words and empties the box under a stamp of its own. The six calls `fill`, `ready`,
 //! `freed`, `look`, `copy` and `empty` are one atomic step each on one word; they take no memory and no lock, and always
 //! return. `new` takes memory, and `settle` ends the box and isn't a step.
@@ -11,8 +11,6 @@ mod keys;
 mod partition;
 mod rule;
 mod settled;
-#[cfg(test)]
-mod tests;
 mod view;
 
 pub use keys::{RecvKey, SendKey};

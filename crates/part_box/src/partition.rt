@@ -1,5 +1,5 @@
 //! The box, its six calls, and what it is left with.
-ghost use Rattle.std.specs.Prelude.{◌≡◌, ℕ, ◌+◌, ◌-◌, ◌*◌, ◌^◌, ◌<◌, ◌≤◌, true, length, slice_index, IfOk, IfSome, IsSome, IsTrue, Some, None};
+ghost use Rattle.std.specs.Prelude.{◌≡◌, ◌⊎◌, ℕ, ◌+◌, ◌-◌, ◌*◌, ◌^◌, ◌<◌, ◌≤◌, true, length, slice_index, IfOk, IfSome, IsSome, IsTrue, Some, None};
 ghost use Rattle.std.specs.Slots.{slots_items, slots_len, IsFull};
 ghost use Rattle.part_box.specs.Fields.{IsBox};
 ghost use Rattle.part_box.specs.Gate.{ready_stamp, taken_stamp};
@@ -34,24 +34,25 @@ impl Model for PartBox {
 }
 
 impl PartBox {
-    /// An empty box of eight data words with gate 0, and its two keys.
-    pub fn new(alloc: Global) -> Result<(PartBox, SendKey, RecvKey), AllocError>
-        ensures wide { IfOk result (λ r. r.0.width ≡ 8) }
-        ensures sender { IfOk result (λ r. r.1 ≡ new_sender r.0.at) }
-        ensures receiver { IfOk result (λ r. r.2 ≡ new_receiver r.0.at) }
-    {
-        PartBox::of_width(alloc, 8)
-    }
-
-    // The same with any number of data words from 1 to 8.
-    fn of_width(alloc: Global, width: usize) -> Result<(PartBox, SendKey, RecvKey), AllocError>
-        requires least { 0 < width }
-        requires most { width ≤ 8 }
+    /// An empty box of 8 or 16 data words with gate 0, and its two keys.
+    pub fn new(alloc: Global, width: usize) -> Result<(PartBox, SendKey, RecvKey), AllocError>
+        requires wide { (width ≡ 8) ⊎ (width ≡ 16) }
         ensures wide { IfOk result (λ r. r.0.width ≡ width) }
         ensures sender { IfOk result (λ r. r.1 ≡ new_sender r.0.at) }
         ensures receiver { IfOk result (λ r. r.2 ≡ new_receiver r.0.at) }
     {
-        let zeros = [0; 9];
+        PartBox::of_width(alloc, width)
+    }
+
+    // The same with any number of data words from 1 to 16.
+    fn of_width(alloc: Global, width: usize) -> Result<(PartBox, SendKey, RecvKey), AllocError>
+        requires least { 0 < width }
+        requires most { width ≤ 16 }
+        ensures wide { IfOk result (λ r. r.0.width ≡ width) }
+        ensures sender { IfOk result (λ r. r.1 ≡ new_sender r.0.at) }
+        ensures receiver { IfOk result (λ r. r.2 ≡ new_receiver r.0.at) }
+    {
+        let zeros = [0; 17];
         let (table, mut seat) = Table::of_words(alloc, &zeros[..width + 1], &width)?;
         let other = table.shared.split_seat::<BothKeys>(&mut seat);
         Ok((
@@ -207,7 +208,7 @@ impl PartBox {
 
 // What the words spell: a thing where the gate is odd.
 fn left_over(closed: &Closed<(), Global>, width: usize) -> Settled
-    requires most { width ≤ 8 }
+    requires most { width ≤ 16 }
     requires full { IsFull closed.now.words }
     requires there { width < slots_len closed.now.words }
     ensures { Spells width (slots_items closed.now.words) result }
@@ -217,7 +218,7 @@ fn left_over(closed: &Closed<(), Global>, width: usize) -> Settled
     let words = if full {
         data_words(closed, width)
     } else {
-        [0; 8]
+        [0; 16]
     };
     Settled {
         full,
@@ -227,13 +228,13 @@ fn left_over(closed: &Closed<(), Global>, width: usize) -> Settled
 }
 
 // The first `width` data words, and 0 past them.
-fn data_words(closed: &Closed<(), Global>, width: usize) -> [u64; 8]
-    requires most { width ≤ 8 }
+fn data_words(closed: &Closed<(), Global>, width: usize) -> [u64; 16]
+    requires most { width ≤ 16 }
     requires full { IsFull closed.now.words }
     requires there { width < slots_len closed.now.words }
     ensures { IsDataOf width (slots_items closed.now.words) result }
 {
-    let mut words = [0; 8];
+    let mut words = [0; 16];
     for i in 0..width {
         words[i] = closed.word(i + 1);
     }

@@ -8,5 +8,5 @@ pub struct Settled {
     /// The stamp of that thing. Where there is none, the stamp of the last take, 0 at first.
     pub stamp: u64,
     /// The data words of that thing, and 0 past the width of the box. Where there is none, 0.
-    pub words: [u64; 8],
+    pub words: [u64; 16],
 }

@@ -6,7 +6,7 @@ use Rattle.part_box.proofs.partition.PartBox.of_width.Goals as goal
 
 pub of_words-requires : goal.of_words-requires
 of_words-requires c =
-    let zeros : List ℕ = replicate 9 0 in
+    let zeros : List ℕ = replicate 17 0 in
     let n : ℕ = c.args.width + 1 in
     let fits : n ≤ length zeros = omega arith in
     starts c.args.width (take n zeros) (length-take-le n zeros fits) (get_or-take n zeros 0 0 (omega arith))
