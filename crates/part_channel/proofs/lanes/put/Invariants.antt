@@ -1,0 +1,7 @@
+-- While a box is filled: the first words are.
+use Rattle.std.proofs.Common.{◌≡◌}
+use Rattle.part_channel.specs.Words.{words_of}
+use Rattle.part_channel.proofs.lanes.put.Given as goal
+
+abbrev pub invariant-loop-i : goal.invariant-loop-i
+invariant-loop-i l = l.key ≡ record l.fn.key { view = record l.fn.key.view { filled = words_of l.bytes l.i } }

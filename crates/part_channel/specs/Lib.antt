@@ -1,0 +1,7 @@
+-- What the two sides of a channel know, and what each call makes of it.
+pub mod Words
+pub mod Shapes
+pub mod Channels
+pub mod Sending
+pub mod Receiving
+pub mod Settling
