@@ -254,3 +254,20 @@ module _ (keys : List Receiver) (boxes : ℕ) (taken : List Bool) (i : ℕ) (old
   pub round_taken : round_of (set keys i new) (if are_left (set taken i true) boxes then set taken i true else none_marked) ≡ (if are_left (set taken i true) boxes then round_of keys taken else round_of keys taken + 1)
   round_taken = round_after (set keys i new) boxes (set taken i true) more (omega (arith, low)) (lowest_from (is_left (set taken i true)) 0 boxes) refl
       ∙ ap (λ n. if are_left (set taken i true) boxes then n else n + 1) (round_more keys boxes taken i old new h at low free got)
+
+-- a key that stays in its box
+pub boxes_set : (keys : List Receiver) (boxes : List BoxId) (i : ℕ) (old new : Receiver) → slice_get keys i ≡ Some old → new.at ≡ old.at → map receiver_box keys ≡ boxes → map receiver_box (set keys i new) ≡ boxes
+boxes_set keys boxes i old new there same own = kept keys i there ∙ own
+  where
+    kept : (ks : List Receiver) (j : ℕ) → slice_get ks j ≡ Some old → map receiver_box (set ks j new) ≡ map receiver_box ks
+    kept [] j e = absurd (cc)
+    kept (k ∷ ks) zero e = ap (λ b. b ∷ map receiver_box ks) (same ∙ sym (ap receiver_box (some_same k old e)))
+    kept (k ∷ ks) (suc j) e = ap (λ l. receiver_box k ∷ l) (kept ks j e)
+
+-- what a take does leaves the key in its box
+pub at_took : (gate : ℕ) (words : List ℕ) (clock : ℕ) (key : Receiver) → (lane_took gate words clock key).at ≡ key.at
+at_took gate words clock key = go (ready_stamp gate)
+  where
+    go : (o : Option ℕ) → (lane_shown gate words clock key o).at ≡ key.at
+    go None = refl
+    go (Some stamp) = refl

@@ -322,6 +322,17 @@ keeps_start keys parts freed ready h ended = record {
 pub idle_unmarked : (keys : List Sender) (parts freed : ℕ) (ready : List Bool) → AreSendLanes keys parts freed ready → freed ≡ parts → ready ≡ none_marked
 idle_unmarked keys parts freed ready h ended = all_unmarked ready 16 h.flags (λ i low. let long : length keys ≡ 16 = h.long in let found = there keys i (omega (arith, low)) in (h.lanes i found.0 found.1).idle ended)
 
--- a key takes a stamp, and a later stamp is past all keys
-pub past_set : (keys : List Sender) (i stamp later : ℕ) (new : Sender) → stamp ≤ later → new.view.front ≤ later → All (λ key. key.view.front ≤ stamp) keys → All (λ key. key.view.front ≤ later) (set keys i new)
-past_set keys i stamp later new low mine all = All-set (λ (key : Sender). key.view.front ≤ later) keys i new mine (λ j inside. let was = all j inside in omega (arith, was, low))
+-- a key that stays in its box
+pub boxes_set : (keys : List Sender) (boxes : List BoxId) (i : ℕ) (old new : Sender) → slice_get keys i ≡ Some old → new.at ≡ old.at → map sender_box keys ≡ boxes → map sender_box (set keys i new) ≡ boxes
+boxes_set keys boxes i old new there same own = kept keys i there ∙ own
+  where
+    kept : (ks : List Sender) (j : ℕ) → slice_get ks j ≡ Some old → map sender_box (set ks j new) ≡ map sender_box ks
+    kept [] j e = absurd (cc)
+    kept (k ∷ ks) zero e = ap (λ b. b ∷ map sender_box ks) (same ∙ sym (ap sender_box (some_same k old e)))
+    kept (k ∷ ks) (suc j) e = ap (λ l. sender_box k ∷ l) (kept ks j e)
+
+-- a new side has stored and seen nothing
+pub new_past : (boxes : List BoxId) (clock : ℕ) → All (λ key. key.view.front ≤ clock) (map new_sender boxes)
+new_past [] clock i d low = absurd (omega (arith, low))
+new_past (b ∷ bs) clock zero d low = omega arith
+new_past (b ∷ bs) clock (suc i) d low = new_past bs clock i d (omega (arith, low))

@@ -1,8 +1,8 @@
 //! The boxes of a channel.
-ghost use Rattle.std.specs.Prelude.{◌≡◌, ◌⊎◌, ◌-◌, IfOk, map, length};
+ghost use Rattle.std.specs.Prelude.{◌≡◌, ◌⊎◌, ℕ, ◌-◌, IfOk, map, length};
 ghost use Rattle.part_channel.specs.Channels.{sender_box, receiver_box};
 ghost use Rattle.part_channel.specs.Settling.{IsLeft};
-ghost use Rattle.part_channel.specs.Sending.{new_send_side};
+ghost use Rattle.part_channel.specs.Sending.{new_send_side, IsPast};
 ghost use Rattle.part_channel.specs.Receiving.{new_recv_side};
 
 use crate::receiving::RecvSide;
@@ -46,6 +46,9 @@ impl Channel {
         ensures wide { IfOk result (λ r. r.0.width ≡ width) }
         ensures sends { IfOk result (λ r. r.1 ≡ new_send_side r.0.boxes) }
         ensures receives { IfOk result (λ r. r.2 ≡ new_recv_side r.0.boxes) }
+        // So both sides are this channel's, and any clock will do for the first call.
+        ensures own { IfOk result (λ r. (map sender_box r.1.keys ≡ r.0.boxes) × (map receiver_box r.2.keys ≡ r.0.boxes)) }
+        ensures past { IfOk result (λ r. (clock : ℕ) → IsPast r.1 clock) }
     {
         let mut boxes = Vec::with_capacity(alloc, BOXES)?;
         let mut sends = Vec::with_capacity(alloc, BOXES)?;

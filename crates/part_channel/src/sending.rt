@@ -123,7 +123,8 @@ impl SendSide {
         ensures made { IfOk result (λ stamp. self.new ≡ readied self.old part (words_of bytes.now channel.now.width) stamp) }
         // In phase k it makes thing k of its box.
         ensures phase { IfOk result (λ stamp. HasMade self.old self.new part (words_of bytes.now channel.now.width) stamp) }
-        // So the stamp will do as the next clock.
+        // So it is still this channel's, and the stamp will do as the next clock.
+        ensures own { map sender_box self.new.keys ≡ channel.now.boxes }
         ensures past { IfOk result (λ stamp. IsPast self.new stamp) }
     {
         if self.parts <= part {
@@ -158,7 +159,8 @@ impl SendSide {
         requires past { IsPast self.old clock }
         requires limit { clock < 2 ^ 62 - 1 }
         ensures tested { (gate : ℕ) × (self.new ≡ tested self.old gate) × (result ≡ test_progress self.old clock gate) }
-        // So the stamp will do as the next clock.
+        // So it is still this channel's, and the stamp will do as the next clock.
+        ensures own { map sender_box self.new.keys ≡ channel.now.boxes }
         ensures told { IsTold self.new result }
     {
         if self.parts <= self.freed {

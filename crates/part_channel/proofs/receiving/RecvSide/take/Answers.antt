@@ -10,7 +10,7 @@ use Rattle.part_channel.specs.declared.progress.Take.{Take}
 use Rattle.part_box.specs.declared.view.Got.{Got}
 use Rattle.part_channel.specs.Receiving.{HasGot, round_of, shown_take, RecvView, AreRecvLanes, lowest_from, are_left, is_left, one_taken, marked, took, lane_shown, lane_took, got_of}
 use Rattle.part_channel.proofs.Lists.{read_at, set_modified, at_set, at_end}
-use Rattle.part_channel.proofs.Received.{own_at, missed, taken, round_missed, round_taken, keeps_missed, keeps_taken}
+use Rattle.part_channel.proofs.Received.{own_at, missed, taken, round_missed, round_taken, keeps_missed, keeps_taken, boxes_set, at_took}
 use Rattle.part_channel.proofs.receiving.RecvSide.take.Goals as goal
 
 pub try_take-take-requires-clause-own : goal.try_take-take-requires-clause-own
@@ -157,3 +157,23 @@ returns-in-Taken-clause-phase c =
       refl,
       refl,
     )
+
+pub returns-in-Missed-clause-own : goal.returns-in-Missed-clause-own
+returns-in-Missed-clause-own c =
+    let side = c.self.inside in
+    let longs : length side.keys.items ≡ 16 = c.self.invariant.kept.long in
+    let most : side.boxes ≤ 16 = c.self.invariant.kept.most in
+    let old = c.index_mut.result.now in
+    let key = read_at side.keys.items c.args.part old (omega arith) c.index_mut.ensures.value in
+    let t = c.try_take-take.ensures in
+    boxes_set side.keys.items c.args.channel.now.boxes c.args.part old c.try_take-take.new.key key (ap (λ (k : Receiver). k.at) t.3 ∙ at_took t.0 t.1 c.args.clock old) (ap (λ (s : RecvView). map receiver_box s.keys) c.self.view_is ∙ c.requires.own)
+
+pub returns-in-Taken-clause-own : goal.returns-in-Taken-clause-own
+returns-in-Taken-clause-own c =
+    let side = c.self.inside in
+    let longs : length side.keys.items ≡ 16 = c.self.invariant.kept.long in
+    let most : side.boxes ≤ 16 = c.self.invariant.kept.most in
+    let old = c.index_mut.result.now in
+    let key = read_at side.keys.items c.args.part old (omega arith) c.index_mut.ensures.value in
+    let t = c.try_take-take.ensures in
+    boxes_set side.keys.items c.args.channel.now.boxes c.args.part old c.try_take-take.new.key key (ap (λ (k : Receiver). k.at) t.3 ∙ at_took t.0 t.1 c.args.clock old) (ap (λ (s : RecvView). map receiver_box s.keys) c.self.view_is ∙ c.requires.own)

@@ -6,7 +6,7 @@ use Rattle.part_channel.specs.Channels.{ChannelView, sender_box}
 use Rattle.part_channel.specs.Words.{words_of}
 use Rattle.part_channel.specs.Sending.{SendView, phase_of, one_if, made_of, readied}
 use Rattle.part_channel.proofs.Lists.{read_at, set_modified, at_set, at_end}
-use Rattle.part_channel.proofs.Sent.{own_at, phase_ready, keeps_ready}
+use Rattle.part_channel.proofs.Sent.{own_at, phase_ready, keeps_ready, boxes_set}
 use Rattle.part_channel.proofs.sending.SendSide.ready.Goals as goal
 
 pub put-requires-clause-own : goal.put-requires-clause-own
@@ -77,3 +77,12 @@ returns-clause-phase c =
       at_set side.keys.items c.args.part old c.put.new.key key,
       ap (λ (k : Sender). slice_get k.view.made phase) made ∙ at_end old.view.made (record { stamp = stamp; words = words }) phase count,
     )
+
+pub returns-clause-own : goal.returns-clause-own
+returns-clause-own c =
+    let side = c.self.inside in
+    let longs : length side.keys.items ≡ 16 = c.self.invariant.kept.long in
+    let most : side.parts ≤ 16 = c.self.invariant.kept.most in
+    let old = c.index_mut.result.now in
+    let key = read_at side.keys.items c.args.part old (omega arith) c.index_mut.ensures.value in
+    boxes_set side.keys.items c.args.channel.now.boxes c.args.part old c.put.new.key key (ap (λ (k : Sender). k.at) c.put.ensures) (ap (λ (s : SendView). map sender_box s.keys) c.self.view_is ∙ c.requires.own)

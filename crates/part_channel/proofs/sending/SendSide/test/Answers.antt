@@ -8,7 +8,7 @@ use Rattle.part_channel.specs.declared.progress.Progress.{Progress}
 use Rattle.part_channel.specs.declared.progress.Progress.TheVariants.{Freed}
 use Rattle.part_channel.specs.Sending.{SendView, AreSendLanes, one_if, phase_of, none_marked, looked, one_freed, tested, test_progress}
 use Rattle.part_channel.proofs.Lists.{read_at, set_modified}
-use Rattle.part_channel.proofs.Sent.{own_at, phase_same, phase_freed, keeps_missed, keeps_freed, opened_by, tested_none, tested_some, progress_none, progress_some}
+use Rattle.part_channel.proofs.Sent.{own_at, phase_same, phase_freed, keeps_missed, keeps_freed, boxes_set, opened_by, tested_none, tested_some, progress_none, progress_some}
 use Rattle.part_channel.proofs.sending.SendSide.test.Goals as goal
 
 pub freed-requires-clause-own : goal.freed-requires-clause-own
@@ -108,3 +108,21 @@ returns-in-Some-clause-tested c =
           ∙ (sym (tested_some was gate (omega arith) on c.in-Some.taken shows) ∙ ap (λ (s : SendView). tested s gate) c.self.view_is),
       ap Freed c.above.ensures ∙ (sym (progress_some was gate (omega arith) on c.args.clock c.in-Some.taken shows) ∙ ap (λ (s : SendView). test_progress s c.args.clock gate) c.self.view_is),
     )
+
+pub returns-in-None-clause-own : goal.returns-in-None-clause-own
+returns-in-None-clause-own c =
+    let side = c.self.inside in
+    let longs : length side.keys.items ≡ 16 = c.self.invariant.kept.long in
+    let most : side.parts ≤ 16 = c.self.invariant.kept.most in
+    let old = c.index_mut.result.now in
+    let key = read_at side.keys.items side.freed old (omega arith) c.index_mut.ensures.value in
+    boxes_set side.keys.items c.args.channel.now.boxes side.freed old c.freed.new.key key (ap (λ (k : Sender). k.at) c.freed.ensures.loaded.1) (ap (λ (s : SendView). map sender_box s.keys) c.self.view_is ∙ c.requires.own)
+
+pub returns-in-Some-clause-own : goal.returns-in-Some-clause-own
+returns-in-Some-clause-own c =
+    let side = c.self.inside in
+    let longs : length side.keys.items ≡ 16 = c.self.invariant.kept.long in
+    let most : side.parts ≤ 16 = c.self.invariant.kept.most in
+    let old = c.index_mut.result.now in
+    let key = read_at side.keys.items side.freed old (omega arith) c.index_mut.ensures.value in
+    boxes_set side.keys.items c.args.channel.now.boxes side.freed old c.freed.new.key key (ap (λ (k : Sender). k.at) c.freed.ensures.loaded.1) (ap (λ (s : SendView). map sender_box s.keys) c.self.view_is ∙ c.requires.own)
