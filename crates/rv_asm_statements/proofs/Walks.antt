@@ -1,12 +1,14 @@
 -- Walks along tables and lists.
-use Rattle.std.proofs.Common.{◌≡◌, ℕ, zero, suc, ◌+◌, ◌<◌, ◌≤◌, true, false, List, [], ◌∷◌, ◌++◌, length, drop, map, get_or, Option, Some, None, refl, sym, ap, ◌∙◌, arith}
+use Rattle.std.proofs.Common.{◌≡◌, ℕ, zero, suc, ◌+◌, ◌<◌, ◌≤◌, true, false, List, [], ◌∷◌, ◌++◌, length, drop, map, get_or, Option, Some, None, is_some, refl, sym, ap, ◌∙◌, arith}
 use Rattle.std.proofs.lemmas.List.{drop_all, length-map, append_assoc, append-nil}
 use Rattle.std.specs.Str.{bytes_eq}
 use Rattle.rv_asm_statements.specs.Walk.{all_given, beside, first_given}
+use Rattle.rv_asm_statements.specs.Directives.{some_given}
 use Rattle.rv_asm_statements.specs.Rows.{Row}
 use Rattle.rv_asm_statements.specs.Mnemonics.{row_named}
 use Rattle.rv_asm_tokens.specs.Fault.{if_some}
 use Rattle.std.specs.Option.{option_map}
+use Rattle.std.specs.List.{filter_map}
 
 -- from i on there is what stands at i, and the rest
 pub item_at : {A B : Type 0} (view : A → B) (xs : List A) (i : ℕ) (d : A) → i < length xs → drop i (map view xs) ≡ view (get_or xs i d) ∷ drop (i + 1) (map view xs)
@@ -76,3 +78,25 @@ all_end f view xs i done whole le so_far =
     let none : drop i (map view xs) ≡ [] = drop_all i (map view xs) (omega (arith, length-map xs view)) in
     let one : given_behind done (all_given f []) ≡ Some done = ap Some (append-nil done) in
     sym so_far ∙ ap (λ l. given_behind done (all_given f l)) none ∙ one
+
+-- what is left of a list of which something is given is given
+rest_given : {A C : Type 0} (rest : Option A) (g : A → C) → is_some (if_some rest None (λ ys. Some (g ys))) ≡ true → is_some rest ≡ true
+rest_given None g h = h
+rest_given (Some ys) g h = refl
+
+-- where f gives each, all that it gives among them is what all give
+pub given_among : {A B : Type 0} (f : A → Option B) (xs : List A) → is_some (all_given f xs) ≡ true → all_given f xs ≡ Some (filter_map f xs)
+given_among {B = B} f [] h = refl
+given_among {B = B} f (x ∷ xs) h = one (f x) refl (given_among f xs)
+  where
+    one : (o : Option B) → f x ≡ o → (is_some (all_given f xs) ≡ true → all_given f xs ≡ Some (filter_map f xs)) → all_given f (x ∷ xs) ≡ Some (filter_map f (x ∷ xs))
+    one None e others =
+        let none : false ≡ true = rw e at h in
+        absurd cc
+    one (Some y) e others =
+        let rest : all_given f xs ≡ Some (filter_map f xs) = others (rest_given (all_given f xs) (λ ys. y ∷ ys) (rw e at h)) in
+        rw (e, rest) refl
+
+pub some_among : {A B : Type 0} (f : A → Option B) (xs : List A) → is_some (some_given f xs) ≡ true → some_given f xs ≡ Some (filter_map f xs)
+some_among f [] h = absurd cc
+some_among f (x ∷ xs) h = given_among f (x ∷ xs) h

@@ -1,5 +1,5 @@
 -- The directives: their names, and what each makes of its operands.
-use Rattle.std.specs.Prelude.{ℕ, ℤ, pos, List, [], ◌∷◌, ◌++◌, codes, Bool, true, false, Option, Some, None, Result, if◌then◌else◌}
+use Rattle.std.specs.Prelude.{ℕ, ℤ, pos, List, [], ◌∷◌, ◌++◌, codes, Bool, true, false, Option, Some, None, Result, Ok, Err, if◌then◌else◌}
 use Rattle.std.specs.Option.{option_map}
 use Rattle.std.specs.Ordering.{int_eq}
 use Rattle.rv_asm_tokens.specs.declared.fault.AsmFaultKind.{AsmFaultKind}
@@ -114,3 +114,19 @@ directive_by StringAndZero xs = option_map (λ bytes. directive.Bytes (bytes ++ 
 -- the directive of a name and its operands, which may not be operands at all
 unfoldable pub directive_of : List ℕ → Option (List Argument) → Result Directive AsmFaultKind
 directive_of w operands = wanted (if_some (first_given (beside w) directives) None (λ form. if_some operands None (directive_by form))) kinds.Directive
+
+-- a directive that keeps a name, numbers, items or bytes, which asks for memory: no other does
+abbrev pub holds : Directive → Bool
+holds (directive.Entry w) = true
+holds (directive.Comm ranks) = true
+holds (directive.Items width items) = true
+holds (directive.Bytes bytes) = true
+holds _ = false
+
+abbrev pub is_kept : Option Directive → Bool
+is_kept None = false
+is_kept (Some d) = holds d
+
+abbrev pub keeps : Result Directive AsmFaultKind → Bool
+keeps (Ok d) = holds d
+keeps (Err e) = false

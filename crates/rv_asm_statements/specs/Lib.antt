@@ -4,6 +4,7 @@ pub mod Registers
 pub mod Shapes
 pub mod Rows
 pub mod RowView
+pub mod Read
 pub mod Mnemonics
 pub mod Limits
 pub mod Directives

@@ -1,5 +1,5 @@
 -- A line's statement.
-use Rattle.std.specs.Prelude.{ℕ, List, [], ◌∷◌, Bool, false, ◌==◌, Option, Some, None, Result, Ok, Err, if◌then◌else◌}
+use Rattle.std.specs.Prelude.{ℕ, List, [], ◌∷◌, Bool, true, false, ◌==◌, Option, Some, None, Result, Ok, Err, if◌then◌else◌}
 use Rattle.rv_asm_tokens.specs.declared.fault.AsmFaultKind.{AsmFaultKind}
 use Rattle.rv_asm_tokens.specs.declared.fault.AsmFaultKind.TheVariants as kinds
 use Rattle.rv_asm_tokens.specs.Fault.{◌>>=◌}
@@ -27,3 +27,8 @@ unfoldable pub statement_of : List Lexeme → Result (Option Statement) AsmFault
 statement_of [] = Ok None
 statement_of (name w ∷ ts) = if begins_with_dot w then directive_at w ts else instruction_at w ts
 statement_of _ = Err kinds.Mnemonic
+
+-- a mnemonic or the name of a directive stands first: only what stands behind it asks for memory
+abbrev pub begins_with_name : List Lexeme → Bool
+begins_with_name (name w ∷ ts) = true
+begins_with_name _ = false

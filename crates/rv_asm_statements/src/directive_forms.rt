@@ -1,20 +1,24 @@
 //! A directive by its name and operands.
 
-ghost use Rattle.std.specs.Prelude.{◌≡◌, ◌<◌, map, IfOk};
+ghost use Rattle.std.specs.Prelude.{◌≡◌, ◌<◌, map, is_some, Err, IfOk, IsErr, IsTrue};
 ghost use Rattle.std.specs.Option.{option_map};
+ghost use Rattle.std.specs.List.{filter_map};
+ghost use Rattle.rv_asm_tokens.specs.declared.fault.AsmFaultKind.TheVariants as kinds;
+ghost use Rattle.rv_asm_tokens.specs.Escapes.{text_of};
 ghost use Rattle.rv_asm_tokens.specs.Fault.{Gives};
 ghost use Rattle.rv_asm_tokens.specs.Lexeme.{number_value};
 ghost use Rattle.rv_asm_statements.specs.declared.directive_rows.Form.TheVariants as forms;
 ghost use Rattle.rv_asm_statements.specs.Arguments.{argument_view, arguments_view};
+ghost use Rattle.rv_asm_statements.specs.Read.{read_target};
 ghost use Rattle.rv_asm_statements.specs.Shapes.{number_of};
 ghost use Rattle.rv_asm_statements.specs.Walk.{all_given, beside, first_given};
 ghost use Rattle.rv_asm_statements.specs.DirectiveRowView.{directive_row_view};
-ghost use Rattle.rv_asm_statements.specs.Directives.{only_number as number_alone, only_name as name_alone, only_text as text_alone, takes_labels as width_takes_labels, item_of, limited_number, link_of, directive_alone, only_alignment, directive_by, directive_of};
+ghost use Rattle.rv_asm_statements.specs.Directives.{only_number as number_alone, only_name as name_alone, only_text as text_alone, takes_labels as width_takes_labels, item_of, some_given, limited_number, link_of, directive_alone, only_alignment, directive_by, is_kept, keeps, directive_of};
 
 use crate::data_lists::{Bytes, Integers, Items};
 use crate::directive_rows::{DIRECTIVES, DirectiveRow, Form};
 use crate::directives::{Alignment, Directive, Width};
-use crate::filled::Target;
+use crate::filled::TargetRef;
 use crate::limited::Limited;
 use crate::operand_list::Operand;
 use crate::shapes::{label_target, number_in, number_target};
@@ -40,12 +44,12 @@ fn only_name<'a>(operands: &[Operand<'a>]) -> Option<&'a [u8]>
     }
 }
 
-fn only_text(alloc: Global, operands: &[Operand<'_>]) -> Result<Option<Vec<u8>>, AllocError>
-    ensures { IfOk result (λ found. option_map (λ v. v.items) found ≡ text_alone (map argument_view operands.now)) }
+fn only_text<'a>(operands: &[Operand<'a>]) -> Option<&'a [u8]>
+    ensures { option_map (λ w. text_of w.now) result ≡ text_alone (map argument_view operands.now) }
 {
     match operands {
-        [Operand::Text(raw)] => Ok(Some(text_bytes(alloc, raw)?)),
-        _ => Ok(None),
+        [Operand::Text(raw)] => Some(raw),
+        _ => None,
     }
 }
 
@@ -55,40 +59,86 @@ fn takes_labels(width: Width) -> bool
     matches!(width, Width::Word | Width::Double)
 }
 
-fn item(alloc: Global, width: Width, operand: &Operand<'_>) -> Result<Option<Target>, AllocError>
-    ensures { IfOk result (λ found. found ≡ item_of width (argument_view operand.now)) }
+fn item<'a>(width: Width, operand: &Operand<'a>) -> Option<TargetRef<'a>>
+    ensures { option_map read_target result ≡ item_of width (argument_view operand.now) }
 {
     match *operand {
-        Operand::Number(number) => Ok(Some(number_target(number))),
-        Operand::Name(name) if takes_labels(width) => Ok(Some(label_target(alloc, name, ZERO)?)),
-        _ => Ok(None),
+        Operand::Number(number) => Some(number_target(number)),
+        Operand::Name(name) if takes_labels(width) => Some(label_target(name, ZERO)),
+        _ => None,
     }
 }
 
-fn items(alloc: Global, width: Width, operands: &[Operand<'_>]) -> Result<Option<Items>, AllocError>
-    ensures { IfOk result (λ found. found ≡ all_given (item_of width) (map argument_view operands.now)) }
+/// Whether all operands are items of data.
+fn all_items(width: Width, operands: &[Operand<'_>]) -> bool
+    ensures { result ≡ is_some (all_given (item_of width) (map argument_view operands.now)) }
 {
-    let mut done = Vec::new(alloc);
-    for operand in operands {
-        let Some(found) = item(alloc, width, operand)? else {
-            return Ok(None);
-        };
-        done.push(found)?;
+    let mut rest = operands;
+    while let [operand, after @ ..] = rest {
+        if item(width, operand).is_none() {
+            return false;
+        }
+        rest = after;
     }
-    Ok(Some(Items::from_vec(done)))
+    true
 }
 
-fn integers(alloc: Global, operands: &[Operand<'_>]) -> Result<Option<Integers>, AllocError>
-    ensures { IfOk result (λ found. found ≡ all_given number_of (map argument_view operands.now)) }
+/// Whether the operands are one item of data or more.
+fn are_items(width: Width, operands: &[Operand<'_>]) -> bool
+    ensures { result ≡ is_some (some_given (item_of width) (map argument_view operands.now)) }
+{
+    !operands.is_empty() && all_items(width, operands)
+}
+
+/// The items of data among operands.
+fn items(alloc: Global, width: Width, operands: &[Operand<'_>]) -> Result<Items, AllocError>
+    ensures { IfOk result (λ found. found ≡ filter_map (item_of width) (map argument_view operands.now)) }
 {
     let mut done = Vec::new(alloc);
-    for operand in operands {
-        let Some(found) = number_in(operand) else {
-            return Ok(None);
-        };
-        done.push(Integer::from_number(found))?;
+    let mut rest = operands;
+    while let [operand, after @ ..] = rest {
+        if let Some(found) = item(width, operand) {
+            done.push(found.copied(alloc)?)?;
+        }
+        rest = after;
     }
-    Ok(Some(Integers::from_vec(done)))
+    Ok(Items::from_vec(done))
+}
+
+/// Whether all operands are numbers.
+fn all_numbers(operands: &[Operand<'_>]) -> bool
+    ensures { result ≡ is_some (all_given number_of (map argument_view operands.now)) }
+{
+    let mut rest = operands;
+    while let [operand, after @ ..] = rest {
+        if number_in(operand).is_none() {
+            return false;
+        }
+        rest = after;
+    }
+    true
+}
+
+/// Whether the operands are one number or more.
+fn are_numbers(operands: &[Operand<'_>]) -> bool
+    ensures { result ≡ is_some (some_given number_of (map argument_view operands.now)) }
+{
+    !operands.is_empty() && all_numbers(operands)
+}
+
+/// The numbers among operands.
+fn numbers(alloc: Global, operands: &[Operand<'_>]) -> Result<Integers, AllocError>
+    ensures { IfOk result (λ found. found ≡ filter_map number_of (map argument_view operands.now)) }
+{
+    let mut done = Vec::new(alloc);
+    let mut rest = operands;
+    while let [operand, after @ ..] = rest {
+        if let Some(found) = number_in(operand) {
+            done.push(Integer::from_number(found))?;
+        }
+        rest = after;
+    }
+    Ok(Integers::from_vec(done))
 }
 
 /// A directive that takes no operand.
@@ -129,7 +179,8 @@ fn alignment(operands: &[Operand<'_>]) -> Option<Alignment>
 
 #[tactic(auto, unfolding(crate::specs::Directives::directive_by))]
 fn entry(alloc: Global, operands: &[Operand<'_>]) -> Result<Option<Directive>, AllocError>
-    ensures { IfOk result (λ found. found ≡ directive_by forms.Entry (map argument_view operands.now)) }
+    ensures value { IfOk result (λ found. found ≡ directive_by forms.Entry (map argument_view operands.now)) }
+    ensures memory { IsErr result → IsTrue (is_kept (directive_by forms.Entry (map argument_view operands.now))) }
 {
     match only_name(operands) {
         None => Ok(None),
@@ -147,14 +198,14 @@ fn global(operands: &[Operand<'_>]) -> Option<Directive>
 
 #[tactic(auto, unfolding(crate::specs::Directives::directive_by))]
 fn communicator(alloc: Global, operands: &[Operand<'_>]) -> Result<Option<Directive>, AllocError>
-    ensures { IfOk result (λ found. found ≡ directive_by forms.Comm (map argument_view operands.now)) }
+    ensures value { IfOk result (λ found. found ≡ directive_by forms.Comm (map argument_view operands.now)) }
+    ensures memory { IsErr result → IsTrue (is_kept (directive_by forms.Comm (map argument_view operands.now))) }
 {
-    if operands.is_empty() {
-        return Ok(None);
-    }
-    match integers(alloc, operands)? {
-        None => Ok(None),
-        Some(ranks) => Ok(Some(Directive::Comm(ranks))),
+    if are_numbers(operands) {
+        let found = numbers(alloc, operands)?;
+        Ok(Some(Directive::Comm(found)))
+    } else {
+        Ok(None)
     }
 }
 
@@ -176,34 +227,40 @@ fn data(
     width: Width,
     operands: &[Operand<'_>],
 ) -> Result<Option<Directive>, AllocError>
-    ensures { IfOk result (λ found. found ≡ directive_by (forms.Items width) (map argument_view operands.now)) }
+    ensures value { IfOk result (λ found. found ≡ directive_by (forms.Items width) (map argument_view operands.now)) }
+    ensures memory { IsErr result → IsTrue (is_kept (directive_by (forms.Items width) (map argument_view operands.now))) }
 {
-    if operands.is_empty() {
-        return Ok(None);
-    }
-    match items(alloc, width, operands)? {
-        None => Ok(None),
-        Some(found) => Ok(Some(Directive::Items(width, found))),
+    if are_items(width, operands) {
+        let found = items(alloc, width, operands)?;
+        Ok(Some(Directive::Items(width, found)))
+    } else {
+        Ok(None)
     }
 }
 
 #[tactic(auto, unfolding(crate::specs::Directives::directive_by))]
 fn string(alloc: Global, operands: &[Operand<'_>]) -> Result<Option<Directive>, AllocError>
-    ensures { IfOk result (λ found. found ≡ directive_by forms.String (map argument_view operands.now)) }
+    ensures value { IfOk result (λ found. found ≡ directive_by forms.String (map argument_view operands.now)) }
+    ensures memory { IsErr result → IsTrue (is_kept (directive_by forms.String (map argument_view operands.now))) }
 {
-    match only_text(alloc, operands)? {
+    match only_text(operands) {
         None => Ok(None),
-        Some(bytes) => Ok(Some(Directive::Bytes(Bytes::from_vec(bytes)))),
+        Some(raw) => {
+            let bytes = text_bytes(alloc, raw)?;
+            Ok(Some(Directive::Bytes(Bytes::from_vec(bytes))))
+        }
     }
 }
 
 #[tactic(auto, unfolding(crate::specs::Directives::directive_by))]
 fn string_and_zero(alloc: Global, operands: &[Operand<'_>]) -> Result<Option<Directive>, AllocError>
-    ensures { IfOk result (λ found. found ≡ directive_by forms.StringAndZero (map argument_view operands.now)) }
+    ensures value { IfOk result (λ found. found ≡ directive_by forms.StringAndZero (map argument_view operands.now)) }
+    ensures memory { IsErr result → IsTrue (is_kept (directive_by forms.StringAndZero (map argument_view operands.now))) }
 {
-    match only_text(alloc, operands)? {
+    match only_text(operands) {
         None => Ok(None),
-        Some(mut bytes) => {
+        Some(raw) => {
+            let mut bytes = text_bytes(alloc, raw)?;
             bytes.push(0)?;
             Ok(Some(Directive::Bytes(Bytes::from_vec(bytes))))
         }
@@ -217,7 +274,8 @@ fn directive_for(
     form: Form,
     operands: &[Operand<'_>],
 ) -> Result<Option<Directive>, AllocError>
-    ensures { IfOk result (λ found. found ≡ directive_by form (map argument_view operands.now)) }
+    ensures value { IfOk result (λ found. found ≡ directive_by form (map argument_view operands.now)) }
+    ensures memory { IsErr result → IsTrue (is_kept (directive_by form (map argument_view operands.now))) }
 {
     match form {
         Form::Ranks => Ok(limited(operands).map(Directive::Ranks)),
@@ -252,14 +310,15 @@ fn form_in(table: &[DirectiveRow], name: &[u8]) -> Option<Form>
 /// The directive of a name and its operands, which are None where no operands stand there.
 ///
 /// `Directive` where there is no such directive, where it does not take these operands, and where a number is
-/// outside its limits; and `Memory`.
+/// outside its limits; and `Memory` where no memory is left for what it keeps: a name, numbers, items or bytes.
 #[tactic(auto, unfolding(crate::specs::Directives::directive_of))]
 pub fn directive(
     alloc: Global,
     name: &[u8],
     operands: &Option<Vec<Operand<'_>>>,
 ) -> Result<Directive, AsmFaultKind>
-    ensures { Gives (λ found. found) result (directive_of name.now (option_map arguments_view operands.now)) }
+    ensures value { Gives (λ found. found) result (directive_of name.now (option_map arguments_view operands.now)) }
+    ensures memory { result ≡ Err kinds.Memory → IsTrue (keeps (directive_of name.now (option_map arguments_view operands.now))) }
 {
     let Some(form) = form_in(&DIRECTIVES, name) else {
         return Err(AsmFaultKind::Directive);

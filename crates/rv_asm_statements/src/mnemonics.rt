@@ -1,19 +1,21 @@
 //! An instruction by its mnemonic and operands.
 
-ghost use Rattle.std.specs.Prelude.{◌≡◌, map, IfOk, is_some};
+ghost use Rattle.std.specs.Prelude.{◌≡◌, map, is_some, IsTrue, Err};
+ghost use Rattle.rv_asm_tokens.specs.declared.fault.AsmFaultKind.TheVariants as kinds;
 ghost use Rattle.rv_asm_tokens.specs.Fault.{Gives};
 ghost use Rattle.std.specs.Option.{option_map};
 ghost use Rattle.rv_asm_statements.specs.Arguments.{argument_view, arguments_view};
 ghost use Rattle.rv_asm_statements.specs.Walk.{first_given};
 ghost use Rattle.rv_asm_statements.specs.RowView.{row_view};
-ghost use Rattle.rv_asm_statements.specs.Mnemonics.{row_use, row_named, instruction_of};
+ghost use Rattle.rv_asm_statements.specs.Read.{read_use};
+ghost use Rattle.rv_asm_statements.specs.Mnemonics.{row_use, row_named, instruction_of, has_label};
 
-use crate::filled::Filled;
+use crate::filled::{Filled, FilledRef};
 use crate::operand_list::Operand;
 use crate::rows::{ROWS, Row, Template};
 use crate::shapes::filled_for;
 use rv_asm_tokens::AsmFaultKind;
-use std::alloc::{AllocError, Global};
+use std::alloc::Global;
 
 /// A mnemonic's instruction and the operands of the source.
 #[derive(Debug, Drop)]
@@ -22,43 +24,40 @@ pub struct Use {
     pub filled: Filled,
 }
 
+/// A mnemonic's instruction and the operands of the source, whose label still stands there.
+#[derive(Clone, Copy, Debug)]
+pub struct UseRef<'a> {
+    pub template: Template,
+    pub filled: FilledRef<'a>,
+}
+
 /// What a row makes of operands, if it is the mnemonic's and takes them.
 #[tactic(auto, unfolding(crate::specs::Mnemonics::row_use))]
-fn use_of_row(
-    alloc: Global,
-    name: &[u8],
-    operands: &[Operand<'_>],
-    row: &Row,
-) -> Result<Option<Use>, AllocError>
-    ensures { IfOk result (λ found. found ≡ row_use name.now (map argument_view operands.now) (row_view row.now)) }
+fn use_of_row<'a>(name: &[u8], operands: &[Operand<'a>], row: &Row) -> Option<UseRef<'a>>
+    ensures { option_map read_use result ≡ row_use name.now (map argument_view operands.now) (row_view row.now) }
 {
     if row.name == name {
-        match filled_for(alloc, row.shape, operands)? {
-            None => Ok(None),
-            Some(filled) => Ok(Some(Use {
+        match filled_for(row.shape, operands) {
+            None => None,
+            Some(filled) => Some(UseRef {
                 template: row.template,
                 filled,
-            })),
+            }),
         }
     } else {
-        Ok(None)
+        None
     }
 }
 
-fn use_in(
-    alloc: Global,
-    table: &[Row],
-    name: &[u8],
-    operands: &[Operand<'_>],
-) -> Result<Option<Use>, AllocError>
-    ensures { IfOk result (λ found. found ≡ first_given (row_use name.now (map argument_view operands.now)) (map row_view table.now)) }
+fn use_in<'a>(table: &[Row], name: &[u8], operands: &[Operand<'a>]) -> Option<UseRef<'a>>
+    ensures { option_map read_use result ≡ first_given (row_use name.now (map argument_view operands.now)) (map row_view table.now) }
 {
     for row in table {
-        if let Some(found) = use_of_row(alloc, name, operands, row)? {
-            return Ok(Some(found));
+        if let Some(found) = use_of_row(name, operands, row) {
+            return Some(found);
         }
     }
-    Ok(None)
+    None
 }
 
 fn has_row(table: &[Row], name: &[u8]) -> bool
@@ -74,18 +73,23 @@ fn has_row(table: &[Row], name: &[u8]) -> bool
 
 /// The instruction of a mnemonic and its operands, which are None where no operands stand there.
 ///
-/// `Mnemonic` where there is no such mnemonic, `Operand` where it does not take these operands, and `Memory`.
+/// `Mnemonic` where there is no such mnemonic, `Operand` where it does not take these operands, and `Memory`
+/// where no memory is left for a copy of its label.
 #[tactic(auto, unfolding(crate::specs::Mnemonics::instruction_of))]
 pub fn instruction(
     alloc: Global,
     name: &[u8],
     operands: &Option<Vec<Operand<'_>>>,
 ) -> Result<Use, AsmFaultKind>
-    ensures { Gives (λ found. found) result (instruction_of name.now (option_map arguments_view operands.now)) }
+    ensures value { Gives (λ found. found) result (instruction_of name.now (option_map arguments_view operands.now)) }
+    ensures memory { result ≡ Err kinds.Memory → IsTrue (has_label (instruction_of name.now (option_map arguments_view operands.now))) }
 {
     if let Some(operands) = operands {
-        if let Some(found) = use_in(alloc, &ROWS, name, operands)? {
-            return Ok(found);
+        if let Some(found) = use_in(&ROWS, name, operands) {
+            return Ok(Use {
+                template: found.template,
+                filled: found.filled.copied(alloc)?,
+            });
         }
     }
     if has_row(&ROWS, name) {

@@ -1,47 +1,45 @@
 //! The operands of an instruction, by the shape that its mnemonic asks for.
 
-ghost use Rattle.std.specs.Prelude.{◌≡◌, map, IfOk, Some, pos};
+ghost use Rattle.std.specs.Prelude.{◌≡◌, map, pos};
 ghost use Rattle.std.specs.Option.{option_map};
 ghost use Rattle.rv_asm_tokens.specs.Lexeme.{number_value};
 ghost use Rattle.rv_asm_statements.specs.Arguments.{argument_view};
+ghost use Rattle.rv_asm_statements.specs.Read.{read_filled, read_target};
 ghost use Rattle.rv_asm_statements.specs.Shapes.{at_number, at_label, register_of, number_of, offset_of, base_of, label_of, is_all_orders, target_of, filled as filled_with, nothing_at, orders_at, reg_at, reg_reg_at, reg_reg_reg_at, reg_number_at, reg_reg_number_at, reg_place_at, only_target_at, reg_target_at, reg_reg_target_at, reg_label_at, filled_by};
 
-use crate::filled::{Filled, Target};
+use crate::filled::{FilledRef, TargetRef};
 use crate::operand_list::Operand;
 use crate::registers::register;
 use crate::rows::Shape;
-use crate::values::{Integer, Label};
 use rv_asm_tokens::{Number, ZERO};
 use rv_decode::Reg;
-use std::alloc::{AllocError, Global};
 
-pub fn number_target(number: Number) -> Target
-    ensures { result ≡ at_number (number_value number) }
+pub fn number_target(number: Number) -> TargetRef<'static>
+    ensures { read_target result ≡ at_number (number_value number) }
 {
-    Target {
+    TargetRef {
         label: None,
-        number: Integer::from_number(number),
+        number,
     }
 }
 
-pub fn label_target(alloc: Global, name: &[u8], number: Number) -> Result<Target, AllocError>
-    ensures { IfOk result (λ target. target ≡ at_label name.now (number_value number)) }
+pub fn label_target(name: &[u8], number: Number) -> TargetRef<'_>
+    ensures { read_target result ≡ at_label name.now (number_value number) }
 {
-    let label = Label::copied(alloc, name)?;
-    Ok(Target {
-        label: Some(label),
-        number: Integer::from_number(number),
-    })
+    TargetRef {
+        label: Some(name),
+        number,
+    }
 }
 
-fn target_at(alloc: Global, operand: &Operand<'_>) -> Result<Option<Target>, AllocError>
-    ensures { IfOk result (λ found. found ≡ target_of (argument_view operand.now)) }
+fn target_at<'a>(operand: &Operand<'a>) -> Option<TargetRef<'a>>
+    ensures { option_map read_target result ≡ target_of (argument_view operand.now) }
 {
     match *operand {
-        Operand::Name(name) => Ok(Some(label_target(alloc, name, ZERO)?)),
-        Operand::Sum(name, number) => Ok(Some(label_target(alloc, name, number)?)),
-        Operand::Number(number) => Ok(Some(number_target(number))),
-        _ => Ok(None),
+        Operand::Name(name) => Some(label_target(name, ZERO)),
+        Operand::Sum(name, number) => Some(label_target(name, number)),
+        Operand::Number(number) => Some(number_target(number)),
+        _ => None,
     }
 }
 
@@ -81,12 +79,12 @@ fn base_in(operand: &Operand<'_>) -> Option<Reg>
     }
 }
 
-fn label_in(alloc: Global, operand: &Operand<'_>) -> Result<Option<Target>, AllocError>
-    ensures { IfOk result (λ found. found ≡ label_of (argument_view operand.now)) }
+fn label_in<'a>(operand: &Operand<'a>) -> Option<TargetRef<'a>>
+    ensures { option_map read_target result ≡ label_of (argument_view operand.now) }
 {
     match *operand {
-        Operand::Name(name) => Ok(Some(label_target(alloc, name, ZERO)?)),
-        _ => Ok(None),
+        Operand::Name(name) => Some(label_target(name, ZERO)),
+        _ => None,
     }
 }
 
@@ -105,10 +103,10 @@ fn none() -> Reg
     Reg::new(0)
 }
 
-fn registers_alone(first: Reg, second: Reg, third: Reg) -> Filled
-    ensures { result ≡ filled_with first second third (at_number (pos 0)) }
+fn registers_alone(first: Reg, second: Reg, third: Reg) -> FilledRef<'static>
+    ensures { read_filled result ≡ filled_with first second third (at_number (pos 0)) }
 {
-    Filled {
+    FilledRef {
         first,
         second,
         third,
@@ -116,8 +114,8 @@ fn registers_alone(first: Reg, second: Reg, third: Reg) -> Filled
     }
 }
 
-fn nothing(operands: &[Operand<'_>]) -> Option<Filled>
-    ensures { result ≡ nothing_at (map argument_view operands.now) }
+fn nothing(operands: &[Operand<'_>]) -> Option<FilledRef<'static>>
+    ensures { option_map read_filled result ≡ nothing_at (map argument_view operands.now) }
 {
     match operands {
         [] => Some(registers_alone(none(), none(), none())),
@@ -125,8 +123,8 @@ fn nothing(operands: &[Operand<'_>]) -> Option<Filled>
     }
 }
 
-fn orders(operands: &[Operand<'_>]) -> Option<Filled>
-    ensures { result ≡ orders_at (map argument_view operands.now) }
+fn orders(operands: &[Operand<'_>]) -> Option<FilledRef<'static>>
+    ensures { option_map read_filled result ≡ orders_at (map argument_view operands.now) }
 {
     match operands {
         [before, after] => {
@@ -140,8 +138,8 @@ fn orders(operands: &[Operand<'_>]) -> Option<Filled>
     }
 }
 
-fn reg(operands: &[Operand<'_>]) -> Option<Filled>
-    ensures { result ≡ reg_at (map argument_view operands.now) }
+fn reg(operands: &[Operand<'_>]) -> Option<FilledRef<'static>>
+    ensures { option_map read_filled result ≡ reg_at (map argument_view operands.now) }
 {
     match operands {
         [a] => {
@@ -152,8 +150,8 @@ fn reg(operands: &[Operand<'_>]) -> Option<Filled>
     }
 }
 
-fn reg_reg(operands: &[Operand<'_>]) -> Option<Filled>
-    ensures { result ≡ reg_reg_at (map argument_view operands.now) }
+fn reg_reg(operands: &[Operand<'_>]) -> Option<FilledRef<'static>>
+    ensures { option_map read_filled result ≡ reg_reg_at (map argument_view operands.now) }
 {
     match operands {
         [a, b] => {
@@ -165,8 +163,8 @@ fn reg_reg(operands: &[Operand<'_>]) -> Option<Filled>
     }
 }
 
-fn reg_reg_reg(operands: &[Operand<'_>]) -> Option<Filled>
-    ensures { result ≡ reg_reg_reg_at (map argument_view operands.now) }
+fn reg_reg_reg(operands: &[Operand<'_>]) -> Option<FilledRef<'static>>
+    ensures { option_map read_filled result ≡ reg_reg_reg_at (map argument_view operands.now) }
 {
     match operands {
         [a, b, c] => {
@@ -179,14 +177,14 @@ fn reg_reg_reg(operands: &[Operand<'_>]) -> Option<Filled>
     }
 }
 
-fn reg_number(operands: &[Operand<'_>]) -> Option<Filled>
-    ensures { result ≡ reg_number_at (map argument_view operands.now) }
+fn reg_number(operands: &[Operand<'_>]) -> Option<FilledRef<'static>>
+    ensures { option_map read_filled result ≡ reg_number_at (map argument_view operands.now) }
 {
     match operands {
         [a, n] => {
             let first = register_in(a)?;
             let number = number_in(n)?;
-            Some(Filled {
+            Some(FilledRef {
                 first,
                 second: none(),
                 third: none(),
@@ -197,15 +195,15 @@ fn reg_number(operands: &[Operand<'_>]) -> Option<Filled>
     }
 }
 
-fn reg_reg_number(operands: &[Operand<'_>]) -> Option<Filled>
-    ensures { result ≡ reg_reg_number_at (map argument_view operands.now) }
+fn reg_reg_number(operands: &[Operand<'_>]) -> Option<FilledRef<'static>>
+    ensures { option_map read_filled result ≡ reg_reg_number_at (map argument_view operands.now) }
 {
     match operands {
         [a, b, n] => {
             let first = register_in(a)?;
             let second = register_in(b)?;
             let number = number_in(n)?;
-            Some(Filled {
+            Some(FilledRef {
                 first,
                 second,
                 third: none(),
@@ -216,15 +214,15 @@ fn reg_reg_number(operands: &[Operand<'_>]) -> Option<Filled>
     }
 }
 
-fn reg_place(operands: &[Operand<'_>]) -> Option<Filled>
-    ensures { result ≡ reg_place_at (map argument_view operands.now) }
+fn reg_place(operands: &[Operand<'_>]) -> Option<FilledRef<'static>>
+    ensures { option_map read_filled result ≡ reg_place_at (map argument_view operands.now) }
 {
     match operands {
         [a, place] => {
             let first = register_in(a)?;
             let number = offset_in(place)?;
             let second = base_in(place)?;
-            Some(Filled {
+            Some(FilledRef {
                 first,
                 second,
                 third: none(),
@@ -235,115 +233,95 @@ fn reg_place(operands: &[Operand<'_>]) -> Option<Filled>
     }
 }
 
-fn only_target(alloc: Global, operands: &[Operand<'_>]) -> Result<Option<Filled>, AllocError>
-    ensures { IfOk result (λ found. found ≡ only_target_at (map argument_view operands.now)) }
+fn only_target<'a>(operands: &[Operand<'a>]) -> Option<FilledRef<'a>>
+    ensures { option_map read_filled result ≡ only_target_at (map argument_view operands.now) }
 {
     match operands {
         [goal] => {
-            let Some(target) = target_at(alloc, goal)? else {
-                return Ok(None);
-            };
-            Ok(Some(Filled {
+            let target = target_at(goal)?;
+            Some(FilledRef {
                 first: none(),
                 second: none(),
                 third: none(),
                 target,
-            }))
+            })
         }
-        _ => Ok(None),
+        _ => None,
     }
 }
 
-fn reg_target(alloc: Global, operands: &[Operand<'_>]) -> Result<Option<Filled>, AllocError>
-    ensures { IfOk result (λ found. found ≡ reg_target_at (map argument_view operands.now)) }
+fn reg_target<'a>(operands: &[Operand<'a>]) -> Option<FilledRef<'a>>
+    ensures { option_map read_filled result ≡ reg_target_at (map argument_view operands.now) }
 {
     match operands {
         [a, goal] => {
-            let Some(first) = register_in(a) else {
-                return Ok(None);
-            };
-            let Some(target) = target_at(alloc, goal)? else {
-                return Ok(None);
-            };
-            Ok(Some(Filled {
+            let first = register_in(a)?;
+            let target = target_at(goal)?;
+            Some(FilledRef {
                 first,
                 second: none(),
                 third: none(),
                 target,
-            }))
+            })
         }
-        _ => Ok(None),
+        _ => None,
     }
 }
 
-fn reg_reg_target(alloc: Global, operands: &[Operand<'_>]) -> Result<Option<Filled>, AllocError>
-    ensures { IfOk result (λ found. found ≡ reg_reg_target_at (map argument_view operands.now)) }
+fn reg_reg_target<'a>(operands: &[Operand<'a>]) -> Option<FilledRef<'a>>
+    ensures { option_map read_filled result ≡ reg_reg_target_at (map argument_view operands.now) }
 {
     match operands {
         [a, b, goal] => {
-            let Some(first) = register_in(a) else {
-                return Ok(None);
-            };
-            let Some(second) = register_in(b) else {
-                return Ok(None);
-            };
-            let Some(target) = target_at(alloc, goal)? else {
-                return Ok(None);
-            };
-            Ok(Some(Filled {
+            let first = register_in(a)?;
+            let second = register_in(b)?;
+            let target = target_at(goal)?;
+            Some(FilledRef {
                 first,
                 second,
                 third: none(),
                 target,
-            }))
+            })
         }
-        _ => Ok(None),
+        _ => None,
     }
 }
 
-fn reg_label(alloc: Global, operands: &[Operand<'_>]) -> Result<Option<Filled>, AllocError>
-    ensures { IfOk result (λ found. found ≡ reg_label_at (map argument_view operands.now)) }
+fn reg_label<'a>(operands: &[Operand<'a>]) -> Option<FilledRef<'a>>
+    ensures { option_map read_filled result ≡ reg_label_at (map argument_view operands.now) }
 {
     match operands {
         [a, label] => {
-            let Some(first) = register_in(a) else {
-                return Ok(None);
-            };
-            let Some(target) = label_in(alloc, label)? else {
-                return Ok(None);
-            };
-            Ok(Some(Filled {
+            let first = register_in(a)?;
+            let target = label_in(label)?;
+            Some(FilledRef {
                 first,
                 second: none(),
                 third: none(),
                 target,
-            }))
+            })
         }
-        _ => Ok(None),
+        _ => None,
     }
 }
 
 /// The operands that a shape finds in those that are there, if it takes them.
 #[tactic(auto, unfolding(crate::specs::Shapes::filled_by))]
-pub fn filled_for(
-    alloc: Global,
-    shape: Shape,
-    operands: &[Operand<'_>],
-) -> Result<Option<Filled>, AllocError>
-    ensures { IfOk result (λ found. found ≡ filled_by shape (map argument_view operands.now)) }
+pub fn filled_for<'a>(shape: Shape, operands: &[Operand<'a>]) -> Option<FilledRef<'a>>
+    ensures { option_map read_filled result ≡ filled_by shape (map argument_view operands.now) }
 {
     match shape {
-        Shape::Nothing => Ok(nothing(operands)),
-        Shape::Orders => Ok(orders(operands)),
-        Shape::Reg => Ok(reg(operands)),
-        Shape::RegReg => Ok(reg_reg(operands)),
-        Shape::RegRegReg => Ok(reg_reg_reg(operands)),
-        Shape::RegNumber => Ok(reg_number(operands)),
-        Shape::RegRegNumber => Ok(reg_reg_number(operands)),
-        Shape::RegPlace => Ok(reg_place(operands)),
-        Shape::Target => only_target(alloc, operands),
-        Shape::RegTarget => reg_target(alloc, operands),
-        Shape::RegRegTarget => reg_reg_target(alloc, operands),
-        Shape::RegLabel => reg_label(alloc, operands),
+        Shape::Nothing => nothing(operands),
+        Shape::Orders => orders(operands),
+        Shape::Reg => reg(operands),
+        Shape::RegReg => reg_reg(operands),
+        Shape::RegRegReg => reg_reg_reg(operands),
+        Shape::RegNumber => reg_number(operands),
+        Shape::RegRegNumber => reg_reg_number(operands),
+        Shape::RegPlace => reg_place(operands),
+        Shape::Target => only_target(operands),
+        Shape::RegTarget => reg_target(operands),
+        Shape::RegRegTarget => reg_reg_target(operands),
+        Shape::RegLabel => reg_label(operands),
     }
 }

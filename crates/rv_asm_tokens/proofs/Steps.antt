@@ -1,11 +1,11 @@
 -- One step of the loops that read a line's bytes.
-use Rattle.std.proofs.Common.{◌≡◌, ℕ, zero, suc, ◌+◌, ◌≤◌, ◌<◌, Bool, List, [], ◌∷◌, length, get_or, drop, Option, Some, None, Result, Ok, refl, sym, ap, ◌∙◌, add-one}
+use Rattle.std.proofs.Common.{◌≡◌, ℕ, zero, suc, ◌+◌, ◌≤◌, ◌<◌, Bool, List, [], ◌∷◌, length, get_or, drop, Option, Some, None, Result, Ok, Err, refl, sym, ap, ◌∙◌, add-one}
 use Rattle.std.proofs.Math.Seq.{drop-cons}
 use Rattle.std.proofs.lemmas.List.{drop_all, drop-drop}
 use Rattle.rv_asm_tokens.specs.declared.fault.AsmFaultKind.{AsmFaultKind}
 use Rattle.rv_asm_tokens.specs.declared.fault.AsmFaultKind.TheVariants as kinds
 use Rattle.rv_asm_tokens.specs.declared.escapes.QuoteStep.TheVariants.{End, Bad, Go}
-use Rattle.rv_asm_tokens.specs.Fault.{◌>>=◌, if_some, Fails}
+use Rattle.rv_asm_tokens.specs.Fault.{Fails}
 use Rattle.rv_asm_tokens.specs.Lexeme.{Lexeme}
 use Rattle.rv_asm_tokens.specs.Escapes.{quote_step, quoted_length}
 use Rattle.rv_asm_tokens.specs.Scan.{front_at, with_token, tokens_from}
@@ -42,17 +42,17 @@ quote_goes escaped i xs e whole lt h so_far =
 
 -- ---- tokens
 
--- a fault of the first step is that of both
-pub fails_along : {A B : Type 0} (e : AsmFaultKind) (r : Result A AsmFaultKind) (f : A → Result B AsmFaultKind) (whole : Result B AsmFaultKind) → (r >>= f) ≡ whole → Fails e r → Fails e whole
-fails_along kinds.Memory r f whole same h = tt
-fails_along kinds.Token r f whole same h = rw (← same, h) refl
-fails_along kinds.Mnemonic r f whole same h = rw (← same, h) refl
-fails_along kinds.Operand r f whole same h = rw (← same, h) refl
-fails_along (kinds.Range v) r f whole same h = rw (← same, h) refl
-fails_along kinds.LabelTwice r f whole same h = rw (← same, h) refl
-fails_along kinds.LabelMissing r f whole same h = rw (← same, h) refl
-fails_along kinds.Directive r f whole same h = rw (← same, h) refl
-fails_along kinds.Limit r f whole same h = rw (← same, h) refl
+-- a fault that is just what is meant is so whatever memory was refused
+pub fails_as : {A : Type 0} (e : AsmFaultKind) (whole : Result A AsmFaultKind) → whole ≡ Err e → Fails e whole
+fails_as kinds.Memory whole h = tt
+fails_as kinds.Token whole h = h
+fails_as kinds.Mnemonic whole h = h
+fails_as kinds.Operand whole h = h
+fails_as (kinds.Range v) whole h = h
+fails_as kinds.LabelTwice whole h = h
+fails_as kinds.LabelMissing whole h = h
+fails_as kinds.Directive whole h = h
+fails_as kinds.Limit whole h = h
 
 -- the bytes of a token are passed over
 pub tokens_from-inside : (k : ℕ) (done : List Lexeme) (bs : List ℕ) → tokens_from k done bs ≡ tokens_from 0 done (drop k bs)
@@ -65,13 +65,13 @@ abbrev Whole : Type 0
 Whole = Result (List Lexeme) AsmFaultKind
 
 -- what stands at i is wrong
-pub token_fails : (e : AsmFaultKind) (i : ℕ) (done : List Lexeme) (xs : List ℕ) (whole : Whole) → i < length xs → Fails e (front_at (get_or xs i 0) (drop i xs) (drop (i + 1) xs)) → tokens_from 0 done (drop i xs) ≡ whole → Fails e whole
+pub token_fails : (e : AsmFaultKind) (i : ℕ) (done : List Lexeme) (xs : List ℕ) (whole : Whole) → i < length xs → front_at (get_or xs i 0) (drop i xs) (drop (i + 1) xs) ≡ Err e → tokens_from 0 done (drop i xs) ≡ whole → whole ≡ Err e
 unfolding tokens_from
 token_fails e i done xs whole lt h so_far =
     let here = cons_at xs i lt in
-    let f = λ (o : Option (Option Lexeme × ℕ)). if_some o (Ok done) (λ p. tokens_from p.1 (with_token done p.0) (drop (i + 1) xs)) in
-    let next : (front_at (get_or xs i 0) (get_or xs i 0 ∷ drop (i + 1) xs) (drop (i + 1) xs) >>= f) ≡ whole = ap (tokens_from 0 done) (sym here) ∙ so_far in
-    fails_along e (front_at (get_or xs i 0) (get_or xs i 0 ∷ drop (i + 1) xs) (drop (i + 1) xs)) f whole next (rw (← here) h)
+    let is : front_at (get_or xs i 0) (get_or xs i 0 ∷ drop (i + 1) xs) (drop (i + 1) xs) ≡ Err e = rw (← here) h in
+    let one : tokens_from 0 done (drop i xs) ≡ Err e = rw (here, is) refl in
+    sym so_far ∙ one
 
 -- a comment stands at i
 pub token_none : (i : ℕ) (done : List Lexeme) (xs : List ℕ) (whole : Whole) → i < length xs → front_at (get_or xs i 0) (drop i xs) (drop (i + 1) xs) ≡ Ok None → tokens_from 0 done (drop i xs) ≡ whole → whole ≡ Ok done

@@ -28,3 +28,8 @@ Fails e meant = meant ≡ Err e
 abbrev pub Gives : {X Y : Type 0} → (X → Y) → Result X AsmFaultKind → Result Y AsmFaultKind → Type 0
 Gives view (Ok x) meant = meant ≡ Ok (view x)
 Gives view (Err e) meant = Fails e meant
+
+-- what the code returned, seen by view, is just what is meant: nothing is refused
+abbrev pub Is : {X Y : Type 0} → (X → Y) → Result X AsmFaultKind → Result Y AsmFaultKind → Type 0
+Is view (Ok x) meant = meant ≡ Ok (view x)
+Is view (Err e) meant = meant ≡ Err e

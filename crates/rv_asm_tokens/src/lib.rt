@@ -13,6 +13,3 @@ pub use fault::{AsmFault, AsmFaultKind};
 pub use number::{Number, ZERO, value_of};
 pub use scanning::tokens;
 pub use token::Token;
-
-#[cfg(test)]
-mod tests;

@@ -2,7 +2,7 @@
 
 ghost use Rattle.std.specs.Prelude.{◌≡◌, ◌≤◌, ◌+◌, ◌∷◌, IfOk, IfSome, drop, length};
 ghost use Rattle.std.specs.Option.{option_map};
-ghost use Rattle.rv_asm_tokens.specs.Fault.{Gives};
+ghost use Rattle.rv_asm_tokens.specs.Fault.{Gives, Is};
 ghost use Rattle.rv_asm_tokens.specs.Lexeme.{lexeme_of, lexemes_of};
 ghost use Rattle.rv_asm_tokens.specs.Scan.{is_name_byte, word_length, sign, sign_front, number_front, negative_front, name_front, text_front, front_at, tokens_of};
 ghost use Rattle.rv_asm_tokens.specs.FrontView.{front_view, LiesIn};
@@ -43,7 +43,7 @@ fn length_of_word(bytes: &[u8]) -> usize
 
 fn number_at<'a>(here: &'a [u8], after: &'a [u8]) -> Result<Front<'a>, AsmFaultKind>
     requires { length here.now ≡ length after.now + 1 }
-    ensures value { Gives front_view result (number_front here.now after.now) }
+    ensures value { Is front_view result (number_front here.now after.now) }
     ensures within { IfOk result (LiesIn (length after.now)) }
 {
     let more = length_of_word(after);
@@ -60,7 +60,7 @@ fn number_at<'a>(here: &'a [u8], after: &'a [u8]) -> Result<Front<'a>, AsmFaultK
 }
 
 fn negative_at(after: &[u8]) -> Result<Front<'_>, AsmFaultKind>
-    ensures value { Gives front_view result (negative_front after.now) }
+    ensures value { Is front_view result (negative_front after.now) }
     ensures within { IfOk result (LiesIn (length after.now)) }
 {
     let more = length_of_word(after);
@@ -91,7 +91,7 @@ fn name_at<'a>(here: &'a [u8], after: &'a [u8]) -> Front<'a>
 }
 
 fn text_at(after: &[u8]) -> Result<Front<'_>, AsmFaultKind>
-    ensures value { Gives front_view result (text_front after.now) }
+    ensures value { Is front_view result (text_front after.now) }
     ensures within { IfOk result (LiesIn (length after.now)) }
 {
     match length_of_quoted(after) {
@@ -114,7 +114,7 @@ fn sign_of(b: u8) -> Option<Token<'static>>
 }
 
 fn sign_at<'a>(b: u8) -> Result<Front<'a>, AsmFaultKind>
-    ensures value { Gives front_view result (sign_front b) }
+    ensures value { Is front_view result (sign_front b) }
     ensures within { IfOk result (LiesIn 0) }
 {
     match sign_of(b) {
@@ -136,7 +136,7 @@ fn behind(bytes: &[u8], at: usize) -> &[u8]
 #[tactic(auto, unfolding(crate::specs::Scan::front_at))]
 fn found_at<'a>(b: u8, here: &'a [u8], after: &'a [u8]) -> Result<Front<'a>, AsmFaultKind>
     requires { length here.now ≡ length after.now + 1 }
-    ensures value { Gives front_view result (front_at b here.now after.now) }
+    ensures value { Is front_view result (front_at b here.now after.now) }
     ensures within { IfOk result (LiesIn (length after.now)) }
 {
     match b {

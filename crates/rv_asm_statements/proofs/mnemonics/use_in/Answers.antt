@@ -9,12 +9,12 @@ use Rattle.rv_asm_statements.proofs.mnemonics.use_in.Goals as goal
 pub returns-in-Some : goal.returns-in-Some
 returns-in-Some c =
     let f = row_use c.args.name.now (map argument_view c.args.operands.now) in
-    sym (given_met f row_view c.args.table.now c.loop-row.row-index _ _ (first_given f (map row_view c.args.table.now)) c.loop-row-test.true (sym (rw c.in-Some.is at c.in_ok-found.ensures)) c.loop-row.invariant)
+    sym (given_met f row_view c.args.table.now c.loop-row.row-index _ _ (first_given f (map row_view c.args.table.now)) c.loop-row-test.true (sym (rw c.in-Some.is at c.use_of_row.ensures)) c.loop-row.invariant)
 
 pub loop-row-preserved : goal.loop-row-preserved
 loop-row-preserved c =
     let f = row_use c.args.name.now (map argument_view c.args.operands.now) in
-    given_passed f row_view c.args.table.now c.loop-row.row-index _ (first_given f (map row_view c.args.table.now)) c.loop-row-test.true (sym (rw c.in_default.is at c.in_ok-found.ensures)) c.loop-row.invariant
+    given_passed f row_view c.args.table.now c.loop-row.row-index _ (first_given f (map row_view c.args.table.now)) c.loop-row-test.true (sym (rw c.in_default.is at c.use_of_row.ensures)) c.loop-row.invariant
 
 pub returns : goal.returns
 returns c =

@@ -3,14 +3,14 @@ use Rattle.std.proofs.lemmas.Result.{err_from_is_err_and}
 use Rattle.std.proofs.lemmas.List.{map_push}
 use Rattle.rv_asm_tokens.specs.Lexeme.{lexeme_of, lexemes_of}
 use Rattle.rv_asm_tokens.specs.Scan.{tokens_of}
-use Rattle.rv_asm_tokens.proofs.Steps.{token_fails, token_none, token_goes, tokens_end}
+use Rattle.rv_asm_tokens.proofs.Steps.{fails_as, token_fails, token_none, token_goes, tokens_end}
 use Rattle.rv_asm_tokens.proofs.scanning.tokens.Goals as goal
 
 pub returns-in_err-found_at : goal.returns-in_err-found_at
 returns-in_err-found_at c =
     let p = err_from_is_err_and c.from_residual.result c.from_residual.ensures.1 in
     let line = c.args.line.now in
-    rw (p.1, p.2) (token_fails c.in_err-found_at.field-0.0 c.loop-at.at (lexemes_of c.loop-at.done.items) line (tokens_of line) c.loop-at-test.true (rw (c.behind-here.ensures.value, c.behind-after.ensures.value) at c.in_err-found_at.ensures.value) c.loop-at.invariant.same)
+    rw (p.1, p.2) (fails_as c.in_err-found_at.field-0.0 (tokens_of line) (token_fails c.in_err-found_at.field-0.0 c.loop-at.at (lexemes_of c.loop-at.done.items) line (tokens_of line) c.loop-at-test.true (rw (c.behind-here.ensures.value, c.behind-after.ensures.value) at c.in_err-found_at.ensures.value) c.loop-at.invariant.same))
 
 pub returns-in-Comment : goal.returns-in-Comment
 returns-in-Comment c =
