@@ -11,14 +11,14 @@ use Rattle.rv_asm_statements.specs.declared.directives.Directive.TheVariants as 
 use Rattle.rv_asm_statements.specs.declared.directives.Width.TheVariants.{Byte, Half, Word, Double}
 use Rattle.rv_asm_statements.specs.declared.statements.Statement.{Statement}
 use Rattle.rv_asm_statements.specs.declared.statements.Statement.TheVariants.{Label, Instruction, Directive as Directed}
-use Rattle.rv_asm.specs.declared.fields.Fields.{Fields}
-use Rattle.rv_asm.specs.declared.layout.Item.{Item}
-use Rattle.rv_asm.specs.declared.parts.Part.{Part}
-use Rattle.rv_asm.specs.declared.parts.Part.TheVariants.{Text, Data}
-use Rattle.rv_asm.specs.Fields.{fields_after, fields_behind, once, one_more}
-use Rattle.rv_asm.specs.Layout.{Layout, added, at_end, item_at, next_place}
-use Rattle.rv_asm.specs.Parts.{length_of, may_stand}
-use Rattle.rv_asm.specs.Resolved.{use_length}
+use Rattle.rv_asm_lines.specs.declared.fields.Fields.{Fields}
+use Rattle.rv_asm_lines.specs.declared.layout.Item.{Item}
+use Rattle.rv_asm_lines.specs.declared.parts.Part.{Part}
+use Rattle.rv_asm_lines.specs.declared.parts.Part.TheVariants.{Text, Data}
+use Rattle.rv_asm_lines.specs.Fields.{fields_after, fields_behind, once, one_more}
+use Rattle.rv_asm_lines.specs.Layout.{Layout, added, at_end, item_at, next_place}
+use Rattle.rv_asm_lines.specs.Parts.{length_of, may_stand}
+use Rattle.rv_asm_lines.specs.Resolved.{use_length}
 use Rattle.rv_asm.proofs.Kept.{IsKept}
 use Rattle.rv_asm.proofs.Right.{bind_ok, if_ok, ok, ok_is, then_ok}
 

@@ -12,17 +12,17 @@ use Rattle.rv_asm_statements.specs.declared.directives.Directive.TheVariants as 
 use Rattle.rv_asm_statements.specs.declared.mnemonics.Use.{Use}
 use Rattle.rv_asm_statements.specs.declared.statements.Statement.{Statement}
 use Rattle.rv_asm_statements.specs.declared.statements.Statement.TheVariants.{Label, Instruction, Directive as Directed}
-use Rattle.rv_asm.specs.declared.layout.Item.{Item}
-use Rattle.rv_asm.specs.declared.parts.Part.{Part}
-use Rattle.rv_asm.specs.declared.parts.Part.TheVariants.{Text, Data}
-use Rattle.rv_asm.specs.declared.parts.Place.{Place}
-use Rattle.rv_asm.specs.Data.{link_of, members_of, directive_bytes}
-use Rattle.rv_asm.specs.Fields.{ranks_of}
-use Rattle.rv_asm.specs.Layout.{Layout, added, addresses}
-use Rattle.rv_asm.specs.Output.{Output, is_text_address, items_from, label_step, directive_step, stated_step, with_bytes, with_entry, with_use, word_bytes}
-use Rattle.rv_asm.specs.Parts.{address, length_of, may_stand, directive_length}
-use Rattle.rv_asm.specs.Places.{Follow, length_in, total}
-use Rattle.rv_asm.specs.Resolved.{address_in, use_length, words_of}
+use Rattle.rv_asm_lines.specs.declared.layout.Item.{Item}
+use Rattle.rv_asm_lines.specs.declared.parts.Part.{Part}
+use Rattle.rv_asm_lines.specs.declared.parts.Part.TheVariants.{Text, Data}
+use Rattle.rv_asm_lines.specs.declared.parts.Place.{Place}
+use Rattle.rv_asm_lines.specs.Data.{link_of, members_of, directive_bytes}
+use Rattle.rv_asm_lines.specs.Fields.{ranks_of}
+use Rattle.rv_asm_lines.specs.Layout.{Layout, added, addresses}
+use Rattle.rv_asm_lines.specs.Output.{Output, is_text_address, items_from, label_step, directive_step, stated_step, with_bytes, with_entry, with_use, word_bytes}
+use Rattle.rv_asm_lines.specs.Parts.{address, length_of, may_stand, directive_length}
+use Rattle.rv_asm_lines.specs.Places.{Follow, length_in, total}
+use Rattle.rv_asm_lines.specs.Resolved.{address_in, use_length, words_of}
 use Rattle.rv_asm.proofs.Counted.{comms_in, comms_of, links_in, links_of, sum-cons}
 use Rattle.rv_asm.proofs.Lengths.{directive_bytes-length, with_use-length}
 use Rattle.rv_asm.proofs.Members.{link_of-is, members_of-are}

@@ -11,10 +11,10 @@ use Rattle.rv_asm_statements.specs.Arguments.{arguments_of}
 use Rattle.rv_asm_statements.specs.Directives.{directive_of}
 use Rattle.rv_asm_statements.specs.Mnemonics.{instruction_of}
 use Rattle.rv_asm_statements.specs.Statements.{begins_with_dot, directive_at, instruction_at, statement_of}
-use Rattle.rv_asm.specs.declared.fields.Fields.{Fields}
-use Rattle.rv_asm.specs.Fields.{fields_behind}
-use Rattle.rv_asm.specs.Layout.{Layout, at_end, fitted, labels_at, line_step, lines_from, most_bytes, place_in, placed, with_item, with_label}
-use Rattle.rv_asm.specs.Parts.{length_of, may_stand}
+use Rattle.rv_asm_lines.specs.declared.fields.Fields.{Fields}
+use Rattle.rv_asm_lines.specs.Fields.{fields_behind}
+use Rattle.rv_asm_lines.specs.Layout.{Layout, at_end, fitted, labels_at, line_step, lines_from, most_bytes, place_in, placed, with_item, with_label}
+use Rattle.rv_asm_lines.specs.Parts.{length_of, may_stand}
 use Rattle.rv_asm.proofs.Right.{at_line_ok, bind_ok, if_ok, line_ok, ok, ok_is, then_ok}
 
 pair_first : {A B : Type 0} (x y : A × B) → ok x ≡ ok y → x.0 ≡ y.0

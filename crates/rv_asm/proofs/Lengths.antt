@@ -18,10 +18,10 @@ use Rattle.rv_asm_statements.specs.declared.filled.Target.{Target}
 use Rattle.rv_asm_statements.specs.declared.mnemonics.Use.{Use}
 use Rattle.rv_asm_statements.specs.declared.rows.Template.{Template}
 use Rattle.rv_asm_statements.specs.declared.rows.Template.TheVariants as template
-use Rattle.rv_asm.specs.Data.{low_bytes, item_ranged, item_bytes, items_bytes, directive_bytes}
-use Rattle.rv_asm.specs.Output.{word_bytes, with_use}
-use Rattle.rv_asm.specs.Parts.{alignment_bytes, directive_length, padding, width_bytes}
-use Rattle.rv_asm.specs.Resolved.{ranged, imm_32, offset_of, is_between, low_part, load_immediate, load_address, register_at, one, single, jal_of, branch_of, instrs_of, words_of, count_of, use_length}
+use Rattle.rv_asm_lines.specs.Data.{low_bytes, item_ranged, item_bytes, items_bytes, directive_bytes}
+use Rattle.rv_asm_lines.specs.Output.{word_bytes, with_use}
+use Rattle.rv_asm_lines.specs.Parts.{alignment_bytes, directive_length, padding, width_bytes}
+use Rattle.rv_asm_lines.specs.Resolved.{ranged, imm_32, offset_of, is_between, low_part, load_immediate, load_address, register_at, one, single, jal_of, branch_of, instrs_of, words_of, count_of, use_length}
 use Rattle.rv_asm.proofs.Right.{bind_ok, ok, ok_is}
 
 -- ---- instructions

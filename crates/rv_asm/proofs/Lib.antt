@@ -1,5 +1,4 @@
 pub mod Steps
-pub mod LabelSteps
 pub mod Right
 pub mod Lengths
 pub mod Kept

@@ -8,7 +8,7 @@ use Rattle.rv_image.specs.Reading.{is_new_rank, is_within}
 use Rattle.rv_image.proofs.Distinct.{AllAfter, AllAfter-distinct, AllAfter-there, IsNewRank, not_true, nothing_distinct}
 use Rattle.rv_asm_tokens.specs.declared.fault.AsmFaultKind.TheVariants as kinds
 use Rattle.rv_asm_tokens.specs.Fault.{◌>>=◌}
-use Rattle.rv_asm.specs.Data.{link_of, members_from, members_of, new_rank}
+use Rattle.rv_asm_lines.specs.Data.{link_of, members_from, members_of, new_rank}
 use Rattle.rv_asm.proofs.Right.{bind_ok, ok, ok_is, then_ok}
 
 new_rank-is : (ranks : ℕ) (named : List ℕ) (z : ℤ) (rank : ℕ) → new_rank ranks named z ≡ Ok rank → is_new_rank ranks named rank ≡ true

@@ -6,12 +6,12 @@ use Rattle.std.proofs.lemmas.List.Elements.{filter_map-append}
 use Rattle.std.specs.Str.Lines.{lines}
 use Rattle.rv_asm_statements.specs.declared.statements.Statement.{Statement}
 use Rattle.rv_asm_statements.specs.declared.statements.Statement.TheVariants.{Label, Instruction, Directive as Directed}
-use Rattle.rv_asm.specs.declared.layout.Item.{Item}
-use Rattle.rv_asm.specs.declared.parts.Part.{Part}
-use Rattle.rv_asm.specs.declared.parts.Part.TheVariants.{Text, Data}
-use Rattle.rv_asm.specs.Layout.{Labels, Layout, added, at_end, empty_layout, end_of, item_at, layout_of, next_place}
-use Rattle.rv_asm.specs.Parts.{may_stand}
-use Rattle.rv_asm.specs.Places.{total, label_place, length_in, IsPlaced, Follow}
+use Rattle.rv_asm_lines.specs.declared.layout.Item.{Item}
+use Rattle.rv_asm_lines.specs.declared.parts.Part.{Part}
+use Rattle.rv_asm_lines.specs.declared.parts.Part.TheVariants.{Text, Data}
+use Rattle.rv_asm_lines.specs.Layout.{Labels, Layout, added, at_end, empty_layout, end_of, item_at, layout_of, next_place}
+use Rattle.rv_asm_lines.specs.Parts.{may_stand}
+use Rattle.rv_asm_lines.specs.Places.{total, label_place, length_in, IsPlaced, Follow}
 use Rattle.rv_asm.proofs.Counted.{sum-cons, sum-push}
 use Rattle.rv_asm.proofs.Kept.{IsKept, IsStated, lines_from-keeps}
 

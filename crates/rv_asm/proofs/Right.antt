@@ -4,7 +4,7 @@ use Rattle.std.specs.Prelude.{if◌then◌else◌}
 use Rattle.rv_asm_tokens.specs.declared.fault.AsmFault.{AsmFault}
 use Rattle.rv_asm_tokens.specs.declared.fault.AsmFaultKind.{AsmFaultKind}
 use Rattle.rv_asm_tokens.specs.Fault.{◌>>=◌}
-use Rattle.rv_asm.specs.Layout.{at_line}
+use Rattle.rv_asm_lines.specs.Layout.{at_line}
 
 pub record Both {A B : Type 0} (r : Result A AsmFaultKind) (f : A → Result B AsmFaultKind) (y : B) : Type 0 where
   pub value : A

@@ -13,16 +13,16 @@ use Rattle.rv_asm_statements.specs.declared.directives.Directive.TheVariants as 
 use Rattle.rv_asm_statements.specs.declared.mnemonics.Use.{Use}
 use Rattle.rv_asm_statements.specs.declared.statements.Statement.{Statement}
 use Rattle.rv_asm_statements.specs.declared.statements.Statement.TheVariants.{Label, Instruction, Directive as Directed}
-use Rattle.rv_asm.specs.declared.layout.Item.{Item}
-use Rattle.rv_asm.specs.declared.parts.Part.{Part}
-use Rattle.rv_asm.specs.declared.parts.Part.TheVariants.{Text, Data}
-use Rattle.rv_asm.specs.declared.parts.Place.{Place}
-use Rattle.rv_asm.specs.Data.{directive_bytes}
-use Rattle.rv_asm.specs.Resolved.{instrs_of}
-use Rattle.rv_asm.specs.Layout.{Layout, addresses, end_of}
-use Rattle.rv_asm.specs.Output.{Output, items_from, directive_step, stated_step, with_bytes, with_use, word_bytes}
-use Rattle.rv_asm.specs.Parts.{may_stand}
-use Rattle.rv_asm.specs.Places.{AllWritten, AreSound, Decodes, Follow, HoldCode, IfRight, IsSound, StandsIn, length_in, part_of}
+use Rattle.rv_asm_lines.specs.declared.layout.Item.{Item}
+use Rattle.rv_asm_lines.specs.declared.parts.Part.{Part}
+use Rattle.rv_asm_lines.specs.declared.parts.Part.TheVariants.{Text, Data}
+use Rattle.rv_asm_lines.specs.declared.parts.Place.{Place}
+use Rattle.rv_asm_lines.specs.Data.{directive_bytes}
+use Rattle.rv_asm_lines.specs.Resolved.{instrs_of}
+use Rattle.rv_asm_lines.specs.Layout.{Layout, addresses, end_of}
+use Rattle.rv_asm_lines.specs.Output.{Output, items_from, directive_step, stated_step, with_bytes, with_use, word_bytes}
+use Rattle.rv_asm_lines.specs.Parts.{may_stand}
+use Rattle.rv_asm_lines.specs.Places.{AllWritten, AreSound, Decodes, Follow, HoldCode, IfRight, IsSound, StandsIn, length_in, part_of}
 use Rattle.rv_asm.proofs.Grown.{in_text, items_from-grows, longer_length, stated_step-grows}
 use Rattle.rv_asm.proofs.Right.{at_line_ok, bind_ok, ok, ok_is}
 

@@ -2,9 +2,9 @@
 use Rattle.std.proofs.Common.{◌≡◌, ℕ, ◌+◌, List, [], ◌∷◌, ◌++◌, cond, Some, Result, Ok, Err, Bool, true, false, sym, ap, ◌∙◌}
 use Rattle.std.specs.Str.{bytes_eq}
 use Rattle.rv_asm_tokens.specs.declared.fault.AsmFaultKind.{AsmFaultKind}
-use Rattle.rv_asm.specs.declared.parts.Place.{Place}
-use Rattle.rv_asm.specs.Layout.{Labels, Layout, at_line, empty_layout, line_step, lines_from, next_place, place_in}
-use Rattle.rv_asm.specs.Places.{LabelsStay}
+use Rattle.rv_asm_lines.specs.declared.parts.Place.{Place}
+use Rattle.rv_asm_lines.specs.Layout.{Labels, Layout, at_line, empty_layout, line_step, lines_from, next_place, place_in}
+use Rattle.rv_asm_lines.specs.Places.{LabelsStay}
 use Rattle.rv_asm.proofs.Kept.{IsKept, lines_from-keeps}
 use Rattle.rv_asm.proofs.Right.{line_ok}
 

@@ -7,12 +7,12 @@ use Rattle.rv_image.specs.declared.images.ImageParts.{ImageParts}
 use Rattle.rv_image.specs.Image.{IsCommunicator, IsLink}
 use Rattle.rv_asm_tokens.specs.declared.fault.AsmFault.{AsmFault}
 use Rattle.rv_asm_tokens.specs.declared.fault.AsmFaultKind.TheVariants as kinds
-use Rattle.rv_asm.specs.declared.fields.Fields.{Fields}
-use Rattle.rv_asm.specs.Fields.{ranks_of}
-use Rattle.rv_asm.specs.Layout.{Layout, addresses, empty_layout, layout_of}
-use Rattle.rv_asm.specs.Output.{Output, empty_output, items_from}
-use Rattle.rv_asm.specs.Places.{AreSound, HoldCode}
-use Rattle.rv_asm.specs.Source.{EntryIn, FailsAt, IsWhole, at_line_0, finished, fits_memory, parts_of}
+use Rattle.rv_asm_lines.specs.declared.fields.Fields.{Fields}
+use Rattle.rv_asm_lines.specs.Fields.{ranks_of}
+use Rattle.rv_asm_lines.specs.Layout.{Layout, addresses, empty_layout, layout_of}
+use Rattle.rv_asm_lines.specs.Output.{Output, empty_output, items_from}
+use Rattle.rv_asm_lines.specs.Places.{AreSound, HoldCode}
+use Rattle.rv_asm.specs.Source.{EntryIn, IsWhole, at_line_0, finished, fits_memory, parts_of}
 use Rattle.rv_asm.proofs.Counted.{IsCounted, counted_kept}
 use Rattle.rv_asm.proofs.Grown.{EntryAt, items_from-grows, longer_length}
 use Rattle.rv_asm.proofs.Kept.{lines_from-keeps}
@@ -60,7 +60,7 @@ finished_parts f o p h =
 
 -- the image holds the instructions and the bytes of the layout
 pub image_holds : (source : List ℕ) (r : Result ImageParts AsmFault) (kept : Layout) (o : Output) → layout_of source ≡ Ok kept → items_from kept empty_output kept.items ≡ Ok o → AreSound (addresses kept.text kept.labels) kept.items
-    → MatchResult r (λ image. finished kept.fields o ≡ Ok image) (λ fault. FailsAt fault (finished kept.fields o)) → IfOk r (λ image. (s : Layout) → layout_of source ≡ Ok s → HoldCode (addresses s.text s.labels) image.text image.init s.items)
+    → MatchResult r (λ image. finished kept.fields o ≡ Ok image) (λ fault. finished kept.fields o ≡ Err fault) → IfOk r (λ image. (s : Layout) → layout_of source ≡ Ok s → HoldCode (addresses s.text s.labels) image.text image.init s.items)
 image_holds source (Err fault) kept o laid made sound h = tt
 image_holds source (Ok image) kept o laid made sound h = λ s again.
     let same : kept ≡ s = line_ok kept s (sym laid ∙ again) in

@@ -5,10 +5,10 @@ use Rattle.rv_image.specs.Image.{IsCommunicator, IsLink, data_start}
 use Rattle.rv_asm_tokens.specs.declared.fault.AsmFault.{AsmFault}
 use Rattle.rv_asm_tokens.specs.declared.fault.AsmFaultKind.{AsmFaultKind}
 use Rattle.rv_asm_tokens.specs.declared.fault.AsmFaultKind.TheVariants as kinds
-use Rattle.rv_asm.specs.Fields.{ranks_of, harts_of, memory_of}
-use Rattle.rv_asm.specs.Layout.{layout_of}
-use Rattle.rv_asm.specs.declared.fields.Fields.{Fields}
-use Rattle.rv_asm.specs.Output.{Output, empty_output, items_from}
+use Rattle.rv_asm_lines.specs.Fields.{ranks_of, harts_of, memory_of}
+use Rattle.rv_asm_lines.specs.Layout.{layout_of}
+use Rattle.rv_asm_lines.specs.declared.fields.Fields.{Fields}
+use Rattle.rv_asm_lines.specs.Output.{Output, empty_output, items_from}
 
 infixl 10 ◌>>=◌
 abbrev pub ◌>>=◌ : {A B : Type 0} → Result A AsmFault → (A → Result B AsmFault) → Result B AsmFault

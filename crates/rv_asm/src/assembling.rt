@@ -1,23 +1,24 @@
 //! Both passes, and what is tested of the whole.
 
-ghost use Rattle.std.specs.Prelude.{◌≡◌, ◌≤◌, ◌<◌, ◌+◌, ◌*◌, ◌^◌, ◌&&◌, length, List, ℕ, map, nat_le, MatchResult, IfOk, IfErr, OnOk, Ok};
+ghost use Rattle.std.specs.Prelude.{◌≡◌, ◌≤◌, ◌<◌, ◌+◌, ◌*◌, ◌^◌, ◌&&◌, length, List, ℕ, map, nat_le, MatchResult, IfOk, IfErr, OnOk, Ok, Err};
 ghost use Rattle.std.specs.Str.Lines.{lines};
 ghost use Rattle.rv_image.specs.Image.{data_start};
+ghost use Rattle.rv_asm_tokens.specs.declared.fault.AsmFaultKind.TheVariants as kinds;
 ghost use Rattle.rv_asm_tokens.specs.Fault.{Fails};
-ghost use Rattle.rv_asm.specs.Layout.{Layout as Laid, addresses, fitted, placed, line_step, layout_of};
-ghost use Rattle.rv_asm.specs.LayoutView.{addresses_view, layout_view};
-ghost use Rattle.rv_asm.specs.Fields.{ranks_of as ranks_meant};
-ghost use Rattle.rv_asm.specs.Output.{items_from, empty_output};
-ghost use Rattle.rv_asm.specs.OutputView.{output_view};
-ghost use Rattle.rv_asm.specs.Places.{AreSound, HoldCode};
+ghost use Rattle.rv_asm_lines.specs.Refused.{NoFault};
+ghost use Rattle.rv_asm_lines.specs.Layout.{Layout as Laid, addresses, fitted, placed, line_step, layout_of};
+ghost use Rattle.rv_asm_lines.specs.LayoutView.{addresses_view, layout_view};
+ghost use Rattle.rv_asm_lines.specs.Fields.{ranks_of as ranks_meant};
+ghost use Rattle.rv_asm_lines.specs.Output.{items_from, empty_output};
+ghost use Rattle.rv_asm_lines.specs.OutputView.{output_view};
+ghost use Rattle.rv_asm_lines.specs.Places.{AreSound, HoldCode};
 ghost use Rattle.rv_asm.specs.Source.{FailsAt, IsWhole, finished, meaning};
 
-use crate::fields::{Fields, NO_FIELDS, harts_of, memory_of, ranks_of, take_fields};
-use crate::labels::take_labels;
-use crate::layout::{Item, Layout, next_place};
-use crate::output::{Output, take_item};
-use crate::parts::{Part, length_of_statement, may_stand, part_after};
 use indexmap::IndexMap;
+use rv_asm_lines::{
+    Fields, Item, Layout, NO_FIELDS, Output, Part, harts_of, length_of_statement, may_stand, memory_of,
+    next_place, part_after, ranks_of, take_fields, take_item, take_labels,
+};
 use rv_asm_statements::{Statement, parse_statement};
 use rv_asm_tokens::{AsmFault, AsmFaultKind, tokens};
 use rv_image::{Comms, Image, ImageParts, Links, Segment};
@@ -25,9 +26,10 @@ use std::alloc::{AllocError, Global};
 
 /// Adds a statement at the end of its part: `Limit` where that grows past 1,048,576 bytes.
 fn add_item(line: u64, layout: &mut Layout, statement: Statement) -> Result<(), AsmFaultKind>
-    ensures { MatchResult result
+    ensures value { MatchResult result
         (λ _. fitted line (layout_view layout.old) statement layout.old.fields ≡ Ok (layout_view layout.new))
         (λ e. Fails e (fitted line (layout_view layout.old) statement layout.old.fields)) }
+    ensures memory { result ≡ Err kinds.Memory → NoFault (fitted line (layout_view layout.old) statement layout.old.fields) }
 {
     let place = next_place(layout);
     let end = u128::from(place.at) + length_of_statement(place.at, &statement);
@@ -49,11 +51,12 @@ fn add_item(line: u64, layout: &mut Layout, statement: Statement) -> Result<(), 
 }
 
 /// Adds the statement of a line, if it has one.
-#[tactic(auto, unfolding(crate::specs::Layout::placed))]
+#[tactic(auto, unfolding(rv_asm_lines::specs::Layout::placed))]
 fn place(line: u64, layout: &mut Layout, statement: Option<Statement>) -> Result<(), AsmFaultKind>
-    ensures { MatchResult result
+    ensures value { MatchResult result
         (λ _. placed line (layout_view layout.old) statement ≡ Ok (layout_view layout.new))
         (λ e. Fails e (placed line (layout_view layout.old) statement)) }
+    ensures memory { result ≡ Err kinds.Memory → NoFault (placed line (layout_view layout.old) statement) }
 {
     let Some(statement) = statement else {
         return Ok(());
@@ -66,7 +69,7 @@ fn place(line: u64, layout: &mut Layout, statement: Option<Statement>) -> Result
 }
 
 /// Adds one line.
-#[tactic(auto, unfolding(crate::specs::Layout::line_step))]
+#[tactic(auto, unfolding(rv_asm_lines::specs::Layout::line_step))]
 fn take_line(
     alloc: Global,
     number: u64,
@@ -164,7 +167,7 @@ fn finish(fields: &Fields, output: Output) -> Result<Image, AsmFault>
     requires { IsWhole (ranks_meant fields.now) (output_view output) }
     ensures { MatchResult result
         (λ image. finished fields.now (output_view output) ≡ Ok image)
-        (λ fault. FailsAt fault (finished fields.now (output_view output))) }
+        (λ fault. finished fields.now (output_view output) ≡ Err fault) }
 {
     let harts = harts_of(fields);
     let memory = memory_of(fields);

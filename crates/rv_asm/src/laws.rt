@@ -1,8 +1,8 @@
 //! Laws of the definitions, in the subject's own words. The functions do nothing; their clauses are the laws.
 
 ghost use Rattle.std.specs.Prelude.{◌≡◌, Ok};
-ghost use Rattle.rv_asm.specs.Layout.{Layout as Laid, layout_of};
-ghost use Rattle.rv_asm.specs.Places.{IsPlaced, LabelsStay};
+ghost use Rattle.rv_asm_lines.specs.Layout.{Layout as Laid, layout_of};
+ghost use Rattle.rv_asm_lines.specs.Places.{IsPlaced, LabelsStay};
 
 /// Where the first pass finds no fault, the place of a label or a statement is the sum of the lengths of what
 /// stands before it in its part, and the labels are those of the lines.

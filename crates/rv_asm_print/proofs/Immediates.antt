@@ -4,7 +4,7 @@ use Rattle.std.specs.Int.{w32, cast_unsigned}
 use Rattle.std.specs.Ordering.{int_eq}
 use Rattle.std.specs.Int.Signed.{mag}
 use Rattle.rv_asm_tokens.specs.declared.fault.AsmFaultKind.TheVariants as kinds
-use Rattle.rv_asm.specs.Resolved.{is_between, ranged, even_ranged, upper_immediate}
+use Rattle.rv_asm_lines.specs.Resolved.{is_between, ranged, even_ranged, upper_immediate}
 use Rattle.rv_asm_print.proofs.Branches.{both_hold, holds, then_branch, else_branch}
 use Rattle.rv_asm_print.proofs.Numbers.{IsSmall}
 

@@ -27,7 +27,7 @@ use Rattle.rv_asm_statements.specs.declared.rows.Template.{Template}
 use Rattle.rv_asm_statements.specs.declared.rows.Template.TheVariants as template
 use Rattle.rv_asm_statements.specs.Arguments.{Argument, word, value, place}
 use Rattle.rv_asm_statements.specs.Shapes.{at_number, filled, filled_by}
-use Rattle.rv_asm.specs.Resolved.{imm_12, ranged, even_ranged, label_offset, upper_immediate, amount_of, one, single, instrs_of, use_length}
+use Rattle.rv_asm_lines.specs.Resolved.{imm_12, ranged, even_ranged, label_offset, upper_immediate, amount_of, one, single, instrs_of, use_length}
 use Rattle.rv_asm_print.specs.Range.{IsInRange}
 use Rattle.rv_asm_print.specs.Read.{IsRead}
 use Rattle.rv_asm_print.proofs.Words.{word_reads}

@@ -16,14 +16,14 @@ use Rattle.rv_asm_tokens.specs.Lexeme.{Lexeme}
 use Rattle.rv_asm_tokens.specs.Scan.{tokens_from}
 use Rattle.rv_asm_statements.specs.declared.mnemonics.Use.{Use}
 use Rattle.rv_asm_statements.specs.declared.statements.Statement.TheVariants.{Instruction}
-use Rattle.rv_asm.specs.declared.fields.Fields.{Fields}
-use Rattle.rv_asm.specs.declared.layout.Item.{Item}
-use Rattle.rv_asm.specs.declared.parts.Part.{Part}
-use Rattle.rv_asm.specs.declared.parts.Part.TheVariants.{Text}
-use Rattle.rv_asm.specs.Resolved.{use_length}
-use Rattle.rv_asm.specs.Fields.{no_fields}
-use Rattle.rv_asm.specs.Layout.{Layout, empty_layout, most_bytes, added, next_place, item_at, with_item, line_step, at_line, lines_from, layout_of}
-use Rattle.rv_asm.specs.Output.{Output, empty_output, stated_step, items_from}
+use Rattle.rv_asm_lines.specs.declared.fields.Fields.{Fields}
+use Rattle.rv_asm_lines.specs.declared.layout.Item.{Item}
+use Rattle.rv_asm_lines.specs.declared.parts.Part.{Part}
+use Rattle.rv_asm_lines.specs.declared.parts.Part.TheVariants.{Text}
+use Rattle.rv_asm_lines.specs.Resolved.{use_length}
+use Rattle.rv_asm_lines.specs.Fields.{no_fields}
+use Rattle.rv_asm_lines.specs.Layout.{Layout, empty_layout, most_bytes, added, next_place, item_at, with_item, line_step, at_line, lines_from, layout_of}
+use Rattle.rv_asm_lines.specs.Output.{Output, empty_output, stated_step, items_from}
 use Rattle.rv_asm.specs.Source.{parts_of, fits_memory, finished, meaning, at_line_0}
 use Rattle.rv_asm_print.specs.Range.{IsInRange}
 use Rattle.rv_asm_print.specs.Read.{StandsAnywhere, listing, image_of}

@@ -8,13 +8,13 @@ use Rattle.rv_asm_tokens.specs.Scan.{tokens_of}
 use Rattle.rv_asm_statements.specs.declared.mnemonics.Use.{Use}
 use Rattle.rv_asm_statements.specs.declared.statements.Statement.TheVariants.{Instruction}
 use Rattle.rv_asm_statements.specs.Statements.{statement_of}
-use Rattle.rv_asm.specs.declared.parts.Part.{Part}
-use Rattle.rv_asm.specs.declared.parts.Part.TheVariants.{Text}
-use Rattle.rv_asm.specs.declared.parts.Place.{Place}
-use Rattle.rv_asm.specs.Resolved.{instrs_of, use_length}
-use Rattle.rv_asm.specs.Parts.{is_text}
-use Rattle.rv_asm.specs.Layout.{Layout, most_bytes, end_of, at_end, addresses, with_item, labels_at, fitted, placed, line_step}
-use Rattle.rv_asm.specs.Output.{Output, word_bytes, with_use, stated_step}
+use Rattle.rv_asm_lines.specs.declared.parts.Part.{Part}
+use Rattle.rv_asm_lines.specs.declared.parts.Part.TheVariants.{Text}
+use Rattle.rv_asm_lines.specs.declared.parts.Place.{Place}
+use Rattle.rv_asm_lines.specs.Resolved.{instrs_of, use_length}
+use Rattle.rv_asm_lines.specs.Parts.{is_text}
+use Rattle.rv_asm_lines.specs.Layout.{Layout, most_bytes, end_of, at_end, addresses, with_item, labels_at, fitted, placed, line_step}
+use Rattle.rv_asm_lines.specs.Output.{Output, word_bytes, with_use, stated_step}
 use Rattle.rv_asm_print.proofs.Branches.{else_branch}
 use Rattle.rv_asm_print.proofs.Instructions.{begin_statement, IsLine}
 

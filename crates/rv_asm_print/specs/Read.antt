@@ -11,11 +11,11 @@ use Rattle.rv_asm_tokens.specs.Scan.{tokens_of}
 use Rattle.rv_asm_statements.specs.declared.mnemonics.Use.{Use}
 use Rattle.rv_asm_statements.specs.declared.statements.Statement.TheVariants.{Instruction}
 use Rattle.rv_asm_statements.specs.Statements.{statement_of}
-use Rattle.rv_asm.specs.declared.parts.Part.TheVariants.{Text}
-use Rattle.rv_asm.specs.declared.parts.Place.{Place}
-use Rattle.rv_asm.specs.Resolved.{instrs_of}
-use Rattle.rv_asm.specs.Layout.{Layout, most_bytes, with_item, line_step}
-use Rattle.rv_asm.specs.Output.{Output, stated_step}
+use Rattle.rv_asm_lines.specs.declared.parts.Part.TheVariants.{Text}
+use Rattle.rv_asm_lines.specs.declared.parts.Place.{Place}
+use Rattle.rv_asm_lines.specs.Resolved.{instrs_of}
+use Rattle.rv_asm_lines.specs.Layout.{Layout, most_bytes, with_item, line_step}
+use Rattle.rv_asm_lines.specs.Output.{Output, stated_step}
 
 -- the text is one statement, and that is the instruction alone, at any address and with any labels
 pub record IsRead (text : List ℕ) (i : Instr) : Type 0 where

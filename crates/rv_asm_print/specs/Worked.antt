@@ -6,9 +6,9 @@ use Rattle.rv_asm_statements.specs.Shapes.{filled_by}
 use Rattle.rv_asm_statements.specs.Mnemonics.{row_use, instruction_of}
 use Rattle.rv_asm_statements.specs.Statements.{statement_of}
 use Rattle.rv_decode.specs.Table.{written_word}
-use Rattle.rv_asm.specs.Resolved.{ranged, even_ranged, label_offset, upper_immediate, instrs_of, use_length}
-use Rattle.rv_asm.specs.Layout.{labels_at, placed, line_step, lines_from}
-use Rattle.rv_asm.specs.Output.{with_use, stated_step, items_from}
+use Rattle.rv_asm_lines.specs.Resolved.{ranged, even_ranged, label_offset, upper_immediate, instrs_of, use_length}
+use Rattle.rv_asm_lines.specs.Layout.{labels_at, placed, line_step, lines_from}
+use Rattle.rv_asm_lines.specs.Output.{with_use, stated_step, items_from}
 use Rattle.rv_asm.specs.Source.{finished, meaning}
 use Rattle.rv_asm_print.specs.Read.{image_of}
 

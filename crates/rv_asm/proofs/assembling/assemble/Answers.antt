@@ -1,6 +1,6 @@
 use Rattle.rv_asm.proofs.Wholeness.{image_holds, whole_output}
-use Rattle.rv_asm.specs.LayoutView.{layout_view}
-use Rattle.rv_asm.specs.OutputView.{output_view}
+use Rattle.rv_asm_lines.specs.LayoutView.{layout_view}
+use Rattle.rv_asm_lines.specs.OutputView.{output_view}
 use Rattle.rv_asm.proofs.assembling.assemble.Goals as goal
 
 pub finish-requires : goal.finish-requires

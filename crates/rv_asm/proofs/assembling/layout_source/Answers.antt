@@ -1,7 +1,7 @@
 use Rattle.std.proofs.Common.{◌≡◌, ◌+◌, ◌∷◌, drop, map, sym, ap, ◌∙◌, arith, List, ℕ}
 use Rattle.std.proofs.lemmas.List.{drop_all, length-map}
-use Rattle.rv_asm.specs.Layout.{empty_layout, lines_from, layout_of}
-use Rattle.rv_asm.specs.LayoutView.{layout_view}
+use Rattle.rv_asm_lines.specs.Layout.{empty_layout, lines_from, layout_of}
+use Rattle.rv_asm_lines.specs.LayoutView.{layout_view}
 use Rattle.rv_asm.proofs.Steps.{item_at, line_stops, line_goes, lines_end}
 use Rattle.rv_asm.proofs.assembling.layout_source.Goals as goal
 

@@ -1,6 +1,6 @@
 use Rattle.std.proofs.Common.{◌≡◌, ◌+◌, drop, map}
-use Rattle.rv_asm.specs.Layout.{lines_from, layout_of}
-use Rattle.rv_asm.specs.LayoutView.{layout_view}
+use Rattle.rv_asm_lines.specs.Layout.{lines_from, layout_of}
+use Rattle.rv_asm_lines.specs.LayoutView.{layout_view}
 use Rattle.rv_asm.proofs.assembling.layout_source.Given as goal
 
 -- what the lines that are left come to, after those so far, is what all come to

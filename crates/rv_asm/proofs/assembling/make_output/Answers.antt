@@ -1,10 +1,10 @@
 use Rattle.std.proofs.Common.{◌≡◌, ◌+◌, ◌<◌, ◌≤◌, ◌++◌, ◌∷◌, [], take, drop, get_or, length, subst, arith, refl, sym, ap, ◌∙◌, List}
 use Rattle.std.proofs.lemmas.List.{drop_all, take_all, take_more}
-use Rattle.rv_asm.specs.declared.layout.Item.{Item}
-use Rattle.rv_asm.specs.Output.{items_from, empty_output}
-use Rattle.rv_asm.specs.LayoutView.{addresses_view, layout_view}
-use Rattle.rv_asm.specs.OutputView.{output_view}
-use Rattle.rv_asm.specs.Places.{AreSound}
+use Rattle.rv_asm_lines.specs.declared.layout.Item.{Item}
+use Rattle.rv_asm_lines.specs.Output.{items_from, empty_output}
+use Rattle.rv_asm_lines.specs.LayoutView.{addresses_view, layout_view}
+use Rattle.rv_asm_lines.specs.OutputView.{output_view}
+use Rattle.rv_asm_lines.specs.Places.{AreSound}
 use Rattle.rv_asm.proofs.Sound.{AreSound-push}
 use Rattle.rv_asm.proofs.Steps.{cons_at, item_stops, item_goes, items_end}
 use Rattle.rv_asm.proofs.assembling.make_output.Goals as goal

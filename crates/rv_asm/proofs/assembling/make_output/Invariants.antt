@@ -1,8 +1,8 @@
 use Rattle.std.proofs.Common.{◌≡◌, take, drop}
-use Rattle.rv_asm.specs.Output.{items_from, empty_output}
-use Rattle.rv_asm.specs.LayoutView.{addresses_view, layout_view}
-use Rattle.rv_asm.specs.OutputView.{output_view}
-use Rattle.rv_asm.specs.Places.{AreSound}
+use Rattle.rv_asm_lines.specs.Output.{items_from, empty_output}
+use Rattle.rv_asm_lines.specs.LayoutView.{addresses_view, layout_view}
+use Rattle.rv_asm_lines.specs.OutputView.{output_view}
+use Rattle.rv_asm_lines.specs.Places.{AreSound}
 use Rattle.rv_asm.proofs.assembling.make_output.Given as goal
 
 -- what the items that are left come to, after those so far, is what all come to

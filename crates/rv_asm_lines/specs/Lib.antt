@@ -1,0 +1,11 @@
+pub mod Resolved
+pub mod Parts
+pub mod Fields
+pub mod Layout
+pub mod LayoutView
+pub mod WordsView
+pub mod Data
+pub mod Output
+pub mod OutputView
+pub mod Places
+pub mod Refused

@@ -1,0 +1,122 @@
+//! The second pass: the bytes of each statement, the entry, the communicators and the links.
+
+ghost use Rattle.std.specs.Prelude.{◌≡◌, ◌<◌, MatchResult, OnOk, Ok, Err};
+ghost use Rattle.rv_asm_tokens.specs.Fault.{Fails};
+ghost use Rattle.rv_asm_lines.specs.Output.{is_text_address, with_entry, label_step, directive_step, stated_step};
+ghost use Rattle.rv_asm_lines.specs.LayoutView.{addresses_view, layout_view};
+ghost use Rattle.rv_asm_lines.specs.Places.{IsSound};
+ghost use Rattle.rv_asm_lines.specs.OutputView.{output_view};
+
+use crate::cluster::{link_of, members_of};
+use crate::data::put_directive;
+use crate::encoded::put_use;
+use crate::fields::ranks_of;
+use crate::labels::find_label;
+use crate::layout::{Item, Layout};
+use crate::parts::{Part, Place, address_of};
+use rv_asm_statements::{Directive, Statement};
+use rv_asm_tokens::AsmFaultKind;
+use rv_image::{Link, Members};
+use std::alloc::Global;
+
+/// What is made so far: the parts' bytes, where every hart begins, the communicators and the links.
+#[derive(Debug, Drop)]
+pub struct Output {
+    pub text: Vec<u8>,
+    pub init: Vec<u8>,
+    pub entry: Option<u32>,
+    pub comms: Vec<Members>,
+    pub links: Vec<Link>,
+}
+
+/// Makes an address the entry: that of a word of the text, else `Directive`.
+#[tactic(auto, unfolding(crate::specs::Output::with_entry))]
+fn take_entry(end: u32, at: u64, output: &mut Output) -> Result<(), AsmFaultKind>
+    ensures { MatchResult result
+        (λ _. with_entry end at (output_view output.old) ≡ Ok (output_view output.new))
+        (λ e. with_entry end at (output_view output.old) ≡ Err e) }
+{
+    if at < u64::from(end) && at % 4 == 0 {
+        output.entry = Some(at as u32);
+        Ok(())
+    } else {
+        Err(AsmFaultKind::Directive)
+    }
+}
+
+/// The label `_start` is the entry where no `.entry` is.
+#[tactic(auto, unfolding(crate::specs::Output::label_step))]
+fn take_label(
+    layout: &Layout,
+    name: &[u8],
+    place: Place,
+    output: &mut Output,
+) -> Result<(), AsmFaultKind>
+    ensures { MatchResult result
+        (λ _. label_step (layout_view layout.now) name.now place (output_view output.old) ≡ Ok (output_view output.new))
+        (λ e. label_step (layout_view layout.now) name.now place (output_view output.old) ≡ Err e) }
+{
+    if name == b"_start".as_slice() && !layout.fields.has_entry {
+        return take_entry(layout.text, address_of(layout.text, place), output);
+    }
+    Ok(())
+}
+
+/// Adds what a directive is: the entry, a communicator, a link, or bytes.
+#[tactic(auto, unfolding(crate::specs::Output::directive_step))]
+fn take_directive(
+    alloc: Global,
+    layout: &Layout,
+    place: Place,
+    directive: &Directive,
+    output: &mut Output,
+) -> Result<(), AsmFaultKind>
+    ensures { MatchResult result
+        (λ _. directive_step (layout_view layout.now) place directive.now (output_view output.old) ≡ Ok (output_view output.new))
+        (λ e. Fails e (directive_step (layout_view layout.now) place directive.now (output_view output.old))) }
+{
+    match directive {
+        Directive::Entry(name) => match find_label(layout, name.as_slice()) {
+            None => Err(AsmFaultKind::LabelMissing),
+            Some(at) => take_entry(layout.text, at, output),
+        },
+        Directive::Comm(numbers) => {
+            let members = members_of(alloc, ranks_of(&layout.fields), numbers.as_slice())?;
+            output.comms.push(Members::from_vec(members))?;
+            Ok(())
+        }
+        Directive::Link(from, to) => {
+            let link = link_of(ranks_of(&layout.fields), from, to)?;
+            output.links.push(link)?;
+            Ok(())
+        }
+        _ => match place.part {
+            Part::Text => put_directive(layout, place.at, directive, &mut output.text),
+            Part::Data => put_directive(layout, place.at, directive, &mut output.init),
+        },
+    }
+}
+
+/// Adds what one item is.
+#[tactic(auto, unfolding(crate::specs::Output::stated_step))]
+pub fn take_item(
+    alloc: Global,
+    layout: &Layout,
+    item: &Item,
+    output: &mut Output,
+) -> Result<(), AsmFaultKind>
+    ensures output { MatchResult result
+        (λ _. stated_step (layout_view layout.now) item.now.place item.now.statement (output_view output.old) ≡ Ok (output_view output.new))
+        (λ e. Fails e (stated_step (layout_view layout.now) item.now.place item.now.statement (output_view output.old))) }
+    ensures sound { OnOk result (IsSound (addresses_view layout.now) item.now.place.at item.now.statement) }
+{
+    match &item.statement {
+        Statement::Label(name) => take_label(layout, name.as_slice(), item.place, output),
+        Statement::Instruction(found) => {
+            put_use(layout, u64::from(item.place.at), found, &mut output.text)
+        }
+        Statement::Directive(directive) => {
+            take_directive(alloc, layout, item.place, directive, output)
+        }
+    }
+}

@@ -1,0 +1,230 @@
+//! The instructions of a mnemonic and its operands.
+
+ghost use Rattle.std.specs.Prelude.{◌≡◌, ◌≤◌, ◌∷◌, ◌^◌, map, OnOk, pos, negsuc, neg_ℤ, ◌≤ℤ◌, ◌+ℤ◌, ◌-ℤ◌, ◌*ℤ◌, []};
+ghost use Rattle.rv_decode.specs.Table.{Fits, written_word};
+ghost use Rattle.rv_asm_tokens.specs.Fault.{Is};
+ghost use Rattle.rv_asm_lines.specs.LayoutView.{addresses_view};
+ghost use Rattle.rv_asm_lines.specs.Places.{IsWritten, AllWritten, IfRight};
+ghost use Rattle.rv_asm_lines.specs.WordsView.{words_list};
+ghost use Rattle.rv_asm_lines.specs.Resolved.{register_at, number_at, lui_high, low_part, high_part, load_immediate, load_address, use_length, instrs_of, words_of as resolved_words};
+
+use crate::instructions::{branch, imm, jal, jalr, load, shift, store, upper};
+use crate::layout::Layout;
+use crate::offsets::{offset, upper_immediate, within};
+use rv_asm_statements::{Amount, Filled, Slot, Template, Use};
+use rv_asm_tokens::AsmFaultKind;
+use rv_decode::{ImmOp, Instr, Reg, UpperOp, encode};
+
+/// The words of one instruction or two.
+#[derive(Clone, Copy, Debug)]
+pub struct Words {
+    pub first: u32,
+    pub second: Option<u32>,
+}
+
+fn register(slot: Slot, o: &Filled) -> Reg
+    ensures { result ≡ register_at slot o.now }
+{
+    match slot {
+        Slot::First => o.first,
+        Slot::Second => o.second,
+        Slot::Third => o.third,
+        Slot::Zero => Reg::new(0),
+        Slot::Link => Reg::new(1),
+    }
+}
+
+fn number(amount: Amount, o: &Filled) -> i128
+    ensures { result ≡ number_at amount o.now }
+{
+    match amount {
+        Amount::Written => o.target.number.value(),
+        Amount::Given(given) => i128::from(given),
+    }
+}
+
+fn one(instr: Instr) -> Words
+    requires { Fits instr }
+    ensures words { words_list result ≡ written_word instr ∷ [] }
+    ensures written { IsWritten instr }
+{
+    Words {
+        first: encode(&instr),
+        second: None,
+    }
+}
+
+fn two(first: Instr, second: Instr) -> Words
+    requires first_fits { Fits first }
+    requires second_fits { Fits second }
+    ensures words { words_list result ≡ written_word first ∷ written_word second ∷ [] }
+    ensures first { IsWritten first }
+    ensures second { IsWritten second }
+{
+    Words {
+        first: encode(&first),
+        second: Some(encode(&second)),
+    }
+}
+
+/// 4096 times the high part is within 2048 of the number.
+fn high(z: i128) -> i128
+    requires low { neg_ℤ (pos (2 ^ 70)) ≤ℤ z }
+    requires high { z ≤ℤ pos (2 ^ 70) }
+    ensures value { result ≡ high_part z }
+    ensures above { (pos 4096 *ℤ result) ≤ℤ (z +ℤ pos 2048) }
+    ensures below { z ≤ℤ ((pos 4096 *ℤ result) +ℤ pos 2047) }
+{
+    (z + 2048).div_euclid(4096)
+}
+
+/// What is left of a number besides 4096 times another.
+fn rest(z: i128, high: i128) -> i32
+    requires low { neg_ℤ (pos (2 ^ 70)) ≤ℤ z }
+    requires high { z ≤ℤ pos (2 ^ 70) }
+    requires above { (pos 4096 *ℤ high) ≤ℤ (z +ℤ pos 2048) }
+    requires below { z ≤ℤ ((pos 4096 *ℤ high) +ℤ pos 2047) }
+    ensures value { result ≡ z -ℤ (pos 4096 *ℤ high) }
+    ensures above { negsuc 2047 ≤ℤ result }
+    ensures below { result ≤ℤ pos 2047 }
+{
+    (z - 4096 * high) as i32
+}
+
+/// What is left of a number besides its high part.
+fn low(z: i128) -> i32
+    requires low { neg_ℤ (pos (2 ^ 70)) ≤ℤ z }
+    requires high { z ≤ℤ pos (2 ^ 70) }
+    ensures value { result ≡ low_part z }
+    ensures above { negsuc 2047 ≤ℤ result }
+    ensures below { result ≤ℤ pos 2047 }
+{
+    rest(z, high(z))
+}
+
+/// `lui` of a number's high part.
+fn load_high(d: Reg, z: i128) -> Instr
+    requires low { neg_ℤ (pos (2 ^ 70)) ≤ℤ z }
+    requires high { z ≤ℤ pos (2 ^ 70) }
+    ensures value { result ≡ lui_high d z }
+    ensures fits { Fits result }
+{
+    let bits = high(z).rem_euclid(1_048_576);
+    Instr::Upper {
+        op: UpperOp::Lui,
+        rd: d,
+        imm: upper_immediate(bits as i32),
+    }
+}
+
+/// `li`, of a number of 32 bits with a sign.
+fn immediate_words(d: Reg, z: i32) -> Words
+    ensures words { words_list result ≡ map written_word (load_immediate d z) }
+    ensures written { AllWritten (load_immediate d z) }
+{
+    if z >= -2048 && z <= 2047 {
+        return one(Instr::Imm {
+            op: ImmOp::Addi,
+            rd: d,
+            rs1: Reg::new(0),
+            imm: z,
+        });
+    }
+    let z = i128::from(z);
+    let first = load_high(d, z);
+    let imm = low(z);
+    if imm == 0 {
+        return one(first);
+    }
+    two(
+        first,
+        Instr::Imm {
+            op: ImmOp::Addiw,
+            rd: d,
+            rs1: d,
+            imm,
+        },
+    )
+}
+
+/// `la`, of an address.
+fn address_words(d: Reg, z: i128) -> Words
+    requires low { neg_ℤ (pos (2 ^ 70)) ≤ℤ z }
+    requires high { z ≤ℤ pos (2 ^ 70) }
+    ensures words { words_list result ≡ map written_word (load_address d z) }
+    ensures written { AllWritten (load_address d z) }
+{
+    two(
+        load_high(d, z),
+        Instr::Imm {
+            op: ImmOp::Addi,
+            rd: d,
+            rs1: d,
+            imm: low(z),
+        },
+    )
+}
+
+/// The words of a template and its operands, at an address.
+#[tactic(auto, unfolding(crate::specs::Resolved::instrs_of))]
+pub fn words_of(
+    layout: &Layout,
+    at: u64,
+    template: Template,
+    o: &Filled,
+) -> Result<Words, AsmFaultKind>
+    ensures value { Is words_list result (resolved_words (addresses_view layout.now) at template o.now) }
+    ensures written { OnOk result (IfRight (instrs_of (addresses_view layout.now) at template o.now) AllWritten) }
+{
+    let written = o.target.number.value();
+    let words = match template {
+        Template::Upper(op, d) => one(upper(op, register(d, o), written)?),
+        Template::Jal(d) => one(jal(register(d, o), offset(layout, at, &o.target)?)?),
+        Template::Jalr(d, s, n) => one(jalr(register(d, o), register(s, o), number(n, o))?),
+        Template::Branch(op, s, t) => {
+            let far = offset(layout, at, &o.target)?;
+            one(branch(op, register(s, o), register(t, o), far)?)
+        }
+        Template::Load(op, d, s) => one(load(op, register(d, o), register(s, o), written)?),
+        Template::Store(op, s, t) => one(store(op, register(s, o), register(t, o), written)?),
+        Template::Imm(op, d, s, n) => one(imm(op, register(d, o), register(s, o), number(n, o))?),
+        Template::Shift(op, d, s) => one(shift(op, register(d, o), register(s, o), written)?),
+        Template::Arith(op, d, s, t) => one(Instr::Arith {
+            op,
+            rd: register(d, o),
+            rs1: register(s, o),
+            rs2: register(t, o),
+        }),
+        Template::Fence => one(Instr::Fence),
+        Template::Ecall => one(Instr::Ecall),
+        Template::Ebreak => one(Instr::Ebreak),
+        Template::LoadImmediate(d) => {
+            let z = within(i32::MIN, i32::MAX, written)?;
+            immediate_words(register(d, o), z)
+        }
+        Template::LoadAddress(d) => address_words(register(d, o), offset(layout, 0, &o.target)?),
+    };
+    Ok(words)
+}
+
+/// How many bytes the instructions of a mnemonic take.
+#[tactic(auto, unfolding(crate::specs::Resolved::use_length))]
+pub fn length_of_use(found: &Use) -> u64
+    ensures value { result ≡ use_length found.now }
+    ensures small { result ≤ 8 }
+{
+    let written = found.filled.target.number.value();
+    match found.template {
+        Template::LoadAddress(_) => 8,
+        Template::LoadImmediate(_) => {
+            if written >= -2048 && written <= 2047 {
+                4
+            } else if written >= -2_147_483_648 && written <= 2_147_483_647 && low(written) == 0 {
+                4
+            } else {
+                8
+            }
+        }
+        _ => 4,
+    }
+}
