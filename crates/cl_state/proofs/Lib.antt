@@ -1,8 +1,4 @@
-pub mod Asks
 pub mod Idle
 pub mod Moves
-pub mod Replies
+pub mod Posts
 pub mod Starts
-pub mod Worked
-pub mod WorkedRequests
-pub mod WorkedSeveral

@@ -128,6 +128,13 @@ asked_in site memory table (Go c) = asked_by site memory table c
 asked_in site memory table (Poll c post) = asked_poll c post
 asked_in site memory table Stopped = ask.Idle
 
+-- a question that carries a list, of bytes or of posts: the list takes memory
+abbrev pub carries_list : Ask → Bool
+carries_list (ask.Hub (request.Send sync comm dest tag bytes)) = true
+carries_list (ask.Hub (request.All posts)) = true
+carries_list (ask.Ready link part bytes) = true
+carries_list _ = false
+
 -- what the hart's registers, mode and memory spell for its next turn
 unfoldable pub asked : Rank → ℕ → Ask
 asked rank hart = asked_in rank.site rank.memory rank.requests (doing rank.site (part_of rank hart))

@@ -10,5 +10,3 @@ pub mod Room
 pub mod Told
 pub mod Laws
 pub mod Rows
-pub mod RequestRows
-pub mod SeveralRows

@@ -42,7 +42,12 @@ abbrev pub IsNoStep : Doing → Type 0
 IsNoStep Step = ⊥
 IsNoStep _ = Unit {0}
 
--- the bytes that a turn puts behind the output
+-- how many bytes a turn puts behind the output
+abbrev pub growth_of : Doing → ℕ
+growth_of (Go call) = (needs_of call).growth
+growth_of _ = 0
+
+-- and which
 abbrev pub output_of : Memory → Doing → List ℕ
 output_of memory (Go (call.Put buffer count)) = bytes_at memory buffer count
 output_of memory _ = []

@@ -1,8 +1,9 @@
 //! A rank as it runs.
 
-ghost use Rattle.std.specs.Prelude.{◌≡◌, ◌<◌, get_or, vec_len, IfOk, OnOk};
-ghost use Rattle.cl_state.specs.Asked.{asked, doing as doing_of, no_hart, part_of};
-ghost use Rattle.cl_state.specs.Right.{IsChecked, IsRunning};
+ghost use Rattle.std.specs.Prelude.{◌≡◌, ◌<◌, get_or, vec_len, IfOk, IsOk, IsOkAnd, IsTrue, MatchResult, OnOk};
+ghost use Rattle.rv_memory.specs.Memory.{bytes_at};
+ghost use Rattle.cl_state.specs.Asked.{asked, carries_list, doing as doing_of, no_hart, part_of};
+ghost use Rattle.cl_state.specs.Right.{IsChecked, IsRunning, growth_of};
 ghost use Rattle.cl_state.specs.Told.{told};
 
 use crate::asking::{Answer, Ask, Doing};
@@ -70,28 +71,42 @@ impl RankState {
         )
     }
 
-    /// What the hart asks in its next turn. Only a copy of bytes to be sent, or a list of posts, takes memory.
+    /// What the hart asks in its next turn. Only a copy of bytes to be sent, or a list of posts, takes memory: nothing
+    /// else is refused.
     #[tactic(auto, unfolding(crate::specs::Asked::asked))]
     pub fn ask(&self, hart: u8) -> Result<Ask, AllocError>
         requires { hart < vec_len self.now.harts }
-        ensures { IfOk result (λ ask. ask ≡ asked (rank_of self.now) hart) }
+        ensures { MatchResult result (λ ask. ask ≡ asked (rank_of self.now) hart) (λ e. IsTrue (carries_list (asked (rank_of self.now) hart))) }
     {
         self.doing(hart)
             .ask(self.alloc, &self.site, &self.memory, &self.requests)
     }
 
-    /// Makes all growths of the hart's next turn. The rank stays as it is.
+    /// A copy of bytes to be put behind the output. No bytes take no memory.
+    fn copy(&self, buffer: u64, count: u64) -> Result<Vec<u8>, AllocError>
+        ensures bytes { IfOk result (λ bytes. bytes.items ≡ bytes_at self.now.memory buffer count) }
+        ensures sure { count ≡ 0 → IsOkAnd result (λ bytes. vec_len bytes ≡ 0) }
+    {
+        if count == 0 {
+            return Ok(Vec::new(self.alloc));
+        }
+        match self.memory.read_bytes(self.alloc, buffer, count) {
+            Ok(bytes) => Ok(bytes),
+            Err(_) => Err(AllocError),
+        }
+    }
+
+    /// Makes all growths of the hart's next turn. The rank stays as it is. Where nothing grows nothing is refused.
     pub fn room(&mut self, hart: u8) -> Result<(), AllocError>
         requires { hart < vec_len self.old.harts }
         ensures same { rank_of self.new ≡ rank_of self.old }
         ensures harts { vec_len self.new.harts ≡ vec_len self.old.harts }
         ensures room { OnOk result (HasRoom self.new hart) }
+        ensures sure { growth_of (doing_of self.old.site (part_of (rank_of self.old) hart)) ≡ 0 → IsOk result }
     {
         match self.doing(hart) {
             Doing::Go(Call::Put { buffer, count }) => {
-                let Ok(bytes) = self.memory.read_bytes(self.alloc, buffer, count) else {
-                    return Err(AllocError);
-                };
+                let bytes = self.copy(buffer, count)?;
                 self.out.reserve(bytes.len())?;
                 self.fresh = bytes;
                 Ok(())

@@ -1,10 +1,11 @@
 //! What a call transfers, what the hub is asked for it, and how far it is once that was answered.
 
-ghost use Rattle.std.specs.Prelude.{◌≡◌, ◌≢◌, ◌≤◌, IfOk, IsTrue, Some, false};
+ghost use Rattle.std.specs.Prelude.{◌≡◌, ◌≢◌, ◌≤◌, IfOk, IsTrue, MatchResult, Some, false};
 ghost use Rattle.rv_memory.specs.Memory.{bytes_at};
 ghost use Rattle.cl_calls.specs.Calls.{no_rank};
 ghost use Rattle.cl_calls.specs.Checks.{is_peer, is_tag};
 ghost use Rattle.cl_calls.specs.Needs.{needs_of_receiving, needs_of_sending, source as source_peer, tag_or_any};
+ghost use Rattle.cl_state.specs.Asked.{carries_list};
 ghost use Rattle.cl_state.specs.Right.{IsRight};
 ghost use Rattle.cl_state.specs.Transfers.{asked_claimed, asked_transfer, begun as begun_by, claimed_of, posted as posted_by, receive_of, send_of, sent_on, source_of, tag_of};
 
@@ -98,14 +99,14 @@ fn copy(alloc: Global, memory: &RankMemory, buffer: u64, count: u16) -> Result<B
     Ok(Bytes::from_vec(bytes))
 }
 
-/// What is asked for a transfer. Only a copy of bytes to be sent takes memory.
+/// What is asked for a transfer. Only a copy of bytes to be sent takes memory, and is refused where there is none.
 pub(crate) fn ask(
     alloc: Global,
     memory: &RankMemory,
     now: bool,
     transfer: &Transfer,
 ) -> Result<Ask, AllocError>
-    ensures { IfOk result (λ ask. ask ≡ asked_transfer memory.now now transfer.now) }
+    ensures { MatchResult result (λ ask. ask ≡ asked_transfer memory.now now transfer.now) (λ e. IsTrue (carries_list (asked_transfer memory.now now transfer.now))) }
 {
     match *transfer {
         Transfer::Send {

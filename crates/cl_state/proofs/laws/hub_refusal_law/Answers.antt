@@ -1,5 +1,0 @@
-use Rattle.cl_state.proofs.Replies as replies
-use Rattle.cl_state.proofs.laws.hub_refusal_law.Goals as goal
-
-pub returns : goal.returns
-returns c = replies.refused_by_hub

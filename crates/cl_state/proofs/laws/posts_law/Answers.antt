@@ -1,5 +1,0 @@
-use Rattle.cl_state.proofs.Asks as asks
-use Rattle.cl_state.proofs.laws.posts_law.Goals as goal
-
-pub returns : goal.returns
-returns c = asks.at_most_255

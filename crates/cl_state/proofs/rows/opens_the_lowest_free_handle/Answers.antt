@@ -1,5 +1,0 @@
-use Rattle.cl_state.proofs.WorkedRequests as worked
-use Rattle.cl_state.proofs.rows.opens_the_lowest_free_handle.Goals as goal
-
-pub returns : goal.returns
-returns c = worked.open_row

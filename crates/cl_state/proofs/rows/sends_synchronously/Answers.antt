@@ -1,5 +1,0 @@
-use Rattle.cl_state.proofs.WorkedRequests as worked
-use Rattle.cl_state.proofs.rows.sends_synchronously.Goals as goal
-
-pub returns : goal.returns
-returns c = worked.ssend

@@ -1,0 +1,6 @@
+pub mod Asks
+pub mod Moves
+pub mod Replies
+pub mod Worked
+pub mod WorkedRequests
+pub mod WorkedSeveral

@@ -1,0 +1,33 @@
+-- The worked rows of several requests compute.
+use Rattle.std.proofs.Common.{refl}
+use Rattle.cl_state.specs.Asked.{asked, doing}
+use Rattle.cl_state.specs.Several.{status_of}
+use Rattle.cl_state.specs.Told.{completed_all, returned, told}
+use Rattle.cl_state_laws.specs.SeveralRows.{DoneAndPendingRow, NoneRow, OverlapRow, SeveralRefusals, StatusesRow, TwoPendingRow, UnfitRow}
+
+pub done_and_pending_row : DoneAndPendingRow
+unfolding asked told doing returned completed_all status_of
+done_and_pending_row = (refl, refl, refl, refl)
+
+pub two_pending_row : TwoPendingRow
+unfolding asked told doing returned completed_all status_of
+two_pending_row = (refl, refl, refl)
+
+pub unfit_row : UnfitRow
+unfolding told doing returned completed_all status_of
+unfit_row = refl
+
+pub statuses_row : StatusesRow
+unfolding asked told doing returned completed_all status_of
+statuses_row = (refl, refl, refl)
+
+pub overlap : OverlapRow
+unfolding told doing returned completed_all status_of
+overlap = refl
+
+pub none_row : NoneRow
+unfolding told doing returned completed_all status_of
+none_row = refl
+
+pub refusals : SeveralRefusals
+refusals = refl

@@ -1,0 +1,4 @@
+pub mod Laws
+pub mod CallRows
+pub mod RequestRows
+pub mod SeveralRows

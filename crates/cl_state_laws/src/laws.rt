@@ -1,0 +1,35 @@
+//! Laws of a told rank.
+
+ghost use Rattle.cl_state.specs.Laws.{ToldLaw};
+ghost use Rattle.cl_state_laws.specs.Laws.{HubRefusalLaw, NotYetLaw, PostsLaw, RefusalLaw, ReturnLaw};
+
+/// A told rank has the event's stamp as its clock, and keeps what the image fixes and its number of harts.
+pub fn told_law()
+    ensures { ToldLaw }
+{}
+
+/// A call that ends changes a0, a1 and the pc, and no other register.
+pub fn return_law()
+    ensures { ReturnLaw }
+{}
+
+/// A call that a check refuses asks nobody. It changes a0, a1, the pc and the clock, and nothing else of the rank.
+pub fn refusal_law()
+    ensures { RefusalLaw }
+{}
+
+/// A call that the hub refuses changes no more than one that a check refuses.
+pub fn hub_refusal_law()
+    ensures { HubRefusalLaw }
+{}
+
+/// A call that the hub can't complete yet changes no memory, request or output: flag 0 of TEST and TESTALL, or a hart that
+/// waits.
+pub fn not_yet_law()
+    ensures { NotYetLaw }
+{}
+
+/// Where the hub is asked for several posts they are at most 255.
+pub fn posts_law()
+    ensures { PostsLaw }
+{}
