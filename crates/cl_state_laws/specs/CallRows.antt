@@ -1,8 +1,7 @@
 -- Worked rows: what the calls of a small rank ask and are told.
 use Rattle.std.specs.Prelude.{◌≡◌, ℕ, ◌-◌, ◌^◌, List, [], ◌∷◌, ◌++◌, map, replicate, take, Option, Some, None, true, false}
-use Rattle.rv_memory.specs.Memory.{Memory}
 use Rattle.rv_hart.specs.State.{State}
-use Rattle.rv_hart.specs.declared.state.Mode.TheVariants.{Running, Waiting}
+use Rattle.rv_hart.specs.declared.state.Mode.TheVariants.{Waiting}
 use Rattle.rv_hart.specs.declared.state.Wait.TheVariants.{Post}
 use Rattle.mp_types.specs.declared.codes.Code.{Code}
 use Rattle.mp_types.specs.declared.codes.Code.TheVariants as code
@@ -14,7 +13,6 @@ use Rattle.cl_state.specs.declared.asking.Ask.{Ask}
 use Rattle.cl_calls.specs.declared.calls.Call.{Call}
 use Rattle.cl_calls.specs.declared.calls.Receiving.{Receiving}
 use Rattle.cl_calls.specs.declared.calls.Sending.{Sending}
-use Rattle.cl_calls.specs.declared.sites.Site.{Site}
 use Rattle.mp_request.specs.Table.{no_requests}
 use Rattle.cl_calls.specs.Calls.{any, no_rank}
 use Rattle.cl_calls.specs.Needs.{needs_of}

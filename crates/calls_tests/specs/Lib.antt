@@ -1,0 +1,4 @@
+pub mod Spelled
+pub mod Places
+pub mod Faults
+pub mod Turns

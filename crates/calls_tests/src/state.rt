@@ -1,0 +1,109 @@
+//! Answers of `cl_state`.
+
+ghost use Rattle.std.specs.Prelude.{◌≡◌, ◌<◌, Ok, vec_len, IsOk};
+ghost use Rattle.cl_state.specs.declared.asking.Ask.TheVariants as ask;
+ghost use Rattle.cl_state.specs.declared.asking.Doing.TheVariants.{Step};
+ghost use Rattle.cl_state.specs.Asked.{asked, doing, part_of};
+ghost use Rattle.cl_state.specs.Room.{rank_of};
+ghost use Rattle.calls_tests.specs.Turns.{AskedPlaces, BreakRow, ExitRow, IssendAmongSeveral, IssendRow, LoadedRow, NoStatus, ProbeWaits, RankSizeRow, ReceiveFromNullRow, SecondHartRow, SendToNullRow, SeveralPlaces, StatusOverBuffer, StoppedRows, ToldPlaces};
+
+use cl_state::{Ask, RankState};
+use std::alloc::AllocError;
+
+/// EXIT ends its hart with its code.
+pub fn exits()
+    ensures { ExitRow }
+{}
+
+/// RANK gives the place in the communicator that was asked for, and SIZE its number of members.
+pub fn tells_rank_and_size()
+    ensures { RankSizeRow }
+{}
+
+/// Each hart asks and is told by its own registers.
+pub fn second_hart()
+    ensures { SecondHartRow }
+{}
+
+/// A hart that ended or trapped asks nothing, and nothing but the clock changes.
+pub fn stopped_harts()
+    ensures { StoppedRows }
+{}
+
+/// EBREAK is no call.
+pub fn break_is_no_call()
+    ensures { BreakRow }
+{}
+
+/// A send to the null process asks nobody.
+pub fn sends_to_the_null_process()
+    ensures { SendToNullRow }
+{}
+
+/// What is received from the null process has its status.
+pub fn receives_from_the_null_process()
+    ensures { ReceiveFromNullRow }
+{}
+
+/// The hub is asked for the rank at a position of the communicator.
+pub fn asks_for_the_rank_of_a_place()
+    ensures { AskedPlaces }
+{}
+
+/// A status tells the position of a message's source, and not its rank.
+pub fn tells_the_place_of_a_rank()
+    ensures { ToldPlaces }
+{}
+
+/// So do the statuses of several requests.
+pub fn tells_the_places_of_several()
+    ensures { SeveralPlaces }
+{}
+
+/// TEST of ISSEND's request asks whether it is complete.
+pub fn tests_a_synchronous_send()
+    ensures { IssendRow }
+{}
+
+/// Among several a synchronous send gets no message.
+pub fn tests_a_synchronous_send_among_several()
+    ensures { IssendAmongSeveral }
+{}
+
+/// PROBE and MPROBE wait where nothing is there.
+pub fn probes_wait()
+    ensures { ProbeWaits }
+{}
+
+/// The status of a receive is written behind its bytes.
+pub fn status_over_buffer()
+    ensures { StatusOverBuffer }
+{}
+
+/// A status at address 0 isn't written.
+pub fn no_status()
+    ensures { NoStatus }
+{}
+
+/// A rank is loaded with its number, its communicators, its links, its harts at the entry, and clock 0.
+pub fn loads()
+    ensures { LoadedRow }
+{}
+
+/// A turn that asks nobody isn't refused memory.
+pub fn asks_nobody(rank: &RankState, hart: u8) -> Result<Ask, AllocError>
+    requires hart { hart < vec_len rank.now.harts }
+    requires local { asked (rank_of rank.now) hart ≡ ask.Local }
+    ensures { result ≡ Ok ask.Local }
+{
+    rank.ask(hart)
+}
+
+/// An instruction needs no room.
+pub fn steps_in_place(rank: &mut RankState, hart: u8) -> Result<(), AllocError>
+    requires hart { hart < vec_len rank.old.harts }
+    requires step { doing rank.old.site (part_of (rank_of rank.old) hart) ≡ Step }
+    ensures { IsOk result }
+{
+    rank.room(hart)
+}
