@@ -17,7 +17,7 @@ returns-in-Ok-call-clause-turned g c =
     let reply : c.in-Ok-call.reply ≡ c.into_reply.result = cc in
     let event : Reply → Request → Event = λ r q. record { hart = c.args.hart; stamp = c.in-Ok-call.stamp; kind = Kind.Hub r; request = Some q } in
     turned g.D.Desk.gives c.args.hart c.in-Ok-call.stamp old (rank_of c.tell.new.self) c.args.desk.now c.call.new.self (Act.Hub old.clock c.args.request c.in-Ok-call.reply)
-    (search rules) c.in-Ok-call.ensures.stamp.1 c.requires.asked (refl, c.in-Ok-call.ensures.stamp.0) c.tell.ensures.told c.in-Ok-call.ensures.gives events _ (ap (λ r. events ++ event r c.in-Ok.copy ∷ []) (sym reply) ∙ ap (λ q. events ++ event c.in-Ok-call.reply q ∷ []) c.in-Ok.ensures)
+    (search rules) c.in-Ok-call.ensures.stamp.1 c.requires.asked (refl, c.in-Ok-call.ensures.stamp.0) c.tell.ensures.told c.in-Ok-call.ensures.gives events _ (ap (λ r. events ++ event r c.in-Ok.copy ∷ []) (sym reply) ∙ ap (λ q. events ++ event c.in-Ok-call.reply q ∷ []) c.in-Ok.ensures.copy)
 
 pub returns-in-Ok-call-clause-clock : goal.returns-in-Ok-call-clause-clock
 returns-in-Ok-call-clause-clock g c =
