@@ -1,16 +1,18 @@
 -- What each call keeps of a receiving side.
-use Rattle.std.proofs.Common.{◌≡◌, ◌≢◌, ◌⊎◌, ℕ, zero, suc, ◌+◌, ◌-◌, ◌*◌, ◌<◌, ◌≤◌, List, [], ◌∷◌, ◌++◌, length, map, set, get_or, replicate, Bool, true, false, Option, Some, None, refl, sym, ap, ◌∙◌, subst, ⊎_elim, arith, length-append, get_or-set_other, get_or-set_same}
-use Rattle.std.specs.Prelude.{slice_get, is_some, max, nat_le, not, option_map, if◌then◌else◌}
+use Rattle.std.proofs.Common.{◌≡◌, ◌≢◌, ◌⊎◌, ℕ, zero, suc, ◌+◌, ◌-◌, ◌*◌, ◌/◌, ◌%◌, ◌<◌, ◌≤◌, List, [], ◌∷◌, ◌++◌, length, map, set, get_or, replicate, Bool, true, false, Option, Some, None, refl, sym, ap, ◌∙◌, subst, ⊎_elim, arith, length-append, get_or-set_other, get_or-set_same}
+use Rattle.std.specs.Prelude.{slice_get, is_some, max, nat_le, nat_lt, not, ◌&&◌, option_map, if◌then◌else◌}
 use Rattle.std.proofs.lemmas.List.{length-set, length-map}
 use Rattle.std.proofs.lemmas.Bool.{cases_eq, cases_lt}
 use Rattle.std.proofs.lemmas.Option.{slice_get-map}
+use Rattle.std.proofs.lemmas.Nat.{mul-le, div_below, mod_below, div-add-mod'}
+use Rattle.std.proofs.Math.Nat.{suc-mul}
 use Rattle.part_box.specs.Gate.{ready_stamp}
 use Rattle.part_box.specs.Keys.{BoxId, Place, Receiver, new_receiver, after_look, after_copy}
 use Rattle.part_channel.specs.declared.progress.Take.{Take}
 use Rattle.part_channel.specs.declared.progress.Take.TheVariants as take
 use Rattle.part_channel.specs.Channels.{box_of, receiver_box}
 use Rattle.part_channel.specs.Sending.{one_if, none_marked}
-use Rattle.part_channel.specs.Receiving.{RecvView, round_of, lowest_from, is_left, are_left, take_refusal, got_of, lane_shown, lane_took, shown_take, IsRecvLane, AreRecvLanes}
+use Rattle.part_channel.specs.Receiving.{RecvView, round_of, lowest_from, is_left, overlaps, are_left, take_refusal, got_of, lane_shown, lane_took, shown_take, IsRecvLane, AreRecvLanes}
 use Rattle.part_channel.proofs.Lists.{some_same, get_set, there, unmarked, all_unmarked, not_le}
 
 off : true ≡ false → ⊥
@@ -271,3 +273,49 @@ at_took gate words clock key = go (ready_stamp gate)
     go : (o : Option ℕ) → (lane_shown gate words clock key o).at ≡ key.at
     go None = refl
     go (Some stamp) = refl
+
+is_less : (a b : ℕ) → a < b → nat_lt a b ≡ true
+is_less a b low = grind arith
+
+and_true : (b : Bool) → (b && true) ≡ b
+and_true true = refl
+and_true false = refl
+
+-- Where the cut leaves the total, a byte of a partition lies in the box of its number over the boxes' size
+module _ (part size parts boxes bytes byte : ℕ) (total : boxes * bytes ≡ parts * size) (known : part < parts) (high : byte < (part + 1) * size) where
+  inside : byte < boxes * bytes
+  inside = let whole : (part + 1) * size ≤ parts * size = mul-le (part + 1) size parts size (omega arith) (omega arith) in omega arith
+
+  some_bytes : 0 < bytes
+  some_bytes = ⊎_elim
+      (λ (some : 0 < bytes). some)
+      (λ (none : bytes ≤ 0). let nothing : boxes * bytes ≤ boxes * 0 = mul-le boxes bytes boxes 0 (omega arith) none in let zero_is : boxes * 0 ≡ 0 = omega arith in let is = inside in absurd (omega arith))
+      (cases_lt 0 bytes)
+
+  below : byte / bytes < boxes
+  below = div_below byte bytes boxes some_bytes inside
+
+  begins : byte / bytes * bytes ≤ byte
+  begins = let whole : byte / bytes * bytes + byte % bytes ≡ byte = div-add-mod' byte bytes in omega arith
+
+  ends : byte < (byte / bytes + 1) * bytes
+  ends =
+      let whole : byte / bytes * bytes + byte % bytes ≡ byte = div-add-mod' byte bytes in
+      let rest : byte % bytes < bytes = mod_below byte bytes some_bytes in
+      let one : byte / bytes + 1 ≡ suc (byte / bytes) = omega arith in
+      let next : (byte / bytes + 1) * bytes ≡ byte / bytes * bytes + bytes = ap (λ n. n * bytes) one ∙ suc-mul (byte / bytes) bytes in
+      omega arith
+
+  pub box_taken : (side : RecvView) → side.size ≡ size → side.boxes ≡ boxes → side.bytes ≡ bytes → part * size ≤ byte → lowest_from (λ box. is_left side.taken box && overlaps side part box) 0 side.boxes ≡ None
+      → (byte / bytes * side.bytes ≤ byte) × (byte < (byte / bytes + 1) * side.bytes) × (get_or side.taken (byte / bytes) false ≡ true)
+  box_taken side size_is boxes_is bytes_is low none =
+      let box = byte / bytes in
+      let starts = begins in
+      let stops = ends in
+      let first : nat_lt (box * side.bytes) ((part + 1) * side.size) ≡ true = ap (λ n. nat_lt (box * n) ((part + 1) * side.size)) bytes_is ∙ (ap (λ n. nat_lt (box * bytes) ((part + 1) * n)) size_is ∙ is_less (box * bytes) ((part + 1) * size) (omega arith)) in
+      let second : nat_lt (part * side.size) ((box + 1) * side.bytes) ≡ true = ap (λ n. nat_lt (part * n) ((box + 1) * side.bytes)) size_is ∙ (ap (λ n. nat_lt (part * size) ((box + 1) * n)) bytes_is ∙ is_less (part * size) ((box + 1) * bytes) (omega arith)) in
+      let within : box < 0 + side.boxes = subst (λ n. box < 0 + n) (sym boxes_is) (let less = below in omega arith) in
+      let fails = none_pass (λ b. is_left side.taken b && overlaps side part b) 0 side.boxes none box (omega arith) within in
+      let both : overlaps side part box ≡ true = λ i. first i && second i in
+      (subst (λ n. box * n ≤ byte) (sym bytes_is) starts, subst (λ n. byte < (box + 1) * n) (sym bytes_is) stops,
+       marked_back (get_or side.taken box false) (sym (and_true (is_left side.taken box)) ∙ (ap (λ b. is_left side.taken box && b) (sym both) ∙ fails)))

@@ -5,3 +5,4 @@ pub mod Channels
 pub mod Sending
 pub mod Receiving
 pub mod Settling
+pub mod Worked

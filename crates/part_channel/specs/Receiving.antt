@@ -77,6 +77,11 @@ overlaps side part box = nat_lt (box * side.bytes) ((part + 1) * side.size) && n
 abbrev pub next_box_of : RecvView → ℕ → Option ℕ
 next_box_of side part = if side.active then lowest_from (λ box. is_left side.taken box && overlaps side part box) 0 side.boxes else None
 
+-- each byte of a partition lies in a box that was taken in this phase
+abbrev pub HasArrived : RecvView → ℕ → Type 0
+HasArrived side part =
+    (byte : ℕ) → part * side.size ≤ byte → byte < (part + 1) * side.size → (box : ℕ) × (box * side.bytes ≤ byte) × (byte < (box + 1) * side.bytes) × (get_or side.taken box false ≡ true)
+
 -- why a box can't be taken
 abbrev pub take_refusal : RecvView → ℕ → Option Code
 take_refusal side box =

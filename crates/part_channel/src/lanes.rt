@@ -34,8 +34,8 @@ pub(crate) fn put(place: &PartBox, key: &mut SendKey, width: usize, bytes: &[u8]
     requires stamp { (key.old.view.front < stamp) × (stamp < 2 ^ 62) }
     ensures { key.new ≡ made_of (words_of bytes.now width) stamp key.old }
 {
-    for i in 0..width {
-        place.fill(key, word(bytes, i));
+    for at in 0..width {
+        place.fill(key, word(bytes, at));
     }
     place.ready(key, stamp);
 }

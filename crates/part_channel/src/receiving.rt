@@ -1,11 +1,11 @@
 //! The receiving side.
-ghost use Rattle.std.specs.Prelude.{◌≡◌, ℕ, ◌+◌, ◌-◌, ◌*◌, ◌%◌, ◌^◌, ◌<◌, ◌≤◌, List, length, map, IfOk, OnOk, OnErr, IfErr, Some, None, true, false, Bool, not, ◌==◌, ◌&&◌, nat_lt, get_or, if◌then◌else◌, replicate};
+ghost use Rattle.std.specs.Prelude.{◌≡◌, ℕ, ◌+◌, ◌-◌, ◌*◌, ◌%◌, ◌^◌, ◌<◌, ◌≤◌, List, length, map, IfOk, IfNone, OnOk, OnErr, IfErr, Some, None, true, false, Bool, not, ◌==◌, ◌&&◌, nat_lt, get_or, if◌then◌else◌, replicate};
 ghost use Rattle.mp_types.specs.declared.codes.Code.TheVariants.{Active};
 ghost use Rattle.part_box.specs.Keys.{BoxId, new_receiver};
 ghost use Rattle.part_box.specs.Gate.{ready_stamp};
 ghost use Rattle.part_channel.specs.Channels.{receiver_box};
 ghost use Rattle.part_channel.specs.Sending.{none_marked};
-ghost use Rattle.part_channel.specs.Receiving.{new_recv_side, awaited, lowest_from, is_left, next_box, overlaps, next_box_of, take_refusal, took, shown_take, take_stamp, HasGot};
+ghost use Rattle.part_channel.specs.Receiving.{new_recv_side, awaited, lowest_from, is_left, next_box, overlaps, next_box_of, HasArrived, take_refusal, took, shown_take, take_stamp, HasGot};
 
 use crate::channel::Channel;
 use crate::lanes::try_take;
@@ -124,7 +124,9 @@ impl RecvSide {
     /// The lowest box, not yet taken in this phase, that one of this side's partitions overlaps: some byte of the
     /// transfer is in both. None where all of them were taken, between phases, and while the sender's cut isn't known.
     pub fn next_of(&self, part: u8) -> Option<u8>
-        ensures { result ≡ next_box_of self.now part }
+        ensures lowest { result ≡ next_box_of self.now part }
+        // So where there is none in a phase, all bytes of the partition have come.
+        ensures arrived { IfNone result (self.now.active ≡ true → 0 < self.now.boxes → part < self.now.parts → HasArrived self.now part) }
     {
         if !self.active {
             return None;

@@ -3,5 +3,5 @@ use Rattle.std.proofs.Common.{◌≡◌}
 use Rattle.part_channel.specs.Words.{words_of}
 use Rattle.part_channel.proofs.lanes.put.Given as goal
 
-abbrev pub invariant-loop-i : goal.invariant-loop-i
-invariant-loop-i l = l.key ≡ record l.fn.key { view = record l.fn.key.view { filled = words_of l.bytes l.i } }
+abbrev pub invariant-loop-at : goal.invariant-loop-at
+invariant-loop-at l = l.key ≡ record l.fn.key { view = record l.fn.key.view { filled = words_of l.bytes l.at } }
