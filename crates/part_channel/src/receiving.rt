@@ -172,7 +172,9 @@ impl RecvSide {
         ensures took { IfOk result (λ take. (gate : ℕ) × (words : List ℕ) × (length words ≡ channel.now.width) × (self.new ≡ took self.old part gate words clock) × (take ≡ shown_take clock words (ready_stamp gate))) }
         // In phase k it answers thing k that was got from its box.
         ensures phase { IfOk result (λ take. HasGot self.old self.new part take) }
-        // So it is still this channel's, and the stamp will do as the next clock.
+        // So it keeps its shape and its cut, it is still this channel's, and the stamp will do as the next clock.
+        ensures shape { (self.new.parts ≡ self.old.parts) × (self.new.size ≡ self.old.size) }
+        ensures cut { (self.new.boxes ≡ self.old.boxes) × (self.new.bytes ≡ self.old.bytes) }
         ensures own { map receiver_box self.new.keys ≡ channel.now.boxes }
         ensures stamp { IfOk result (λ take. (clock < take_stamp take) × (take_stamp take < 2 ^ 62)) }
     {

@@ -159,7 +159,8 @@ impl SendSide {
         requires past { IsPast self.old clock }
         requires limit { clock < 2 ^ 62 - 1 }
         ensures tested { (gate : ℕ) × (self.new ≡ tested self.old gate) × (result ≡ test_progress self.old clock gate) }
-        // So it is still this channel's, and the stamp will do as the next clock.
+        // So it keeps its shape, it is still this channel's, and the stamp will do as the next clock.
+        ensures shape { (self.new.parts ≡ self.old.parts) × (self.new.size ≡ self.old.size) }
         ensures own { map sender_box self.new.keys ≡ channel.now.boxes }
         ensures told { IsTold self.new result }
     {
