@@ -316,6 +316,8 @@ module _ (part size parts boxes bytes byte : ℕ) (total : boxes * bytes ≡ par
       let second : nat_lt (part * side.size) ((box + 1) * side.bytes) ≡ true = ap (λ n. nat_lt (part * n) ((box + 1) * side.bytes)) size_is ∙ (ap (λ n. nat_lt (part * size) ((box + 1) * n)) bytes_is ∙ is_less (part * size) ((box + 1) * bytes) (omega arith)) in
       let within : box < 0 + side.boxes = subst (λ n. box < 0 + n) (sym boxes_is) (let less = below in omega arith) in
       let fails = none_pass (λ b. is_left side.taken b && overlaps side part b) 0 side.boxes none box (omega arith) within in
-      let both : overlaps side part box ≡ true = λ i. first i && second i in
-      (subst (λ n. box * n ≤ byte) (sym bytes_is) starts, subst (λ n. byte < (box + 1) * n) (sym bytes_is) stops,
-       marked_back (get_or side.taken box false) (sym (and_true (is_left side.taken box)) ∙ (ap (λ b. is_left side.taken box && b) (sym both) ∙ fails)))
+      let both : overlaps side part box ≡ true = λ i. first i && second i in (
+        subst (λ n. box * n ≤ byte) (sym bytes_is) starts,
+        subst (λ n. byte < (box + 1) * n) (sym bytes_is) stops,
+        marked_back (get_or side.taken box false) (sym (and_true (is_left side.taken box)) ∙ (ap (λ b. is_left side.taken box && b) (sym both) ∙ fails)),
+      )

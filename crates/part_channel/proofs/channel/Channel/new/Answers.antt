@@ -9,9 +9,10 @@ use Rattle.part_channel.proofs.channel.Channel.new.Goals as goal
 
 pub returns-clause-own : goal.returns-clause-own
 returns-clause-own c =
-    let boxes = map box_of c.loop-i.boxes.items in
-    (ap (map sender_box) (c.over.ensures.over.0 ∙ c.loop-i.invariant.sends) ∙ sent.boxes_back boxes,
-     ap (map receiver_box) (c.over-2.ensures.over.0 ∙ c.loop-i.invariant.recvs) ∙ received.boxes_back boxes)
+    let boxes = map box_of c.loop-i.boxes.items in (
+      ap (map sender_box) (c.over.ensures.over.0 ∙ c.loop-i.invariant.sends) ∙ sent.boxes_back boxes,
+      ap (map receiver_box) (c.over-2.ensures.over.0 ∙ c.loop-i.invariant.recvs) ∙ received.boxes_back boxes,
+    )
 
 pub returns-clause-past : goal.returns-clause-past
 returns-clause-past c clock =
