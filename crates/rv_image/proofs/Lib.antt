@@ -1,5 +1,6 @@
--- The lemmas behind the answers: a loop's steps, what a reading takes, distinct ranks, the header's numbers, the whole, the order of the tests.
+-- The lemmas behind the answers: a loop's steps, one more member, what a reading takes, distinct ranks, the header's numbers, the whole, the order of the tests.
 pub mod Loop
+pub mod Named
 pub mod Takes
 pub mod Distinct
 pub mod Steps

@@ -17,6 +17,3 @@ pub use images::{Image, ImageParts, Link};
 pub use lists::{Comms, Links, Members, Segment};
 pub use reading::read_image;
 pub use writing::write_image;
-
-#[cfg(test)]
-mod tests;

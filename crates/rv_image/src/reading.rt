@@ -1,10 +1,11 @@
 //! From bytes to an image, or to the first fault.
 
-ghost use Rattle.std.specs.Prelude.{◌≡◌, [], ◌≤◌, None, length, Ok, IfOk};
+ghost use Rattle.std.specs.Prelude.{◌≡◌, [], ◌≤◌, None, length, Ok, Err, IfOk, IsOk};
+ghost use Rattle.rv_image.specs.declared.faults.ImageFault.{ImageFault};
 ghost use Rattle.rv_image.specs.declared.images.ImageParts.{ImageParts};
 ghost use Rattle.rv_image.specs.Image.{IsImage};
 ghost use Rattle.rv_image.specs.Text.{image_text};
-ghost use Rattle.rv_image.specs.Reading.{AnswersBy, Answers, next_byte, next_bytes, first_fault, number_tests, header_tests, repeated, is_new_rank, next_member, comm_at, next_comm, link_at, next_link, body_at, reading};
+ghost use Rattle.rv_image.specs.Reading.{GivesBy, rest_of, AnswersBy, Answers, Accepts, next_byte, next_bytes, first_fault, number_tests, header_tests, repeated, is_new_rank, next_member, comm_at, next_comm, link_at, next_link, body_at, reading};
 
 use crate::faults::ImageFault;
 use crate::header::{HEADER_LENGTH, Header, header_fault, header_of};
@@ -12,11 +13,12 @@ use crate::images::{Image, ImageParts, Link};
 use crate::lists::{Comms, Links, Members, Segment};
 use std::alloc::Global;
 
-// Below, `total` is the length of the whole input, which Short carries, and `bytes` what is left of it.
+// Below, `total` is the length of the whole input, which Short carries, and `bytes` what is left of it. What is handed no
+// allocator answers just what is read, value or fault. All tests stand there, and are done before anything is copied.
 
 /// The next byte and what follows.
 fn take_byte(total: usize, bytes: &[u8]) -> Result<(u8, &[u8]), ImageFault>
-    ensures { AnswersBy (λ x. (x.0, x.1.now)) result (next_byte total bytes.now) }
+    ensures { GivesBy (λ x. (x.0, x.1.now)) result (next_byte total bytes.now) }
 {
     match bytes {
         [] => Err(ImageFault::Short(total)),
@@ -26,7 +28,7 @@ fn take_byte(total: usize, bytes: &[u8]) -> Result<(u8, &[u8]), ImageFault>
 
 /// The next bytes, `length` of them, and what follows.
 fn take_bytes(length: u32, total: usize, bytes: &[u8]) -> Result<(&[u8], &[u8]), ImageFault>
-    ensures { AnswersBy (λ x. (x.0.now, x.1.now)) result (next_bytes length total bytes.now) }
+    ensures { GivesBy (λ x. (x.0.now, x.1.now)) result (next_bytes length total bytes.now) }
 {
     let length = length as usize;
     if bytes.len() < length {
@@ -36,56 +38,59 @@ fn take_bytes(length: u32, total: usize, bytes: &[u8]) -> Result<(&[u8], &[u8]),
 }
 
 /// Whether the rank is one of the image's and wasn't named before.
-fn may_be_named(ranks: u8, named: &Vec<u8>, rank: u8) -> bool
-    ensures { result ≡ is_new_rank ranks named.now.items rank }
+fn may_be_named(ranks: u8, named: &[u8], rank: u8) -> bool
+    ensures { result ≡ is_new_rank ranks named.now rank }
 {
     rank < ranks && !named.contains(&rank)
 }
 
 /// The members of communicator `n`, `count` of them, and what follows.
 fn take_members(
-    alloc: Global,
     total: usize,
     ranks: u8,
     n: usize,
     count: u8,
     bytes: &[u8],
-) -> Result<(Vec<u8>, &[u8]), ImageFault>
-    ensures { AnswersBy (λ x. (x.0.items, x.1.now)) result (repeated (next_member total ranks n) count [] bytes.now) }
+) -> Result<(&[u8], &[u8]), ImageFault>
+    ensures { GivesBy (λ x. (x.0.now, x.1.now)) result (repeated (next_member total ranks n) count [] bytes.now) }
 {
-    let mut named = Vec::new(alloc);
-    let mut rest = bytes;
-    for _ in 0..count {
-        let (rank, after) = take_byte(total, rest)?;
-        if !may_be_named(ranks, &named, rank) {
+    let count = usize::from(count);
+    for k in 0..count {
+        if k >= bytes.len() {
+            return Err(ImageFault::Short(total));
+        }
+        if !may_be_named(ranks, &bytes[..k], bytes[k]) {
             return Err(ImageFault::Comm(n));
         }
-        named.push(rank)?;
-        rest = after;
     }
-    Ok((named, rest))
+    Ok(bytes.split_at(count))
 }
 
-/// Communicator `n` and what follows.
+/// The members of communicator `n`, whose number stands before them, and what follows.
 #[tactic(auto, unfolding(crate::specs::Reading::comm_at))]
-fn take_comm(
-    alloc: Global,
-    total: usize,
-    ranks: u8,
-    n: usize,
-    bytes: &[u8],
-) -> Result<(Members, &[u8]), ImageFault>
-    ensures { AnswersBy (λ x. (x.0, x.1.now)) result (comm_at total ranks n bytes.now) }
+fn take_comm(total: usize, ranks: u8, n: usize, bytes: &[u8]) -> Result<(&[u8], &[u8]), ImageFault>
+    ensures { GivesBy (λ x. (x.0.now, x.1.now)) result (comm_at total ranks n bytes.now) }
 {
     let (count, rest) = take_byte(total, bytes)?;
     if count < 1 || count > 8 {
         return Err(ImageFault::Comm(n));
     }
-    let (members, rest) = take_members(alloc, total, ranks, n, count, rest)?;
-    Ok((Members::from_vec(members), rest))
+    take_members(total, ranks, n, count, rest)
 }
 
-/// The communicators, `count` of them, and what follows.
+/// What follows the communicators, `count` of them.
+fn skip_comms(total: usize, ranks: u8, count: u8, bytes: &[u8]) -> Result<&[u8], ImageFault>
+    ensures { GivesBy (λ x. x.now) result (rest_of (repeated (next_comm total ranks) count [] bytes.now)) }
+{
+    let mut rest = bytes;
+    for before in 0..usize::from(count) {
+        let (_, after) = take_comm(total, ranks, before + 1, rest)?;
+        rest = after;
+    }
+    Ok(rest)
+}
+
+/// A copy of the communicators, `count` of them, and what follows.
 fn take_comms(
     alloc: Global,
     total: usize,
@@ -98,8 +103,8 @@ fn take_comms(
     let mut done = Vec::new(alloc);
     let mut rest = bytes;
     for _ in 0..count {
-        let (comm, after) = take_comm(alloc, total, ranks, done.len() + 1, rest)?;
-        done.push(comm)?;
+        let (members, after) = take_comm(total, ranks, done.len() + 1, rest)?;
+        done.push(Members::from_vec(Vec::from_slice(alloc, members)?))?;
         rest = after;
     }
     Ok((done, rest))
@@ -108,7 +113,7 @@ fn take_comms(
 /// Link `n` and what follows.
 #[tactic(auto, unfolding(crate::specs::Reading::link_at))]
 fn take_link(total: usize, ranks: u8, n: usize, bytes: &[u8]) -> Result<(Link, &[u8]), ImageFault>
-    ensures { AnswersBy (λ x. (x.0, x.1.now)) result (link_at total ranks n bytes.now) }
+    ensures { GivesBy (λ x. (x.0, x.1.now)) result (link_at total ranks n bytes.now) }
 {
     let (from, rest) = take_byte(total, bytes)?;
     if from >= ranks {
@@ -121,7 +126,19 @@ fn take_link(total: usize, ranks: u8, n: usize, bytes: &[u8]) -> Result<(Link, &
     Ok((Link { from, to }, rest))
 }
 
-/// The links, `count` of them, and what follows.
+/// What follows the links, `count` of them.
+fn skip_links(total: usize, ranks: u8, count: u8, bytes: &[u8]) -> Result<&[u8], ImageFault>
+    ensures { GivesBy (λ x. x.now) result (rest_of (repeated (next_link total ranks) count [] bytes.now)) }
+{
+    let mut rest = bytes;
+    for n in 0..usize::from(count) {
+        let (_, after) = take_link(total, ranks, n, rest)?;
+        rest = after;
+    }
+    Ok(rest)
+}
+
+/// A copy of the links, `count` of them, and what follows.
 fn take_links(
     alloc: Global,
     total: usize,
@@ -141,7 +158,23 @@ fn take_links(
     Ok((done, rest))
 }
 
-/// The parts that a right header and the bytes behind it make.
+/// Tests all that stands behind a right header.
+#[tactic(auto, unfolding(crate::specs::Reading::body_at))]
+fn test_body(total: usize, h: &Header, bytes: &[u8]) -> Result<(), ImageFault>
+    ensures { Accepts result (body_at total h.now bytes.now) }
+{
+    let rest = skip_comms(total, h.ranks, h.comms, bytes)?;
+    let rest = skip_links(total, h.ranks, h.links, rest)?;
+    let (_, rest) = take_bytes(h.text_length, total, rest)?;
+    let (_, rest) = take_bytes(h.init_length, total, rest)?;
+    if !rest.is_empty() {
+        // It never saturates: what is left is the input's end.
+        return Err(ImageFault::Long(total.saturating_sub(rest.len())));
+    }
+    Ok(())
+}
+
+/// A copy of the parts that a right header and the bytes behind it make, which are tested.
 #[tactic(auto, unfolding(crate::specs::Reading::body_at))]
 fn take_body(
     alloc: Global,
@@ -149,16 +182,13 @@ fn take_body(
     h: &Header,
     bytes: &[u8],
 ) -> Result<ImageParts, ImageFault>
+    requires { IsOk (body_at total h.now bytes.now) }
     ensures { Answers result (body_at total h.now bytes.now) }
 {
     let (comms, rest) = take_comms(alloc, total, h.ranks, h.comms, bytes)?;
     let (links, rest) = take_links(alloc, total, h.ranks, h.links, rest)?;
     let (text, rest) = take_bytes(h.text_length, total, rest)?;
-    let (init, rest) = take_bytes(h.init_length, total, rest)?;
-    if !rest.is_empty() {
-        // It never saturates: what is left is the input's end.
-        return Err(ImageFault::Long(total.saturating_sub(rest.len())));
-    }
+    let (init, _) = take_bytes(h.init_length, total, rest)?;
     Ok(ImageParts {
         ranks: h.ranks,
         harts: h.harts,
@@ -172,21 +202,24 @@ fn take_body(
 }
 
 /// The parts that the bytes spell.
-#[tactic(auto, unfolding(crate::specs::Reading::reading))]
 fn parts_of(alloc: Global, bytes: &[u8]) -> Result<ImageParts, ImageFault>
-    ensures { Answers result (reading bytes.now) }
+    ensures exact { Answers result (reading bytes.now) }
+    ensures fault { (fault : ImageFault) → reading bytes.now ≡ Err fault → result ≡ Err fault }
 {
     if let Some(fault) = header_fault(bytes) {
         return Err(fault);
     }
+    let header = header_of(bytes);
     let (_, rest) = bytes.split_at(HEADER_LENGTH);
-    take_body(alloc, bytes.len(), &header_of(bytes), rest)
+    test_body(bytes.len(), &header, rest)?;
+    take_body(alloc, bytes.len(), &header, rest)
 }
 
 /// The image whose text the bytes are, or the first fault in the order of the tests, which
 /// [`first_fault_law`](crate::laws::first_fault_law) has as one table.
 ///
-/// [`ImageFault::Memory`] is answered only where memory ran out. The text and the initial data are copied.
+/// [`ImageFault::Memory`] is answered only for the bytes of an image, and only where memory ran out: its text, its initial
+/// data and its lists are copied. Bytes that are no image get their fault without any memory.
 pub fn read_image(alloc: Global, bytes: &[u8]) -> Result<Image, ImageFault>
     // What is read is spelled so, byte for byte.
     ensures found { IfOk result (λ image. bytes.now ≡ image_text image) }
@@ -194,6 +227,8 @@ pub fn read_image(alloc: Global, bytes: &[u8]) -> Result<Image, ImageFault>
     ensures only { (image : ImageParts) → IsImage image → bytes.now ≡ image_text image → Answers result (Ok image) }
     // Which fault it is.
     ensures exact { Answers result (reading bytes.now) }
+    // A fault of the bytes is told whatever memory there is.
+    ensures fault { (fault : ImageFault) → reading bytes.now ≡ Err fault → result ≡ Err fault }
 {
     let parts = parts_of(alloc, bytes)?;
     Ok(Image::new(parts))

@@ -226,10 +226,11 @@ impl RankMemory {
     }
 
     /// A copy of `count` bytes from an address on. `Range` where one isn't in the memory, `Memory` where there is none for
-    /// the copy. Zero bytes are right at any address.
+    /// the copy. Zero bytes are right at any address, and take no memory.
     pub fn read_bytes(&self, alloc: Global, address: u64, count: u64) -> Result<Vec<u8>, BytesFault>
         ensures read { IfOk result (λ bytes. bytes.items ≡ bytes_at self.now address count) }
         ensures range { (result ≡ Err BytesFault.Range) ↔ ¬ (IsReadable self.now address count) }
+        ensures no_bytes { count ≡ 0 → IsOk result }
     {
         if !self.in_range(address, count, false) {
             return Err(BytesFault::Range);
@@ -261,6 +262,3 @@ impl RankMemory {
         Ok(())
     }
 }
-
-#[cfg(test)]
-mod tests;

@@ -1,8 +1,8 @@
 -- The links are read as `repeated` says: a fault at a turn, one more link, the last one.
-use Rattle.std.proofs.Common.{◌≡◌, ◌++◌, ◌∷◌, [], refl, Ok, length, arith}
+use Rattle.std.proofs.Common.{◌≡◌, ◌++◌, ◌∷◌, [], refl, Ok, Err, length, arith}
 use Rattle.std.proofs.lemmas.Result.{err_from_is_err_and}
-use Rattle.rv_image.specs.Reading.{IsFaultOf, repeated, next_link, link_at}
-use Rattle.rv_image.proofs.Loop.{fails_along, step_fails, step_goes, steps_done}
+use Rattle.rv_image.specs.Reading.{repeated, next_link}
+use Rattle.rv_image.proofs.Loop.{told, step_stops, step_goes, steps_done}
 use Rattle.rv_image.proofs.reading.take_links.Goals as goal
 
 pub returns-in_err-link : goal.returns-in_err-link
@@ -13,8 +13,8 @@ returns-in_err-link c =
     let done = c.loop.done.items in
     let fault = c.in_err-link.field-0.0 in
     let number : length done ≡ c.len.result = omega (arith, c.loop.done.ok.0, c.len.ensures) in
-    let fails : IsFaultOf (step done c.loop.rest.now) fault = fails_along fault (link_at a.total a.ranks (length done) c.loop.rest.now) _ _ refl (rw number c.in_err-link.ensures) in
-    rw (p.1, p.2) (step_fails fault step a.count c.loop.counter done c.loop.rest.now (repeated step a.count [] a.bytes.now) c.loop-test.true fails c.loop.invariant)
+    let fails : step done c.loop.rest.now ≡ Err fault = rw (number, c.in_err-link.ensures) refl in
+    rw (p.1, p.2) (told fault _ (step_stops fault step a.count c.loop.counter done c.loop.rest.now (repeated step a.count [] a.bytes.now) c.loop-test.true fails c.loop.invariant))
 
 pub loop-preserved : goal.loop-preserved
 loop-preserved c =

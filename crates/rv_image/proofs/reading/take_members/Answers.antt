@@ -1,34 +1,49 @@
--- The members of a communicator are read as `repeated` says: a fault at a turn, one more member, the last one.
-use Rattle.std.proofs.Common.{rules, ◌≡◌, ◌++◌, ◌∷◌, [], refl, Ok, Err}
-use Rattle.std.proofs.lemmas.Result.{err_from_is_err_and}
+-- The members are read as `repeated` says: none is left, one that isn't a new rank, one more, the last one.
+use Rattle.std.proofs.Common.{rules, ◌≡◌, ◌+◌, [], Ok, take, drop, arith}
 use Rattle.rv_image.specs.declared.faults.ImageFault.TheVariants as faults
-use Rattle.rv_image.specs.Reading.{IsFaultOf, next_byte, repeated, next_member}
-use Rattle.rv_image.proofs.Loop.{fails_along, step_fails, step_goes, steps_done}
+use Rattle.rv_image.specs.Reading.{repeated, next_member}
+use Rattle.rv_image.proofs.Loop.{step_stops, step_goes, steps_done}
+use Rattle.rv_image.proofs.Named.{member_missing, member_refused, member_taken}
 use Rattle.rv_image.proofs.reading.take_members.Goals as goal
 
-pub returns-in_err-rank : goal.returns-in_err-rank
-returns-in_err-rank c =
+pub returns-then-k-bytes : goal.returns-then-k-bytes
+returns-then-k-bytes c =
     let a = c.args in
+    let k = c.loop-k.k in
+    let bytes = a.bytes.now in
     let step = next_member a.total a.ranks a.n in
-    let p = err_from_is_err_and c.from_residual.result c.from_residual.ensures.1 in
-    let fault = c.in_err-rank.field-0.0 in
-    let fails : IsFaultOf (step c.loop.named.items c.loop.rest.now) fault = fails_along fault (next_byte a.total c.loop.rest.now) _ _ refl c.in_err-rank.ensures in
-    rw (p.1, p.2) (step_fails fault step a.count c.loop.counter c.loop.named.items c.loop.rest.now (repeated step a.count [] a.bytes.now) c.loop-test.true fails c.loop.invariant)
+    let count = c.from-count.result in
+    rw (← c.from-count.ensures) (step_stops (faults.Short a.total) step count k (take k bytes) (drop k bytes) (repeated step count [] bytes) c.loop-k-test.true (member_missing a.total a.ranks a.n k bytes c.if-k-bytes.true) c.loop-k.invariant.same)
 
 pub returns-then-not-may_be_named : goal.returns-then-not-may_be_named
 returns-then-not-may_be_named c =
     let a = c.args in
+    let k = c.loop-k.k in
+    let bytes = a.bytes.now in
     let step = next_member a.total a.ranks a.n in
-    let fails : step c.loop.named.items c.loop.rest.now ≡ Err (faults.Comm a.n) = rw (c.in_ok-rank.ensures) (search rules) in
-    step_fails (faults.Comm a.n) step a.count c.loop.counter c.loop.named.items c.loop.rest.now (repeated step a.count [] a.bytes.now) c.loop-test.true fails c.loop.invariant
+    let count = c.from-count.result in
+    let h = c.may_be_named.ensures in
+    rw (← c.from-count.ensures) (step_stops (faults.Comm a.n) step count k (take k bytes) (drop k bytes) (repeated step count [] bytes) c.loop-k-test.true (member_refused a.total a.ranks a.n k bytes c.if-k-bytes.false (search rules)) c.loop-k.invariant.same)
 
-pub loop-preserved : goal.loop-preserved
-loop-preserved c =
+pub loop-k-preserved : goal.loop-k-preserved
+loop-k-preserved c =
     let a = c.args in
+    let k = c.loop-k.k in
+    let bytes = a.bytes.now in
     let step = next_member a.total a.ranks a.n in
-    let named = c.loop.named.items in
-    let goes : step named c.loop.rest.now ≡ Ok (named ++ c.in_ok-rank.rank ∷ [], c.in_ok-rank.after.now) = rw (c.in_ok-rank.ensures) (search rules) in
-    rw c.in_ok-push.ensures.items (step_goes step a.count c.loop.counter named c.loop.rest.now (named ++ c.in_ok-rank.rank ∷ []) c.in_ok-rank.after.now (repeated step a.count [] a.bytes.now) c.loop-test.true goes c.loop.invariant)
+    let count = c.from-count.result in
+    record {
+      there = omega (arith, c.if-k-bytes.false);
+      same = step_goes step count k (take k bytes) (drop k bytes) (take (k + 1) bytes) (drop (k + 1) bytes) (repeated step count [] bytes) c.loop-k-test.true (member_taken a.total a.ranks a.n k bytes c.if-k-bytes.false (search rules)) c.loop-k.invariant.same;
+    }
 
 pub returns : goal.returns
-returns c = let a = c.args in steps_done (next_member a.total a.ranks a.n) a.count c.loop.counter c.loop.named.items c.loop.rest.now (repeated (next_member a.total a.ranks a.n) a.count [] a.bytes.now) c.loop-test.false c.loop.invariant
+returns c =
+    let a = c.args in
+    let step = next_member a.total a.ranks a.n in
+    let count = c.from-count.result in
+    let all : repeated step count [] a.bytes.now ≡ Ok (take c.loop-k.k a.bytes.now, drop c.loop-k.k a.bytes.now) = steps_done step count c.loop-k.k (take c.loop-k.k a.bytes.now) (drop c.loop-k.k a.bytes.now) (repeated step count [] a.bytes.now) c.loop-k-test.false c.loop-k.invariant.same in
+    let last : c.loop-k.k ≡ count = omega (arith, c.loop-k-test.false, c.loop-k.auto.k-end) in
+    let front = c.split_at.ensures.front in
+    let back = c.split_at.ensures.back in
+    rw (front, back, ← c.from-count.ensures) (rw last at all)
