@@ -8,8 +8,6 @@ pub mod instruction;
 pub mod printing;
 pub mod register;
 mod rows;
-#[cfg(test)]
-mod tests;
 
 pub use decoding::decode;
 pub use encoding::encode;

@@ -7,6 +7,3 @@ pub mod stepping;
 
 pub use state::{Did, Hart, Mode, Wait};
 pub use stepping::step;
-
-#[cfg(test)]
-mod tests;

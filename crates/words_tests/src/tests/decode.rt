@@ -1,8 +1,8 @@
 //! Words and texts from outside: GNU as, and words that the manual leaves illegal.
 mod encodings;
 
-use crate::{Instr, decode, encode, print_instr};
 use encodings::encodings;
+use rv_decode::{Instr, decode, encode, print_instr};
 use std::test::Fail;
 
 #[test]

@@ -5,13 +5,12 @@ mod immediate_rows;
 mod product_rows;
 mod register_rows;
 
-use crate::state::{Did, Hart, Mode};
-use crate::stepping::step;
 use branch_rows::{BRANCH_ROWS, LOAD_ROWS};
 use immediate_rows::{IMMEDIATE_ROWS, SHIFT_ROWS};
 use product_rows::PRODUCT_ROWS;
 use register_rows::REGISTER_ROWS;
 use rv_decode::{Instr, Reg, StoreOp, UpperOp, encode};
+use rv_hart::{Did, Hart, Mode, step};
 use rv_memory::{Cause, RankMemory, Width};
 use std::alloc::{AllocError, Global};
 use std::process::Abort;

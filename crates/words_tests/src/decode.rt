@@ -1,0 +1,110 @@
+//! Words and instructions (rv_decode).
+ghost use Rattle.std.specs.Prelude.{◌≡◌, ◌<◌, false, Some, None, IfOk, pos, negsuc, codes, string_bytes};
+ghost use Rattle.rv_decode.specs.declared.instruction.ArithOp.TheVariants.{Addw};
+ghost use Rattle.rv_decode.specs.declared.instruction.ImmOp.TheVariants.{Addi};
+ghost use Rattle.rv_decode.specs.declared.instruction.Instr.TheVariants.{Arith, Imm, Shift, Fence};
+ghost use Rattle.rv_decode.specs.declared.instruction.ShiftOp.TheVariants.{Srai};
+
+use rv_decode::{BranchOp, Instr, Reg, UpperOp, decode, encode, print_instr};
+use std::alloc::{AllocError, Global};
+
+/// A register has the number that it was made with.
+pub fn register_keeps_its_number(number: u8) -> u8
+    requires { number < 32 }
+    ensures { result ≡ number }
+{
+    Reg::new(number).number()
+}
+
+/// An immediate is signed: fff00293 is `addi x5, x0, -1`.
+#[tactic(auto, unfolding(rv_decode::specs::Decoded::decoded))]
+pub fn immediate_is_signed() -> Option<Instr>
+    ensures { result ≡ Some (Imm Addi 5 0 (negsuc 0)) }
+{
+    decode(0xfff0_0293)
+}
+
+/// Bit 30 makes an arithmetic shift: 4012d293 is `srai x5, x5, 1`.
+#[tactic(auto, unfolding(rv_decode::specs::Decoded::decoded))]
+pub fn bit_30_makes_an_arithmetic_shift() -> Option<Instr>
+    ensures { result ≡ Some (Shift Srai 5 5 1) }
+{
+    decode(0x4012_d293)
+}
+
+/// Arithmetic on words is read: 007302bb is `addw x5, x6, x7`.
+#[tactic(auto, unfolding(rv_decode::specs::Decoded::decoded))]
+pub fn word_arithmetic_is_read() -> Option<Instr>
+    ensures { result ≡ Some (Arith Addw 5 6 7) }
+{
+    decode(0x0073_02bb)
+}
+
+/// A fence is one whatever its other fields say: 0ff2828f has registers set, which the manual reserves.
+#[tactic(auto, unfolding(rv_decode::specs::Decoded::decoded))]
+pub fn fence_with_registers_is_a_fence() -> Option<Instr>
+    ensures { result ≡ Some Fence }
+{
+    decode(0x0ff2_828f)
+}
+
+/// A fence is written as `fence iorw, iorw`.
+#[tactic(auto, unfolding(rv_decode::specs::Table::written_word))]
+pub fn fence_is_written_in_full() -> u32
+    ensures { result ≡ 0x0ff0000f }
+{
+    encode(&Instr::Fence)
+}
+
+/// Bit 11 of a branch's offset stands in bit 7 of the word: `beq x0, x0, 2048` is 000000e3.
+#[tactic(auto, unfolding(rv_decode::specs::Table::written_word))]
+pub fn bit_11_of_a_branch_stands_in_bit_7() -> u32
+    ensures { result ≡ 0x000000e3 }
+{
+    encode(&Instr::Branch {
+        op: BranchOp::Beq,
+        rs1: Reg::new(0),
+        rs2: Reg::new(0),
+        off: 2048,
+    })
+}
+
+/// A branch by an odd offset fits no word.
+pub fn odd_branch_does_not_fit() -> bool
+    ensures { result ≡ false }
+{
+    let branch = Instr::Branch {
+        op: BranchOp::Beq,
+        rs1: Reg::new(0),
+        rs2: Reg::new(0),
+        off: 3,
+    };
+    branch.fits()
+}
+
+/// An offset is printed with its sign.
+pub fn offset_is_printed_with_its_sign(alloc: Global) -> Result<String, AllocError>
+    ensures { IfOk result (λ text. string_bytes text ≡ codes "jal x1, -4") }
+{
+    print_instr(
+        alloc,
+        &Instr::Jal {
+            rd: Reg::new(1),
+            off: -4,
+        },
+    )
+}
+
+/// An upper immediate is printed in hexadecimal digits.
+pub fn upper_immediate_is_printed_in_hexadecimal(alloc: Global) -> Result<String, AllocError>
+    ensures { IfOk result (λ text. string_bytes text ≡ codes "lui x5, 0xa7") }
+{
+    print_instr(
+        alloc,
+        &Instr::Upper {
+            op: UpperOp::Lui,
+            rd: Reg::new(5),
+            imm: 0xa7000,
+        },
+    )
+}

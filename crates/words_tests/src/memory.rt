@@ -1,0 +1,125 @@
+//! The bytes of a rank (rv_memory).
+ghost use Rattle.std.specs.Prelude.{◌≡◌, ◌+◌, ◌-◌, ◌*◌, ◌^◌, ◌<◌, ◌≤◌, [], ◌∷◌, length, slice_index, true, false, Err, IsOk, IfOk};
+ghost use Rattle.rv_memory.specs.Memory.{value_at};
+
+use rv_memory::{BytesFault, Cause, RankMemory, StoreFault, Width};
+use std::alloc::{AllocError, Global};
+
+/// A range of no bytes may be read wherever it is said to be.
+pub fn no_bytes_may_be_read(memory: &RankMemory, address: u64) -> bool
+    ensures { result ≡ true }
+{
+    memory.in_range(address, 0, false)
+}
+
+/// A range of no bytes may be written wherever it is said to be.
+pub fn no_bytes_may_be_written(memory: &RankMemory, address: u64) -> bool
+    ensures { result ≡ true }
+{
+    memory.in_range(address, 0, true)
+}
+
+/// All of the memory may be read, its text with it.
+pub fn all_bytes_may_be_read(memory: &RankMemory) -> bool
+    ensures { result ≡ true }
+{
+    memory.in_range(0, memory.size(), false)
+}
+
+/// A range doesn't go on at address 0 behind the greatest address.
+pub fn range_does_not_wrap(memory: &RankMemory) -> bool
+    ensures { result ≡ false }
+{
+    memory.in_range(u64::MAX, memory.size(), false)
+}
+
+/// No bytes are written wherever that is said to be: no fault, and no want of memory.
+pub fn no_bytes_are_written_anywhere(
+    memory: &mut RankMemory,
+    address: u64,
+) -> Result<(), BytesFault>
+    ensures { IsOk result }
+{
+    memory.write_bytes(address, &[])
+}
+
+/// No bytes are read wherever that is said to be, and no memory is asked for.
+pub fn no_bytes_are_read_anywhere(
+    memory: &RankMemory,
+    alloc: Global,
+    address: u64,
+) -> Result<Vec<u8>, BytesFault>
+    ensures read { IfOk result (λ bytes. bytes.items ≡ []) }
+    ensures always { IsOk result }
+{
+    memory.read_bytes(alloc, address, 0)
+}
+
+/// A write that begins in the text writes nothing, not even what lies behind the text.
+pub fn write_into_the_text_writes_nothing(
+    memory: &mut RankMemory,
+    address: u64,
+    bytes: &[u8],
+) -> Result<(), BytesFault>
+    requires text { address < memory.old.text }
+    requires some { 0 < length bytes.now }
+    ensures range { result ≡ Err BytesFault.Range }
+    ensures unchanged { memory.new ≡ memory.old }
+{
+    memory.write_bytes(address, bytes)
+}
+
+/// A store into the text traps, and changes nothing.
+pub fn store_into_the_text_traps(
+    memory: &mut RankMemory,
+    address: u64,
+    value: u64,
+) -> Result<(), StoreFault>
+    requires { address < memory.old.text }
+    ensures trap { result ≡ Err (StoreFault.Trap Cause.StoreAccess) }
+    ensures unchanged { memory.new ≡ memory.old }
+{
+    memory.store(address, Width::Byte, value)
+}
+
+/// A store to an odd address outside the memory is misaligned, before it is outside.
+pub fn store_is_misaligned_first(memory: &mut RankMemory, value: u64) -> Result<(), StoreFault>
+    ensures { result ≡ Err (StoreFault.Trap Cause.StoreMisaligned) }
+{
+    memory.store(u64::MAX, Width::Half, value)
+}
+
+/// A load from an odd address outside the memory is misaligned, before it is outside.
+pub fn load_is_misaligned_first(memory: &RankMemory) -> Result<u64, Cause>
+    ensures { result ≡ Err Cause.LoadMisaligned }
+{
+    memory.load(u64::MAX, Width::Half)
+}
+
+/// The lower byte of a half stands first.
+pub fn half_has_its_lower_byte_first(memory: &RankMemory, address: u64) -> Result<u64, Cause>
+    ensures { IfOk result (λ v. v ≡ slice_index memory.now.bytes address + slice_index memory.now.bytes (address + 1) * 256) }
+{
+    memory.load(address, Width::Half)
+}
+
+/// The eighth byte of a word counts.
+pub fn word_has_eight_bytes()
+    ensures { value_at (0 ∷ 0 ∷ 0 ∷ 0 ∷ 0 ∷ 0 ∷ 0 ∷ 1 ∷ []) 0 8 ≡ 2 ^ 56 }
+{}
+
+/// The size counts the text.
+pub fn size_counts_the_text(alloc: Global) -> Result<u64, AllocError>
+    ensures { IfOk result (λ size. size ≡ 4096) }
+{
+    let memory = RankMemory::new(alloc, 4096, &[0x13, 0, 0, 0], &[])?;
+    Ok(memory.size())
+}
+
+/// A load of what isn't there is trap 5, one of a misaligned address trap 4.
+pub fn load_traps_have_their_numbers() -> (u8, u8)
+    ensures access { result.0 ≡ 5 }
+    ensures misaligned { result.1 ≡ 4 }
+{
+    (Cause::LoadAccess.number(), Cause::LoadMisaligned.number())
+}
