@@ -40,7 +40,11 @@ pub struct LockedDesk<'a> {
 }
 
 impl<'a, R: Wait> Desk<R> for LockedDesk<'a> {
-    ghost gives = { λ before rank hart clock request told after. Unit {0} };
+    ghost use Rattle.cl_journal.specs.Journal.{Journal};
+    ghost use Rattle.cl_rank.specs.Turns.{Answered};
+
+    // some journal before and one after answered just this call of just this rank and hart
+    ghost gives = { λ before rank hart clock request told after. (j : Journal) × (k : Journal) × Answered j rank hart clock request told k };
 
     fn call(
         &mut self,

@@ -15,6 +15,3 @@ pub use cl_trace::{Bare, Cursor, Event, Kind, Seen, Trace};
 pub use desks::{Desk, LockedDesk, PlainDesk};
 pub use ranks::Rank;
 pub use stops::Stop;
-
-#[cfg(test)]
-mod tests;

@@ -19,8 +19,8 @@ use Rattle.cl_run.specs.declared.driver.Driver.{Driver}
 use Rattle.cl_run.specs.declared.driver.Seat.{Seat}
 use Rattle.cl_run.specs.declared.plans.Plan.{Plan}
 use Rattle.cl_run.specs.declared.records.Record.{Record}
-use Rattle.cl_run.specs.declared.steps.Step.{Step}
-use Rattle.cl_run.specs.Cluster.{IsRun, loaded_cluster}
+use Rattle.cl_machine.specs.declared.steps.Step.{Step}
+use Rattle.cl_machine.specs.Cluster.{IsRun, loaded_cluster}
 use Rattle.cl_run.specs.Driver.{AreFresh, AreSeated, IsRecordOf, IsStoppedAt, Station, station, stations}
 use Rattle.cl_run.specs.Plans.{ArePlans, IsPlan}
 use Rattle.cl_run.specs.Runs.{HasCause, IsOneRun, IsRankOf, end_of, is_hub}
@@ -136,6 +136,7 @@ module _ (image : ImageParts) (plans : List Plan) (order : List ℕ) (are : AreP
           run = subst (IsRun (loaded_cluster image) w.steps) ends w.run;
           none_idles = w.none_idles;
           round = goes_round order (IsStoppedAt (stations driver)) 0 (map (λ (e : Step). e.rank) w.steps) slot w.round;
+          plans_count = are.one_each;
           traces_count = ap (λ (xs : List TraceView). length xs) is.traces_are ∙ length-map driver.seats.items (λ (seat : Seat). seat.rank.trace) ∙ count;
           ranks_count = ap (λ (xs : List RankState). length xs) is.ranks_are ∙ length-map driver.seats.items (λ (seat : Seat). seat.rank.state) ∙ count;
           stops_count = sym (length-map left.stops.items (λ (stop : Stop). Some stop)) ∙ ap (λ (xs : List (Option Stop)). length xs) is.stops_are

@@ -2,7 +2,7 @@
 use Rattle.std.specs.Prelude.{ℕ, ◌≡◌, ◌<◌, ◌≤◌, ◌+◌, ◌^◌, ◌⊎◌, false, cond, List, [], ◌∷◌, ◌++◌, length, map, eqb, Option, None}
 use Rattle.std.specs.List.{cons_option}
 use Rattle.std.proofs.lemmas.Bool.{eq-eqb}
-use Rattle.cl_run.proofs.Lists.{filter-keeps, filter-skips}
+use Rattle.cl_machine.proofs.Lists.{filter-keeps, filter-skips}
 use Rattle.std.proofs.Common.{refl, sym, ap, ◌∙◌, subst, arith}
 use Rattle.std.proofs.lemmas.List.{append-nil}
 use mathlib.Core.Logic.{inl, inr}
@@ -18,10 +18,10 @@ use Rattle.cl_state.specs.Rank.{Rank}
 use Rattle.cl_rank.specs.Deeds.{Act, Answers, Deed, event_of, kind_of, request_of}
 use Rattle.cl_rank.specs.Turns.{Answered, AsksNoBox, Tells, TellsAct}
 use Rattle.cl_rank.proofs.Boxless.{boxless}
-use Rattle.cl_run.specs.Boxes.{Box}
-use Rattle.cl_run.specs.Journal.{Enters, reply_in}
-use Rattle.cl_run.specs.Parts.{PartsMove, PartsMoveAt}
-use Rattle.cl_run.specs.Product.{BoxMoves, JournalMoves, box_at, entry_of}
+use Rattle.cl_machine.specs.Boxes.{Box}
+use Rattle.cl_machine.specs.Journal.{Enters, reply_in}
+use Rattle.cl_machine.specs.Parts.{PartsMove, PartsMoveAt}
+use Rattle.cl_machine.specs.Product.{BoxMoves, JournalMoves, box_at, entry_of}
 use Rattle.cl_run.specs.Runs.{is_hub}
 use Rattle.cl_run.specs.UnderWay.{shown}
 

@@ -1,4 +1,3 @@
-pub mod Lists
 pub mod Rounds
 pub mod Hubs
 pub mod Stations
@@ -6,15 +5,3 @@ pub mod UnderWay
 pub mod Seats
 pub mod Slots
 pub mod Ends
-pub mod Orders
-pub mod Products
-pub mod Picks
-pub mod Tables
-pub mod Goes
-pub mod Lifts
-pub mod Meshes
-pub mod Views
-pub mod Law
-pub mod Verdicts
-pub mod Worked
-pub mod Witness

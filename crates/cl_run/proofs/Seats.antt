@@ -1,7 +1,7 @@
 -- Seats by their numbers, and their stops.
-use Rattle.std.specs.Prelude.{ℕ, ◌≡◌, ◌+◌, true, false, List, [], ◌∷◌, ◌++◌, length, map, slice_get, Option, None, Some, option_map, is_some}
-use Rattle.std.proofs.Common.{refl, sym, ap, ◌∙◌, subst, add-one}
-use Rattle.std.proofs.lemmas.List.{map-append}
+use Rattle.std.specs.Prelude.{ℕ, ◌≡◌, ◌<◌, ◌+◌, true, false, List, [], ◌∷◌, ◌++◌, length, map, slice_get, Option, None, Some, option_map, is_some}
+use Rattle.std.proofs.Common.{refl, sym, ap, ◌∙◌, subst, add-one, arith}
+use Rattle.std.proofs.lemmas.List.{length-append, length-map, map-append}
 use Rattle.std.proofs.lemmas.Option.{same_Some, slice_get-map}
 use mathlib.Core.Logic.{inl, inr}
 use Rattle.rv_image.specs.declared.images.ImageParts.{ImageParts}
@@ -46,3 +46,11 @@ fresh_more image plans n seats after seat plan e count planned before own q p x 
           let plan_is : plan ≡ p = same_Some plan p (sym planned ∙ ap (slice_get plans) place ∙ at_plan) in
           subst (λ k. IsFresh image k p x) place (subst (λ y. IsFresh image n y x) plan_is (subst (IsFresh image n plan) new.1 own))
     ]
+
+-- what was made of the seats so far is less than there are seats, where one follows
+pub fewer : {X Y : Type 0} (f : X → Y) (made : List Y) (yielded rest all : List X) (next : X) (after : List X)
+    → made ≡ map f yielded → yielded ++ rest ≡ all → rest ≡ next ∷ after → length made < length all
+fewer f made yielded rest all next after is whole behind =
+    let a : length made ≡ length yielded = ap length is ∙ length-map yielded f in
+    let b : length yielded + length rest ≡ length all = sym (length-append yielded rest) ∙ ap length whole in
+    omega (arith, a, b, ap length behind)

@@ -19,7 +19,7 @@ use Rattle.cl_run.specs.declared.plans.Plan.{Plan}
 use Rattle.cl_run.specs.Driver.{AreSeated, GoesOn, IsSeated, IsStoppedAt, SlotGoes, Station, left, left_of, station, stations}
 use Rattle.cl_run.specs.Plans.{in_slot}
 use Rattle.cl_run.specs.UnderWay.{IsUnderWay}
-use Rattle.cl_run.proofs.Lists.{get-set_same, get-set_other}
+use Rattle.cl_machine.proofs.Lists.{get-set_same, get-set_other}
 use Rattle.cl_run.proofs.Seats.{station_at}
 use Rattle.cl_run.proofs.UnderWay.{slot_passed, slot_stopped, slot_taken}
 

@@ -22,15 +22,15 @@ use Rattle.cl_state.specs.Asked.{asked}
 use Rattle.cl_rank.specs.Turns.{Answered, IsActive, IsCause, Refuses, StopHolds, stop_of}
 use Rattle.cl_rank.specs.declared.stops.Stop.{Stop}
 use Rattle.cl_run.specs.declared.plans.Plan.{Plan}
-use Rattle.cl_run.specs.declared.steps.Step.{Step}
+use Rattle.cl_machine.specs.declared.steps.Step.{Step}
 use Rattle.cl_run.specs.Driver.{Station, Stops, TakesTurn}
-use Rattle.cl_run.specs.Order.{of_rank}
+use Rattle.cl_machine.specs.Order.{of_rank}
 use Rattle.cl_run.specs.Plans.{in_slot}
-use Rattle.cl_run.specs.Product.{entry_of, step_of}
+use Rattle.cl_machine.specs.Product.{entry_of, step_of}
 use Rattle.cl_run.specs.Runs.{AsksHub, HasCause, HasTurn, hub_calls, is_hub, step_by}
 use Rattle.cl_run.specs.UnderWay.{IsSoFar}
 use Rattle.cl_run.proofs.Hubs.{HubPart, hub_part, listed}
-use Rattle.cl_run.proofs.Lists.{filter-keeps, filter-skips}
+use Rattle.cl_machine.proofs.Lists.{filter-keeps, filter-skips}
 
 -- an element of a list with one more
 pub last_or_before : {X : Type 0} (xs : List X) (x y : X) (n : ℕ) → slice_get (xs ++ x ∷ []) n ≡ Some y → (slice_get xs n ≡ Some y) ⊎ ((n ≡ length xs) × (x ≡ y))

@@ -11,17 +11,17 @@ use Rattle.cl_rank.specs.Turns.{AllStopped}
 use Rattle.cl_state.specs.Rank.{Rank}
 use Rattle.cl_run.specs.Runs.{NoneIdles}
 use Rattle.cl_run.specs.declared.plans.Plan.{Plan}
-use Rattle.cl_run.specs.declared.steps.Step.{Step}
-use Rattle.cl_run.specs.Cluster.{Cluster, IsRun, IsStep, loaded_cluster}
+use Rattle.cl_machine.specs.declared.steps.Step.{Step}
+use Rattle.cl_machine.specs.Cluster.{Cluster, IsRun, IsStep, loaded_cluster}
 use Rattle.cl_run.specs.Driver.{IsStoppedAt, Station, Stops, TakesTurn}
 use Rattle.cl_run.specs.Plans.{in_slot}
-use Rattle.cl_run.specs.Product.{step_of}
+use Rattle.cl_machine.specs.Product.{step_of}
 use Rattle.cl_run.specs.UnderWay.{IsSoFar, IsUnderWay, Round, cluster_of, shown}
 use Rattle.cl_run.proofs.Hubs.{HubPart, hub_part}
-use Rattle.cl_run.proofs.Lists.{get-set_same, get-set_other}
+use Rattle.cl_machine.proofs.Lists.{get-set_same, get-set_other}
 use Rattle.cl_run.proofs.Rounds.{more_done, one_turn_more, passed_over}
 use Rattle.cl_run.proofs.Stations.{after_others_turn, after_stop, after_turn}
-use Rattle.cl_run.proofs.Tables.{case_of_deed, run_more, set-same, step_once}
+use Rattle.cl_machine.proofs.Tables.{case_of_deed, run_more, set-same, step_once}
 
 none_idles_more : (es : List Step) (old mid : Cluster) (e : Step) → NoneIdles old es → IsRun old es mid
     → ((rank : Rank) → slice_get mid.ranks e.rank ≡ Some rank → ¬ (AllStopped rank)) → NoneIdles old (es ++ e ∷ [])

@@ -1,14 +1,15 @@
 -- The driver of a run on one thread: what it keeps of each rank, and what one slot of the order does to that.
-use Rattle.std.specs.Prelude.{ℕ, ◌≡◌, ◌<◌, ◌+◌, ◌%◌, List, [], ◌∷◌, ◌++◌, length, slice_index, ◌-◌, sum_by, Option, None, Some, Bool, true, false, All, ◌⊎◌, map, slice_get, slice_set, vec_len, is_some, if◌then◌else◌}
+use Rattle.std.specs.Prelude.{ℕ, ◌≡◌, ◌<◌, ◌+◌, ◌%◌, List, [], ◌∷◌, ◌++◌, length, slice_index, ◌-◌, sum_by, Option, None, Some, Bool, true, false, All, ◌⊎◌, map, slice_get, slice_set, vec_capacity, vec_len, is_some, if◌then◌else◌, ◌≤◌}
 use Rattle.cl_journal.specs.Journal.{Journal}
 use Rattle.cl_rank.specs.Deeds.{Deed, RankMoves, event_of}
 use Rattle.cl_rank.specs.Turns.{AllStopped, Answered, StopHolds, Tells}
 use Rattle.cl_rank.specs.declared.stops.Stop.{Stop}
-use Rattle.cl_state.specs.Rank.{Rank, loaded}
+use Rattle.cl_state.specs.Rank.{Rank, below, loaded}
 use Rattle.rv_image.specs.declared.images.ImageParts.{ImageParts}
 use Rattle.cl_trace.specs.declared.events.Event.{Event}
 use Rattle.cl_state.specs.Room.{rank_of}
 use Rattle.cl_run.specs.declared.driver.Driver.{Driver}
+use Rattle.cl_run.specs.declared.driver.Lists.{Lists}
 use Rattle.cl_run.specs.declared.driver.Seat.{Seat}
 use Rattle.cl_run.specs.declared.plans.Plan.{Plan}
 use Rattle.cl_run.specs.declared.records.Record.{Record}
@@ -109,3 +110,21 @@ pub record IsRecordOf (driver : Driver) (left_behind : Record) : Type 0 where
   pub ranks_are : left_behind.ranks.items ≡ map (λ (seat : Seat). seat.rank.state) driver.seats.items
   pub stops_are : map Some left_behind.stops.items ≡ map (λ (seat : Seat). seat.stop) driver.seats.items
   pub journal_is : left_behind.journal.items ≡ driver.hub.entries
+
+-- the lists of a record are empty, with room for so many ranks
+pub record HaveRoom (count : ℕ) (lists : Lists) : Type 0 where
+  pub traces_empty : lists.traces.items ≡ []
+  pub ranks_empty : lists.ranks.items ≡ []
+  pub stops_empty : lists.stops.items ≡ []
+  pub traces_room : count ≤ vec_capacity lists.traces
+  pub ranks_room : count ≤ vec_capacity lists.ranks
+  pub stops_room : count ≤ vec_capacity lists.stops
+
+-- all ranks as they are loaded, a hub that was never called, and room for what their run leaves
+pub record IsLoaded (image : ImageParts) (plans : List Plan) (driver : Driver) (lists : Lists) : Type 0 where
+  pub count_is : length driver.seats.items ≡ image.ranks
+  pub ranks_are : map (λ (seat : Seat). rank_of seat.rank.state) driver.seats.items ≡ map (loaded image) (below image.ranks)
+  pub fresh : AreFresh image plans driver.seats.items
+  pub links_are : driver.hub.links ≡ image.links
+  pub no_calls : driver.hub.entries ≡ []
+  pub room : HaveRoom (length driver.seats.items) lists

@@ -28,3 +28,9 @@ pub record ArePlans (image : ImageParts) (plans : List Plan) (order : List ℕ) 
   pub are_plans : All (IsPlan image.harts) plans
   pub is_order : IsOrder image.ranks order
   pub misses_none : MissesNone image.ranks order
+
+-- what is run: an image, the plans of its ranks and their order
+pub record Setup : Type 0 where
+  pub image : ImageParts
+  pub plans : List Plan
+  pub order : List ℕ

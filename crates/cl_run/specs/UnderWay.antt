@@ -5,15 +5,15 @@ use Rattle.rv_image.specs.declared.images.ImageParts.{ImageParts}
 use Rattle.cl_journal.specs.Journal.{Journal, clock_of, entries_by}
 use Rattle.cl_journal.specs.declared.entries.Entry.{Entry}
 use Rattle.cl_trace.specs.declared.events.Event.{Event}
-use Rattle.cl_run.specs.Cluster.{Cluster, IsRun, loaded_cluster}
+use Rattle.cl_machine.specs.Cluster.{Cluster, IsRun, loaded_cluster}
 use Rattle.cl_run.specs.Driver.{IsStoppedAt, Station}
-use Rattle.cl_run.specs.Journal.{journal_of}
-use Rattle.cl_run.specs.Journal as cluster
-use Rattle.cl_run.specs.Order.{of_rank}
+use Rattle.cl_machine.specs.Journal.{journal_of}
+use Rattle.cl_machine.specs.Journal as cluster
+use Rattle.cl_machine.specs.Order.{of_rank}
 use Rattle.cl_run.specs.Plans.{in_slot}
 use Rattle.cl_run.specs.Runs.{FollowsPlan, HasCause, NoneIdles, hub_calls, is_hub, step_by}
 use Rattle.cl_run.specs.declared.plans.Plan.{Plan}
-use Rattle.cl_run.specs.declared.steps.Step.{Step}
+use Rattle.cl_machine.specs.declared.steps.Step.{Step}
 
 -- the turns from `from` on, with all slots below `to` gone through: whoever a slot names that was passed over is done
 abbrev pub Round : List ℕ → (ℕ → Type 0) → ℕ → List ℕ → ℕ → Type 0

@@ -4,14 +4,15 @@ ghost use Rattle.std.specs.Prelude.{◌≡◌, ◌<◌, ◌+◌, ◌*◌, ◌%�
 ghost use Rattle.rv_image.specs.declared.images.ImageParts.{ImageParts};
 ghost use Rattle.cl_state.specs.Rank.{below, loaded};
 ghost use Rattle.cl_state.specs.Room.{rank_of};
-ghost use Rattle.cl_run.specs.Driver.{AreFresh, AreSeated, GoesOn, IsFresh, IsRecordOf, IsSeated, IsStoppedAt, SlotGoes, left, station, stations};
+ghost use Rattle.cl_run.specs.Driver.{AreFresh, AreSeated, GoesOn, HaveRoom, IsFresh, IsRecordOf, IsSeated, IsStoppedAt, SlotGoes, left, station, stations};
 ghost use Rattle.cl_run.specs.UnderWay.{IsUnderWay};
 ghost use Rattle.cl_run.specs.declared.driver.Seat.{Seat};
 
 use crate::plans::Plan;
 use crate::records::Record;
 use cl_journal::Hub;
-use cl_rank::{Rank, Stop};
+use cl_rank::{Rank, RankState, Stop};
+use cl_trace::Trace;
 use rv_image::Image;
 use std::alloc::{AllocError, Global};
 
@@ -30,6 +31,27 @@ pub(crate) struct Seat {
 pub(crate) struct Driver {
     pub seats: Vec<Seat>,
     pub hub: Hub,
+}
+
+/// The lists of a record, with room for what the ranks leave.
+#[derive(Drop)]
+pub(crate) struct Lists {
+    pub traces: Vec<Trace>,
+    pub ranks: Vec<RankState>,
+    pub stops: Vec<Stop>,
+}
+
+impl Lists {
+    /// Empty lists, with room for so many ranks.
+    pub(crate) fn with_room(alloc: Global, count: usize) -> Result<Lists, AllocError>
+        ensures { IfOk result (HaveRoom count) }
+    {
+        Ok(Lists {
+            traces: Vec::with_capacity(alloc, count)?,
+            ranks: Vec::with_capacity(alloc, count)?,
+            stops: Vec::with_capacity(alloc, count)?,
+        })
+    }
 }
 
 /// The place behind this one, where so many places are used round and round.
@@ -149,15 +171,18 @@ impl Driver {
         }
     }
 
-    /// What the run left.
-    pub(crate) fn into_record(self, alloc: Global) -> Result<Record, AllocError>
-        requires { All (λ seat. IsTrue (is_some seat.stop)) self.seats.items }
-        ensures { IfOk result (IsRecordOf self) }
+    /// What the run left, in lists that have room for it.
+    pub(crate) fn into_record(self, lists: Lists) -> Record
+        requires stopped { All (λ seat. IsTrue (is_some seat.stop)) self.seats.items }
+        requires room { HaveRoom (length self.seats.items) lists }
+        ensures { IsRecordOf self result }
     {
         let Driver { seats, hub } = self;
-        let mut traces = Vec::new(alloc);
-        let mut ranks = Vec::new(alloc);
-        let mut stops = Vec::new(alloc);
+        let Lists {
+            mut traces,
+            mut ranks,
+            mut stops,
+        } = lists;
         for seat in seats {
             let Seat {
                 rank,
@@ -166,16 +191,16 @@ impl Driver {
             } = seat;
             let (state, trace) = rank.into_parts();
             let Some(stop) = stop else { unreachable!() };
-            traces.push(trace)?;
-            ranks.push(state)?;
-            stops.push(stop)?;
+            traces.push_reserved(trace);
+            ranks.push_reserved(state);
+            stops.push_reserved(stop);
         }
         let (_, journal) = hub.into_parts();
-        Ok(Record {
+        Record {
             traces,
             journal,
             ranks,
             stops,
-        })
+        }
     }
 }

@@ -1,0 +1,13 @@
+pub mod Lists
+pub mod Orders
+pub mod Products
+pub mod Picks
+pub mod Tables
+pub mod Goes
+pub mod Lifts
+pub mod Meshes
+pub mod Views
+pub mod Law
+pub mod Verdicts
+pub mod Worked
+pub mod Witness

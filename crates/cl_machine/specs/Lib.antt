@@ -1,0 +1,10 @@
+pub mod Order
+pub mod Merge
+pub mod Journal
+pub mod Boxes
+pub mod Cluster
+pub mod Parts
+pub mod Product
+pub mod Joined
+pub mod Laws
+pub mod Rows

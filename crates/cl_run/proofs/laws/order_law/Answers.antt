@@ -1,5 +1,0 @@
-use Rattle.cl_run.proofs.Law as law
-use Rattle.cl_run.proofs.laws.order_law.Goals as goal
-
-pub returns : goal.returns
-returns c = law.order_law

@@ -1,5 +1,0 @@
-use Rattle.cl_run.proofs.Verdicts as verdicts
-use Rattle.cl_run.proofs.laws.step_by_step_law.Goals as goal
-
-pub returns : goal.returns
-returns c = verdicts.step_by_step

@@ -1,0 +1,25 @@
+use Rattle.std.proofs.Common.{subst}
+use Rattle.cl_run.specs.Plans.{Setup}
+use Rattle.cl_run.specs.Runs.{IsOneRun}
+use Rattle.cl_run.proofs.Ends.{all_stopped, one_run, seated_at_start, under_way_at_start}
+use Rattle.cl_run.proofs.loading.Loaded.run.Goals as goal
+
+pub run-requires-clause-seated : goal.run-requires-clause-seated
+run-requires-clause-seated c =
+    let l = c.self.inside in
+    let loaded = c.self.invariant.1 in
+    seated_at_start _ _ _ c.self.invariant.0 l.driver loaded.count_is loaded.fresh
+
+pub into_record-requires-clause-stopped : goal.into_record-requires-clause-stopped
+into_record-requires-clause-stopped c =
+    all_stopped _ _ _ c.self.invariant.0 c.run.new.self c.run.ensures.seated c.run.ensures.done
+
+pub returns-clause-run : goal.returns-clause-run
+returns-clause-run c =
+    let l = c.self.inside in
+    let are = c.self.invariant.0 in
+    let loaded = c.self.invariant.1 in
+    let start = under_way_at_start l.image.now l.plans.now l.order.now are l.driver loaded.ranks_are loaded.fresh loaded.links_are loaded.no_calls in
+    let end = c.run.ensures.goes l.image.now start in
+    subst (λ (s : Setup). IsOneRun s.image s.plans s.order c.into_record.result) c.self.view_is
+    (one_run l.image.now l.plans.now l.order.now are c.run.new.self c.into_record.result c.into_record.ensures end.0 end.1 c.run.ensures.seated)

@@ -1,0 +1,92 @@
+//! Ranks that are loaded, and their run.
+
+ghost use Rattle.std.specs.Prelude.{◌≡◌, ◌↔◌, Err, IfOk, length};
+ghost use Rattle.cl_run.specs.Driver.{IsLoaded};
+ghost use Rattle.cl_run.specs.Plans.{ArePlans};
+ghost use Rattle.cl_run.specs.Runs.{IsOneRun};
+
+use crate::driver::{Driver, Lists};
+use crate::plans::{Plan, are_plans};
+use crate::records::{Record, RunFault};
+use rv_image::Image;
+use std::alloc::{AllocError, Global};
+use std::marker::Model;
+
+/// All ranks of an image as they are loaded, a hub that was never called, and the room for what their run leaves. So nothing
+/// but the ranks' own turns asks for memory from here on, and a run that is loaded always leaves a record.
+///
+/// Contracts see what is run: the image, the plans and the order.
+#[derive(Drop)]
+pub struct Loaded<'a> {
+    image: &'a Image,
+    plans: &'a [Plan],
+    order: &'a [u8],
+    driver: Driver,
+    lists: Lists,
+}
+
+impl<'a> Model for Loaded<'a> {
+    ghost use Rattle.cl_run.specs.Driver.{IsLoaded};
+    ghost use Rattle.cl_run.specs.Plans.{ArePlans, Setup};
+
+    ghost Value = { Setup };
+
+    ghost view = { λ l. record { image = l.image.now; plans = l.plans.now; order = l.order.now } };
+
+    ghost invariant = { λ l. ArePlans l.image.now l.plans.now l.order.now × IsLoaded l.image.now l.plans.now l.driver l.lists };
+}
+
+fn load_all(alloc: Global, image: &Image, plans: &[Plan]) -> Result<(Driver, Lists), AllocError>
+    requires { length plans.now ≡ image.now.ranks }
+    ensures { IfOk result (λ loaded. IsLoaded image.now plans.now loaded.0 loaded.1) }
+{
+    let driver = Driver::load(alloc, image, plans)?;
+    let lists = Lists::with_room(alloc, plans.len())?;
+    Ok((driver, lists))
+}
+
+impl<'a> Loaded<'a> {
+    /// Loads the ranks of an image, to be run by these plans with the ranks in this order.
+    ///
+    /// Refusals: Plans where a plan or the order is wrong (and just there), Memory.
+    pub fn new(
+        alloc: Global,
+        image: &'a Image,
+        plans: &'a [Plan],
+        order: &'a [u8],
+    ) -> Result<Loaded<'a>, RunFault>
+        ensures loaded { IfOk result (λ loaded. loaded ≡ record { image = image.now; plans = plans.now; order = order.now }) }
+        ensures plans { (result ≡ Err RunFault.Plans) ↔ ¬ ArePlans image.now plans.now order.now }
+    {
+        if !are_plans(image, plans, order) {
+            return Err(RunFault::Plans);
+        }
+        let Ok((driver, lists)) = load_all(alloc, image, plans) else {
+            return Err(RunFault::Memory);
+        };
+        Ok(Loaded {
+            image,
+            plans,
+            order,
+            driver,
+            lists,
+        })
+    }
+
+    /// Runs all ranks, each by its plan, until each is stopped. A rank that is refused memory in a turn stops, and the record
+    /// says so: the run itself is never refused.
+    pub fn run(self) -> Record
+        ensures plans { ArePlans self.entry.image self.entry.plans self.entry.order }
+        ensures run { IsOneRun self.entry.image self.entry.plans self.entry.order result }
+    {
+        let Loaded {
+            image: _,
+            plans,
+            order,
+            mut driver,
+            lists,
+        } = self;
+        driver.run(plans, order);
+        driver.into_record(lists)
+    }
+}
