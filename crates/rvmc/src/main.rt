@@ -1,16 +1,7 @@
 //! rvmc: an emulator of a small cluster of RISC-V machines that pass messages.
 #![tactic(auto)]
 
-mod answers;
-mod faults;
-mod input;
-mod listing;
-mod plans;
-mod report;
-#[cfg(test)]
-mod tests;
-mod tool;
-
+use rvmc_tool::tool_plain;
 use std::io;
 use std::process::ExitCode;
 
@@ -21,7 +12,7 @@ fn run(rt: &HostRuntime) -> io::Result<u8> {
     for word in &words {
         texts.push(word.as_str())?;
     }
-    Ok(tool::tool_plain(
+    Ok(tool_plain(
         rt.alloc(),
         &texts,
         &mut rt.stdin(),

@@ -14,9 +14,9 @@ use Rattle.clap.specs.declared.parser.matches.ArgMatches.TheViews.{out-ArgMatche
 use Rattle.clap.proofs.OnLiterals.{clap_on_literals}
 use Rattle.rvmc_cli.specs.App.{rvmc_app}
 use Rattle.rvmc_cli.specs.Meaning.{Finds, IsRefusal, IsTold, Parses, command_in, faults_in, is_request, line_in, meaning_of, refusals_of}
-use Rattle.rvmc_cli.specs.declared.parsing.ParseFault.{ParseFault}
-use Rattle.rvmc_cli.specs.declared.parsing.ParseFault.TheVariants as parse
-use Rattle.rvmc_cli.specs.declared.parsing.CommandLine.{CommandLine}
+use Rattle.rvmc_line.specs.declared.line.ParseFault.{ParseFault}
+use Rattle.rvmc_line.specs.declared.line.ParseFault.TheVariants as parse
+use Rattle.rvmc_line.specs.declared.line.CommandLine.{CommandLine}
 use Rattle.rvmc_cli.specs.declared.parsing.Wrong.{Wrong}
 use Rattle.rvmc_cli.specs.declared.parsing.Wrong.TheVariants as wrong
 

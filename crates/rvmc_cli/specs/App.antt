@@ -1,5 +1,6 @@
 -- The command line as data: what clap reads of each command, option and flag.
-use Rattle.std.specs.Prelude.{◌≡◌, List, [], ◌∷◌, Some, true, false, codes}
+use Rattle.std.specs.Prelude.{◌≡◌, List, [], ◌∷◌, Some, true, false, codes, if◌then◌else◌}
+use Rattle.std.specs.Str.{bytes_eq}
 use Rattle.clap.specs.Words.{App, Rule, Text, app_of, new_app, new_rule, with_rule, with_subcommand}
 use Rattle.clap.specs.declared.builder.command.Command.{Command}
 use Rattle.clap.specs.declared.builder.command.Command.TheViews.{out-Command}
@@ -37,7 +38,7 @@ one_app =
     with_rules (new_app (codes "one"))
     (flag (codes "source") ∷ option (codes "budget") ∷ option (codes "plan") ∷ option (codes "order") ∷ [])
 
--- `rvmc`, before its commands: `--help` and `--version` are clap's own
+-- `rvmc`, before its commands: `--help`, `--version` and the command `help` are clap's own
 abbrev pub top_app : App
 top_app =
     let named = new_app (codes "rvmc") in
@@ -45,7 +46,6 @@ top_app =
       top = record named.top {
         no_binary_name = true;
         subcommand_required = true;
-        disable_help_subcommand = true;
         has_version = true;
       };
     }
@@ -53,6 +53,10 @@ top_app =
 -- the whole command line, one row a command
 abbrev pub rvmc_app : App
 rvmc_app = with_commands top_app (asm_app ∷ dis_app ∷ one_app ∷ [])
+
+-- the command of this name by itself; any other name stands for the whole command line
+abbrev pub app_named : Text → App
+app_named name = if bytes_eq name (codes "one") then one_app else rvmc_app
 
 -- clap's command is built from these rules, and none of its arguments is global
 pub record StandsFor (rules : App) (command : Command) : Type 0 where

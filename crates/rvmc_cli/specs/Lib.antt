@@ -1,3 +1,2 @@
 pub mod App
-pub mod Number
 pub mod Meaning

@@ -8,11 +8,11 @@ use Rattle.clap.specs.Kinds.{IsAmong, Kinds, or_else}
 use Rattle.clap.specs.declared.error.kind.ErrorKind.{ErrorKind}
 use Rattle.clap.specs.declared.error.kind.ErrorKind.TheVariants as kind
 use Rattle.rvmc_cli.specs.App.{rvmc_app}
-use Rattle.rvmc_cli.specs.Number.{number_in, numbers_in}
-use Rattle.rvmc_cli.specs.declared.parsing.CommandLine.{CommandLine}
-use Rattle.rvmc_cli.specs.declared.parsing.CommandLine.TheVariants.{Asm, Dis, One}
-use Rattle.rvmc_cli.specs.declared.parsing.ParseFault.{ParseFault}
-use Rattle.rvmc_cli.specs.declared.parsing.ParseFault.TheVariants as parse
+use Rattle.rvmc_line.specs.Number.{number_in, numbers_in}
+use Rattle.rvmc_line.specs.declared.line.CommandLine.{CommandLine}
+use Rattle.rvmc_line.specs.declared.line.CommandLine.TheVariants.{Asm, Dis, One}
+use Rattle.rvmc_line.specs.declared.line.ParseFault.{ParseFault}
+use Rattle.rvmc_line.specs.declared.line.ParseFault.TheVariants as parse
 use Rattle.rvmc_cli.specs.declared.parsing.Wrong.{Wrong}
 use Rattle.rvmc_cli.specs.declared.parsing.Wrong.TheVariants as wrong
 
@@ -102,6 +102,12 @@ abbrev pub Finds : {X : Type 0} → Option X → Result X Wrong → Type 0
 Finds meant (Ok found) = meant ≡ Some found
 Finds meant (Err wrong.Memory) = ⊤
 Finds meant (Err other) = meant ≡ None
+
+-- the same where no memory is taken: nothing else refuses it
+abbrev pub Reads : {X : Type 0} → Option X → Result X Wrong → Type 0
+Reads meant (Ok found) = meant ≡ Some found
+Reads meant (Err wrong.Memory) = ⊥
+Reads meant (Err other) = meant ≡ None
 
 -- what is told of words that clap took, whose value isn't one
 abbrev pub IsTold : Wrong → ParseFault → Type 0

@@ -2,7 +2,7 @@
 
 ghost use Rattle.std.specs.Prelude.{◌≡◌, IfOk, false};
 ghost use Rattle.clap.specs.Words.{new_app, rule_of};
-ghost use Rattle.rvmc_cli.specs.App.{StandsFor, asm_app, dis_app, flag, one_app, option, rvmc_app, top_app};
+ghost use Rattle.rvmc_cli.specs.App.{StandsFor, app_named, asm_app, dis_app, flag, one_app, option, rvmc_app, top_app};
 
 use clap::{Arg, ArgAction, Command};
 use std::alloc::{AllocError, Global};
@@ -137,7 +137,6 @@ fn top<'a>(alloc: Global) -> Result<Command<'a>, AllocError>
         .version("0.1.0")
         .no_binary_name(true)
         .subcommand_required(true)
-        .disable_help_subcommand(true)
         .bin_name("rvmc")
 }
 
@@ -149,4 +148,15 @@ pub fn rvmc<'a>(alloc: Global) -> Result<Command<'a>, AllocError>
         .subcommand(asm(alloc))?
         .subcommand(dis(alloc))?
         .subcommand(one(alloc)?)
+}
+
+/// The command of this name by itself, whose usage a refusal shows; any other name stands for the whole command line.
+pub fn named<'a>(alloc: Global, name: &str) -> Result<Command<'a>, AllocError>
+    ensures { IfOk result (StandsFor (app_named name.now)) }
+{
+    if name == "one" {
+        one(alloc)?.bin_name("rvmc one")
+    } else {
+        rvmc(alloc)
+    }
 }

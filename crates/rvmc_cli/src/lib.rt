@@ -2,12 +2,6 @@
 #![tactic(auto)]
 
 mod command;
-mod list;
-mod number;
 mod parsing;
 
-pub use list::Numbers;
-pub use parsing::{CommandLine, ParseFault, parse};
-
-#[cfg(test)]
-mod tests;
+pub use parsing::parse;

@@ -1,57 +1,18 @@
 //! From words to a command line.
 
-ghost use Rattle.std.specs.Prelude.{◌≡◌, IfOk, map, option_map};
+ghost use Rattle.std.specs.Prelude.{◌≡◌, IfOk, None, Ok, [], map, option_map, true};
 ghost use Rattle.clap.specs.Walk.{rows_of};
 ghost use Rattle.clap.specs.Words.{first_of, found_of, kind_of};
-ghost use Rattle.rvmc_cli.specs.Meaning.{Finds, IsRefusal, IsTold, Parses, budget_in, flag_in, line_in, list_option, number_option, one_in};
-ghost use Rattle.rvmc_cli.specs.declared.parsing.ParseFault.TheVariants.{Memory};
+ghost use Rattle.rvmc_cli.specs.Meaning.{Finds, IsRefusal, IsTold, Parses, Reads, budget_in, flag_in, line_in, list_option, number_option, one_in};
 ghost use Rattle.rvmc_cli.specs.declared.parsing.Wrong.TheVariants as wrong;
+ghost use Rattle.rvmc_line.specs.declared.line.CommandLine.TheVariants.{One};
 
 use crate::command;
-use crate::list::{Numbers, numbers_in};
-use crate::number::number_in;
 use clap::error::ErrorKind;
 use clap::{ArgMatches, Command};
+use rvmc_line::{CommandLine, Numbers, ParseFault, number_in, numbers_in};
 use std::alloc::{AllocError, Global};
 use std::fmt;
-
-/// What rvmc is asked to do.
-#[derive(Debug, Drop, PartialEq, Eq)]
-pub enum CommandLine {
-    /// A source is read, and its image is written.
-    Asm,
-    /// An image is read, and its listing is written.
-    Dis,
-    /// An image, or with `source` a source, is read and run on one thread, each rank for at most
-    /// `budget` turns (1 to 16,777,216), and the report is written. The ranks take turns in the order
-    /// of `order`, and each rank's harts in that of `plan`, round and round; without them all take
-    /// turns in order. Whether a rank or a hart is there is not known here.
-    One {
-        source: bool,
-        budget: u64,
-        plan: Option<Numbers>,
-        order: Option<Numbers>,
-    },
-}
-
-/// Why there is no command line.
-#[derive(Debug, Drop)]
-pub enum ParseFault {
-    /// Memory was refused.
-    Memory,
-    /// Help or the version was asked for: its text, for standard output.
-    Asked(String),
-    /// The words aren't taken: why not and what is, for standard error.
-    Refused(String),
-}
-
-impl From<AllocError> for ParseFault {
-    ghost from_gives = { λ _ e. e ≡ Memory };
-
-    fn from(_e: AllocError) -> ParseFault {
-        ParseFault::Memory
-    }
-}
 
 /// Why what clap found is no command line.
 #[derive(Clone, Copy, Debug)]
@@ -129,7 +90,7 @@ fn number<'a>(
     most: u64,
     default: u64,
 ) -> Result<u64, Wrong<'a>>
-    ensures { Finds (number_option option.entry.now least most default (rows_of (found_of matches.now))) result }
+    ensures { Reads (number_option option.entry.now least most default (rows_of (found_of matches.now))) result }
 {
     let Some(text) = text(matches, option) else {
         return Ok(default);
@@ -146,7 +107,7 @@ fn number<'a>(
 }
 
 fn budget<'a>(matches: &ArgMatches<'a>) -> Result<u64, Wrong<'a>>
-    ensures { Finds (budget_in (rows_of (found_of matches.now))) result }
+    ensures { Reads (budget_in (rows_of (found_of matches.now))) result }
 {
     number(matches, "budget", 1, 16_777_216, 1_000_000)
 }
@@ -213,7 +174,7 @@ fn shown(alloc: Global, error: clap::Error) -> ParseFault
     }
 }
 
-/// A refusal of our own, in clap's form, with the usage below it; or that memory was refused.
+/// A refusal of our own, in clap's form, with the command's usage below it; or that memory was refused.
 fn refused(
     alloc: Global,
     command: &mut Command<'_>,
@@ -233,9 +194,10 @@ fn refused(
 ///
 /// `Asked` comes where the words ask for help or the version, `Refused` where clap doesn't take them,
 /// a number is out of its range or a list is none, and `Memory` where memory was refused, whatever the
-/// words.
+/// words, unless there are none.
 pub fn parse<'a>(alloc: Global, words: &'a [&'a str]) -> Result<CommandLine, ParseFault>
-    ensures { Parses (map (λ w. w.now) words.entry.now) result }
+    ensures parsed { Parses (map (λ w. w.now) words.entry.now) result }
+    ensures none { words.entry.now ≡ [] → result ≡ Ok (One true 1000000 None None) }
 {
     if words.is_empty() {
         return Ok(CommandLine::One {
@@ -257,6 +219,9 @@ pub fn parse<'a>(alloc: Global, words: &'a [&'a str]) -> Result<CommandLine, Par
     };
     match line(alloc, name, found) {
         Ok(line) => Ok(line),
-        Err(wrong) => Err(refused(alloc, &mut command, wrong)?),
+        Err(wrong) => {
+            let mut used = command::named(alloc, name)?;
+            Err(refused(alloc, &mut used, wrong)?)
+        }
     }
 }

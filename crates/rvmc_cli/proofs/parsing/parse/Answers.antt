@@ -4,15 +4,15 @@ use Rattle.rvmc_cli.specs.Meaning.{faults_in}
 use Rattle.rvmc_cli.proofs.FromClap.{command_is, faults_are, has_matches, is_exact, met, nonempty, refused_words, taken, texts, told}
 use Rattle.rvmc_cli.proofs.parsing.parse.Goals as goal
 
-pub returns-in-Err : goal.returns-in-Err
-returns-in-Err c =
+pub returns-in-Err-clause-parsed : goal.returns-in-Err-clause-parsed
+returns-in-Err-clause-parsed c =
     let ws = c.args.words.now in
     let app = c.in_ok-command.ensures.app in
     let some = nonempty (length ws) (sym c.is_empty.ensures ∙ c.if-is_empty.false) in
     refused_words ws c.in-Err.error _ _ some app c.shown.ensures (c.in-Err.ensures.kinds (ap is_simple_and_free app ∙ is_exact))
 
-pub returns-in-Ok-line : goal.returns-in-Ok-line
-returns-in-Ok-line c =
+pub returns-in-Ok-line-clause-parsed : goal.returns-in-Ok-line-clause-parsed
+returns-in-Ok-line-clause-parsed c =
     let ws = c.args.words.now in
     let app = c.in_ok-command.ensures.app in
     let some = nonempty (length ws) (sym c.is_empty.ensures ∙ c.if-is_empty.false) in
@@ -21,8 +21,8 @@ returns-in-Ok-line c =
     let both = met c.in-Ok.matches c.in-Some.name.now (rows_of (found_of c.in-Some.found.now)) c.in-Some.ensures.name c.in-Some.ensures.rows in
     taken ws c.in-Some.name.now (rows_of (found_of c.in-Some.found.now)) some none (sym found ∙ both) ∙ c.in-Ok-line.ensures
 
-pub returns : goal.returns
-returns c =
+pub returns-clause-parsed : goal.returns-clause-parsed
+returns-clause-parsed c =
     let ws = c.args.words.now in
     let app = c.in_ok-command.ensures.app in
     let some = nonempty (length ws) (sym c.is_empty.ensures ∙ c.if-is_empty.false) in

@@ -1,0 +1,103 @@
+//! What words are a command line, and what they ask for.
+
+ghost use Rattle.std.specs.Prelude.{◌≡◌, [], ◌∷◌, IfOk, IsErr, None, Ok, Some, false, true};
+ghost use Rattle.rvmc_line.specs.declared.line.CommandLine.TheVariants.{Asm, Dis, One};
+
+use rvmc_cli::parse;
+use rvmc_line::{CommandLine, ParseFault};
+use std::alloc::Global;
+
+/// Without words a source is run, with a budget of 1,000,000 turns, and no memory is needed to say so.
+pub fn no_words(alloc: Global) -> Result<CommandLine, ParseFault>
+    ensures { result ≡ Ok (One true 1000000 None None) }
+{
+    parse(alloc, &[])
+}
+
+/// `dis` lists.
+#[tactic(auto, unfolding(rvmc_cli::specs::Meaning::faults_in, rvmc_cli::specs::Meaning::command_in, rvmc_cli::specs::Meaning::line_in, clap::proofs::OnLiterals::clap_on_literals))]
+pub fn dis_lists(alloc: Global) -> Result<CommandLine, ParseFault>
+    ensures { IfOk result (λ line. line ≡ Dis) }
+{
+    parse(alloc, &["dis"])
+}
+
+/// `asm` makes an image.
+#[tactic(auto, unfolding(rvmc_cli::specs::Meaning::faults_in, rvmc_cli::specs::Meaning::command_in, rvmc_cli::specs::Meaning::line_in, clap::proofs::OnLiterals::clap_on_literals))]
+pub fn asm_assembles(alloc: Global) -> Result<CommandLine, ParseFault>
+    ensures { IfOk result (λ line. line ≡ Asm) }
+{
+    parse(alloc, &["asm"])
+}
+
+/// `one` runs an image, each rank for 1,000,000 turns at most.
+#[tactic(auto, unfolding(rvmc_cli::specs::Meaning::faults_in, rvmc_cli::specs::Meaning::command_in, rvmc_cli::specs::Meaning::line_in, clap::proofs::OnLiterals::clap_on_literals))]
+pub fn one_runs_an_image(alloc: Global) -> Result<CommandLine, ParseFault>
+    ensures { IfOk result (λ line. line ≡ One false 1000000 None None) }
+{
+    parse(alloc, &["one"])
+}
+
+/// `--source` has it run a source.
+#[tactic(auto, unfolding(rvmc_cli::specs::Meaning::faults_in, rvmc_cli::specs::Meaning::command_in, rvmc_cli::specs::Meaning::line_in, clap::proofs::OnLiterals::clap_on_literals))]
+pub fn source_runs_a_source(alloc: Global) -> Result<CommandLine, ParseFault>
+    ensures { IfOk result (λ line. line ≡ One true 1000000 None None) }
+{
+    parse(alloc, &["one", "--source"])
+}
+
+/// `--budget` bounds the turns, and nothing else.
+#[tactic(auto, unfolding(rvmc_cli::specs::Meaning::faults_in, rvmc_cli::specs::Meaning::command_in, rvmc_cli::specs::Meaning::line_in, clap::proofs::OnLiterals::clap_on_literals, rvmc_line::specs::Number::number_in))]
+pub fn budget_is_heeded(alloc: Global) -> Result<CommandLine, ParseFault>
+    ensures { IfOk result (λ line. line ≡ One false 5 None None) }
+{
+    parse(alloc, &["one", "--budget", "5"])
+}
+
+/// A budget of 0 is refused.
+#[tactic(auto, unfolding(rvmc_cli::specs::Meaning::faults_in, rvmc_cli::specs::Meaning::command_in, rvmc_cli::specs::Meaning::line_in, clap::proofs::OnLiterals::clap_on_literals, rvmc_line::specs::Number::number_in))]
+pub fn budget_of_0_is_refused(alloc: Global) -> Result<CommandLine, ParseFault>
+    ensures { IsErr result }
+{
+    parse(alloc, &["one", "--budget", "0"])
+}
+
+/// `--plan` lists harts.
+#[tactic(auto, unfolding(rvmc_cli::specs::Meaning::faults_in, rvmc_cli::specs::Meaning::command_in, rvmc_cli::specs::Meaning::line_in, clap::proofs::OnLiterals::clap_on_literals, rvmc_line::specs::Number::number_in, rvmc_line::specs::Number::numbers_in))]
+pub fn plan_is_for_harts(alloc: Global) -> Result<CommandLine, ParseFault>
+    ensures { IfOk result (λ line. line ≡ One false 1000000 (Some (0 ∷ 1 ∷ [])) None) }
+{
+    parse(alloc, &["one", "--plan", "0,1"])
+}
+
+/// `--order` lists ranks.
+#[tactic(auto, unfolding(rvmc_cli::specs::Meaning::faults_in, rvmc_cli::specs::Meaning::command_in, rvmc_cli::specs::Meaning::line_in, clap::proofs::OnLiterals::clap_on_literals, rvmc_line::specs::Number::number_in, rvmc_line::specs::Number::numbers_in))]
+pub fn order_is_for_ranks(alloc: Global) -> Result<CommandLine, ParseFault>
+    ensures { IfOk result (λ line. line ≡ One false 1000000 None (Some (1 ∷ 0 ∷ []))) }
+{
+    parse(alloc, &["one", "--order", "1,0"])
+}
+
+/// A list that is none is refused, and not left out.
+#[tactic(auto, unfolding(rvmc_cli::specs::Meaning::faults_in, rvmc_cli::specs::Meaning::command_in, rvmc_cli::specs::Meaning::line_in, clap::proofs::OnLiterals::clap_on_literals, rvmc_line::specs::Number::number_in, rvmc_line::specs::Number::numbers_in))]
+pub fn wrong_order_is_refused(alloc: Global) -> Result<CommandLine, ParseFault>
+    ensures { IsErr result }
+{
+    parse(alloc, &["one", "--order", "0,"])
+}
+
+/// No other word is a command.
+#[tactic(auto, unfolding(rvmc_cli::specs::Meaning::faults_in, rvmc_cli::specs::Meaning::command_in, rvmc_cli::specs::Meaning::line_in, clap::proofs::OnLiterals::clap_on_literals))]
+pub fn other_commands_are_refused(alloc: Global) -> Result<CommandLine, ParseFault>
+    ensures { IsErr result }
+{
+    parse(alloc, &["fly"])
+}
+
+/// A flag without its command is refused.
+#[tactic(auto, unfolding(rvmc_cli::specs::Meaning::faults_in, rvmc_cli::specs::Meaning::command_in, rvmc_cli::specs::Meaning::line_in, clap::proofs::OnLiterals::clap_on_literals))]
+pub fn flag_alone_is_refused(alloc: Global) -> Result<CommandLine, ParseFault>
+    ensures { IsErr result }
+{
+    parse(alloc, &["--source"])
+}

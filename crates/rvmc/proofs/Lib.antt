@@ -1,4 +1,0 @@
-pub mod Digits
-pub mod Ends
-pub mod Known
-pub mod Sources

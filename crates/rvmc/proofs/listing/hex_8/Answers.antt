@@ -1,6 +1,0 @@
-use Rattle.std.proofs.Common.{rules}
-use Rattle.rvmc.proofs.Digits.{padded_by_zeros}
-use Rattle.rvmc.proofs.listing.hex_8.Goals as goal
-
-pub returns : goal.returns
-returns c = search (rules, padded_by_zeros)

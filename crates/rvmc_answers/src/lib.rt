@@ -1,0 +1,5 @@
+//! What each command answers to its input, and the plans and the order that a command line stands for.
+#![tactic(auto)]
+
+pub mod answers;
+pub mod plans;

@@ -1,0 +1,10 @@
+//! The plain types of the command line: what it asks for, why there is none, and the numbers and lists in it.
+#![tactic(auto)]
+
+mod line;
+mod list;
+mod number;
+
+pub use line::{CommandLine, ParseFault};
+pub use list::{Numbers, numbers_in};
+pub use number::number_in;

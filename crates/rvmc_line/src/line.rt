@@ -1,0 +1,45 @@
+//! What rvmc is asked to do, or why that isn't known.
+
+ghost use Rattle.std.specs.Prelude.{◌≡◌};
+ghost use Rattle.rvmc_line.specs.declared.line.ParseFault.TheVariants.{Memory};
+
+use crate::list::Numbers;
+use std::alloc::AllocError;
+
+/// What rvmc is asked to do.
+#[derive(Debug, Drop, PartialEq, Eq)]
+pub enum CommandLine {
+    /// A source is read, and its image is written.
+    Asm,
+    /// An image is read, and its listing is written.
+    Dis,
+    /// An image, or with `source` a source, is read and run on one thread, each rank for at most
+    /// `budget` turns (1 to 16,777,216), and the report is written. The ranks take turns in the order
+    /// of `order`, and each rank's harts in that of `plan`, round and round; without them all take
+    /// turns in order. Whether a rank or a hart is there is not known here.
+    One {
+        source: bool,
+        budget: u64,
+        plan: Option<Numbers>,
+        order: Option<Numbers>,
+    },
+}
+
+/// Why there is no command line.
+#[derive(Debug, Drop)]
+pub enum ParseFault {
+    /// Memory was refused.
+    Memory,
+    /// Help or the version was asked for: its text, for standard output.
+    Asked(String),
+    /// The words aren't taken: why not and what is, for standard error.
+    Refused(String),
+}
+
+impl From<AllocError> for ParseFault {
+    ghost from_gives = { λ _ e. e ≡ Memory };
+
+    fn from(_e: AllocError) -> ParseFault {
+        ParseFault::Memory
+    }
+}

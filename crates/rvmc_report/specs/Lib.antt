@@ -1,0 +1,4 @@
+pub mod Report
+pub mod Listing
+pub mod Faults
+pub mod Input

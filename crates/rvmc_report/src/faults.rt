@@ -1,0 +1,96 @@
+//! Why there is no answer.
+
+ghost use Rattle.std.specs.Prelude.{◌≡◌};
+ghost use Rattle.rvmc_report.specs.Faults.{fault_of_image, fault_of_run, fault_of_source, fault_status};
+ghost use Rattle.rvmc_report.specs.declared.faults.Fault.TheVariants as faults;
+
+use cl_run::RunFault;
+use rv_asm::{AsmFault, AsmFaultKind};
+use rv_image::ImageFault;
+use std::alloc::{AllocError, AllocFailed};
+use thiserror::Error;
+
+/// Why there is no answer. It prints as the fault's line on standard error, behind `rvmc: `.
+#[derive(Clone, Copy, Debug, PartialEq, Eq, Drop, Error)]
+pub enum Fault {
+    /// The source's first fault.
+    #[error("{0}")]
+    Source(AsmFault),
+    /// The image's first fault.
+    #[error("image: {0}")]
+    Image(ImageFault),
+    /// The plan or the order names a hart or a rank that isn't there, or the order misses a rank.
+    #[error("plans")]
+    Plans,
+    /// Memory was refused.
+    #[error("memory")]
+    Memory,
+    /// A read failed, or the input is too long.
+    #[error("read")]
+    Read,
+    /// A write failed.
+    #[error("write")]
+    Write,
+}
+
+impl Fault {
+    /// The status that a program ends with: 1 for a fault of the input, 5 for memory, 6 for reads and writes.
+    pub fn status(self) -> u8
+        ensures { result ≡ fault_status self }
+    {
+        match self {
+            Fault::Source(_) | Fault::Image(_) | Fault::Plans => 1,
+            Fault::Memory => 5,
+            Fault::Read | Fault::Write => 6,
+        }
+    }
+}
+
+impl From<AsmFault> for Fault {
+    ghost from_gives = { λ fault e. e ≡ fault_of_source fault };
+
+    fn from(fault: AsmFault) -> Fault {
+        match fault.kind {
+            AsmFaultKind::Memory => Fault::Memory,
+            _ => Fault::Source(fault),
+        }
+    }
+}
+
+impl From<ImageFault> for Fault {
+    ghost from_gives = { λ fault e. e ≡ fault_of_image fault };
+
+    fn from(fault: ImageFault) -> Fault {
+        match fault {
+            ImageFault::Memory => Fault::Memory,
+            _ => Fault::Image(fault),
+        }
+    }
+}
+
+impl From<RunFault> for Fault {
+    ghost from_gives = { λ fault e. e ≡ fault_of_run fault };
+
+    fn from(fault: RunFault) -> Fault {
+        match fault {
+            RunFault::Plans => Fault::Plans,
+            RunFault::Memory => Fault::Memory,
+        }
+    }
+}
+
+impl From<AllocError> for Fault {
+    ghost from_gives = { λ _ e. e ≡ faults.Memory };
+
+    fn from(_e: AllocError) -> Fault {
+        Fault::Memory
+    }
+}
+
+impl<T: Drop> From<AllocFailed<T>> for Fault {
+    ghost from_gives = { λ _ e. e ≡ faults.Memory };
+
+    fn from(_e: AllocFailed<T>) -> Fault {
+        Fault::Memory
+    }
+}

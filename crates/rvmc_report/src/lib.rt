@@ -1,0 +1,7 @@
+//! What rvmc tells and what it takes: the report of a run, the listing of an image, the faults, and the whole input.
+#![tactic(auto)]
+
+pub mod faults;
+pub mod input;
+pub mod listing;
+pub mod report;

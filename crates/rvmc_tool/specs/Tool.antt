@@ -1,0 +1,36 @@
+-- What the program leaves on standard output, and its status.
+use Rattle.std.specs.Prelude.{◌≡◌, ℕ, ◌≤◌, ◌⊎◌, ◌==◌, ◌||◌, Bool, List, [], length, Option, Err, string_bytes}
+use Rattle.std.specs.Io.KnownBytes.{Appends, Keeps}
+use Rattle.rvmc_answers.specs.Answers.{Says}
+use Rattle.rvmc_cli.specs.Meaning.{Parses}
+use Rattle.rvmc_line.specs.declared.line.CommandLine.{CommandLine}
+use Rattle.rvmc_line.specs.declared.line.ParseFault.{ParseFault}
+use Rattle.rvmc_line.specs.declared.line.ParseFault.TheVariants as parse
+
+-- memory was refused before there was a text
+abbrev pub IsWithoutMemory : List ℕ → ℕ → Type 0
+IsWithoutMemory text status = (text ≡ []) × (status ≡ 5)
+
+-- what a command line says of the bytes, of which there are 2^26 at most
+pub record IsSaid (line : CommandLine) (bytes : List ℕ) (text : List ℕ) (status : ℕ) : Type 0 where
+  pub short : length bytes ≤ 67108864
+  pub says : Says line bytes text status
+
+-- the output, before and after, where every read and write succeeded
+abbrev pub Answers : CommandLine → List ℕ → ℕ → Option (List ℕ) → Option (List ℕ) → Type 0
+Answers line bytes status old new =
+    (text : List ℕ) × (IsSaid line bytes text status ⊎ IsWithoutMemory text status) × Appends old new text
+
+-- the output where there is no command line: help and the version stand there, and a refusal leaves it
+abbrev pub Shows : ParseFault → ℕ → Option (List ℕ) → Option (List ℕ) → Type 0
+Shows parse.Memory status old new = (status ≡ 5) × Keeps old new
+Shows (parse.Asked text) status old new = (status ≡ 0) × Appends old new (string_bytes text)
+Shows (parse.Refused text) status old new = (status ≡ 2) × Keeps old new
+
+-- words that mean no command line, where every write succeeded
+abbrev pub Refuses : List (List ℕ) → ℕ → Option (List ℕ) → Option (List ℕ) → Type 0
+Refuses words status old new = (fault : ParseFault) × Parses words (Err fault) × Shows fault status old new
+
+-- the statuses of which standard error has no line: all is done, a hart trapped, or a rank was cut short
+abbrev pub is_quiet : ℕ → Bool
+is_quiet status = status == 0 || (status == 3 || status == 4)

@@ -1,0 +1,6 @@
+//! The program over any reader and writers.
+#![tactic(auto)]
+
+mod tool;
+
+pub use tool::tool_plain;
