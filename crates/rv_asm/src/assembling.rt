@@ -16,8 +16,8 @@ ghost use Rattle.rv_asm.specs.Source.{FailsAt, IsWhole, finished, meaning};
 
 use indexmap::IndexMap;
 use rv_asm_lines::{
-    Fields, Item, Layout, NO_FIELDS, Output, Part, harts_of, length_of_statement, may_stand, memory_of,
-    next_place, part_after, ranks_of, take_fields, take_item, take_labels,
+    Fields, Item, Layout, NO_FIELDS, Output, Part, harts_of, length_of_statement, may_stand,
+    memory_of, next_place, part_after, ranks_of, take_fields, take_item, take_labels,
 };
 use rv_asm_statements::{Statement, parse_statement};
 use rv_asm_tokens::{AsmFault, AsmFaultKind, tokens};
