@@ -5,8 +5,8 @@
 //! communicators and its links. A fault is `line L: NAME` and its number.
 //!
 //! The table in `stdin` and `stdout` is data from outside. Words and data are those of GNU as and ld, with the text at
-//! 0 and the data at the text's length rounded up to 16 (`-Ttext=0 -Tdata=ADDRESS`, no relaxation). Fields and faults
-//! were written by hand from the language's rules.
+//! 0 and the data at the text's length rounded up to 16 (`-Ttext=0 -Tdata=ADDRESS`, no relaxation). Fields and faults,
+//! and what the last sources with no fault come to, were written by hand from the language's rules.
 #![tactic(auto)]
 
 use rv_asm::assemble;
