@@ -1,0 +1,76 @@
+//! What is answered of traces.
+
+ghost use Rattle.std.specs.Prelude.{◌≡◌, ◌<◌, ◌+◌, ◌^◌, ◌++◌, ◌∷◌, List, [], length, IfOk, OnOk, true};
+ghost use Rattle.cl_trace.specs.declared.events.Bare.TheVariants.{Plain};
+ghost use Rattle.cl_trace.specs.declared.events.Event.{Event};
+ghost use Rattle.cl_trace.specs.Traces.{bare_event};
+ghost use Rattle.cluster_tests.specs.Reads.{Reads};
+
+use cl_trace::{Cursor, Event, Seen, Trace};
+use mp_types::Stamp;
+use std::alloc::{AllocError, Global};
+
+#[cfg(test)]
+mod tests;
+
+/// A new trace counts no event.
+pub fn a_new_trace_counts_none(alloc: Global) -> u64
+    ensures { result ≡ 0 }
+{
+    Trace::new(alloc).len()
+}
+
+/// A reader of a new trace meets nothing.
+pub fn a_new_trace_shows_nothing(alloc: Global) -> bool
+    ensures { result ≡ true }
+{
+    let trace = Trace::new(alloc);
+    let mut cursor = trace.cursor();
+    cursor.next().is_none()
+}
+
+/// Where room was made, one event more is counted.
+pub fn a_push_counts_one(trace: &mut Trace, event: Event) -> Result<u64, AllocError>
+    requires low { event.stamp < 2 ^ 62 }
+    requires few { length trace.old.events + 1 < 2 ^ 64 }
+    ensures { IfOk result (λ count. count ≡ length trace.old.events + 1) }
+{
+    trace.reserve()?;
+    trace.push(event);
+    Ok(trace.len())
+}
+
+/// An instruction and then any event stand behind those before as they were pushed: of whichever hart and kind they are,
+/// whether their stamps follow one another or not, and whatever runs the trace keeps.
+pub fn both_stand_as_pushed(
+    trace: &mut Trace,
+    hart: u8,
+    stamp: Stamp,
+    event: Event,
+) -> Result<(), AllocError>
+    requires first { stamp < 2 ^ 62 }
+    requires second { event.stamp < 2 ^ 62 }
+    requires few { length trace.old.events + 2 < 2 ^ 64 }
+    ensures { OnOk result (trace.new.events ≡ trace.old.events ++ bare_event hart Plain stamp ∷ event ∷ []) }
+{
+    trace.reserve()?;
+    trace.push_plain(hart, stamp);
+    trace.reserve()?;
+    trace.push(event);
+    Ok(())
+}
+
+/// Room that is there is found again without memory.
+pub fn room_is_found_again(trace: &mut Trace) -> bool
+    requires { 0 < trace.old.room }
+    ensures { result ≡ true }
+{
+    trace.reserve().is_ok()
+}
+
+/// Two events are read one after the other, each once.
+pub fn two_are_read_in_order<'a>(cursor: &mut Cursor<'a>) -> (Option<Seen<'a>>, Option<Seen<'a>>)
+    ensures { (first second : Event) (rest : List Event) → cursor.old ≡ first ∷ second ∷ rest → Reads first result.0 × Reads second result.1 × (cursor.new ≡ rest) }
+{
+    (cursor.next(), cursor.next())
+}
