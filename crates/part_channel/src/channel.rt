@@ -47,7 +47,8 @@ impl Channel {
         ensures sends { IfOk result (λ r. r.1 ≡ new_send_side r.0.boxes) }
         ensures receives { IfOk result (λ r. r.2 ≡ new_recv_side r.0.boxes) }
         // So both sides are this channel's, and any clock will do for the first call.
-        ensures own { IfOk result (λ r. (map sender_box r.1.keys ≡ r.0.boxes) × (map receiver_box r.2.keys ≡ r.0.boxes)) }
+        ensures own { IfOk result (λ r.
+            (map sender_box r.1.keys ≡ r.0.boxes) × (map receiver_box r.2.keys ≡ r.0.boxes)) }
         ensures past { IfOk result (λ r. (clock : ℕ) → IsPast r.1 clock) }
     {
         let mut boxes = Vec::with_capacity(alloc, BOXES)?;

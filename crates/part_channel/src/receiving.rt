@@ -169,7 +169,8 @@ impl RecvSide {
         ensures refused { IfErr result (λ code. take_refusal self.old part ≡ Some code) }
         ensures unchanged { OnErr result (self.new ≡ self.old) }
         ensures accepted { IfOk result (λ _. take_refusal self.old part ≡ None) }
-        ensures took { IfOk result (λ take. (gate : ℕ) × (words : List ℕ) × (length words ≡ channel.now.width) × (self.new ≡ took self.old part gate words clock) × (take ≡ shown_take clock words (ready_stamp gate))) }
+        ensures took { IfOk result (λ take. (gate : ℕ) × (words : List ℕ) × (length words ≡ channel.now.width)
+            × (self.new ≡ took self.old part gate words clock) × (take ≡ shown_take clock words (ready_stamp gate))) }
         // In phase k it answers thing k that was got from its box.
         ensures phase { IfOk result (λ take. HasGot self.old self.new part take) }
         // So it keeps its shape and its cut, it is still this channel's, and the stamp will do as the next clock.

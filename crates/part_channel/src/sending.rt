@@ -120,9 +120,11 @@ impl SendSide {
         ensures unchanged { OnErr result (self.new ≡ self.old) }
         ensures accepted { IfOk result (λ _. ready_refusal self.old part ≡ None) }
         ensures stamp { IfOk result (λ stamp. stamp ≡ clock + 1) }
-        ensures made { IfOk result (λ stamp. self.new ≡ readied self.old part (words_of bytes.now channel.now.width) stamp) }
+        ensures made { IfOk result (λ stamp.
+            self.new ≡ readied self.old part (words_of bytes.now channel.now.width) stamp) }
         // In phase k it makes thing k of its box.
-        ensures phase { IfOk result (λ stamp. HasMade self.old self.new part (words_of bytes.now channel.now.width) stamp) }
+        ensures phase { IfOk result (λ stamp.
+            HasMade self.old self.new part (words_of bytes.now channel.now.width) stamp) }
         // So it is still this channel's, and the stamp will do as the next clock.
         ensures own { map sender_box self.new.keys ≡ channel.now.boxes }
         ensures past { IfOk result (λ stamp. IsPast self.new stamp) }
@@ -153,7 +155,8 @@ impl SendSide {
     ///
     /// One gate word is loaded exactly where that partition is there and was made ready, and the answer is read off it.
     ///
-    /// The side is this channel's. The clock is below 2^62 - 1 and not below any stamp that the side has stored or seen.
+    /// The side is this channel's. The clock is below 2^62 - 1 and not below any stamp that the side has stored or
+    /// seen.
     pub fn test(&mut self, channel: &Channel, clock: Stamp) -> Progress
         requires own { map sender_box self.old.keys ≡ channel.now.boxes }
         requires past { IsPast self.old clock }
