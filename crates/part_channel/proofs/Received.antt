@@ -1,18 +1,17 @@
 -- What each call keeps of a receiving side.
-use Rattle.std.proofs.Common.{◌≡◌, ◌≢◌, ◌⊎◌, ℕ, zero, suc, ◌+◌, ◌-◌, ◌*◌, ◌/◌, ◌%◌, ◌<◌, ◌≤◌, List, [], ◌∷◌, ◌++◌, length, map, set, get_or, replicate, Bool, true, false, Option, Some, None, refl, sym, ap, ◌∙◌, subst, ⊎_elim, arith, length-append, get_or-set_other, get_or-set_same}
-use Rattle.std.specs.Prelude.{slice_get, is_some, max, nat_le, nat_lt, not, ◌&&◌, option_map, if◌then◌else◌}
+use Rattle.std.proofs.Common.{◌≡◌, ◌≢◌, ℕ, zero, suc, ◌+◌, ◌-◌, ◌*◌, ◌/◌, ◌%◌, ◌<◌, ◌≤◌, List, [], ◌∷◌, length, map, set, get_or, Bool, true, false, Option, Some, None, refl, sym, ap, ◌∙◌, subst, ⊎_elim, arith, get_or-set_other, get_or-set_same}
+use Rattle.std.specs.Prelude.{slice_get, is_some, nat_lt, not, ◌&&◌, option_map, if◌then◌else◌}
 use Rattle.std.proofs.lemmas.List.{length-set, length-map}
 use Rattle.std.proofs.lemmas.Bool.{cases_eq, cases_lt}
 use Rattle.std.proofs.lemmas.Option.{slice_get-map}
 use Rattle.std.proofs.lemmas.Nat.{mul-le, div_below, mod_below, div-add-mod'}
 use Rattle.std.proofs.Math.Nat.{suc-mul}
 use Rattle.part_box.specs.Gate.{ready_stamp}
-use Rattle.part_box.specs.Keys.{BoxId, Place, Receiver, new_receiver, after_look, after_copy}
-use Rattle.part_channel.specs.declared.progress.Take.{Take}
+use Rattle.part_box.specs.Keys.{BoxId, Place, Receiver, new_receiver, after_copy}
 use Rattle.part_channel.specs.declared.progress.Take.TheVariants as take
 use Rattle.part_channel.specs.Channels.{box_of, receiver_box}
 use Rattle.part_channel.specs.Sending.{one_if, none_marked}
-use Rattle.part_channel.specs.Receiving.{RecvView, round_of, lowest_from, is_left, overlaps, are_left, take_refusal, got_of, lane_shown, lane_took, shown_take, IsRecvLane, AreRecvLanes}
+use Rattle.part_channel.specs.Receiving.{RecvView, round_of, lowest_from, is_left, overlaps, are_left, take_refusal, lane_shown, lane_took, shown_take, IsRecvLane, AreRecvLanes}
 use Rattle.part_channel.proofs.Lists.{some_same, get_set, there, unmarked, all_unmarked, not_le}
 
 off : true ≡ false → ⊥

@@ -1,14 +1,11 @@
 -- What each call keeps of a sending side.
-use Rattle.std.proofs.Common.{◌≡◌, ◌≢◌, ◌⊎◌, ℕ, zero, suc, ◌+◌, ◌-◌, ◌<◌, ◌≤◌, List, [], ◌∷◌, ◌++◌, length, map, set, get_or, replicate, Bool, true, false, Option, Some, None, refl, sym, ap, ◌∙◌, subst, ⊎_elim, inl, inr, arith, get_or-set_other, get_or-set_same}
-use Rattle.std.specs.Prelude.{slice_get, option_map, max, is_some, nat_le, All, ◌==◌, if◌then◌else◌}
+use Rattle.std.proofs.Common.{◌≡◌, ◌≢◌, ℕ, zero, suc, ◌+◌, ◌-◌, ◌<◌, ◌≤◌, List, [], ◌∷◌, length, map, set, get_or, Bool, true, false, Option, Some, None, refl, sym, ap, ◌∙◌, subst, ⊎_elim, arith, get_or-set_other, get_or-set_same}
+use Rattle.std.specs.Prelude.{slice_get, option_map, max, is_some, All, ◌==◌, if◌then◌else◌}
 use Rattle.std.proofs.lemmas.List.{length-set, length-map}
-use Rattle.std.proofs.lemmas.List.Elements.{All-set}
 use Rattle.std.proofs.lemmas.Bool.{cases_eq, cases_lt, eqb-true, eqb-false}
-use Rattle.std.proofs.lemmas.Option.{slice_get_within, slice_get-map}
-use Rattle.part_box.specs.declared.view.Sending.{Sending}
+use Rattle.std.proofs.lemmas.Option.{slice_get-map}
 use Rattle.part_box.specs.Gate.{taken_stamp}
 use Rattle.part_box.specs.Keys.{BoxId, Place, Sender, new_sender, after_freed}
-use Rattle.part_channel.specs.declared.progress.Progress.{Progress}
 use Rattle.part_channel.specs.declared.progress.Progress.TheVariants.{AllFreed, NotReady, Missed, Freed}
 use Rattle.part_channel.specs.Channels.{box_of, sender_box}
 use Rattle.part_channel.specs.Sending.{SendView, is_ready, ready_refusal, looks_at, looked, shown, one_freed, tested, shown_progress, test_progress, one_if, phase_of, none_marked, IsSendLane, AreSendLanes}

@@ -1,5 +1,5 @@
 -- Worked values: words of bytes, stamps, the end of a phase, and which boxes a partition waits for, computed.
-use Rattle.std.specs.Prelude.{◌≡◌, ℕ, [], ◌∷◌, set, Some, None, true, false, refl}
+use Rattle.std.specs.Prelude.{◌≡◌, [], ◌∷◌, set, Some, None, true, false, refl}
 use Rattle.part_channel.specs.declared.progress.Progress.TheVariants.{Missed, Freed}
 use Rattle.part_channel.specs.declared.progress.Take.TheVariants as take
 use Rattle.part_channel.specs.Words.{words_of, bytes_of}

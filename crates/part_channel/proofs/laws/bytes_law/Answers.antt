@@ -1,5 +1,5 @@
 -- Each byte is below 256, by its type.
-use Rattle.std.proofs.Common.{◌<◌, arith}
+use Rattle.std.proofs.Common.{arith}
 use Rattle.part_channel.proofs.Words.{bytes_back}
 use Rattle.part_channel.proofs.laws.bytes_law.Goals as goal
 

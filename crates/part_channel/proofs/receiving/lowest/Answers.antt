@@ -1,5 +1,5 @@
 -- A taken box is passed over.
-use Rattle.std.proofs.Common.{◌≡◌, ◌∙◌, ap}
+use Rattle.std.proofs.Common.{◌∙◌, ap}
 use Rattle.std.specs.Prelude.{not}
 use Rattle.part_channel.specs.Receiving.{is_left}
 use Rattle.part_channel.proofs.Received.{skips}

@@ -1,7 +1,7 @@
 -- The keys are new, each in its own box.
-use Rattle.std.proofs.Common.{◌≡◌, ◌≤◌, List, map, sym, ap, ◌∙◌, subst}
+use Rattle.std.proofs.Common.{◌≤◌, List, map, sym, ap, ◌∙◌, subst}
 use Rattle.std.specs.Prelude.{All}
-use Rattle.part_box.specs.Keys.{Sender, Receiver}
+use Rattle.part_box.specs.Keys.{Sender}
 use Rattle.part_channel.specs.Channels.{box_of, sender_box, receiver_box}
 use Rattle.part_channel.proofs.Sent as sent
 use Rattle.part_channel.proofs.Received as received

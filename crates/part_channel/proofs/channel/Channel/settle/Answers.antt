@@ -1,10 +1,10 @@
 -- The last box that is left is settled with its two keys.
-use Rattle.std.proofs.Common.{◌≡◌, ℕ, zero, suc, ◌+◌, ◌-◌, ◌<◌, ◌≤◌, List, [], ◌∷◌, ◌++◌, length, map, set, take, replicate, false, Option, Some, None, refl, sym, ap, ◌∙◌, subst, arith}
+use Rattle.std.proofs.Common.{◌≡◌, ℕ, suc, ◌+◌, ◌-◌, ◌<◌, List, ◌++◌, length, map, set, take, replicate, false, Option, Some, refl, sym, ap, ◌∙◌, subst, arith}
 use Rattle.std.specs.Prelude.{slice_get, option_to_list}
 use Rattle.std.proofs.lemmas.List.{length-map, length-set}
 use Rattle.part_box.specs.declared.settled.Settled.{Settled}
 use Rattle.part_box.specs.Settling.{IsSettled}
-use Rattle.part_box.specs.Keys.{BoxId, Place, Sender, Receiver}
+use Rattle.part_box.specs.Keys.{Place}
 use Rattle.part_channel.specs.Channels.{ChannelView, box_of, sender_box, receiver_box}
 use Rattle.part_channel.specs.Settling.{AreSettled}
 use Rattle.part_channel.proofs.Sent as sent

@@ -1,5 +1,5 @@
 -- A side that learns its cut has got nothing yet.
-use Rattle.std.proofs.Common.{◌≡◌, ◌*◌, ℕ, sym, ap, ◌∙◌, subst}
+use Rattle.std.proofs.Common.{◌≡◌, ◌*◌, sym, ap, ◌∙◌, subst}
 use Rattle.part_channel.specs.Receiving.{RecvView, AreRecvLanes}
 use Rattle.part_channel.proofs.Received.{keeps_cut}
 use Rattle.part_channel.proofs.receiving.RecvSide.cut.Goals as goal

@@ -1,5 +1,5 @@
 -- A box that isn't wanted is passed over; where none is wanted, each byte lies in a box that was taken.
-use Rattle.std.proofs.Common.{◌≡◌, ℕ, ◌*◌, ◌/◌, ◌<◌, ◌≤◌, None, refl, ◌∙◌, sym, ap, subst}
+use Rattle.std.proofs.Common.{◌≡◌, ◌*◌, ◌/◌, ◌<◌, ◌≤◌, None, refl, ◌∙◌, sym, ap, subst}
 use Rattle.std.specs.Prelude.{◌&&◌}
 use Rattle.part_channel.specs.Receiving.{RecvView, is_left, overlaps, lowest_from}
 use Rattle.part_channel.proofs.Received.{skips, none_left, box_taken}

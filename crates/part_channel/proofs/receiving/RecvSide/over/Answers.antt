@@ -1,10 +1,10 @@
 -- New keys are a new side.
-use Rattle.std.proofs.Common.{◌≡◌, ℕ, ◌<◌, ◌*◌, List, map, false, refl, sym, ap, ◌∙◌, arith}
+use Rattle.std.proofs.Common.{◌≡◌, List, map, false, refl, sym, ap, ◌∙◌, arith}
 use Rattle.part_box.specs.Keys.{Receiver, new_receiver}
 use Rattle.part_channel.specs.Channels.{receiver_box}
 use Rattle.part_channel.specs.Shapes.{IsShape}
 use Rattle.part_channel.specs.Sending.{none_marked}
-use Rattle.part_channel.specs.Receiving.{new_recv_side, round_of}
+use Rattle.part_channel.specs.Receiving.{round_of}
 use Rattle.part_channel.proofs.Received.{new_side, boxes_back, new_round}
 use Rattle.part_channel.proofs.receiving.RecvSide.over.Goals as goal
 

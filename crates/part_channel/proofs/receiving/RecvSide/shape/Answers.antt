@@ -1,5 +1,5 @@
 -- A side whose cut isn't known has no total to keep.
-use Rattle.std.proofs.Common.{◌≡◌, ◌<◌, ℕ, ap, ◌∙◌, arith}
+use Rattle.std.proofs.Common.{◌≡◌, ap, ◌∙◌, arith}
 use Rattle.part_channel.specs.Receiving.{RecvView}
 use Rattle.part_channel.proofs.receiving.RecvSide.shape.Goals as goal
 

@@ -1,14 +1,13 @@
 -- The key is the box's own and fresh, and what was loaded decides the answer.
-use Rattle.std.proofs.Common.{◌≡◌, ◌≢◌, ℕ, ◌+◌, ◌-◌, ◌<◌, ◌≤◌, List, length, map, set, get_or, replicate, Bool, true, false, Option, Some, None, refl, sym, ap, ◌∙◌, subst, arith, length-append}
+use Rattle.std.proofs.Common.{◌≡◌, ℕ, ◌+◌, ◌≤◌, List, length, map, set, Bool, true, refl, sym, ap, ◌∙◌, subst, arith, length-append}
 use Rattle.std.specs.Prelude.{slice_get, is_some, unwrap_or, max, if◌then◌else◌}
 use Rattle.part_box.specs.Gate.{ready_stamp}
-use Rattle.part_box.specs.Keys.{BoxId, Place, Receiver, after_look}
-use Rattle.part_channel.specs.Channels.{ChannelView, box_of, receiver_box}
+use Rattle.part_box.specs.Keys.{Receiver, after_look}
+use Rattle.part_channel.specs.Channels.{ChannelView, receiver_box}
 use Rattle.part_channel.specs.Sending.{modified, one_if, none_marked}
-use Rattle.part_channel.specs.Words.{bytes_of}
 use Rattle.part_channel.specs.declared.progress.Take.{Take}
 use Rattle.part_box.specs.declared.view.Got.{Got}
-use Rattle.part_channel.specs.Receiving.{HasGot, round_of, shown_take, RecvView, AreRecvLanes, lowest_from, are_left, is_left, one_taken, marked, took, lane_shown, lane_took, got_of}
+use Rattle.part_channel.specs.Receiving.{HasGot, round_of, shown_take, RecvView, AreRecvLanes, are_left, marked, took, lane_shown, lane_took, got_of}
 use Rattle.part_channel.proofs.Lists.{read_at, set_modified, at_set, at_end}
 use Rattle.part_channel.proofs.Received.{own_at, missed, taken, round_missed, round_taken, keeps_missed, keeps_taken, boxes_set, at_took}
 use Rattle.part_channel.proofs.receiving.RecvSide.take.Goals as goal

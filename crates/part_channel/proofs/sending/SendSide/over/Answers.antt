@@ -2,7 +2,7 @@
 use Rattle.std.proofs.Common.{◌≡◌, List, map, refl, sym, ap, ◌∙◌, arith}
 use Rattle.part_box.specs.Keys.{Sender, new_sender}
 use Rattle.part_channel.specs.Channels.{sender_box}
-use Rattle.part_channel.specs.Sending.{new_send_side, none_marked, phase_of}
+use Rattle.part_channel.specs.Sending.{none_marked, phase_of}
 use Rattle.part_channel.proofs.Sent.{new_side, boxes_back, new_phase}
 use Rattle.part_channel.proofs.sending.SendSide.over.Goals as goal
 

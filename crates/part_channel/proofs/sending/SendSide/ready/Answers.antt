@@ -1,5 +1,5 @@
 -- The key is the box's own and open, and the side keeps its fields.
-use Rattle.std.proofs.Common.{◌≡◌, ℕ, ◌+◌, ◌<◌, ◌≤◌, List, length, map, set, Bool, true, false, sym, ap, ◌∙◌, arith, length-append}
+use Rattle.std.proofs.Common.{◌≡◌, ℕ, ◌+◌, ◌≤◌, length, map, set, Bool, true, ap, ◌∙◌, arith, length-append}
 use Rattle.std.specs.Prelude.{slice_get}
 use Rattle.part_box.specs.Keys.{Sender}
 use Rattle.part_channel.specs.Channels.{ChannelView, sender_box}

@@ -1,5 +1,5 @@
 -- A side with a shape has nothing made yet.
-use Rattle.std.proofs.Common.{◌≡◌, ℕ, ap, ◌∙◌, subst}
+use Rattle.std.proofs.Common.{◌≡◌, ap, ◌∙◌, subst}
 use Rattle.part_channel.specs.Sending.{SendView, AreSendLanes}
 use Rattle.part_channel.proofs.Sent.{keeps_shape}
 use Rattle.part_channel.proofs.sending.SendSide.shape.Goals as goal

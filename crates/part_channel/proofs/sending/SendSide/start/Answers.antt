@@ -1,5 +1,5 @@
 -- Between phases a phase may begin, and no partition is ready.
-use Rattle.std.proofs.Common.{◌≡◌, ◌<◌, ◌≤◌, sym, ap, ◌∙◌, arith}
+use Rattle.std.proofs.Common.{◌≡◌, ◌≤◌, sym, ap, ◌∙◌, arith}
 use Rattle.part_channel.specs.Sending.{SendView, phase_of, none_marked, begun}
 use Rattle.part_channel.proofs.Sent.{keeps_start, idle_unmarked}
 use Rattle.part_channel.proofs.sending.SendSide.start.Goals as goal

@@ -1,12 +1,10 @@
 -- The key is the box's own and has made a thing, and what was loaded decides the answer.
-use Rattle.std.proofs.Common.{◌≡◌, ◌≢◌, ℕ, ◌+◌, ◌<◌, ◌≤◌, List, length, map, set, get_or, replicate, Bool, true, false, Some, None, refl, sym, ap, ◌∙◌, subst, arith}
-use Rattle.std.specs.Prelude.{slice_get, max, ◌==◌, if◌then◌else◌}
-use Rattle.part_box.specs.Gate.{taken_stamp}
-use Rattle.part_box.specs.Keys.{BoxId, Place, Sender, after_freed}
-use Rattle.part_channel.specs.Channels.{ChannelView, box_of, sender_box}
-use Rattle.part_channel.specs.declared.progress.Progress.{Progress}
+use Rattle.std.proofs.Common.{◌≡◌, ◌+◌, ◌≤◌, List, length, map, set, get_or, Bool, true, false, refl, sym, ap, ◌∙◌, subst, arith}
+use Rattle.std.specs.Prelude.{◌==◌}
+use Rattle.part_box.specs.Keys.{Sender, after_freed}
+use Rattle.part_channel.specs.Channels.{ChannelView, sender_box}
 use Rattle.part_channel.specs.declared.progress.Progress.TheVariants.{Freed}
-use Rattle.part_channel.specs.Sending.{SendView, AreSendLanes, one_if, phase_of, none_marked, looked, one_freed, tested, test_progress}
+use Rattle.part_channel.specs.Sending.{SendView, AreSendLanes, one_if, phase_of, tested, test_progress}
 use Rattle.part_channel.proofs.Lists.{read_at, set_modified}
 use Rattle.part_channel.proofs.Sent.{own_at, phase_same, phase_freed, keeps_missed, keeps_freed, boxes_set, opened_by, tested_none, tested_some, progress_none, progress_some}
 use Rattle.part_channel.proofs.sending.SendSide.test.Goals as goal
