@@ -7,6 +7,3 @@ mod state;
 
 pub use sides::{Setup, Side};
 pub use state::{CallFault, HubState};
-
-#[cfg(test)]
-mod tests;

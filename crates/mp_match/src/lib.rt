@@ -11,6 +11,3 @@ mod posts;
 
 pub use plain_queues::{HELD_MAX, PostFault, Queues};
 pub use posts::{Line, Post, Selection, Sent};
-
-#[cfg(test)]
-mod tests;

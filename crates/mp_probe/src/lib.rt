@@ -4,6 +4,3 @@
 mod handles;
 
 pub use handles::{ClaimFault, Claims, Waiting};
-
-#[cfg(test)]
-mod tests;

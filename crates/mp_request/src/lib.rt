@@ -17,6 +17,3 @@ pub use rows::{
     completion_rows, done_rows, lowest_free_rows, named_rows, refusal_rows, testable_rows,
 };
 pub use table::{HANDLES, Requests};
-
-#[cfg(test)]
-mod tests;

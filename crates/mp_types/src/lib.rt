@@ -15,6 +15,3 @@ pub use lists::{Bytes, MESSAGE_MAX, Posts};
 pub use messages::{Envelope, Gots, Message, Stamp, Status};
 pub use replies::Reply;
 pub use requests::Request;
-
-#[cfg(test)]
-mod tests;
