@@ -1,0 +1,60 @@
+//! What commands answer to their input, and the plans that a command line stands for.
+
+ghost use Rattle.std.specs.Prelude.{◌≡◌, ◌≢◌, [], ◌∷◌, Err, IfOk, length};
+ghost use Rattle.cl_run.specs.declared.plans.Plan.{Plan as Held};
+ghost use Rattle.rvmc_report.specs.declared.faults.Fault.TheVariants as faults;
+
+use cl_run::Plan;
+use rvmc_answers::answers::{Answer, answer_to};
+use rvmc_answers::plans::{listed, plans};
+use rvmc_line::{CommandLine, Numbers};
+use rvmc_report::faults::Fault;
+use std::alloc::{AllocError, Global};
+
+/// No command tells of a read that failed: the bytes are there.
+pub fn nothing_is_read(alloc: Global, line: CommandLine, bytes: &[u8]) -> Result<Answer, Fault>
+    ensures { result ≢ Err faults.Read }
+{
+    answer_to(alloc, line, bytes)
+}
+
+/// Nor of a write.
+pub fn nothing_is_written(alloc: Global, line: CommandLine, bytes: &[u8]) -> Result<Answer, Fault>
+    ensures { result ≢ Err faults.Write }
+{
+    answer_to(alloc, line, bytes)
+}
+
+/// Without a list all take turns, the last too.
+pub fn all_take_turns(alloc: Global) -> Result<Vec<u8>, AllocError>
+    ensures { IfOk result (λ list. list.items ≡ 0 ∷ 1 ∷ 2 ∷ []) }
+{
+    listed(alloc, &None, 3)
+}
+
+/// What is listed is heeded, whether it is there or not.
+pub fn lists_are_heeded(alloc: Global, numbers: Numbers) -> Result<Vec<u8>, AllocError>
+    ensures { IfOk result (λ list. list.items ≡ numbers) }
+{
+    listed(alloc, &Some(numbers), 1)
+}
+
+/// Each rank has a plan, the first too.
+pub fn each_rank_has_a_plan(
+    alloc: Global,
+    ranks: u8,
+    harts: &[u8],
+    budget: u64,
+) -> Result<Vec<Plan>, AllocError>
+    ensures { IfOk result (λ plans. length plans.items ≡ ranks) }
+{
+    plans(alloc, ranks, harts, budget)
+}
+
+/// A plan has the budget that was asked for, and its harts.
+pub fn plan_of_one_rank(alloc: Global, harts: &[u8], budget: u64) -> Result<Vec<Plan>, AllocError>
+    ensures budget { IfOk result (λ plans. (plan : Held) → plans.items ≡ plan ∷ [] → plan.budget ≡ budget) }
+    ensures harts { IfOk result (λ plans. (plan : Held) → plans.items ≡ plan ∷ [] → plan.order.items ≡ harts.now) }
+{
+    plans(alloc, 1, harts, budget)
+}

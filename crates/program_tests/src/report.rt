@@ -1,0 +1,118 @@
+//! The faults, the status of a run, and the input.
+
+ghost use Rattle.std.specs.Prelude.{◌≡◌, ◌≢◌, ◌<◌, Err, IfOk, IsErr, false, length, true};
+ghost use Rattle.std.specs.List.{list_any};
+ghost use Rattle.rvmc_report.specs.Report.{HasEachRank, has_trapped, is_cut_short, wants_memory};
+ghost use Rattle.rvmc_report.specs.declared.faults.Fault.TheVariants as faults;
+ghost use Rattle.rvmc_report.specs.declared.input.InputFault.TheVariants as input;
+
+use cl_run::{Record, RunFault};
+use rv_asm::{AsmFault, AsmFaultKind};
+use rv_image::ImageFault;
+use rvmc_report::faults::Fault;
+use rvmc_report::input::{InputFault, read_input};
+use rvmc_report::report::status;
+use std::alloc::Global;
+
+/// A wrong plan is a fault of the input.
+pub fn wrong_plans_end_with_1() -> u8
+    ensures { result ≡ 1 }
+{
+    Fault::Plans.status()
+}
+
+/// Want of memory ends with 5.
+pub fn want_of_memory_ends_with_5() -> u8
+    ensures { result ≡ 5 }
+{
+    Fault::Memory.status()
+}
+
+/// A read that fails ends with 6, and not with 5.
+pub fn failed_read_ends_with_6() -> u8
+    ensures { result ≡ 6 }
+{
+    Fault::Read.status()
+}
+
+/// A write that fails ends with 6.
+pub fn failed_write_ends_with_6() -> u8
+    ensures { result ≡ 6 }
+{
+    Fault::Write.status()
+}
+
+/// Plans that a run refuses are told as plans, and not as want of memory.
+pub fn refused_plans_are_plans() -> Fault
+    ensures { result ≡ faults.Plans }
+{
+    Fault::from(RunFault::Plans)
+}
+
+/// Want of memory in a source is no fault of the source.
+pub fn want_of_memory_is_no_fault_of_a_source(line: u64) -> Fault
+    ensures { result ≡ faults.Memory }
+{
+    Fault::from(AsmFault {
+        line,
+        kind: AsmFaultKind::Memory,
+    })
+}
+
+/// Nor of an image.
+pub fn want_of_memory_is_no_fault_of_an_image() -> Fault
+    ensures { result ≡ faults.Memory }
+{
+    Fault::from(ImageFault::Memory)
+}
+
+/// Want of memory for a rank outweighs a trap and a budget.
+#[tactic(auto, using(rvmc_report::proofs::Ends::status_by_lists))]
+pub fn want_of_memory_outweighs_all(left: &Record) -> u8
+    requires { HasEachRank left.now }
+    ensures { list_any wants_memory left.now.stops.items ≡ true → result ≡ 5 }
+{
+    status(left)
+}
+
+/// A trap, of whatever rank, outweighs a budget.
+#[tactic(auto, using(rvmc_report::proofs::Ends::status_by_lists))]
+pub fn trap_outweighs_a_budget(left: &Record) -> u8
+    requires { HasEachRank left.now }
+    ensures { list_any wants_memory left.now.stops.items ≡ false
+        → list_any (λ state. has_trapped state.harts.items) left.now.ranks.items ≡ true → result ≡ 3 }
+{
+    status(left)
+}
+
+/// Where no rank was cut short, none wanted memory and no hart trapped, all is well.
+#[tactic(auto, using(rvmc_report::proofs::Ends::status_by_lists))]
+pub fn all_is_well(left: &Record) -> u8
+    requires { HasEachRank left.now }
+    ensures { list_any wants_memory left.now.stops.items ≡ false
+        → list_any (λ state. has_trapped state.harts.items) left.now.ranks.items ≡ false
+        → list_any is_cut_short left.now.stops.items ≡ false → result ≡ 0 }
+{
+    status(left)
+}
+
+/// A slice is read whole, or it is too long or memory is refused.
+pub fn slice_is_read_whole(alloc: Global, input: &mut &[u8]) -> Result<Vec<u8>, InputFault>
+    ensures { IfOk result (λ bytes. bytes.items ≡ input.old.now) }
+{
+    read_input(alloc, input)
+}
+
+/// One byte more than 67,108,864 is never taken for a whole input.
+pub fn longer_input_is_refused(alloc: Global, input: &mut &[u8]) -> Result<Vec<u8>, InputFault>
+    ensures { 67108864 < length input.old.now → IsErr result }
+{
+    read_input(alloc, input)
+}
+
+/// An empty input wants no memory.
+pub fn empty_input_wants_no_memory(alloc: Global) -> Result<Vec<u8>, InputFault>
+    ensures { result ≢ Err input.Memory }
+{
+    read_input(alloc, &mut [0u8; 0].as_slice())
+}

@@ -1,0 +1,19 @@
+//! The program on slices and vectors.
+
+ghost use Rattle.std.specs.Prelude.{◌≡◌};
+
+use rvmc_tool::tool_plain;
+use std::alloc::Global;
+
+/// Words that are no command line leave the output as it was, and nothing is read.
+#[tactic(auto, unfolding(rvmc_cli::specs::Meaning::faults_in, rvmc_cli::specs::Meaning::command_in, rvmc_cli::specs::Meaning::line_in, clap::proofs::OnLiterals::clap_on_literals))]
+pub fn refused_words_read_nothing(
+    alloc: Global,
+    input: &mut &[u8],
+    out: &mut Vec<u8>,
+    err: &mut Vec<u8>,
+) -> u8
+    ensures { input.new.now ≡ input.old.now }
+{
+    tool_plain(alloc, &["fly"], input, out, err)
+}
