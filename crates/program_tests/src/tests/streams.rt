@@ -256,14 +256,12 @@ fn expect_of_zeros<R: Abort + AllocGlobal>(
 fn input_of_67108864_bytes_is_read(rt: HostRuntime) {
     let line = b"rvmc: image: Magic\n";
     expect_of_zeros(&rt, 67_108_864, 4096, 1, line, 16_385);
-    expect_of_zeros(&rt, 67_108_864, 1, 1, line, 67_108_865);
 }
 
 #[test]
 fn input_of_one_byte_more_is_refused(rt: HostRuntime) {
     let line = b"rvmc: read\n";
     expect_of_zeros(&rt, 67_108_865, 4096, 6, line, 16_385);
-    expect_of_zeros(&rt, 67_108_865, 1, 6, line, 67_108_865);
-    // One that has no end is left after as many reads and one more.
-    expect_of_zeros(&rt, usize::MAX, 1, 6, line, 67_108_865);
+    // One that has no end is left there too.
+    expect_of_zeros(&rt, usize::MAX, 4096, 6, line, 16_385);
 }
