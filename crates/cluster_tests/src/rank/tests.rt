@@ -1,11 +1,11 @@
 //! What no clause says: that a guest takes its turns where there is memory, and that a desk's refusal is told by its name.
 
-use cl_journal::{Hub, HubFault};
-use cl_rank::{Bare, Desk, Kind, LockedDesk, Rank, Seen, Stop};
+use cl_journal::{Entry, Hub, HubFault};
+use cl_rank::{Bare, Desk, Kind, LockedDesk, Rank, Seen, Stop, Trace};
 use mp_types::{Reply, Request, Stamp};
 use rv_image::read_image;
-use std::alloc::Global;
-use std::sync::Mutex;
+use std::alloc::{AllocError, Global};
+use std::sync::{Mutex, Wait};
 use std::test::Fail;
 
 /// The image of a guest that sends an empty message to itself, receives it and ends: a header of 28 bytes, laid out as the
@@ -39,30 +39,44 @@ fn letter(seen: &Seen<'_>) -> char {
     }
 }
 
+/// A turn of hart 0, or why there was none: the stop, or None where there is no such hart.
+fn turn(rank: &mut Rank, hub: &mut Hub) -> Result<(), Option<Stop>> {
+    if rank.state.harts.is_empty() {
+        return Err(None);
+    }
+    match rank.turn_plain(hub, 0) {
+        Ok(()) => Ok(()),
+        Err(stop) => Err(Some(stop)),
+    }
+}
+
+/// A letter for each of the first events of a trace, and a dot where there is none.
+fn letters(alloc: Global, trace: &Trace, count: usize) -> Result<String, AllocError> {
+    let mut letters = String::new(alloc);
+    let mut cursor = trace.cursor();
+    for _ in 0..count {
+        match cursor.next() {
+            Some(seen) => letters.push(letter(&seen))?,
+            None => letters.push('.')?,
+        }
+    }
+    Ok(letters)
+}
+
 #[test]
 fn a_guest_takes_its_turns_and_ends(rt: HostRuntime) -> Result<(), Fail> {
     let image = read_image(rt.alloc(), &GUEST)?;
     let mut hub = Hub::start(rt.alloc(), &image)?;
     let mut rank = Rank::new(rt.alloc(), &image, 0, 100)?;
     for _ in 0..6 {
-        assert_eq!(rt; rank.state.harts.len(), 1);
-        let turn = rank.turn_plain(&mut hub, 0);
-        assert!(rt; turn.is_ok());
+        assert!(rt; turn(&mut rank, &mut hub) == Ok(()));
     }
-    assert_eq!(rt; rank.state.harts.len(), 1);
-    assert!(rt; rank.turn_plain(&mut hub, 0) == Err(Stop::AllEnded));
+    assert!(rt; turn(&mut rank, &mut hub) == Err(Some(Stop::AllEnded)));
     assert_eq!(rt; hub.entries().len(), 2);
     let (state, trace) = rank.into_parts();
     assert_eq!(rt; state.clock, 6);
-    let mut letters = String::new(rt.alloc());
-    let mut cursor = trace.cursor();
-    for _ in 0..6 {
-        if let Some(seen) = cursor.next() {
-            letters.push(letter(&seen))?;
-        }
-    }
-    assert_eq!(rt; letters.as_str(), "phphpl");
-    assert!(rt; cursor.next().is_none());
+    let told = letters(rt.alloc(), &trace, 7)?;
+    assert_eq!(rt; told.as_str(), "phphpl.");
     Ok(())
 }
 
@@ -75,28 +89,39 @@ const THREE_RANKS: [u8; 52] = [
     0x73, 0x00, 0x00, 0x00,
 ];
 
+/// A turn of hart 1 behind the lock, or why there was none: the stop, or None where there is no such hart.
+fn locked_turn<R: Wait>(rt: &R, rank: &mut Rank, hub: &Mutex<Hub>) -> Result<(), Option<Stop>> {
+    if rank.state.harts.len() < 2 {
+        return Err(None);
+    }
+    match rank.turn(rt, &mut LockedDesk { hub }, 1) {
+        Ok(()) => Ok(()),
+        Err(stop) => Err(Some(stop)),
+    }
+}
+
+/// Rank, hart, clock and stamp of each entry.
+fn callers(alloc: Global, entries: &[Entry]) -> Result<Vec<(u8, u8, u64, u64)>, AllocError> {
+    let mut callers = Vec::new(alloc);
+    for entry in entries {
+        callers.push((entry.rank, entry.hart, entry.clock, entry.stamp))?;
+    }
+    Ok(callers)
+}
+
 #[test]
 fn a_guest_takes_its_turns_behind_the_lock(rt: HostRuntime) -> Result<(), Fail> {
     let image = read_image(rt.alloc(), &THREE_RANKS)?;
     let hub = Mutex::new(Hub::start(rt.alloc(), &image)?);
     let mut rank = Rank::new(rt.alloc(), &image, 2, 3)?;
     for _ in 0..3 {
-        assert_eq!(rt; rank.state.harts.len(), 2);
-        let turn = rank.turn(&rt, &mut LockedDesk { hub: &hub }, 1);
-        assert!(rt; turn.is_ok());
+        assert!(rt; locked_turn(&rt, &mut rank, &hub) == Ok(()));
     }
-    assert_eq!(rt; rank.state.harts.len(), 2);
-    let turn = rank.turn(&rt, &mut LockedDesk { hub: &hub }, 1);
-    assert!(rt; turn == Err(Stop::Budget));
+    assert!(rt; locked_turn(&rt, &mut rank, &hub) == Err(Some(Stop::Budget)));
     assert_eq!(rt; rank.state.clock, 3);
     let hub = hub.into_inner();
-    assert_eq!(rt; hub.entries().len(), 1);
-    for entry in hub.entries() {
-        assert_eq!(rt; entry.rank, 2);
-        assert_eq!(rt; entry.hart, 1);
-        assert_eq!(rt; entry.clock, 1);
-        assert_eq!(rt; entry.stamp, 2);
-    }
+    let told = callers(rt.alloc(), hub.entries())?;
+    assert_eq!(rt; told.as_slice(), [(2, 1, 1, 2)].as_slice());
     Ok(())
 }
 
