@@ -1,5 +1,4 @@
 //! Values from outside, and each call that asks for memory.
-mod decode;
 mod hart;
 mod image;
 mod memory;

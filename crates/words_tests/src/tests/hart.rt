@@ -1,14 +1,6 @@
-//! What instructions do: values from the manual's corner cases, and tables of what qemu-riscv64 gave.
+//! What instructions do: values from the manual's corner cases. What qemu-riscv64 gave stands in the crate `words_rows`.
 //! Each goes the whole way: the instruction's word stands in a text, and a hart steps over it.
-mod branch_rows;
-mod immediate_rows;
-mod product_rows;
-mod register_rows;
 
-use branch_rows::{BRANCH_ROWS, LOAD_ROWS};
-use immediate_rows::{IMMEDIATE_ROWS, SHIFT_ROWS};
-use product_rows::PRODUCT_ROWS;
-use register_rows::REGISTER_ROWS;
 use rv_decode::{Instr, Reg, StoreOp, UpperOp, encode};
 use rv_hart::{Did, Hart, Mode, step};
 use rv_memory::{Cause, RankMemory, Width};
@@ -31,94 +23,6 @@ fn turn(rt: &impl Abort, hart: &mut Hart, memory: &mut RankMemory) -> Result<Did
         panic!(rt; "the hart doesn't run");
     };
     step(hart, memory)
-}
-
-/// The hart after one instruction, of which rs1 is x5, rs2 x6 and rd x7.
-fn after(
-    rt: &impl Abort,
-    alloc: Global,
-    instr: Instr,
-    a: u64,
-    b: u64,
-    cell: u64,
-) -> Result<Hart, AllocError> {
-    assert!(rt; instr.fits());
-    let (mut hart, mut memory) = rank(alloc, &[encode(&instr), 0], cell)?;
-    hart.set(Reg::new(5), a);
-    hart.set(Reg::new(6), b);
-    assert_eq!(rt; turn(rt, &mut hart, &mut memory)?, Did::Plain);
-    Ok(hart)
-}
-
-#[test]
-fn operations_on_registers(rt: HostRuntime) -> Result<(), Fail> {
-    let (rs1, rs2, rd) = (Reg::new(5), Reg::new(6), Reg::new(7));
-    for &(op, a, b, want) in REGISTER_ROWS.iter().chain(&PRODUCT_ROWS) {
-        let hart = after(&rt, rt.alloc(), Instr::Arith { op, rd, rs1, rs2 }, a, b, 0)?;
-        assert_eq!(rt; hart.get(rd), want, "{op:?} {a:x} {b:x}");
-        assert_eq!(rt; hart.pc(), 4);
-    }
-    Ok(())
-}
-
-#[test]
-fn operations_on_immediates(rt: HostRuntime) -> Result<(), Fail> {
-    let (rs1, rd) = (Reg::new(5), Reg::new(7));
-    for &(op, a, imm, want) in &IMMEDIATE_ROWS {
-        let hart = after(&rt, rt.alloc(), Instr::Imm { op, rd, rs1, imm }, a, 0, 0)?;
-        assert_eq!(rt; hart.get(rd), want, "{op:?} {a:x} {imm}");
-    }
-    Ok(())
-}
-
-#[test]
-fn shifts_by_amounts(rt: HostRuntime) -> Result<(), Fail> {
-    let (rs1, rd) = (Reg::new(5), Reg::new(7));
-    for &(op, a, amount, want) in &SHIFT_ROWS {
-        let instr = Instr::Shift {
-            op,
-            rd,
-            rs1,
-            amount,
-        };
-        let hart = after(&rt, rt.alloc(), instr, a, 0, 0)?;
-        assert_eq!(rt; hart.get(rd), want, "{op:?} {a:x} {amount}");
-    }
-    Ok(())
-}
-
-#[test]
-fn branches(rt: HostRuntime) -> Result<(), Fail> {
-    let (rs1, rs2) = (Reg::new(5), Reg::new(6));
-    for &(op, a, b, taken) in &BRANCH_ROWS {
-        let instr = Instr::Branch {
-            op,
-            rs1,
-            rs2,
-            off: 64,
-        };
-        let hart = after(&rt, rt.alloc(), instr, a, b, 0)?;
-        let want = if taken { 64 } else { 4 };
-        assert_eq!(rt; hart.pc(), want, "{op:?} {a:x} {b:x}");
-    }
-    Ok(())
-}
-
-#[test]
-fn loads_extend(rt: HostRuntime) -> Result<(), Fail> {
-    let (rs1, rd) = (Reg::new(5), Reg::new(7));
-    for &(op, cell, off, want) in &LOAD_ROWS {
-        let hart = after(
-            &rt,
-            rt.alloc(),
-            Instr::Load { op, rd, rs1, off },
-            16,
-            0,
-            cell,
-        )?;
-        assert_eq!(rt; hart.get(rd), want, "{op:?} {cell:x} {off}");
-    }
-    Ok(())
 }
 
 #[test]

@@ -1,0 +1,82 @@
+//! Reads words from standard input, and prints what each is and what it does.
+//!
+//! A line with a word alone, in eight hex digits: the word of its instruction, written again, and its text, or `illegal`.
+//! A line with a word and three more hex numbers: one step over the word, from 0, where x5 reads the first, x6 the second,
+//! and the double word at address 16 is the third. What x7 reads then, and the pc.
+//!
+//! The table in `stdin` and `stdout` is data from outside. The words and texts are GNU as 2.40's (`-march=rv64im`, a jump's
+//! or a branch's offset as `.+8`): edges of the operands' ranges and random numbers. What steps do is qemu-riscv64 7.2.22's,
+//! by a program that does each instruction once and writes what it gave.
+#![tactic(auto)]
+
+use rv_decode::{Reg, decode, encode, print_instr};
+use rv_hart::{Hart, Mode, step};
+use rv_memory::RankMemory;
+use std::alloc::{AllocError, Global};
+use std::io;
+use std::io::Write;
+
+/// Prints what a word is.
+fn print_word<W: Write>(alloc: Global, out: &mut W, word: u32) -> io::Result<()> {
+    match decode(word) {
+        Some(instr) => {
+            let text = print_instr(alloc, &instr)?;
+            let written = encode(&instr);
+            writeln!(out, "{written:08x} {text}")
+        }
+        None => writeln!(out, "illegal"),
+    }
+}
+
+/// The hart after one step over the word, in a memory with this double word of data.
+fn after(alloc: Global, word: u32, a: u64, b: u64, cell: u64) -> Result<Hart, AllocError> {
+    let mut memory = RankMemory::new(alloc, 4096, &word.to_le_bytes(), &cell.to_le_bytes())?;
+    let mut hart = Hart::start(0, 4096, 0, 0);
+    hart.set(Reg::new(5), a);
+    hart.set(Reg::new(6), b);
+    if hart.mode() == Mode::Running {
+        step(&mut hart, &mut memory)?;
+    }
+    Ok(hart)
+}
+
+/// Prints what a step over a word does.
+fn print_step<W: Write>(
+    alloc: Global,
+    out: &mut W,
+    word: u32,
+    a: u64,
+    b: u64,
+    cell: u64,
+) -> io::Result<()> {
+    let hart = after(alloc, word, a, b, cell)?;
+    let (read, pc) = (hart.get(Reg::new(7)), hart.pc());
+    writeln!(out, "{read:x} {pc:x}")
+}
+
+/// A hex number, or 0 where the text is none.
+fn number(text: &str) -> u64 {
+    u64::from_str_radix(text, 16).unwrap_or(0)
+}
+
+/// Prints what a line asks for.
+fn print_line<W: Write>(alloc: Global, out: &mut W, line: &str) -> io::Result<()> {
+    let words: Vec<&str> = line.split(' ').collect(alloc)?;
+    let Some(Ok(word)) = words.first().map(|text| u32::from_str_radix(text, 16)) else {
+        return writeln!(out, "no word");
+    };
+    match words.as_slice() {
+        [_] => print_word(alloc, out, word),
+        [_, a, b, cell] => print_step(alloc, out, word, number(a), number(b), number(cell)),
+        _ => writeln!(out, "no row"),
+    }
+}
+
+fn main(rt: HostRuntime) -> io::Result<()> {
+    let alloc = rt.alloc();
+    for line in rt.lines(alloc) {
+        let line = line?;
+        print_line(alloc, &mut rt.stdout(), line.as_str())?;
+    }
+    Ok(())
+}
