@@ -1,4 +1,4 @@
-//! Witnesses and tests of the cluster's layer: traces, ranks and runs. A witness calls a public function and says, by its
+//! Witnesses of the cluster's layer: traces, ranks and runs. A witness calls a public function and says, by its
 //! contract, what must be answered there; it is proved from the contract of what it calls alone.
 #![tactic(auto)]
 

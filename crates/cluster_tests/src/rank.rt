@@ -14,9 +14,6 @@ use cl_rank::{Desk, LockedDesk, Rank, Stop};
 use mp_types::{Reply, Request, Stamp};
 use std::sync::Wait;
 
-#[cfg(test)]
-mod tests;
-
 /// A rank whose budget is used stops with Budget, and with no other cause, as long as some hart isn't stopped.
 pub fn a_used_budget_stops(rank: &mut Rank, hub: &mut Hub, hart: u8) -> Result<(), Stop>
     requires hart { hart < vec_len rank.old.state.harts }

@@ -9,9 +9,6 @@ use cl_run::{Loaded, Plan, Record, RunFault, are_plans, run_one};
 use rv_image::Image;
 use std::alloc::Global;
 
-#[cfg(test)]
-mod tests;
-
 /// Plans of fewer ranks than the image has, or of more, are refused.
 pub fn each_rank_has_a_plan(image: &Image, plans: &[Plan], order: &[u8]) -> bool
     requires { ¬ (length plans.now ≡ image.now.ranks) }

@@ -10,9 +10,6 @@ use cl_trace::{Cursor, Event, Seen, Trace};
 use mp_types::Stamp;
 use std::alloc::{AllocError, Global};
 
-#[cfg(test)]
-mod tests;
-
 /// A new trace counts no event.
 pub fn a_new_trace_counts_none(alloc: Global) -> u64
     ensures { result ≡ 0 }

@@ -265,12 +265,3 @@ fn input_of_one_byte_more_is_refused(rt: HostRuntime) {
     // One that has no end is left there too.
     expect_of_zeros(&rt, usize::MAX, 4096, 6, line, 16_385);
 }
-
-#[test]
-fn input_comes_in_as_many_reads_and_one_more(rt: HostRuntime) {
-    let line = b"rvmc: image: Magic\n";
-    expect_of_zeros(&rt, 67_108_864, 1, 1, line, 67_108_865);
-    // One that gives a byte a read for ever is left there.
-    let line = b"rvmc: read\n";
-    expect_of_zeros(&rt, usize::MAX, 1, 6, line, 67_108_865);
-}
