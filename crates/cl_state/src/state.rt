@@ -87,9 +87,6 @@ impl RankState {
         ensures bytes { IfOk result (λ bytes. bytes.items ≡ bytes_at self.now.memory buffer count) }
         ensures sure { count ≡ 0 → IsOkAnd result (λ bytes. vec_len bytes ≡ 0) }
     {
-        if count == 0 {
-            return Ok(Vec::new(self.alloc));
-        }
         match self.memory.read_bytes(self.alloc, buffer, count) {
             Ok(bytes) => Ok(bytes),
             Err(_) => Err(AllocError),
