@@ -36,74 +36,30 @@ pub struct DirectiveRow {
     pub form: Form,
 }
 
+/// The table of rows, one line a row: a name, and what it is.
+macro_rules! rows {
+    ($($name:literal $form:expr;)*) => {
+        [$(DirectiveRow { name: $name, form: $form }),*]
+    };
+}
+
 /// The rows.
-pub static DIRECTIVES: [DirectiveRow; 17] = [
-    DirectiveRow {
-        name: b".ranks",
-        form: Form::Ranks,
-    },
-    DirectiveRow {
-        name: b".harts",
-        form: Form::Harts,
-    },
-    DirectiveRow {
-        name: b".memory",
-        form: Form::Memory,
-    },
-    DirectiveRow {
-        name: b".entry",
-        form: Form::Entry,
-    },
-    DirectiveRow {
-        name: b".comm",
-        form: Form::Comm,
-    },
-    DirectiveRow {
-        name: b".link",
-        form: Form::Link,
-    },
-    DirectiveRow {
-        name: b".text",
-        form: Form::Text,
-    },
-    DirectiveRow {
-        name: b".data",
-        form: Form::Data,
-    },
-    DirectiveRow {
-        name: b".byte",
-        form: Form::Items(Width::Byte),
-    },
-    DirectiveRow {
-        name: b".half",
-        form: Form::Items(Width::Half),
-    },
-    DirectiveRow {
-        name: b".word",
-        form: Form::Items(Width::Word),
-    },
-    DirectiveRow {
-        name: b".dword",
-        form: Form::Items(Width::Double),
-    },
-    DirectiveRow {
-        name: b".ascii",
-        form: Form::String,
-    },
-    DirectiveRow {
-        name: b".asciz",
-        form: Form::StringAndZero,
-    },
-    DirectiveRow {
-        name: b".zero",
-        form: Form::Zero,
-    },
-    DirectiveRow {
-        name: b".balign",
-        form: Form::Align,
-    },
-    DirectiveRow {
-        name: b".globl",
-        form: Form::Global,
-    },
-];
+pub static DIRECTIVES: [DirectiveRow; 17] = rows! {
+    b".ranks" Form::Ranks;
+    b".harts" Form::Harts;
+    b".memory" Form::Memory;
+    b".entry" Form::Entry;
+    b".comm" Form::Comm;
+    b".link" Form::Link;
+    b".text" Form::Text;
+    b".data" Form::Data;
+    b".byte" Form::Items(Width::Byte);
+    b".half" Form::Items(Width::Half);
+    b".word" Form::Items(Width::Word);
+    b".dword" Form::Items(Width::Double);
+    b".ascii" Form::String;
+    b".asciz" Form::StringAndZero;
+    b".zero" Form::Zero;
+    b".balign" Form::Align;
+    b".globl" Form::Global;
+};

@@ -12,269 +12,81 @@ pub struct RegisterName {
     pub number: u8,
 }
 
+/// The table of names, one line a name: a name, and the number of its register.
+macro_rules! registers {
+    ($($name:literal $number:literal;)*) => {
+        [$(RegisterName { name: $name, number: $number }),*]
+    };
+}
+
 // x0 to x31, and the names of the calling convention
-static REGISTERS: [RegisterName; 65] = [
-    RegisterName {
-        name: b"x0",
-        number: 0,
-    },
-    RegisterName {
-        name: b"x1",
-        number: 1,
-    },
-    RegisterName {
-        name: b"x2",
-        number: 2,
-    },
-    RegisterName {
-        name: b"x3",
-        number: 3,
-    },
-    RegisterName {
-        name: b"x4",
-        number: 4,
-    },
-    RegisterName {
-        name: b"x5",
-        number: 5,
-    },
-    RegisterName {
-        name: b"x6",
-        number: 6,
-    },
-    RegisterName {
-        name: b"x7",
-        number: 7,
-    },
-    RegisterName {
-        name: b"x8",
-        number: 8,
-    },
-    RegisterName {
-        name: b"x9",
-        number: 9,
-    },
-    RegisterName {
-        name: b"x10",
-        number: 10,
-    },
-    RegisterName {
-        name: b"x11",
-        number: 11,
-    },
-    RegisterName {
-        name: b"x12",
-        number: 12,
-    },
-    RegisterName {
-        name: b"x13",
-        number: 13,
-    },
-    RegisterName {
-        name: b"x14",
-        number: 14,
-    },
-    RegisterName {
-        name: b"x15",
-        number: 15,
-    },
-    RegisterName {
-        name: b"x16",
-        number: 16,
-    },
-    RegisterName {
-        name: b"x17",
-        number: 17,
-    },
-    RegisterName {
-        name: b"x18",
-        number: 18,
-    },
-    RegisterName {
-        name: b"x19",
-        number: 19,
-    },
-    RegisterName {
-        name: b"x20",
-        number: 20,
-    },
-    RegisterName {
-        name: b"x21",
-        number: 21,
-    },
-    RegisterName {
-        name: b"x22",
-        number: 22,
-    },
-    RegisterName {
-        name: b"x23",
-        number: 23,
-    },
-    RegisterName {
-        name: b"x24",
-        number: 24,
-    },
-    RegisterName {
-        name: b"x25",
-        number: 25,
-    },
-    RegisterName {
-        name: b"x26",
-        number: 26,
-    },
-    RegisterName {
-        name: b"x27",
-        number: 27,
-    },
-    RegisterName {
-        name: b"x28",
-        number: 28,
-    },
-    RegisterName {
-        name: b"x29",
-        number: 29,
-    },
-    RegisterName {
-        name: b"x30",
-        number: 30,
-    },
-    RegisterName {
-        name: b"x31",
-        number: 31,
-    },
-    RegisterName {
-        name: b"zero",
-        number: 0,
-    },
-    RegisterName {
-        name: b"ra",
-        number: 1,
-    },
-    RegisterName {
-        name: b"sp",
-        number: 2,
-    },
-    RegisterName {
-        name: b"gp",
-        number: 3,
-    },
-    RegisterName {
-        name: b"tp",
-        number: 4,
-    },
-    RegisterName {
-        name: b"t0",
-        number: 5,
-    },
-    RegisterName {
-        name: b"t1",
-        number: 6,
-    },
-    RegisterName {
-        name: b"t2",
-        number: 7,
-    },
-    RegisterName {
-        name: b"s0",
-        number: 8,
-    },
-    RegisterName {
-        name: b"fp",
-        number: 8,
-    },
-    RegisterName {
-        name: b"s1",
-        number: 9,
-    },
-    RegisterName {
-        name: b"a0",
-        number: 10,
-    },
-    RegisterName {
-        name: b"a1",
-        number: 11,
-    },
-    RegisterName {
-        name: b"a2",
-        number: 12,
-    },
-    RegisterName {
-        name: b"a3",
-        number: 13,
-    },
-    RegisterName {
-        name: b"a4",
-        number: 14,
-    },
-    RegisterName {
-        name: b"a5",
-        number: 15,
-    },
-    RegisterName {
-        name: b"a6",
-        number: 16,
-    },
-    RegisterName {
-        name: b"a7",
-        number: 17,
-    },
-    RegisterName {
-        name: b"s2",
-        number: 18,
-    },
-    RegisterName {
-        name: b"s3",
-        number: 19,
-    },
-    RegisterName {
-        name: b"s4",
-        number: 20,
-    },
-    RegisterName {
-        name: b"s5",
-        number: 21,
-    },
-    RegisterName {
-        name: b"s6",
-        number: 22,
-    },
-    RegisterName {
-        name: b"s7",
-        number: 23,
-    },
-    RegisterName {
-        name: b"s8",
-        number: 24,
-    },
-    RegisterName {
-        name: b"s9",
-        number: 25,
-    },
-    RegisterName {
-        name: b"s10",
-        number: 26,
-    },
-    RegisterName {
-        name: b"s11",
-        number: 27,
-    },
-    RegisterName {
-        name: b"t3",
-        number: 28,
-    },
-    RegisterName {
-        name: b"t4",
-        number: 29,
-    },
-    RegisterName {
-        name: b"t5",
-        number: 30,
-    },
-    RegisterName {
-        name: b"t6",
-        number: 31,
-    },
-];
+static REGISTERS: [RegisterName; 65] = registers! {
+    b"x0" 0;
+    b"x1" 1;
+    b"x2" 2;
+    b"x3" 3;
+    b"x4" 4;
+    b"x5" 5;
+    b"x6" 6;
+    b"x7" 7;
+    b"x8" 8;
+    b"x9" 9;
+    b"x10" 10;
+    b"x11" 11;
+    b"x12" 12;
+    b"x13" 13;
+    b"x14" 14;
+    b"x15" 15;
+    b"x16" 16;
+    b"x17" 17;
+    b"x18" 18;
+    b"x19" 19;
+    b"x20" 20;
+    b"x21" 21;
+    b"x22" 22;
+    b"x23" 23;
+    b"x24" 24;
+    b"x25" 25;
+    b"x26" 26;
+    b"x27" 27;
+    b"x28" 28;
+    b"x29" 29;
+    b"x30" 30;
+    b"x31" 31;
+    b"zero" 0;
+    b"ra" 1;
+    b"sp" 2;
+    b"gp" 3;
+    b"tp" 4;
+    b"t0" 5;
+    b"t1" 6;
+    b"t2" 7;
+    b"s0" 8;
+    b"fp" 8;
+    b"s1" 9;
+    b"a0" 10;
+    b"a1" 11;
+    b"a2" 12;
+    b"a3" 13;
+    b"a4" 14;
+    b"a5" 15;
+    b"a6" 16;
+    b"a7" 17;
+    b"s2" 18;
+    b"s3" 19;
+    b"s4" 20;
+    b"s5" 21;
+    b"s6" 22;
+    b"s7" 23;
+    b"s8" 24;
+    b"s9" 25;
+    b"s10" 26;
+    b"s11" 27;
+    b"t3" 28;
+    b"t4" 29;
+    b"t5" 30;
+    b"t6" 31;
+};
 
 fn number_in(table: &[RegisterName], name: &[u8]) -> Option<u8>
     ensures { result ≡ first_given (beside name.now) (map register_view table.now) }

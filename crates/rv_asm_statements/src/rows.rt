@@ -67,471 +67,106 @@ pub struct Row {
     pub template: Template,
 }
 
+/// The table of rows, one line a row: a mnemonic, the operands that it takes, and its instruction.
+macro_rules! rows {
+    ($($name:literal $shape:ident $template:expr;)*) => {
+        [$(Row { name: $name, shape: Shape::$shape, template: $template }),*]
+    };
+}
+
 /// The rows, real instructions first and then those that stand for others.
-pub static ROWS: [Row; 93] = [
-    Row {
-        name: b"lui",
-        shape: Shape::RegNumber,
-        template: Template::Upper(UpperOp::Lui, Slot::First),
-    },
-    Row {
-        name: b"auipc",
-        shape: Shape::RegNumber,
-        template: Template::Upper(UpperOp::Auipc, Slot::First),
-    },
-    Row {
-        name: b"jal",
-        shape: Shape::RegTarget,
-        template: Template::Jal(Slot::First),
-    },
-    Row {
-        name: b"jal",
-        shape: Shape::Target,
-        template: Template::Jal(Slot::Link),
-    },
-    Row {
-        name: b"jalr",
-        shape: Shape::RegPlace,
-        template: Template::Jalr(Slot::First, Slot::Second, Amount::Written),
-    },
-    Row {
-        name: b"jalr",
-        shape: Shape::Reg,
-        template: Template::Jalr(Slot::Link, Slot::First, Amount::Given(0)),
-    },
-    Row {
-        name: b"beq",
-        shape: Shape::RegRegTarget,
-        template: Template::Branch(BranchOp::Beq, Slot::First, Slot::Second),
-    },
-    Row {
-        name: b"bne",
-        shape: Shape::RegRegTarget,
-        template: Template::Branch(BranchOp::Bne, Slot::First, Slot::Second),
-    },
-    Row {
-        name: b"blt",
-        shape: Shape::RegRegTarget,
-        template: Template::Branch(BranchOp::Blt, Slot::First, Slot::Second),
-    },
-    Row {
-        name: b"bge",
-        shape: Shape::RegRegTarget,
-        template: Template::Branch(BranchOp::Bge, Slot::First, Slot::Second),
-    },
-    Row {
-        name: b"bltu",
-        shape: Shape::RegRegTarget,
-        template: Template::Branch(BranchOp::Bltu, Slot::First, Slot::Second),
-    },
-    Row {
-        name: b"bgeu",
-        shape: Shape::RegRegTarget,
-        template: Template::Branch(BranchOp::Bgeu, Slot::First, Slot::Second),
-    },
-    Row {
-        name: b"lb",
-        shape: Shape::RegPlace,
-        template: Template::Load(LoadOp::Lb, Slot::First, Slot::Second),
-    },
-    Row {
-        name: b"lh",
-        shape: Shape::RegPlace,
-        template: Template::Load(LoadOp::Lh, Slot::First, Slot::Second),
-    },
-    Row {
-        name: b"lw",
-        shape: Shape::RegPlace,
-        template: Template::Load(LoadOp::Lw, Slot::First, Slot::Second),
-    },
-    Row {
-        name: b"ld",
-        shape: Shape::RegPlace,
-        template: Template::Load(LoadOp::Ld, Slot::First, Slot::Second),
-    },
-    Row {
-        name: b"lbu",
-        shape: Shape::RegPlace,
-        template: Template::Load(LoadOp::Lbu, Slot::First, Slot::Second),
-    },
-    Row {
-        name: b"lhu",
-        shape: Shape::RegPlace,
-        template: Template::Load(LoadOp::Lhu, Slot::First, Slot::Second),
-    },
-    Row {
-        name: b"lwu",
-        shape: Shape::RegPlace,
-        template: Template::Load(LoadOp::Lwu, Slot::First, Slot::Second),
-    },
-    Row {
-        name: b"sb",
-        shape: Shape::RegPlace,
-        template: Template::Store(StoreOp::Sb, Slot::Second, Slot::First),
-    },
-    Row {
-        name: b"sh",
-        shape: Shape::RegPlace,
-        template: Template::Store(StoreOp::Sh, Slot::Second, Slot::First),
-    },
-    Row {
-        name: b"sw",
-        shape: Shape::RegPlace,
-        template: Template::Store(StoreOp::Sw, Slot::Second, Slot::First),
-    },
-    Row {
-        name: b"sd",
-        shape: Shape::RegPlace,
-        template: Template::Store(StoreOp::Sd, Slot::Second, Slot::First),
-    },
-    Row {
-        name: b"addi",
-        shape: Shape::RegRegNumber,
-        template: Template::Imm(ImmOp::Addi, Slot::First, Slot::Second, Amount::Written),
-    },
-    Row {
-        name: b"slti",
-        shape: Shape::RegRegNumber,
-        template: Template::Imm(ImmOp::Slti, Slot::First, Slot::Second, Amount::Written),
-    },
-    Row {
-        name: b"sltiu",
-        shape: Shape::RegRegNumber,
-        template: Template::Imm(ImmOp::Sltiu, Slot::First, Slot::Second, Amount::Written),
-    },
-    Row {
-        name: b"xori",
-        shape: Shape::RegRegNumber,
-        template: Template::Imm(ImmOp::Xori, Slot::First, Slot::Second, Amount::Written),
-    },
-    Row {
-        name: b"ori",
-        shape: Shape::RegRegNumber,
-        template: Template::Imm(ImmOp::Ori, Slot::First, Slot::Second, Amount::Written),
-    },
-    Row {
-        name: b"andi",
-        shape: Shape::RegRegNumber,
-        template: Template::Imm(ImmOp::Andi, Slot::First, Slot::Second, Amount::Written),
-    },
-    Row {
-        name: b"addiw",
-        shape: Shape::RegRegNumber,
-        template: Template::Imm(ImmOp::Addiw, Slot::First, Slot::Second, Amount::Written),
-    },
-    Row {
-        name: b"slli",
-        shape: Shape::RegRegNumber,
-        template: Template::Shift(ShiftOp::Slli, Slot::First, Slot::Second),
-    },
-    Row {
-        name: b"srli",
-        shape: Shape::RegRegNumber,
-        template: Template::Shift(ShiftOp::Srli, Slot::First, Slot::Second),
-    },
-    Row {
-        name: b"srai",
-        shape: Shape::RegRegNumber,
-        template: Template::Shift(ShiftOp::Srai, Slot::First, Slot::Second),
-    },
-    Row {
-        name: b"slliw",
-        shape: Shape::RegRegNumber,
-        template: Template::Shift(ShiftOp::Slliw, Slot::First, Slot::Second),
-    },
-    Row {
-        name: b"srliw",
-        shape: Shape::RegRegNumber,
-        template: Template::Shift(ShiftOp::Srliw, Slot::First, Slot::Second),
-    },
-    Row {
-        name: b"sraiw",
-        shape: Shape::RegRegNumber,
-        template: Template::Shift(ShiftOp::Sraiw, Slot::First, Slot::Second),
-    },
-    Row {
-        name: b"add",
-        shape: Shape::RegRegReg,
-        template: Template::Arith(ArithOp::Add, Slot::First, Slot::Second, Slot::Third),
-    },
-    Row {
-        name: b"sub",
-        shape: Shape::RegRegReg,
-        template: Template::Arith(ArithOp::Sub, Slot::First, Slot::Second, Slot::Third),
-    },
-    Row {
-        name: b"sll",
-        shape: Shape::RegRegReg,
-        template: Template::Arith(ArithOp::Sll, Slot::First, Slot::Second, Slot::Third),
-    },
-    Row {
-        name: b"slt",
-        shape: Shape::RegRegReg,
-        template: Template::Arith(ArithOp::Slt, Slot::First, Slot::Second, Slot::Third),
-    },
-    Row {
-        name: b"sltu",
-        shape: Shape::RegRegReg,
-        template: Template::Arith(ArithOp::Sltu, Slot::First, Slot::Second, Slot::Third),
-    },
-    Row {
-        name: b"xor",
-        shape: Shape::RegRegReg,
-        template: Template::Arith(ArithOp::Xor, Slot::First, Slot::Second, Slot::Third),
-    },
-    Row {
-        name: b"srl",
-        shape: Shape::RegRegReg,
-        template: Template::Arith(ArithOp::Srl, Slot::First, Slot::Second, Slot::Third),
-    },
-    Row {
-        name: b"sra",
-        shape: Shape::RegRegReg,
-        template: Template::Arith(ArithOp::Sra, Slot::First, Slot::Second, Slot::Third),
-    },
-    Row {
-        name: b"or",
-        shape: Shape::RegRegReg,
-        template: Template::Arith(ArithOp::Or, Slot::First, Slot::Second, Slot::Third),
-    },
-    Row {
-        name: b"and",
-        shape: Shape::RegRegReg,
-        template: Template::Arith(ArithOp::And, Slot::First, Slot::Second, Slot::Third),
-    },
-    Row {
-        name: b"addw",
-        shape: Shape::RegRegReg,
-        template: Template::Arith(ArithOp::Addw, Slot::First, Slot::Second, Slot::Third),
-    },
-    Row {
-        name: b"subw",
-        shape: Shape::RegRegReg,
-        template: Template::Arith(ArithOp::Subw, Slot::First, Slot::Second, Slot::Third),
-    },
-    Row {
-        name: b"sllw",
-        shape: Shape::RegRegReg,
-        template: Template::Arith(ArithOp::Sllw, Slot::First, Slot::Second, Slot::Third),
-    },
-    Row {
-        name: b"srlw",
-        shape: Shape::RegRegReg,
-        template: Template::Arith(ArithOp::Srlw, Slot::First, Slot::Second, Slot::Third),
-    },
-    Row {
-        name: b"sraw",
-        shape: Shape::RegRegReg,
-        template: Template::Arith(ArithOp::Sraw, Slot::First, Slot::Second, Slot::Third),
-    },
-    Row {
-        name: b"mul",
-        shape: Shape::RegRegReg,
-        template: Template::Arith(ArithOp::Mul, Slot::First, Slot::Second, Slot::Third),
-    },
-    Row {
-        name: b"mulh",
-        shape: Shape::RegRegReg,
-        template: Template::Arith(ArithOp::Mulh, Slot::First, Slot::Second, Slot::Third),
-    },
-    Row {
-        name: b"mulhsu",
-        shape: Shape::RegRegReg,
-        template: Template::Arith(ArithOp::Mulhsu, Slot::First, Slot::Second, Slot::Third),
-    },
-    Row {
-        name: b"mulhu",
-        shape: Shape::RegRegReg,
-        template: Template::Arith(ArithOp::Mulhu, Slot::First, Slot::Second, Slot::Third),
-    },
-    Row {
-        name: b"div",
-        shape: Shape::RegRegReg,
-        template: Template::Arith(ArithOp::Div, Slot::First, Slot::Second, Slot::Third),
-    },
-    Row {
-        name: b"divu",
-        shape: Shape::RegRegReg,
-        template: Template::Arith(ArithOp::Divu, Slot::First, Slot::Second, Slot::Third),
-    },
-    Row {
-        name: b"rem",
-        shape: Shape::RegRegReg,
-        template: Template::Arith(ArithOp::Rem, Slot::First, Slot::Second, Slot::Third),
-    },
-    Row {
-        name: b"remu",
-        shape: Shape::RegRegReg,
-        template: Template::Arith(ArithOp::Remu, Slot::First, Slot::Second, Slot::Third),
-    },
-    Row {
-        name: b"mulw",
-        shape: Shape::RegRegReg,
-        template: Template::Arith(ArithOp::Mulw, Slot::First, Slot::Second, Slot::Third),
-    },
-    Row {
-        name: b"divw",
-        shape: Shape::RegRegReg,
-        template: Template::Arith(ArithOp::Divw, Slot::First, Slot::Second, Slot::Third),
-    },
-    Row {
-        name: b"divuw",
-        shape: Shape::RegRegReg,
-        template: Template::Arith(ArithOp::Divuw, Slot::First, Slot::Second, Slot::Third),
-    },
-    Row {
-        name: b"remw",
-        shape: Shape::RegRegReg,
-        template: Template::Arith(ArithOp::Remw, Slot::First, Slot::Second, Slot::Third),
-    },
-    Row {
-        name: b"remuw",
-        shape: Shape::RegRegReg,
-        template: Template::Arith(ArithOp::Remuw, Slot::First, Slot::Second, Slot::Third),
-    },
-    Row {
-        name: b"fence",
-        shape: Shape::Nothing,
-        template: Template::Fence,
-    },
-    Row {
-        name: b"fence",
-        shape: Shape::Orders,
-        template: Template::Fence,
-    },
-    Row {
-        name: b"ecall",
-        shape: Shape::Nothing,
-        template: Template::Ecall,
-    },
-    Row {
-        name: b"ebreak",
-        shape: Shape::Nothing,
-        template: Template::Ebreak,
-    },
-    Row {
-        name: b"nop",
-        shape: Shape::Nothing,
-        template: Template::Imm(ImmOp::Addi, Slot::Zero, Slot::Zero, Amount::Given(0)),
-    },
-    Row {
-        name: b"mv",
-        shape: Shape::RegReg,
-        template: Template::Imm(ImmOp::Addi, Slot::First, Slot::Second, Amount::Given(0)),
-    },
-    Row {
-        name: b"not",
-        shape: Shape::RegReg,
-        template: Template::Imm(ImmOp::Xori, Slot::First, Slot::Second, Amount::Given(-1)),
-    },
-    Row {
-        name: b"neg",
-        shape: Shape::RegReg,
-        template: Template::Arith(ArithOp::Sub, Slot::First, Slot::Zero, Slot::Second),
-    },
-    Row {
-        name: b"negw",
-        shape: Shape::RegReg,
-        template: Template::Arith(ArithOp::Subw, Slot::First, Slot::Zero, Slot::Second),
-    },
-    Row {
-        name: b"sext.w",
-        shape: Shape::RegReg,
-        template: Template::Imm(ImmOp::Addiw, Slot::First, Slot::Second, Amount::Given(0)),
-    },
-    Row {
-        name: b"seqz",
-        shape: Shape::RegReg,
-        template: Template::Imm(ImmOp::Sltiu, Slot::First, Slot::Second, Amount::Given(1)),
-    },
-    Row {
-        name: b"snez",
-        shape: Shape::RegReg,
-        template: Template::Arith(ArithOp::Sltu, Slot::First, Slot::Zero, Slot::Second),
-    },
-    Row {
-        name: b"sltz",
-        shape: Shape::RegReg,
-        template: Template::Arith(ArithOp::Slt, Slot::First, Slot::Second, Slot::Zero),
-    },
-    Row {
-        name: b"sgtz",
-        shape: Shape::RegReg,
-        template: Template::Arith(ArithOp::Slt, Slot::First, Slot::Zero, Slot::Second),
-    },
-    Row {
-        name: b"beqz",
-        shape: Shape::RegTarget,
-        template: Template::Branch(BranchOp::Beq, Slot::First, Slot::Zero),
-    },
-    Row {
-        name: b"bnez",
-        shape: Shape::RegTarget,
-        template: Template::Branch(BranchOp::Bne, Slot::First, Slot::Zero),
-    },
-    Row {
-        name: b"blez",
-        shape: Shape::RegTarget,
-        template: Template::Branch(BranchOp::Bge, Slot::Zero, Slot::First),
-    },
-    Row {
-        name: b"bgez",
-        shape: Shape::RegTarget,
-        template: Template::Branch(BranchOp::Bge, Slot::First, Slot::Zero),
-    },
-    Row {
-        name: b"bltz",
-        shape: Shape::RegTarget,
-        template: Template::Branch(BranchOp::Blt, Slot::First, Slot::Zero),
-    },
-    Row {
-        name: b"bgtz",
-        shape: Shape::RegTarget,
-        template: Template::Branch(BranchOp::Blt, Slot::Zero, Slot::First),
-    },
-    Row {
-        name: b"bgt",
-        shape: Shape::RegRegTarget,
-        template: Template::Branch(BranchOp::Blt, Slot::Second, Slot::First),
-    },
-    Row {
-        name: b"ble",
-        shape: Shape::RegRegTarget,
-        template: Template::Branch(BranchOp::Bge, Slot::Second, Slot::First),
-    },
-    Row {
-        name: b"bgtu",
-        shape: Shape::RegRegTarget,
-        template: Template::Branch(BranchOp::Bltu, Slot::Second, Slot::First),
-    },
-    Row {
-        name: b"bleu",
-        shape: Shape::RegRegTarget,
-        template: Template::Branch(BranchOp::Bgeu, Slot::Second, Slot::First),
-    },
-    Row {
-        name: b"j",
-        shape: Shape::Target,
-        template: Template::Jal(Slot::Zero),
-    },
-    Row {
-        name: b"jr",
-        shape: Shape::Reg,
-        template: Template::Jalr(Slot::Zero, Slot::First, Amount::Given(0)),
-    },
-    Row {
-        name: b"ret",
-        shape: Shape::Nothing,
-        template: Template::Jalr(Slot::Zero, Slot::Link, Amount::Given(0)),
-    },
-    Row {
-        name: b"li",
-        shape: Shape::RegNumber,
-        template: Template::LoadImmediate(Slot::First),
-    },
-    Row {
-        name: b"la",
-        shape: Shape::RegLabel,
-        template: Template::LoadAddress(Slot::First),
-    },
-];
+pub static ROWS: [Row; 93] = rows! {
+    b"lui" RegNumber Template::Upper(UpperOp::Lui, Slot::First);
+    b"auipc" RegNumber Template::Upper(UpperOp::Auipc, Slot::First);
+    b"jal" RegTarget Template::Jal(Slot::First);
+    b"jal" Target Template::Jal(Slot::Link);
+    b"jalr" RegPlace Template::Jalr(Slot::First, Slot::Second, Amount::Written);
+    b"jalr" Reg Template::Jalr(Slot::Link, Slot::First, Amount::Given(0));
+    b"beq" RegRegTarget Template::Branch(BranchOp::Beq, Slot::First, Slot::Second);
+    b"bne" RegRegTarget Template::Branch(BranchOp::Bne, Slot::First, Slot::Second);
+    b"blt" RegRegTarget Template::Branch(BranchOp::Blt, Slot::First, Slot::Second);
+    b"bge" RegRegTarget Template::Branch(BranchOp::Bge, Slot::First, Slot::Second);
+    b"bltu" RegRegTarget Template::Branch(BranchOp::Bltu, Slot::First, Slot::Second);
+    b"bgeu" RegRegTarget Template::Branch(BranchOp::Bgeu, Slot::First, Slot::Second);
+    b"lb" RegPlace Template::Load(LoadOp::Lb, Slot::First, Slot::Second);
+    b"lh" RegPlace Template::Load(LoadOp::Lh, Slot::First, Slot::Second);
+    b"lw" RegPlace Template::Load(LoadOp::Lw, Slot::First, Slot::Second);
+    b"ld" RegPlace Template::Load(LoadOp::Ld, Slot::First, Slot::Second);
+    b"lbu" RegPlace Template::Load(LoadOp::Lbu, Slot::First, Slot::Second);
+    b"lhu" RegPlace Template::Load(LoadOp::Lhu, Slot::First, Slot::Second);
+    b"lwu" RegPlace Template::Load(LoadOp::Lwu, Slot::First, Slot::Second);
+    b"sb" RegPlace Template::Store(StoreOp::Sb, Slot::Second, Slot::First);
+    b"sh" RegPlace Template::Store(StoreOp::Sh, Slot::Second, Slot::First);
+    b"sw" RegPlace Template::Store(StoreOp::Sw, Slot::Second, Slot::First);
+    b"sd" RegPlace Template::Store(StoreOp::Sd, Slot::Second, Slot::First);
+    b"addi" RegRegNumber Template::Imm(ImmOp::Addi, Slot::First, Slot::Second, Amount::Written);
+    b"slti" RegRegNumber Template::Imm(ImmOp::Slti, Slot::First, Slot::Second, Amount::Written);
+    b"sltiu" RegRegNumber Template::Imm(ImmOp::Sltiu, Slot::First, Slot::Second, Amount::Written);
+    b"xori" RegRegNumber Template::Imm(ImmOp::Xori, Slot::First, Slot::Second, Amount::Written);
+    b"ori" RegRegNumber Template::Imm(ImmOp::Ori, Slot::First, Slot::Second, Amount::Written);
+    b"andi" RegRegNumber Template::Imm(ImmOp::Andi, Slot::First, Slot::Second, Amount::Written);
+    b"addiw" RegRegNumber Template::Imm(ImmOp::Addiw, Slot::First, Slot::Second, Amount::Written);
+    b"slli" RegRegNumber Template::Shift(ShiftOp::Slli, Slot::First, Slot::Second);
+    b"srli" RegRegNumber Template::Shift(ShiftOp::Srli, Slot::First, Slot::Second);
+    b"srai" RegRegNumber Template::Shift(ShiftOp::Srai, Slot::First, Slot::Second);
+    b"slliw" RegRegNumber Template::Shift(ShiftOp::Slliw, Slot::First, Slot::Second);
+    b"srliw" RegRegNumber Template::Shift(ShiftOp::Srliw, Slot::First, Slot::Second);
+    b"sraiw" RegRegNumber Template::Shift(ShiftOp::Sraiw, Slot::First, Slot::Second);
+    b"add" RegRegReg Template::Arith(ArithOp::Add, Slot::First, Slot::Second, Slot::Third);
+    b"sub" RegRegReg Template::Arith(ArithOp::Sub, Slot::First, Slot::Second, Slot::Third);
+    b"sll" RegRegReg Template::Arith(ArithOp::Sll, Slot::First, Slot::Second, Slot::Third);
+    b"slt" RegRegReg Template::Arith(ArithOp::Slt, Slot::First, Slot::Second, Slot::Third);
+    b"sltu" RegRegReg Template::Arith(ArithOp::Sltu, Slot::First, Slot::Second, Slot::Third);
+    b"xor" RegRegReg Template::Arith(ArithOp::Xor, Slot::First, Slot::Second, Slot::Third);
+    b"srl" RegRegReg Template::Arith(ArithOp::Srl, Slot::First, Slot::Second, Slot::Third);
+    b"sra" RegRegReg Template::Arith(ArithOp::Sra, Slot::First, Slot::Second, Slot::Third);
+    b"or" RegRegReg Template::Arith(ArithOp::Or, Slot::First, Slot::Second, Slot::Third);
+    b"and" RegRegReg Template::Arith(ArithOp::And, Slot::First, Slot::Second, Slot::Third);
+    b"addw" RegRegReg Template::Arith(ArithOp::Addw, Slot::First, Slot::Second, Slot::Third);
+    b"subw" RegRegReg Template::Arith(ArithOp::Subw, Slot::First, Slot::Second, Slot::Third);
+    b"sllw" RegRegReg Template::Arith(ArithOp::Sllw, Slot::First, Slot::Second, Slot::Third);
+    b"srlw" RegRegReg Template::Arith(ArithOp::Srlw, Slot::First, Slot::Second, Slot::Third);
+    b"sraw" RegRegReg Template::Arith(ArithOp::Sraw, Slot::First, Slot::Second, Slot::Third);
+    b"mul" RegRegReg Template::Arith(ArithOp::Mul, Slot::First, Slot::Second, Slot::Third);
+    b"mulh" RegRegReg Template::Arith(ArithOp::Mulh, Slot::First, Slot::Second, Slot::Third);
+    b"mulhsu" RegRegReg Template::Arith(ArithOp::Mulhsu, Slot::First, Slot::Second, Slot::Third);
+    b"mulhu" RegRegReg Template::Arith(ArithOp::Mulhu, Slot::First, Slot::Second, Slot::Third);
+    b"div" RegRegReg Template::Arith(ArithOp::Div, Slot::First, Slot::Second, Slot::Third);
+    b"divu" RegRegReg Template::Arith(ArithOp::Divu, Slot::First, Slot::Second, Slot::Third);
+    b"rem" RegRegReg Template::Arith(ArithOp::Rem, Slot::First, Slot::Second, Slot::Third);
+    b"remu" RegRegReg Template::Arith(ArithOp::Remu, Slot::First, Slot::Second, Slot::Third);
+    b"mulw" RegRegReg Template::Arith(ArithOp::Mulw, Slot::First, Slot::Second, Slot::Third);
+    b"divw" RegRegReg Template::Arith(ArithOp::Divw, Slot::First, Slot::Second, Slot::Third);
+    b"divuw" RegRegReg Template::Arith(ArithOp::Divuw, Slot::First, Slot::Second, Slot::Third);
+    b"remw" RegRegReg Template::Arith(ArithOp::Remw, Slot::First, Slot::Second, Slot::Third);
+    b"remuw" RegRegReg Template::Arith(ArithOp::Remuw, Slot::First, Slot::Second, Slot::Third);
+    b"fence" Nothing Template::Fence;
+    b"fence" Orders Template::Fence;
+    b"ecall" Nothing Template::Ecall;
+    b"ebreak" Nothing Template::Ebreak;
+    b"nop" Nothing Template::Imm(ImmOp::Addi, Slot::Zero, Slot::Zero, Amount::Given(0));
+    b"mv" RegReg Template::Imm(ImmOp::Addi, Slot::First, Slot::Second, Amount::Given(0));
+    b"not" RegReg Template::Imm(ImmOp::Xori, Slot::First, Slot::Second, Amount::Given(-1));
+    b"neg" RegReg Template::Arith(ArithOp::Sub, Slot::First, Slot::Zero, Slot::Second);
+    b"negw" RegReg Template::Arith(ArithOp::Subw, Slot::First, Slot::Zero, Slot::Second);
+    b"sext.w" RegReg Template::Imm(ImmOp::Addiw, Slot::First, Slot::Second, Amount::Given(0));
+    b"seqz" RegReg Template::Imm(ImmOp::Sltiu, Slot::First, Slot::Second, Amount::Given(1));
+    b"snez" RegReg Template::Arith(ArithOp::Sltu, Slot::First, Slot::Zero, Slot::Second);
+    b"sltz" RegReg Template::Arith(ArithOp::Slt, Slot::First, Slot::Second, Slot::Zero);
+    b"sgtz" RegReg Template::Arith(ArithOp::Slt, Slot::First, Slot::Zero, Slot::Second);
+    b"beqz" RegTarget Template::Branch(BranchOp::Beq, Slot::First, Slot::Zero);
+    b"bnez" RegTarget Template::Branch(BranchOp::Bne, Slot::First, Slot::Zero);
+    b"blez" RegTarget Template::Branch(BranchOp::Bge, Slot::Zero, Slot::First);
+    b"bgez" RegTarget Template::Branch(BranchOp::Bge, Slot::First, Slot::Zero);
+    b"bltz" RegTarget Template::Branch(BranchOp::Blt, Slot::First, Slot::Zero);
+    b"bgtz" RegTarget Template::Branch(BranchOp::Blt, Slot::Zero, Slot::First);
+    b"bgt" RegRegTarget Template::Branch(BranchOp::Blt, Slot::Second, Slot::First);
+    b"ble" RegRegTarget Template::Branch(BranchOp::Bge, Slot::Second, Slot::First);
+    b"bgtu" RegRegTarget Template::Branch(BranchOp::Bltu, Slot::Second, Slot::First);
+    b"bleu" RegRegTarget Template::Branch(BranchOp::Bgeu, Slot::Second, Slot::First);
+    b"j" Target Template::Jal(Slot::Zero);
+    b"jr" Reg Template::Jalr(Slot::Zero, Slot::First, Amount::Given(0));
+    b"ret" Nothing Template::Jalr(Slot::Zero, Slot::Link, Amount::Given(0));
+    b"li" RegNumber Template::LoadImmediate(Slot::First);
+    b"la" RegLabel Template::LoadAddress(Slot::First);
+};
