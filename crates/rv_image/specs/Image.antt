@@ -1,8 +1,12 @@
 -- What an image is: every limit that its parts keep.
-use Rattle.std.specs.Prelude.{◌≡◌, ◌≢◌, ℕ, ◌<◌, ◌≤◌, ◌+◌, ◌*◌, ◌/◌, ◌%◌, List, length, All, nat_eq}
+use Rattle.std.specs.Prelude.{◌≡◌, ◌≢◌, ℕ, ◌<◌, ◌≤◌, ◌+◌, ◌*◌, ◌/◌, ◌%◌, List, length, map, All, true, nat_eq}
 use Rattle.std.specs.List.{IsDistinct}
+use Rattle.rv_image.specs.declared.images.ImageVersion.{ImageVersion}
+use Rattle.rv_image.specs.declared.images.ImageVersion.TheVariants.{One, Two}
 use Rattle.rv_image.specs.declared.images.Link.{Link}
+use Rattle.rv_image.specs.declared.images.Symbol.{Symbol}
 use Rattle.rv_image.specs.declared.images.ImageParts.{ImageParts}
+use Rattle.rv_image.specs.Names.{is_symbol_name, RisingNames}
 
 -- where the initial data begins: the text's length rounded up to a multiple of 16
 abbrev pub data_start : ℕ → ℕ
@@ -20,6 +24,20 @@ pub record IsLink (ranks : ℕ) (link : Link) : Type 0 where
   pub from_there : link.from < ranks
   pub to_there : link.to < ranks
   pub differ : link.to ≢ link.from
+
+-- a symbol: a name, and an address in the memory or at its very end
+pub record IsSymbol (memory : ℕ) (symbol : Symbol) : Type 0 where
+  pub named : is_symbol_name symbol.name ≡ true
+  pub in_memory : symbol.address ≤ memory
+
+-- how many symbols an image may have: version 1 has no place for them
+abbrev pub most_symbols : ImageVersion → ℕ
+most_symbols One = 0
+most_symbols Two = 1024
+
+-- the symbols' names, in order
+abbrev pub symbol_names : List Symbol → List (List ℕ)
+symbol_names symbols = map (λ symbol. symbol.name) symbols
 
 -- parts of which an image is made
 pub record IsImage (image : ImageParts) : Type 0 where
@@ -41,3 +59,6 @@ pub record IsImage (image : ImageParts) : Type 0 where
   pub comms : All (IsCommunicator image.ranks) image.comms
   pub few_links : length image.links ≤ 32
   pub links : All (IsLink image.ranks) image.links
+  pub few_symbols : length image.symbols ≤ most_symbols image.version
+  pub symbols : All (IsSymbol image.memory) image.symbols
+  pub rising : RisingNames (symbol_names image.symbols)

@@ -6,9 +6,14 @@ use Rattle.rv_image.specs.declared.faults.ImageFault.{ImageFault}
 use Rattle.rv_image.specs.declared.faults.ImageFault.TheVariants as faults
 use Rattle.rv_image.specs.declared.faults.ImageFault.TheVariants.{Magic, Version, Short, Long, Limit, Text, Comm, Memory}
 use Rattle.rv_image.specs.declared.header.Header.{Header}
+use Rattle.rv_image.specs.declared.images.ImageVersion.{ImageVersion}
+use Rattle.rv_image.specs.declared.images.ImageVersion.TheVariants.{One, Two}
 use Rattle.rv_image.specs.declared.images.Link.{Link}
+use Rattle.rv_image.specs.declared.images.Symbol.{Symbol}
 use Rattle.rv_image.specs.declared.images.ImageParts.{ImageParts}
-use Rattle.rv_image.specs.Image.{data_start}
+use Rattle.rv_image.specs.Image.{data_start, most_symbols}
+pub use Rattle.rv_image.specs.Names.{is_within}
+use Rattle.rv_image.specs.Names.{is_symbol_name, name_before}
 
 -- ---- the header
 
@@ -20,9 +25,14 @@ byte_at offset bytes = slice_index bytes offset
 abbrev pub number_at : Width → ℕ → List ℕ → ℕ
 number_at width offset bytes = from_le_bytes width (take (byte_len width) (drop offset bytes))
 
--- the header's numbers behind the version, each at its offset
+-- the version of a number that is one's: 1 or 2
+abbrev pub version_of : ℕ → ImageVersion
+version_of number = if number == 1 then One else Two
+
+-- the header's version and numbers, each at its offset
 unfoldable pub header_at : List ℕ → Header
 header_at bytes = record {
+  version = version_of (number_at w16 4 bytes);
   ranks = byte_at 6 bytes;
   harts = byte_at 7 bytes;
   memory = number_at w32 8 bytes;
@@ -31,11 +41,8 @@ header_at bytes = record {
   init_length = number_at w32 20 bytes;
   comms = byte_at 24 bytes;
   links = byte_at 25 bytes;
-  zero = number_at w16 26 bytes;
+  symbols = number_at w16 26 bytes;
 }
-
-abbrev pub is_within : ℕ → ℕ → ℕ → Bool
-is_within least most n = nat_le least n && nat_le n most
 
 -- the tests of the header's numbers in their order: what has to hold, and the fault where it doesn't
 abbrev pub number_tests : Header → List (Bool × ImageFault)
@@ -45,7 +52,7 @@ number_tests h =
     ∷ (is_within 4096 1048576 h.memory && (h.memory % 4096 == 0 && nat_le (4096 * h.harts) h.memory), Limit 8 h.memory)
     ∷ (nat_le h.comms 7, Limit 24 h.comms)
     ∷ (nat_le h.links 32, Limit 25 h.links)
-    ∷ (h.zero == 0, Limit 26 h.zero)
+    ∷ (nat_le h.symbols (most_symbols h.version), Limit 26 h.symbols)
     ∷ (nat_lt 0 h.text_length && (h.text_length % 4 == 0 && nat_le h.text_length h.memory), Text 16)
     ∷ (nat_le (data_start h.text_length + h.init_length) h.memory, Text 20)
     ∷ (h.entry % 4 == 0 && nat_lt h.entry h.text_length, Text 12)
@@ -57,7 +64,7 @@ header_tests bytes =
     (nat_le 4 (length bytes), Short (length bytes))
     ∷ (starts_with nat_eq bytes (codes "RVMC"), Magic)
     ∷ (nat_le 6 (length bytes), Short (length bytes))
-    ∷ (number_at w16 4 bytes == 1, Version)
+    ∷ (is_within 1 2 (number_at w16 4 bytes), Version)
     ∷ (nat_le 28 (length bytes), Short (length bytes))
     ∷ number_tests (header_at bytes)
 
@@ -129,6 +136,34 @@ next_link total ranks done bytes = do
   link ← link_at total ranks (length done) bytes
   Ok (done ++ link.0 ∷ [], link.1)
 
+-- the last symbol's name; where there is none, no bytes, which stand before every name
+abbrev pub last_name : List Symbol → List ℕ
+last_name [] = []
+last_name (symbol ∷ []) = symbol.name
+last_name (symbol ∷ symbols) = last_name symbols
+
+-- a symbol whose name is one and stands behind the last one, and whose address is in the memory or at its end
+abbrev pub is_next_symbol : ℕ → List ℕ → Symbol → Bool
+is_next_symbol memory last symbol = is_symbol_name symbol.name && (name_before last symbol.name && nat_le symbol.address memory)
+
+-- the name of symbol n, of so many bytes, and the tests of the symbol as a whole
+abbrev pub named_at : ℕ → ℕ → ℕ → List ℕ → ℕ → ℕ → List ℕ → Result (Symbol × List ℕ) ImageFault
+named_at total memory n last address size bytes = do
+  name ← next_bytes size total bytes
+  if is_next_symbol memory last (record { name = name.0; address = address }) then Ok (record { name = name.0; address = address }, name.1) else Err (faults.Symbol n)
+
+-- symbol n: its address and how long its name is, 5 bytes that are asked for together, and the name
+unfoldable pub symbol_at : ℕ → ℕ → ℕ → List ℕ → List ℕ → Result (Symbol × List ℕ) ImageFault
+symbol_at total memory n last bytes = do
+  front ← next_bytes 5 total bytes
+  if is_within 1 31 (byte_at 4 front.0) then named_at total memory n last (number_at w32 0 front.0) (byte_at 4 front.0) front.1 else Err (faults.Symbol n)
+
+-- one more symbol; they are numbered from 0
+abbrev pub next_symbol : ℕ → ℕ → List Symbol → List ℕ → Result (List Symbol × List ℕ) ImageFault
+next_symbol total memory done bytes = do
+  symbol ← symbol_at total memory (length done) (last_name done) bytes
+  Ok (done ++ symbol.0 ∷ [], symbol.1)
+
 -- all that stands behind the header
 unfoldable pub body_at : ℕ → Header → List ℕ → Result ImageParts ImageFault
 body_at total h bytes = do
@@ -136,7 +171,8 @@ body_at total h bytes = do
   links ← repeated (next_link total h.ranks) h.links [] comms.1
   text ← next_bytes h.text_length total links.1
   init ← next_bytes h.init_length total text.1
-  if length init.1 == 0 then Ok (record { ranks = h.ranks; harts = h.harts; memory = h.memory; entry = h.entry; text = text.0; init = init.0; comms = comms.0; links = links.0 }) else Err (Long (total - length init.1))
+  symbols ← repeated (next_symbol total h.memory) h.symbols [] init.1
+  if length symbols.1 == 0 then Ok (record { version = h.version; ranks = h.ranks; harts = h.harts; memory = h.memory; entry = h.entry; text = text.0; init = init.0; comms = comms.0; links = links.0; symbols = symbols.0 }) else Err (Long (total - length symbols.1))
 
 -- ---- all of it
 
@@ -175,6 +211,7 @@ IsFaultOf read (Limit offset value) = read ≡ Err (Limit offset value)
 IsFaultOf read (Text offset) = read ≡ Err (Text offset)
 IsFaultOf read (Comm n) = read ≡ Err (Comm n)
 IsFaultOf read (faults.Link n) = read ≡ Err (faults.Link n)
+IsFaultOf read (faults.Symbol n) = read ≡ Err (faults.Symbol n)
 
 -- the answer, seen by view, is what is read, unless memory ran out
 abbrev pub AnswersBy : {A B : Type 0} → (A → B) → Result A ImageFault → Result B ImageFault → Type 0

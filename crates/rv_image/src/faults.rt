@@ -15,7 +15,7 @@ pub enum ImageFault {
     /// 1: the first four bytes aren't `RVMC`.
     #[error("Magic")]
     Magic,
-    /// 2: the version isn't 1.
+    /// 2: the version is neither 1 nor 2.
     #[error("Version")]
     Version,
     /// 3: the input ends before the image does. Carries the input's length.
@@ -36,6 +36,10 @@ pub enum ImageFault {
     /// 8: a link doesn't join two different ranks of the image. Carries its number, from 0.
     #[error("Link {0}")]
     Link(usize),
+    /// 10: a symbol hasn't a name, or its name isn't above the last one, or its address is above the memory. Carries its
+    /// number, from 0.
+    #[error("Symbol {0}")]
+    Symbol(usize),
     /// 9: memory ran out. It says nothing of the bytes.
     #[error("Memory")]
     Memory,

@@ -2,8 +2,17 @@
 
 ghost use Rattle.std.specs.Prelude.{◌≡◌};
 
-use crate::lists::{Comms, Links, Segment};
+use crate::lists::{Comms, Links, Segment, SymbolName, Symbols};
 use std::marker::Model;
+
+/// The version of the format in which an image is written.
+#[derive(Clone, Copy, Debug, PartialEq, Eq)]
+pub enum ImageVersion {
+    /// 1: without symbols.
+    One,
+    /// 2: with symbols.
+    Two,
+}
 
 /// A link for partitioned transfers: from one rank to another.
 #[derive(Clone, Copy, Debug, PartialEq, Eq)]
@@ -14,9 +23,20 @@ pub struct Link {
     pub to: u8,
 }
 
+/// A named address.
+#[derive(Debug, Drop)]
+pub struct Symbol {
+    /// The name: 1 to 31 letters, digits, `_`, `.` and `$`, of which the first is no digit.
+    pub name: SymbolName,
+    /// The address: in the memory, or at its very end.
+    pub address: u32,
+}
+
 /// What an image is made of. It becomes an [`Image`] where it keeps the limits.
 #[derive(Debug, Drop)]
 pub struct ImageParts {
+    /// The version in which it is written.
+    pub version: ImageVersion,
     /// Number of ranks, 1 to 8.
     pub ranks: u8,
     /// Number of harts of each rank, 1 to 4.
@@ -33,6 +53,8 @@ pub struct ImageParts {
     pub comms: Comms,
     /// At most 32 links, each of two different ranks.
     pub links: Links,
+    /// At most 1,024 symbols, each name before the next one in byte order. None in version 1.
+    pub symbols: Symbols,
 }
 
 /// An image that loads: parts that keep the limits. Contracts see its parts.
@@ -53,6 +75,7 @@ impl Model for Image {
 }
 
 impl Image {
+    ghost use Rattle.rv_image.specs.declared.images.ImageVersion.TheVariants.{Two};
     ghost use Rattle.rv_image.specs.Image.{IsImage};
 
     /// The image of these parts. Takes no memory.
@@ -69,5 +92,16 @@ impl Image {
         ensures limits { IsImage self.now }
     {
         &self.parts
+    }
+    /// The same image in version 2, with the symbols that it has. Takes no memory.
+    pub fn into_version_two(self) -> Image
+        ensures { result ≡ record self { version = Two } }
+    {
+        Image {
+            parts: ImageParts {
+                version: ImageVersion::Two,
+                ..self.parts
+            },
+        }
     }
 }

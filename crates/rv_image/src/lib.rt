@@ -1,7 +1,8 @@
 //! The bytes of a program, and back: an image is what every rank of a cluster loads.
 //!
 //! An [`Image`] keeps every limit of the format, so whoever holds one need not test it again. [`read_image`] and
-//! [`write_image`] go between an image and its one text of bytes, which docs/FORMATS.md lays out field by field.
+//! [`write_image`] go between an image and its one text of bytes, which docs/FORMATS.md lays out field by field. An image
+//! is of version 1, or of version 2, which has symbols, and is written in its own.
 #![tactic(auto)]
 
 mod faults;
@@ -9,11 +10,13 @@ mod header;
 mod images;
 pub mod laws;
 mod lists;
+mod names;
 mod reading;
 mod writing;
 
 pub use faults::ImageFault;
-pub use images::{Image, ImageParts, Link};
-pub use lists::{Comms, Links, Members, Segment};
+pub use images::{Image, ImageParts, ImageVersion, Link, Symbol};
+pub use lists::{Comms, Links, Members, Segment, SymbolName, Symbols};
+pub use names::{is_symbol_name, name_before};
 pub use reading::read_image;
 pub use writing::write_image;

@@ -2,7 +2,7 @@
 
 ghost use Rattle.std.specs.Prelude.{◌≡◌};
 
-use crate::images::Link;
+use crate::images::{Link, Symbol};
 use std::marker::Model;
 
 /// Bytes that are loaded one after the other: the text, or the initial data. Contracts see a list of numbers.
@@ -123,5 +123,66 @@ impl Links {
         ensures { result.now ≡ self.now }
     {
         self.links.as_slice()
+    }
+}
+
+/// The bytes of a symbol's name. Contracts see a list of numbers.
+#[derive(Debug, Drop)]
+pub struct SymbolName {
+    bytes: Vec<u8>,
+}
+
+impl Model for SymbolName {
+    ghost use Rattle.std.specs.Prelude.{List, ℕ};
+
+    ghost Value = { List ℕ };
+
+    ghost view = { λ name. name.bytes.items };
+}
+
+impl SymbolName {
+    /// The vector's bytes. Takes no memory.
+    pub fn from_vec(bytes: Vec<u8>) -> SymbolName
+        ensures { result ≡ bytes.items }
+    {
+        SymbolName { bytes }
+    }
+
+    /// The bytes.
+    pub fn as_slice(&self) -> &[u8]
+        ensures { result.now ≡ self.now }
+    {
+        self.bytes.as_slice()
+    }
+}
+
+/// Symbols, numbered from 0. Contracts see a list of symbols.
+#[derive(Debug, Drop)]
+pub struct Symbols {
+    symbols: Vec<Symbol>,
+}
+
+impl Model for Symbols {
+    ghost use Rattle.std.specs.Prelude.{List};
+    ghost use Rattle.rv_image.specs.declared.images.Symbol.{Symbol};
+
+    ghost Value = { List Symbol };
+
+    ghost view = { λ symbols. symbols.symbols.items };
+}
+
+impl Symbols {
+    /// The vector's symbols. Takes no memory.
+    pub fn from_vec(symbols: Vec<Symbol>) -> Symbols
+        ensures { result ≡ symbols.items }
+    {
+        Symbols { symbols }
+    }
+
+    /// The symbols.
+    pub fn as_slice(&self) -> &[Symbol]
+        ensures { result.now ≡ self.now }
+    {
+        self.symbols.as_slice()
     }
 }

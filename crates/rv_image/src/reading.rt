@@ -3,14 +3,16 @@
 ghost use Rattle.std.specs.Prelude.{◌≡◌, [], ◌≤◌, None, length, Ok, Err, IfOk, IsOk};
 ghost use Rattle.rv_image.specs.declared.faults.ImageFault.{ImageFault};
 ghost use Rattle.rv_image.specs.declared.images.ImageParts.{ImageParts};
+ghost use Rattle.rv_image.specs.declared.images.Symbol.{Symbol};
 ghost use Rattle.rv_image.specs.Image.{IsImage};
 ghost use Rattle.rv_image.specs.Text.{image_text};
-ghost use Rattle.rv_image.specs.Reading.{GivesBy, rest_of, AnswersBy, Answers, Accepts, next_byte, next_bytes, first_fault, number_tests, header_tests, repeated, is_new_rank, next_member, comm_at, next_comm, link_at, next_link, body_at, reading};
+ghost use Rattle.rv_image.specs.Reading.{GivesBy, rest_of, AnswersBy, Answers, Accepts, next_byte, next_bytes, first_fault, number_tests, header_tests, byte_at, number_at, repeated, is_new_rank, next_member, comm_at, next_comm, link_at, next_link, is_next_symbol, symbol_at, next_symbol, last_name, body_at, reading};
 
 use crate::faults::ImageFault;
-use crate::header::{HEADER_LENGTH, Header, header_fault, header_of};
-use crate::images::{Image, ImageParts, Link};
-use crate::lists::{Comms, Links, Members, Segment};
+use crate::header::{HEADER_LENGTH, Header, header_fault, header_of, u32_at};
+use crate::images::{Image, ImageParts, Link, Symbol};
+use crate::lists::{Comms, Links, Members, Segment, SymbolName, Symbols};
+use crate::names::{is_symbol_name, name_before};
 use std::alloc::Global;
 
 // Below, `total` is the length of the whole input, which Short carries, and `bytes` what is left of it. What is handed no
@@ -158,6 +160,76 @@ fn take_links(
     Ok((done, rest))
 }
 
+/// Whether a symbol of the name and address may stand behind one of the name `last`.
+fn may_follow(memory: u32, last: &[u8], name: &[u8], address: u32) -> bool
+    ensures { result ≡ is_next_symbol memory last.now (record { name = name.now; address = address }) }
+{
+    is_symbol_name(name) && name_before(last, name) && address <= memory
+}
+
+/// The name and address of symbol `n`, behind one of the name `last`, and what follows.
+#[tactic(auto, unfolding(crate::specs::Reading::symbol_at))]
+fn take_symbol<'a>(
+    total: usize,
+    memory: u32,
+    n: usize,
+    last: &[u8],
+    bytes: &'a [u8],
+) -> Result<(&'a [u8], u32, &'a [u8]), ImageFault>
+    ensures { GivesBy (λ x. (record { name = x.0.now; address = x.1 }, x.2.now)) result (symbol_at total memory n last.now bytes.now) }
+{
+    let (front, rest) = take_bytes(5, total, bytes)?;
+    let size = front[4];
+    if size < 1 || size > 31 {
+        return Err(ImageFault::Symbol(n));
+    }
+    let address = u32_at(front, 0);
+    let (name, rest) = take_bytes(u32::from(size), total, rest)?;
+    if !may_follow(memory, last, name, address) {
+        return Err(ImageFault::Symbol(n));
+    }
+    Ok((name, address, rest))
+}
+
+/// What follows the symbols, `count` of them.
+fn skip_symbols(total: usize, memory: u32, count: u16, bytes: &[u8]) -> Result<&[u8], ImageFault>
+    ensures { GivesBy (λ x. x.now) result (rest_of (repeated (next_symbol total memory) count [] bytes.now)) }
+{
+    let mut rest = bytes;
+    let mut last: &[u8] = &[];
+    for n in 0..usize::from(count) {
+        let (name, _, after) = take_symbol(total, memory, n, last, rest)?;
+        last = name;
+        rest = after;
+    }
+    Ok(rest)
+}
+
+/// A copy of the symbols, `count` of them, and what follows.
+fn take_symbols(
+    alloc: Global,
+    total: usize,
+    memory: u32,
+    count: u16,
+    bytes: &[u8],
+) -> Result<(Vec<Symbol>, &[u8]), ImageFault>
+    ensures { AnswersBy (λ x. (x.0.items, x.1.now)) result (repeated (next_symbol total memory) count [] bytes.now) }
+{
+    let mut done = Vec::new(alloc);
+    let mut rest = bytes;
+    let mut last: &[u8] = &[];
+    for _ in 0..count {
+        let (name, address, after) = take_symbol(total, memory, done.len(), last, rest)?;
+        done.push(Symbol {
+            name: SymbolName::from_vec(Vec::from_slice(alloc, name)?),
+            address,
+        })?;
+        last = name;
+        rest = after;
+    }
+    Ok((done, rest))
+}
+
 /// Tests all that stands behind a right header.
 #[tactic(auto, unfolding(crate::specs::Reading::body_at))]
 fn test_body(total: usize, h: &Header, bytes: &[u8]) -> Result<(), ImageFault>
@@ -167,6 +239,7 @@ fn test_body(total: usize, h: &Header, bytes: &[u8]) -> Result<(), ImageFault>
     let rest = skip_links(total, h.ranks, h.links, rest)?;
     let (_, rest) = take_bytes(h.text_length, total, rest)?;
     let (_, rest) = take_bytes(h.init_length, total, rest)?;
+    let rest = skip_symbols(total, h.memory, h.symbols, rest)?;
     if !rest.is_empty() {
         // It never saturates: what is left is the input's end.
         return Err(ImageFault::Long(total.saturating_sub(rest.len())));
@@ -188,8 +261,10 @@ fn take_body(
     let (comms, rest) = take_comms(alloc, total, h.ranks, h.comms, bytes)?;
     let (links, rest) = take_links(alloc, total, h.ranks, h.links, rest)?;
     let (text, rest) = take_bytes(h.text_length, total, rest)?;
-    let (init, _) = take_bytes(h.init_length, total, rest)?;
+    let (init, rest) = take_bytes(h.init_length, total, rest)?;
+    let (symbols, _) = take_symbols(alloc, total, h.memory, h.symbols, rest)?;
     Ok(ImageParts {
+        version: h.version,
         ranks: h.ranks,
         harts: h.harts,
         memory: h.memory,
@@ -198,6 +273,7 @@ fn take_body(
         init: Segment::from_vec(Vec::from_slice(alloc, init)?),
         comms: Comms::from_vec(comms),
         links: Links::from_vec(links),
+        symbols: Symbols::from_vec(symbols),
     })
 }
 

@@ -3,12 +3,22 @@
 ghost use Rattle.std.specs.Prelude.{◌≡◌, ◌≤◌, ◌++◌, ◌^◌, ◌<◌, length, All, OnOk, IfOk, Ok};
 ghost use Rattle.std.specs.List.{flat_map};
 ghost use Rattle.rv_image.specs.Image.{IsImage};
-ghost use Rattle.rv_image.specs.Text.{comm_text, link_text, header_text, image_text};
+ghost use Rattle.rv_image.specs.Text.{comm_text, link_text, symbol_text, version_number, header_text, image_text};
 ghost use Rattle.rv_image.specs.Reading.{reading};
 
-use crate::images::{Image, ImageParts, Link};
+use crate::images::{Image, ImageParts, ImageVersion, Link, Symbol};
 use crate::lists::Members;
 use std::alloc::{AllocError, Global};
+
+/// The number by which the header says the version.
+fn number_of(version: ImageVersion) -> u16
+    ensures { result ≡ version_number version }
+{
+    match version {
+        ImageVersion::One => 1,
+        ImageVersion::Two => 2,
+    }
+}
 
 /// Adds the 28 bytes of the header.
 #[tactic(auto, unfolding(crate::specs::Text::header_text))]
@@ -17,7 +27,7 @@ fn put_header(out: &mut Vec<u8>, parts: &ImageParts) -> Result<(), AllocError>
     ensures { OnOk result (out.new.items ≡ out.old.items ++ header_text parts.now) }
 {
     out.extend_from_slice(b"RVMC")?;
-    out.extend_from_slice(&1_u16.to_le_bytes())?;
+    out.extend_from_slice(&number_of(parts.version).to_le_bytes())?;
     out.extend_from_slice(&[parts.ranks, parts.harts])?;
     out.extend_from_slice(&parts.memory.to_le_bytes())?;
     out.extend_from_slice(&parts.entry.to_le_bytes())?;
@@ -27,7 +37,7 @@ fn put_header(out: &mut Vec<u8>, parts: &ImageParts) -> Result<(), AllocError>
         parts.comms.as_slice().len() as u8,
         parts.links.as_slice().len() as u8,
     ])?;
-    out.extend_from_slice(&0_u16.to_le_bytes())?;
+    out.extend_from_slice(&(parts.symbols.as_slice().len() as u16).to_le_bytes())?;
     Ok(())
 }
 
@@ -61,6 +71,28 @@ fn put_links(out: &mut Vec<u8>, links: &[Link]) -> Result<(), AllocError>
     Ok(())
 }
 
+/// Adds one symbol.
+fn put_symbol(out: &mut Vec<u8>, symbol: &Symbol) -> Result<(), AllocError>
+    requires { length symbol.now.name ≤ 31 }
+    ensures { OnOk result (out.new.items ≡ out.old.items ++ symbol_text symbol.now) }
+{
+    let name = symbol.name.as_slice();
+    out.extend_from_slice(&symbol.address.to_le_bytes())?;
+    out.push(name.len() as u8)?;
+    out.extend_from_slice(name)
+}
+
+/// Adds the symbols in order.
+fn put_symbols(out: &mut Vec<u8>, symbols: &[Symbol]) -> Result<(), AllocError>
+    requires { All (λ symbol. length symbol.name ≤ 31) symbols.now }
+    ensures { OnOk result (out.new.items ≡ out.old.items ++ flat_map symbol_text symbols.now) }
+{
+    for symbol in symbols {
+        put_symbol(out, symbol)?;
+    }
+    Ok(())
+}
+
 /// The text of the parts.
 #[tactic(auto, unfolding(crate::specs::Text::image_text))]
 fn text_of(alloc: Global, parts: &ImageParts) -> Result<Vec<u8>, AllocError>
@@ -73,10 +105,11 @@ fn text_of(alloc: Global, parts: &ImageParts) -> Result<Vec<u8>, AllocError>
     put_links(&mut out, parts.links.as_slice())?;
     out.extend_from_slice(parts.text.as_slice())?;
     out.extend_from_slice(parts.init.as_slice())?;
+    put_symbols(&mut out, parts.symbols.as_slice())?;
     Ok(out)
 }
 
-/// The one text of the image. An `Err` says only that memory ran out.
+/// The one text of the image, in its own version. An `Err` says only that memory ran out.
 pub fn write_image(alloc: Global, image: &Image) -> Result<Vec<u8>, AllocError>
     ensures text { IfOk result (λ bytes. bytes.items ≡ image_text image.now) }
     // What was written is read as the same image.
