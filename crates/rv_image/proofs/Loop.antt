@@ -16,6 +16,7 @@ told (faults.Limit offset value) read e = e
 told (faults.Text offset) read e = e
 told (faults.Comm n) read e = e
 told (faults.Link n) read e = e
+told (faults.Symbol n) read e = e
 
 -- what is read has no fault
 pub read_has_no_fault : {A P : Type 0} (read : Result A ImageFault) (fault : ImageFault) → IsOk read → read ≡ Err fault → P

@@ -7,10 +7,12 @@ use Rattle.rv_image.specs.declared.faults.ImageFault.{ImageFault}
 use Rattle.rv_image.specs.declared.faults.ImageFault.TheVariants as faults
 use Rattle.rv_image.specs.declared.header.Header.{Header}
 use Rattle.rv_image.specs.declared.images.Link.{Link}
+use Rattle.rv_image.specs.declared.images.Symbol.{Symbol}
 use Rattle.rv_image.specs.declared.images.ImageParts.{ImageParts}
-use Rattle.rv_image.specs.Reading.{◌>>=◌, byte_at, header_at, header_tests, first_fault, is_within, is_new_rank, next_byte, next_bytes, repeated, next_member, comm_at, next_comm, second_rank, link_at, next_link, body_at, reading}
-use Rattle.rv_image.specs.Order.{is_there, member_tests, comm_tests, comm_start, comms_tests, link_tests, links_tests, end_tests, body_tests, image_tests, FirstFaultLaw}
+use Rattle.rv_image.specs.Reading.{◌>>=◌, byte_at, header_at, header_tests, first_fault, is_within, is_new_rank, next_byte, next_bytes, repeated, next_member, comm_at, next_comm, second_rank, link_at, next_link, next_symbol, body_at, reading}
+use Rattle.rv_image.specs.Order.{is_there, member_tests, comm_tests, comm_start, comms_tests, link_tests, links_tests, symbol_tests, symbol_start, name_ahead, symbols_tests, end_tests, rest_tests, body_tests, image_tests, FirstFaultLaw}
 use Rattle.rv_image.proofs.Numbers.{tested}
+use Rattle.rv_image.proofs.OrderSymbols.{AreSymbols, next_symbol_follows}
 use Rattle.rv_image.proofs.OrderFollows.{Follows, IsLeft, IsByteAt, IsAt, follows_fault, follows_then, follows_map, follows_as, follows_unless, follows_test, byte_follows, bytes_follow, end_test, end_at, repeated_follows}
 
 -- ---- members
@@ -129,30 +131,50 @@ closed_follows bytes end image rest left =
     subst (λ (e : ℕ). Follows ((leb (length bytes) end, faults.Long end) ∷ []) Any (cond (eqb (length rest) 0) (Ok image) (Err (faults.Long e)))) (sym (end_at bytes end rest left))
     (follows_test (eqb (length rest) 0) (leb (length bytes) end) (faults.Long end) [] Any (Ok image) (end_test bytes end rest left) (refl, tt))
 
--- the text, the data, and nothing behind them
-abbrev ended : List ℕ → Header → List (List ℕ) → List Link → List ℕ → Result ImageParts ImageFault
-ended bytes h comms links rest =
-    next_bytes h.text_length (length bytes) rest >>= λ text. next_bytes h.init_length (length bytes) text.1 >>= λ init.
-    cond (eqb (length init.1) 0) (Ok (record { ranks = h.ranks; harts = h.harts; memory = h.memory; entry = h.entry; text = text.0; init = init.0; comms = comms; links = links })) (Err (faults.Long (length bytes - length init.1)))
+symbols_follow : (bytes : List ℕ) (h : Header) (first : ℕ) (rest : List ℕ) → IsLeft bytes first rest
+    → Follows (symbols_tests bytes h first) (IsAt bytes (symbol_start bytes first) (AreSymbols bytes first) h.symbols) (repeated (next_symbol (length bytes) h.memory) h.symbols [] rest)
+symbols_follow bytes h first rest left =
+    repeated_follows (next_symbol (length bytes) h.memory) bytes (λ n. symbol_tests bytes h.memory n (name_ahead bytes first n) (symbol_start bytes first n)) (symbol_start bytes first) (AreSymbols bytes first)
+    (next_symbol_follows bytes h.memory first) h.symbols 0 h.symbols [] rest (omega arith) (record { count = refl; last = refl }) left
 
-end_follows : (bytes : List ℕ) (h : Header) (comms : List (List ℕ)) (links : List Link) (start : ℕ) (rest : List ℕ) → IsLeft bytes start rest
-    → Follows (end_tests bytes h start) (λ (i : ImageParts). Unit {0}) (ended bytes h comms links rest)
-end_follows bytes h comms links start rest left =
+-- the symbols, and nothing behind them
+abbrev ended : List ℕ → Header → List (List ℕ) → List Link → List ℕ → List ℕ → List ℕ → Result ImageParts ImageFault
+ended bytes h comms links text init rest =
+    repeated (next_symbol (length bytes) h.memory) h.symbols [] rest >>= λ symbols.
+    cond (eqb (length symbols.1) 0) (Ok (record { version = h.version; ranks = h.ranks; harts = h.harts; memory = h.memory; entry = h.entry; text = text; init = init; comms = comms; links = links; symbols = symbols.0 })) (Err (faults.Long (length bytes - length symbols.1)))
+
+-- the text and the data, and the rest
+abbrev parted : List ℕ → Header → List (List ℕ) → List Link → List ℕ → Result ImageParts ImageFault
+parted bytes h comms links rest =
+    next_bytes h.text_length (length bytes) rest >>= λ text. next_bytes h.init_length (length bytes) text.1 >>= λ init. ended bytes h comms links text.0 init.0 init.1
+
+ended_follows : (bytes : List ℕ) (h : Header) (comms : List (List ℕ)) (links : List Link) (text init : List ℕ) (first : ℕ) (rest : List ℕ) → IsLeft bytes first rest
+    → Follows (symbols_tests bytes h first ++ end_tests bytes (symbol_start bytes first h.symbols)) (λ (i : ImageParts). Unit {0}) (ended bytes h comms links text init rest)
+ended_follows bytes h comms links text init first rest left =
+    let Any : ImageParts → Type 0 = λ i. Unit {0} in
+    let end = symbol_start bytes first h.symbols in
+    let made : List Symbol → ImageParts = λ symbols. record { version = h.version; ranks = h.ranks; harts = h.harts; memory = h.memory; entry = h.entry; text = text; init = init; comms = comms; links = links; symbols = symbols } in
+    follows_then (symbols_tests bytes h first) (end_tests bytes end) (IsAt bytes (symbol_start bytes first) (AreSymbols bytes first) h.symbols) Any (repeated (next_symbol (length bytes) h.memory) h.symbols [] rest)
+    (λ symbols. cond (eqb (length symbols.1) 0) (Ok (made symbols.0)) (Err (faults.Long (length bytes - length symbols.1))))
+    (symbols_follow bytes h first rest left)
+    (λ symbols behind. closed_follows bytes end (made symbols.0) symbols.1 behind.left)
+
+rest_follows : (bytes : List ℕ) (h : Header) (comms : List (List ℕ)) (links : List Link) (start : ℕ) (rest : List ℕ) → IsLeft bytes start rest
+    → Follows (rest_tests bytes h start) (λ (i : ImageParts). Unit {0}) (parted bytes h comms links rest)
+rest_follows bytes h comms links start rest left =
     let Any : ImageParts → Type 0 = λ i. Unit {0} in
     let middle = start + h.text_length in
     let end = start + h.text_length + h.init_length in
-    let made : List ℕ → List ℕ → ImageParts = λ text init. record { ranks = h.ranks; harts = h.harts; memory = h.memory; entry = h.entry; text = text; init = init; comms = comms; links = links } in
-    let closed : List ℕ → List ℕ × List ℕ → Result ImageParts ImageFault = λ text init. cond (eqb (length init.1) 0) (Ok (made text init.0)) (Err (faults.Long (length bytes - length init.1))) in
     let short = faults.Short (length bytes) in
-    let last : List (Bool × ImageFault) = (leb (length bytes) end, faults.Long end) ∷ [] in
+    let last : List (Bool × ImageFault) = symbols_tests bytes h end ++ end_tests bytes (symbol_start bytes end h.symbols) in
     follows_then ((leb middle (length bytes), short) ∷ []) ((leb end (length bytes), short) ∷ last) (λ (x : List ℕ × List ℕ). IsLeft bytes middle x.1) Any (next_bytes h.text_length (length bytes) rest)
-    (λ text. next_bytes h.init_length (length bytes) text.1 >>= closed text.0)
+    (λ text. next_bytes h.init_length (length bytes) text.1 >>= λ init. ended bytes h comms links text.0 init.0 init.1)
     (bytes_follow bytes start h.text_length rest left)
     (λ text behind_text.
     follows_then ((leb end (length bytes), short) ∷ []) last (λ (x : List ℕ × List ℕ). IsLeft bytes end x.1) Any (next_bytes h.init_length (length bytes) text.1)
-    (closed text.0)
+    (λ init. ended bytes h comms links text.0 init.0 init.1)
     (bytes_follow bytes middle h.init_length text.1 behind_text)
-    (λ init behind_init. closed_follows bytes end (made text.0 init.0) init.1 behind_init))
+    (λ init behind_init. ended_follows bytes h comms links text.0 init.0 end init.1 behind_init))
 
 comms_follow : (bytes : List ℕ) (h : Header) → 28 ≤ length bytes → Follows (comms_tests bytes h) (IsAt bytes (comm_start bytes) AreSoMany h.comms) (repeated (next_comm (length bytes) h.ranks) h.comms [] (drop 28 bytes))
 comms_follow bytes h there =
@@ -172,14 +194,14 @@ body_follows bytes h there =
     let Any : ImageParts → Type 0 = λ i. Unit {0} in
     let start = comm_start bytes h.comms in
     let end = start + 2 * h.links in
-    follows_then (comms_tests bytes h) (links_tests bytes h start ++ end_tests bytes h end) (IsAt bytes (comm_start bytes) AreSoMany h.comms) Any (repeated (next_comm (length bytes) h.ranks) h.comms [] (drop 28 bytes))
-    (λ comms. repeated (next_link (length bytes) h.ranks) h.links [] comms.1 >>= λ links. ended bytes h comms.0 links.0 links.1)
+    follows_then (comms_tests bytes h) (links_tests bytes h start ++ rest_tests bytes h end) (IsAt bytes (comm_start bytes) AreSoMany h.comms) Any (repeated (next_comm (length bytes) h.ranks) h.comms [] (drop 28 bytes))
+    (λ comms. repeated (next_link (length bytes) h.ranks) h.links [] comms.1 >>= λ links. parted bytes h comms.0 links.0 links.1)
     (comms_follow bytes h there)
     (λ comms behind_comms.
-    follows_then (links_tests bytes h start) (end_tests bytes h end) (IsAt bytes (λ i. start + 2 * i) AreSoMany h.links) Any (repeated (next_link (length bytes) h.ranks) h.links [] comms.1)
-    (λ links. ended bytes h comms.0 links.0 links.1)
+    follows_then (links_tests bytes h start) (rest_tests bytes h end) (IsAt bytes (λ i. start + 2 * i) AreSoMany h.links) Any (repeated (next_link (length bytes) h.ranks) h.links [] comms.1)
+    (λ links. parted bytes h comms.0 links.0 links.1)
     (links_follow bytes h start comms.1 behind_comms.left)
-    (λ links behind_links. end_follows bytes h comms.0 links.0 end links.1 behind_links.left))
+    (λ links behind_links. rest_follows bytes h comms.0 links.0 end links.1 behind_links.left))
 
 pub first_fault_law : FirstFaultLaw
 unfolding reading image_tests

@@ -59,6 +59,12 @@ bytes_take n total bytes text rest fits e =
     let len : length (take n bytes) ≡ n = omega (arith, length-take n bytes) in
     subst (λ (p : List ℕ × List ℕ). Takes bytes p.0 p.1 × (length p.0 ≡ n)) g.1 (record { parts = sym (take-append-drop n bytes); rest_fits = IsBytes-drop n bytes fits }, len)
 
+-- what is taken is the front of the bytes
+pub bytes_front : (n total : ℕ) (bytes text rest : List ℕ) → next_bytes n total bytes ≡ Ok (text, rest) → text ≡ take n bytes
+bytes_front n total bytes text rest e =
+    let g = not_ok (ltb (length bytes) n) (faults.Short total) (take n bytes, drop n bytes) (text, rest) e in
+    sym (ap (λ (p : List ℕ × List ℕ). p.0) g.1)
+
 pub bytes_again : (text rest : List ℕ) (total : ℕ) → next_bytes (length text) total (text ++ rest) ≡ Ok (text, rest)
 bytes_again text rest total =
     let long : ltb (length (text ++ rest)) (length text) ≡ false = le-ltb _ _ (omega (arith, length-append text rest)) in

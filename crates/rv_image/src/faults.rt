@@ -36,8 +36,8 @@ pub enum ImageFault {
     /// 8: a link doesn't join two different ranks of the image. Carries its number, from 0.
     #[error("Link {0}")]
     Link(usize),
-    /// 10: a symbol hasn't a name, or its name isn't above the last one, or its address is above the memory. Carries its
-    /// number, from 0.
+    /// 10: a symbol's name is none, or isn't above the last one, or its address is above the memory. Carries its number,
+    /// from 0.
     #[error("Symbol {0}")]
     Symbol(usize),
     /// 9: memory ran out. It says nothing of the bytes.

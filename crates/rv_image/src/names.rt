@@ -1,6 +1,7 @@
 //! The names of symbols, and their order.
 
 ghost use Rattle.std.specs.Prelude.{◌≡◌};
+ghost use Rattle.std.specs.List.{list_all};
 ghost use Rattle.rv_image.specs.Names as names;
 
 /// Whether the byte is a letter, a digit, `_`, `.` or `$`.
@@ -10,14 +11,27 @@ fn is_name_byte(byte: u8) -> bool
     byte.is_ascii_alphanumeric() || byte == b'_' || byte == b'.' || byte == b'$'
 }
 
+fn are_name_bytes(bytes: &[u8]) -> bool
+    ensures { result ≡ list_all names.is_name_byte bytes.now }
+{
+    let mut rest = bytes;
+    while let Some((byte, after)) = rest.split_first() {
+        if !is_name_byte(*byte) {
+            return false;
+        }
+        rest = after;
+    }
+    true
+}
+
 /// Whether the bytes are a symbol's name: 1 to 31 letters, digits, `_`, `.` and `$`, of which the first is no digit.
 pub fn is_symbol_name(name: &[u8]) -> bool
     ensures { result ≡ names.is_symbol_name name.now }
 {
-    if name.len() < 1 || name.len() > 31 || name[0].is_ascii_digit() {
+    if name.len() < 1 || name.len() > 31 {
         return false;
     }
-    name.iter().all(|byte| is_name_byte(*byte))
+    are_name_bytes(name) && !name[0].is_ascii_digit()
 }
 
 /// Whether a name stands before another in the order of their bytes: at the first byte that differs it has the lower one,

@@ -3,10 +3,9 @@
 ghost use Rattle.std.specs.Prelude.{◌≡◌, [], ◌≤◌, None, length, Ok, Err, IfOk, IsOk};
 ghost use Rattle.rv_image.specs.declared.faults.ImageFault.{ImageFault};
 ghost use Rattle.rv_image.specs.declared.images.ImageParts.{ImageParts};
-ghost use Rattle.rv_image.specs.declared.images.Symbol.{Symbol};
 ghost use Rattle.rv_image.specs.Image.{IsImage};
 ghost use Rattle.rv_image.specs.Text.{image_text};
-ghost use Rattle.rv_image.specs.Reading.{GivesBy, rest_of, AnswersBy, Answers, Accepts, next_byte, next_bytes, first_fault, number_tests, header_tests, byte_at, number_at, repeated, is_new_rank, next_member, comm_at, next_comm, link_at, next_link, is_next_symbol, symbol_at, next_symbol, last_name, body_at, reading};
+ghost use Rattle.rv_image.specs.Reading.{GivesBy, rest_of, AnswersBy, Answers, Accepts, next_byte, next_bytes, first_fault, number_tests, header_tests, repeated, is_new_rank, next_member, comm_at, next_comm, link_at, next_link, is_next_symbol, symbol_at, next_symbol, body_at, reading};
 
 use crate::faults::ImageFault;
 use crate::header::{HEADER_LENGTH, Header, header_fault, header_of, u32_at};

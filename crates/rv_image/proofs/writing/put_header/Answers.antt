@@ -26,4 +26,6 @@ returns c =
       c.as_slice-2.ensures,
       c.as_slice-3.ensures,
       c.as_slice-4.ensures,
+      c.as_slice-5.ensures,
+      c.number_of.ensures,
     ) (simp append_assoc)
