@@ -62,3 +62,7 @@ pub record IsImage (image : ImageParts) : Type 0 where
   pub few_symbols : length image.symbols ≤ most_symbols image.version
   pub symbols : All (IsSymbol image.memory) image.symbols
   pub rising : RisingNames (symbol_names image.symbols)
+
+-- the same in version 2, which each image may be written in
+abbrev pub in_version_two : ImageParts → ImageParts
+in_version_two image = record image { version = Two }

@@ -7,7 +7,7 @@ use Rattle.rv_image.specs.declared.faults.ImageFault.TheVariants.{Short, Long, M
 use Rattle.rv_image.specs.declared.images.ImageVersion.TheVariants.{One, Two}
 use Rattle.rv_image.specs.declared.images.Symbol.{Symbol}
 use Rattle.rv_image.specs.declared.images.ImageParts.{ImageParts}
-use Rattle.rv_image.specs.Image.{data_start}
+use Rattle.rv_image.specs.Image.{data_start, in_version_two}
 use Rattle.rv_image.specs.Names.{is_symbol_name, name_before}
 use Rattle.rv_image.specs.Text.{header_text, image_text}
 use Rattle.rv_image.specs.Reading.{header_at, first_fault, reading}
@@ -168,7 +168,7 @@ unfolding image_text header_text
 text_of_go = refl
 
 -- version 2 of hi differs from version 1 in byte 4 alone
-pub text_of_hi_in_version_2 : image_text (record hi { version = Two }) ≡ slice_set (image_text hi) 4 2
+pub text_of_hi_in_version_2 : image_text (in_version_two hi) ≡ slice_set (image_text hi) 4 2
 unfolding image_text header_text
 text_of_hi_in_version_2 = refl
 

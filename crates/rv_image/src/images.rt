@@ -75,8 +75,7 @@ impl Model for Image {
 }
 
 impl Image {
-    ghost use Rattle.rv_image.specs.declared.images.ImageVersion.TheVariants.{Two};
-    ghost use Rattle.rv_image.specs.Image.{IsImage};
+    ghost use Rattle.rv_image.specs.Image.{IsImage, in_version_two};
 
     /// The image of these parts. Takes no memory.
     pub fn new(parts: ImageParts) -> Image
@@ -95,7 +94,7 @@ impl Image {
     }
     /// The same image in version 2, with the symbols that it has. Takes no memory.
     pub fn into_version_two(self) -> Image
-        ensures { result ≡ record self { version = Two } }
+        ensures { result ≡ in_version_two self }
     {
         Image {
             parts: ImageParts {

@@ -1,8 +1,12 @@
 //! The bytes of a program (rv_image).
-ghost use Rattle.std.specs.Prelude.{◌≡◌, length, Err, IsErr};
-ghost use Rattle.rv_image.specs.Image.{IsImage};
+ghost use Rattle.std.specs.Prelude.{◌≡◌, length, Err, IfOk, false, true};
+ghost use Rattle.rv_image.specs.Image.{IsImage, in_version_two};
+ghost use Rattle.rv_image.specs.Text.{image_text};
 
-use rv_image::{Comms, Image, ImageFault, ImageParts, Link, Links, Members, Segment, read_image};
+use rv_image::{
+    Comms, Image, ImageFault, ImageParts, Link, Links, Members, Segment, Symbol, SymbolName,
+    Symbols, is_symbol_name, name_before, read_image, write_image,
+};
 use std::alloc::{AllocError, Global};
 
 /// A segment has and shows each of its bytes.
@@ -31,6 +35,55 @@ pub fn all_links_are_kept(links: Vec<Link>) -> usize
     ensures { result ≡ length links.items }
 {
     Links::from_vec(links).as_slice().len()
+}
+
+/// A symbol's name has and shows each of its bytes.
+pub fn name_has_all_its_bytes(bytes: Vec<u8>) -> usize
+    ensures { result ≡ length bytes.items }
+{
+    SymbolName::from_vec(bytes).as_slice().len()
+}
+
+/// All symbols are kept and shown.
+pub fn all_symbols_are_kept(symbols: Vec<Symbol>) -> usize
+    ensures { result ≡ length symbols.items }
+{
+    Symbols::from_vec(symbols).as_slice().len()
+}
+
+/// Bytes are compared before lengths: `b` is shorter than `aa`, and behind it.
+pub fn longer_name_before_a_shorter() -> bool
+    ensures { result ≡ true }
+{
+    name_before(b"aa", b"b") && !name_before(b"b", b"aa")
+}
+
+/// No bytes are no name.
+pub fn no_name_is_empty() -> bool
+    ensures { result ≡ false }
+{
+    is_symbol_name(b"")
+}
+
+/// 31 bytes may be a name.
+pub fn name_of_31_bytes() -> bool
+    ensures { result ≡ true }
+{
+    is_symbol_name(b"abcdefghijklmnopqrstuvwxyz_.$09")
+}
+
+/// 32 bytes are none.
+pub fn no_name_has_32_bytes() -> bool
+    ensures { result ≡ false }
+{
+    is_symbol_name(b"abcdefghijklmnopqrstuvwxyz_.$090")
+}
+
+/// An image of either version is written as version 2 once it is turned into it.
+pub fn version_two_is_written(alloc: Global, image: Image) -> Result<Vec<u8>, AllocError>
+    ensures { IfOk result (λ bytes. bytes.items ≡ image_text (in_version_two image)) }
+{
+    write_image(alloc, &image.into_version_two())
 }
 
 /// An image has as many ranks and harts as its parts say.

@@ -1,4 +1,4 @@
-//! The image of the program `hi`, whole and changed, and an image with all that one can have.
+//! The image of the program `hi`, whole and changed, one with a symbol, and an image with all that one can have.
 
 ghost use Rattle.std.specs.Prelude.{◌≤◌};
 
@@ -77,6 +77,77 @@ fn each_byte_as_ff(rt: HostRuntime) {
             "at {offset}"
         );
     }
+}
+
+/// The 39 bytes of `.globl go`, `go: nop`: version 2, and a symbol behind the text.
+const GO: [u8; 39] = [
+    0x52, 0x56, 0x4d, 0x43, 0x02, 0x00, 0x01, 0x01, 0x00, 0x00, 0x01, 0x00, 0x00, 0x00, 0x00, 0x00,
+    0x04, 0x00, 0x00, 0x00, 0x00, 0x00, 0x00, 0x00, 0x00, 0x00, 0x01, 0x00, 0x13, 0x00, 0x00, 0x00,
+    0x00, 0x00, 0x00, 0x00, 0x02, 0x67, 0x6f,
+];
+
+#[test]
+fn a_symbol_is_read_and_written_back(rt: HostRuntime) -> Result<(), Fail> {
+    let image = read_image(rt.alloc(), &GO).ok().ok_or("it is an image")?;
+    let symbols = image.parts().symbols.as_slice();
+    assert_eq!(rt; symbols.len(), 1);
+    assert_eq!(rt; symbols[0].name.as_slice(), b"go".as_slice());
+    assert_eq!(rt; symbols[0].address, 0);
+    let bytes = write_image(rt.alloc(), &image)
+        .ok()
+        .ok_or("there is memory")?;
+    assert_eq!(rt; bytes.as_slice(), GO.as_slice());
+    Ok(())
+}
+
+#[test]
+fn each_prefix_before_a_symbols_end_is_short(rt: HostRuntime) {
+    for n in 0..39 {
+        assert_eq!(rt;
+            read_image(rt.alloc(), &GO[..n]).err(),
+            Some(ImageFault::Short(n)),
+            "at {n}"
+        );
+    }
+}
+
+#[test]
+fn a_changed_byte_of_a_symbol(rt: HostRuntime) {
+    let rows = [
+        (4, 1, ImageFault::Limit(26, 1)), // version 1 has no symbols
+        (26, 0, ImageFault::Long(32)), // no symbol, and bytes behind the text
+        (26, 2, ImageFault::Short(39)), // two symbols, and one is there
+        (27, 4, ImageFault::Limit(26, 1025)), // one symbol too many
+        (35, 1, ImageFault::Symbol(0)), // an address of 16,777,216
+        (36, 0, ImageFault::Symbol(0)), // a name of no bytes
+        (36, 32, ImageFault::Symbol(0)), // one of 32 bytes, which aren't there either
+        (36, 31, ImageFault::Short(39)), // one of 31 bytes
+        (37, 0x39, ImageFault::Symbol(0)), // the name 9o
+        (38, 0x20, ImageFault::Symbol(0)), // a blank in the name
+    ];
+    for (offset, value, fault) in rows {
+        let mut bytes = GO;
+        if let Some(byte) = bytes.get_mut(offset) {
+            *byte = value;
+        }
+        assert_eq!(rt;
+            read_image(rt.alloc(), &bytes).err(),
+            Some(fault),
+            "at {offset}"
+        );
+    }
+}
+
+#[test]
+fn version_2_of_hi_is_byte_4_as_2(rt: HostRuntime) -> Result<(), Fail> {
+    let image = read_image(rt.alloc(), &HI).ok().ok_or("hi is an image")?;
+    let bytes = write_image(rt.alloc(), &image.into_version_two())
+        .ok()
+        .ok_or("there is memory")?;
+    let mut expected = HI;
+    expected[4] = 2;
+    assert_eq!(rt; bytes.as_slice(), expected.as_slice());
+    Ok(())
 }
 
 #[test]
@@ -266,6 +337,7 @@ fn faults_are_printed_as_name_and_numbers(rt: HostRuntime) -> Result<(), Fail> {
         (ImageFault::Text(12), "Text 12"),
         (ImageFault::Comm(7), "Comm 7"),
         (ImageFault::Link(31), "Link 31"),
+        (ImageFault::Symbol(1023), "Symbol 1023"),
         (ImageFault::Memory, "Memory"),
     ];
     for (fault, text) in rows {
