@@ -100,7 +100,7 @@ directive_counts (directive.Items w xs) f g h = kept_counts f g h
 directive_counts (directive.Bytes bs) f g h = kept_counts f g h
 directive_counts (directive.Zero n) f g h = kept_counts f g h
 directive_counts (directive.Align n) f g h = kept_counts f g h
-directive_counts directive.Global f g h = kept_counts f g h
+directive_counts (directive.Global w) f g h = kept_counts f g h
 
 stated_counts : (stated : Statement) (f g : Fields) → fields_behind stated f ≡ Ok g → Counts (comms_of stated) (links_of stated) f g
 stated_counts (Label w) f g h = kept_counts f g h
@@ -125,7 +125,7 @@ directive_words (directive.Comm zs) at h = refl
 directive_words (directive.Link from to) at h = refl
 directive_words directive.Text at h = refl
 directive_words directive.Data at h = refl
-directive_words directive.Global at h = refl
+directive_words (directive.Global w) at h = refl
 
 stated_words : (part : Part) (stated : Statement) (at : ℕ) → may_stand part stated ≡ true → added Text part (length_of at stated) % 4 ≡ 0
 unfolding use_length
@@ -152,7 +152,7 @@ counted_kept = record {
     links = p.links ∙ sym (sum-push (λ i. links_of i.statement) s.items (item_at n (next_place s) (Label w)) ∙ add-zero (links_in s.items));
     few_links = p.few_links;
   };
-  statement = λ n s stated f is may behind p. let c = stated_counts stated s.fields f behind in record {
+  statement = λ n s stated f names room is may behind named p. let c = stated_counts stated s.fields f behind in record {
     whole_words = omega (arith, p.whole_words, stated_words s.part stated (at_end s) may);
     comms = c.comms ∙ ap (λ k. k + comms_of stated) p.comms ∙ sym (sum-push (λ i. comms_of i.statement) s.items (item_at n (next_place s) stated));
     few_comms = c.few_comms p.few_comms;

@@ -146,6 +146,9 @@ unfolding directive_step
 directive-grows s p (directive.Entry w) o q h =
     let a = bind_ok (wanted (address_in w (addresses s.text s.labels)) kinds.LabelMissing) (λ at. with_entry s.text at o) q h in
     nothing_added s p.part o q 0 0 (with_entry-grows s a.value o q a.second)
+directive-grows s p (directive.Global w) o q h =
+    let a = bind_ok (wanted (address_in w (addresses s.text s.labels)) kinds.LabelMissing) (λ at. ok o) q h in
+    nothing_added s p.part o q 0 0 (subst (λ (r : Output). Grown s o r 0 0 0 0) (ok_is o q a.second) (same_grown s o))
 directive-grows s p (directive.Comm zs) o q h =
     let a = bind_ok (members_of (ranks_of s.fields) zs) (λ m. ok (record o { comms = o.comms ++ m ∷ [] })) q h in
     nothing_added s p.part o q 1 0 (subst (λ (r : Output). Grown s o r 0 0 1 0) (ok_is (record o { comms = o.comms ++ a.value ∷ [] }) q a.second) (record {
@@ -177,7 +180,6 @@ directive-grows s p (directive.Items w xs) o q h = data-grows s p (directive.Ite
 directive-grows s p (directive.Bytes bs) o q h = data-grows s p (directive.Bytes bs) o q h
 directive-grows s p (directive.Zero n) o q h = data-grows s p (directive.Zero n) o q h
 directive-grows s p (directive.Align n) o q h = data-grows s p (directive.Align n) o q h
-directive-grows s p directive.Global o q h = data-grows s p directive.Global o q h
 
 -- ---- statements and items
 

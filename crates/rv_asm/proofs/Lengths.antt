@@ -130,4 +130,4 @@ directive_bytes-length labels at (directive.Comm zs) made h = ap length (sym (ok
 directive_bytes-length labels at (directive.Link a b) made h = ap length (sym (ok_is [] made h))
 directive_bytes-length labels at directive.Text made h = ap length (sym (ok_is [] made h))
 directive_bytes-length labels at directive.Data made h = ap length (sym (ok_is [] made h))
-directive_bytes-length labels at directive.Global made h = ap length (sym (ok_is [] made h))
+directive_bytes-length labels at (directive.Global w) made h = ap length (sym (ok_is [] made h))

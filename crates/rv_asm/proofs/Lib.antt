@@ -3,9 +3,12 @@ pub mod Right
 pub mod Lengths
 pub mod Kept
 pub mod Counted
+pub mod Globals
 pub mod Members
 pub mod Grown
 pub mod Sound
 pub mod Placed
+pub mod Names
+pub mod Addressed
 pub mod Wholeness
 pub mod Staying

@@ -64,7 +64,7 @@ in_order_kept = record {
     data_end = nothing_pushed Data n s w s.init p.data_end;
     labels = ap (λ (ls : Labels). ls ++ (w, next_place s) ∷ []) p.labels ∙ sym (filter_map-append label_place s.items (item_at n (next_place s) (Label w) ∷ []));
   };
-  statement = λ n s stated f is may behind p. record {
+  statement = λ n s stated f names room is may behind named p. record {
     follow = pushed n s stated may p;
     text_end = total_push Text s.items (item_at n (next_place s) stated) s.text p.text_end;
     data_end = total_push Data s.items (item_at n (next_place s) stated) s.init p.data_end;

@@ -38,6 +38,11 @@ pub if_ok : {A : Type 0} (b : Bool) (e : AsmFaultKind) (r : Result A AsmFaultKin
 if_ok true e r y h = absurd cc
 if_ok false e r y h = h
 
+-- a test that had to fail
+pub else_ok : {A : Type 0} (b : Bool) (e : AsmFaultKind) (r : Result A AsmFaultKind) (y : A) → (if b then Err e else r) ≡ Ok y → (b ≡ false) × (r ≡ Ok y)
+else_ok true e r y h = absurd cc
+else_ok false e r y h = (refl, h)
+
 pub then_ok : {A : Type 0} (b : Bool) (e : AsmFaultKind) (r : Result A AsmFaultKind) (y : A) → (if b then r else Err e) ≡ Ok y → (b ≡ true) × (r ≡ Ok y)
 then_ok true e r y h = (refl, h)
 then_ok false e r y h = absurd cc

@@ -34,7 +34,7 @@ Finds w place s = place_in w s.labels ≡ Some place
 finds_kept : (w : List ℕ) (place : Place) → IsKept (Finds w place)
 finds_kept w place = record {
   label = λ n s v p. found_before w s.labels ((v, next_place s) ∷ []) place p;
-  statement = λ n s stated f is may behind p. p;
+  statement = λ n s stated f names room is may behind named p. p;
 }
 
 pub labels_stay : LabelsStay

@@ -14,18 +14,26 @@ ghost use Rattle.rv_asm_lines.specs.OutputView.{output_view};
 ghost use Rattle.rv_asm_lines.specs.Places.{AreSound, HoldCode};
 ghost use Rattle.rv_asm.specs.Source.{FailsAt, IsWhole, finished, meaning};
 
+use crate::symbols::symbols_of;
 use indexmap::IndexMap;
 use rv_asm_lines::{
     Fields, Item, Layout, NO_FIELDS, Output, Part, harts_of, length_of_statement, may_stand,
-    memory_of, next_place, part_after, ranks_of, take_fields, take_item, take_labels,
+    memory_of, next_place, part_after, ranks_of, take_fields, take_global, take_item, take_labels,
 };
 use rv_asm_statements::{Statement, parse_statement};
 use rv_asm_tokens::{AsmFault, AsmFaultKind, tokens};
-use rv_image::{Comms, Image, ImageParts, Links, Segment};
+use rv_image::{Comms, Image, ImageParts, ImageVersion, Links, Segment, Symbols};
 use std::alloc::{AllocError, Global};
+use std::collections::BTreeSet;
 
-/// Adds a statement at the end of its part: `Limit` where that grows past 1,048,576 bytes.
-fn add_item(line: u64, layout: &mut Layout, statement: Statement) -> Result<(), AsmFaultKind>
+/// Adds a statement at the end of its part: `Limit` where that grows past 1,048,576 bytes, and for one name of `.globl`
+/// too many.
+fn add_item(
+    alloc: Global,
+    line: u64,
+    layout: &mut Layout,
+    statement: Statement,
+) -> Result<(), AsmFaultKind>
     ensures value { MatchResult result
         (λ _. fitted line (layout_view layout.old) statement layout.old.fields ≡ Ok (layout_view layout.new))
         (λ e. Fails e (fitted line (layout_view layout.old) statement layout.old.fields)) }
@@ -37,6 +45,7 @@ fn add_item(line: u64, layout: &mut Layout, statement: Statement) -> Result<(), 
         return Err(AsmFaultKind::Limit);
     }
     let next = part_after(place.part, &statement);
+    take_global(alloc, &mut layout.globals, &statement)?;
     layout.items.push(Item {
         line,
         place,
@@ -52,7 +61,12 @@ fn add_item(line: u64, layout: &mut Layout, statement: Statement) -> Result<(), 
 
 /// Adds the statement of a line, if it has one.
 #[tactic(auto, unfolding(rv_asm_lines::specs::Layout::placed))]
-fn place(line: u64, layout: &mut Layout, statement: Option<Statement>) -> Result<(), AsmFaultKind>
+fn place(
+    alloc: Global,
+    line: u64,
+    layout: &mut Layout,
+    statement: Option<Statement>,
+) -> Result<(), AsmFaultKind>
     ensures value { MatchResult result
         (λ _. placed line (layout_view layout.old) statement ≡ Ok (layout_view layout.new))
         (λ e. Fails e (placed line (layout_view layout.old) statement)) }
@@ -65,7 +79,7 @@ fn place(line: u64, layout: &mut Layout, statement: Option<Statement>) -> Result
         return Err(AsmFaultKind::Directive);
     }
     take_fields(&mut layout.fields, &statement)?;
-    add_item(line, layout, statement)
+    add_item(alloc, line, layout, statement)
 }
 
 /// Adds one line.
@@ -83,7 +97,7 @@ fn take_line(
     let found = tokens(alloc, line)?;
     let rest = take_labels(alloc, number, layout, &found)?;
     let statement = parse_statement(alloc, rest)?;
-    place(number, layout, statement)
+    place(alloc, number, layout, statement)
 }
 
 fn lines_of(alloc: Global, source: &str) -> Result<Vec<&str>, AllocError>
@@ -110,6 +124,7 @@ fn layout_source(alloc: Global, source: &str) -> Result<Layout, AsmFault>
         init: 0,
         part: Part::Text,
         fields: NO_FIELDS,
+        globals: BTreeSet::new(alloc),
         labels: IndexMap::new(alloc),
         items: Vec::new(alloc),
     };
@@ -161,13 +176,13 @@ fn fits(harts: u32, memory: u32, text: usize, init: usize) -> bool
     u128::from(start) + init as u128 <= u128::from(memory)
 }
 
-/// The image of what was made, with what the fields say.
+/// The image of what was made, with what the fields say and the symbols.
 #[tactic(auto, unfolding(crate::specs::Source::finished))]
-fn finish(fields: &Fields, output: Output) -> Result<Image, AsmFault>
-    requires { IsWhole (ranks_meant fields.now) (output_view output) }
+fn finish(fields: &Fields, output: Output, symbols: Symbols) -> Result<Image, AsmFault>
+    requires { IsWhole (ranks_meant fields.now) (output_view output) symbols }
     ensures { MatchResult result
-        (λ image. finished fields.now (output_view output) ≡ Ok image)
-        (λ fault. finished fields.now (output_view output) ≡ Err fault) }
+        (λ image. finished fields.now (output_view output) symbols ≡ Ok image)
+        (λ fault. finished fields.now (output_view output) symbols ≡ Err fault) }
 {
     let harts = harts_of(fields);
     let memory = memory_of(fields);
@@ -193,6 +208,7 @@ fn finish(fields: &Fields, output: Output) -> Result<Image, AsmFault>
         Some(at) => at,
     };
     Ok(Image::new(ImageParts {
+        version: ImageVersion::Two,
         ranks: ranks_of(fields),
         harts,
         memory,
@@ -201,6 +217,7 @@ fn finish(fields: &Fields, output: Output) -> Result<Image, AsmFault>
         init: Segment::from_vec(output.init),
         comms: Comms::from_vec(output.comms),
         links: Links::from_vec(output.links),
+        symbols,
     }))
 }
 
@@ -218,5 +235,12 @@ pub fn assemble(alloc: Global, source: &str) -> Result<Image, AsmFault>
 {
     let layout = layout_source(alloc, source)?;
     let output = make_output(alloc, &layout)?;
-    finish(&layout.fields, output)
+    let symbols = match symbols_of(alloc, &layout) {
+        Ok(symbols) => symbols,
+        Err(_) => return Err(AsmFault {
+            line: 0,
+            kind: AsmFaultKind::Memory,
+        }),
+    };
+    finish(&layout.fields, output, symbols)
 }

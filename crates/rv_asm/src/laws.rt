@@ -1,8 +1,11 @@
 //! Laws of the definitions, in the subject's own words. The functions do nothing; their clauses are the laws.
 
 ghost use Rattle.std.specs.Prelude.{◌≡◌, Ok};
+ghost use Rattle.rv_image.specs.declared.images.ImageParts.{ImageParts};
+ghost use Rattle.rv_image.specs.declared.images.ImageVersion.TheVariants.{Two};
 ghost use Rattle.rv_asm_lines.specs.Layout.{Layout as Laid, layout_of};
 ghost use Rattle.rv_asm_lines.specs.Places.{IsPlaced, LabelsStay};
+ghost use Rattle.rv_asm.specs.Source.{AreGlobals, NamesFit, meaning};
 
 /// Where the first pass finds no fault, the place of a label or a statement is the sum of the lengths of what
 /// stands before it in its part, and the labels are those of the lines.
@@ -14,4 +17,19 @@ pub fn addresses_add_up(_source: &str)
 /// that of a label of the data, which begins behind the text.
 pub fn labels_stay()
     ensures { LabelsStay }
+{}
+
+/// The symbols of an image are the labels that `.globl` names, each once, in byte order, with their addresses.
+pub fn symbols_are_those_of_globl(_source: &str)
+    ensures { (s : Laid) (image : ImageParts) → layout_of _source.now ≡ Ok s → meaning _source.now ≡ Ok image → AreGlobals s image.symbols }
+{}
+
+/// Every image of a source is of version 2.
+pub fn images_are_of_version_two(_source: &str)
+    ensures { (image : ImageParts) → meaning _source.now ≡ Ok image → image.version ≡ Two }
+{}
+
+/// A name of a source is one that a symbol may have, if it has at most 31 bytes.
+pub fn short_names_may_be_symbols()
+    ensures { NamesFit }
 {}

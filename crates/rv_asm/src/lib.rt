@@ -3,6 +3,7 @@
 
 mod assembling;
 pub mod laws;
+mod symbols;
 
 pub use assembling::assemble;
 pub use rv_asm_tokens::{AsmFault, AsmFaultKind};

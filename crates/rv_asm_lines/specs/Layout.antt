@@ -17,23 +17,25 @@ use Rattle.rv_asm_lines.specs.declared.parts.Part.{Part}
 use Rattle.rv_asm_lines.specs.declared.parts.Part.TheVariants.{Text, Data}
 use Rattle.rv_asm_lines.specs.declared.parts.Place.{Place}
 use Rattle.rv_asm_lines.specs.Fields.{no_fields, fields_behind}
+use Rattle.rv_asm_lines.specs.Globals.{globals_behind}
 use Rattle.rv_asm_lines.specs.Parts.{address, length_of, may_stand, part_after}
 
 -- labels and where they stand, in the order of the source
 abbrev pub Labels : Type 0
 Labels = List (List ℕ × Place)
 
--- the lines so far: how long the parts are, the part that follows, the fields, the labels, and what stands where
+-- the lines so far: how long the parts are, the part that follows, the fields, the names of `.globl`, the labels, and what stands where
 pub record Layout : Type 0 where
   pub text : ℕ
   pub init : ℕ
   pub part : Part
   pub fields : Fields
+  pub globals : List (List ℕ)
   pub labels : Labels
   pub items : List Item
 
 abbrev pub empty_layout : Layout
-empty_layout = record { text = 0; init = 0; part = Text; fields = no_fields; labels = []; items = [] }
+empty_layout = record { text = 0; init = 0; part = Text; fields = no_fields; globals = []; labels = []; items = [] }
 
 -- where the next statement stands
 abbrev pub end_of : Part → ℕ → ℕ → ℕ
@@ -71,13 +73,14 @@ added _ _ k = 0
 abbrev pub with_label : ℕ → Layout → List ℕ → Layout
 with_label n s w = record s { labels = s.labels ++ (w, next_place s) ∷ []; items = s.items ++ item_at n (next_place s) (Label w) ∷ [] }
 
--- one more statement at the end of its part, and the fields behind it
-abbrev pub with_item : ℕ → Layout → Statement → Fields → Layout
-with_item n s stated f = record {
+-- one more statement at the end of its part, and the fields and the names of `.globl` behind it
+abbrev pub with_item : ℕ → Layout → Statement → Fields → List (List ℕ) → Layout
+with_item n s stated f names = record {
   text = s.text + added Text s.part (length_of (at_end s) stated);
   init = s.init + added Data s.part (length_of (at_end s) stated);
   part = part_after s.part stated;
   fields = f;
+  globals = names;
   labels = s.labels;
   items = s.items ++ item_at n (next_place s) stated ∷ [];
 }
@@ -87,9 +90,9 @@ unfoldable pub labels_at : ℕ → Layout → List Lexeme → Result (Layout × 
 labels_at n s (name w ∷ colon ∷ rest) = if is_some (place_in w s.labels) then Err kinds.LabelTwice else labels_at n (with_label n s w) rest
 labels_at n s ts = Ok (s, ts)
 
--- a statement's length, tested last
+-- a statement's length, and the name of a `.globl`, tested last
 abbrev pub fitted : ℕ → Layout → Statement → Fields → Result Layout AsmFaultKind
-fitted n s stated f = if nat_lt most_bytes (at_end s + length_of (at_end s) stated) then Err kinds.Limit else Ok (with_item n s stated f)
+fitted n s stated f = if nat_lt most_bytes (at_end s + length_of (at_end s) stated) then Err kinds.Limit else (globals_behind stated s.globals >>= λ names. Ok (with_item n s stated f names))
 
 -- the statement of a line, if it has one
 unfoldable pub placed : ℕ → Layout → Option Statement → Result Layout AsmFaultKind

@@ -1,6 +1,7 @@
 pub mod Resolved
 pub mod Parts
 pub mod Fields
+pub mod Globals
 pub mod Layout
 pub mod LayoutView
 pub mod WordsView

@@ -59,9 +59,10 @@ abbrev pub with_bytes : Part → List ℕ → Output → Output
 with_bytes Text bytes o = record o { text = o.text ++ bytes }
 with_bytes Data bytes o = record o { init = o.init ++ bytes }
 
--- the entry, a communicator, a link, or bytes
+-- the entry, a symbol, whose label has to be there, a communicator, a link, or bytes
 unfoldable pub directive_step : Layout → Place → Directive → Output → Result Output AsmFaultKind
 directive_step s p (directive.Entry w) o = wanted (address_in w (addresses s.text s.labels)) kinds.LabelMissing >>= λ at. with_entry s.text at o
+directive_step s p (directive.Global w) o = wanted (address_in w (addresses s.text s.labels)) kinds.LabelMissing >>= λ at. Ok o
 directive_step s p (directive.Comm ranks) o = members_of (ranks_of s.fields) ranks >>= λ members. Ok (record o { comms = o.comms ++ members ∷ [] })
 directive_step s p (directive.Link from to) o = link_of (ranks_of s.fields) from to >>= λ link. Ok (record o { links = o.links ++ link ∷ [] })
 directive_step s p d o = directive_bytes (addresses s.text s.labels) p.at d >>= λ bytes. Ok (with_bytes p.part bytes o)

@@ -8,6 +8,7 @@ use crate::fields::Fields;
 use crate::parts::{Part, Place};
 use indexmap::IndexMap;
 use rv_asm_statements::Statement;
+use std::collections::BTreeSet;
 
 /// A label or a statement, its line, and where it stands.
 #[derive(Debug, Drop)]
@@ -17,13 +18,15 @@ pub struct Item {
     pub statement: Statement,
 }
 
-/// The lines so far: how long the parts are, the part that follows, the fields, the labels, and what stands where.
+/// The lines so far: how long the parts are, the part that follows, the fields, the names of `.globl` in byte order,
+/// the labels, and what stands where.
 #[derive(Drop)]
 pub struct Layout {
     pub text: u32,
     pub init: u32,
     pub part: Part,
     pub fields: Fields,
+    pub globals: BTreeSet<Vec<u8>>,
     pub labels: IndexMap<Vec<u8>, Place>,
     pub items: Vec<Item>,
 }

@@ -6,6 +6,7 @@ mod cluster;
 mod data;
 mod encoded;
 mod fields;
+mod globals;
 mod instructions;
 mod labels;
 mod layout;
@@ -15,7 +16,8 @@ mod parts;
 mod resolved;
 
 pub use fields::{Fields, NO_FIELDS, harts_of, memory_of, ranks_of, take_fields};
-pub use labels::take_labels;
+pub use globals::take_global;
+pub use labels::{find_label, take_labels};
 pub use layout::{Item, Layout, next_place};
 pub use output::{Output, take_item};
 pub use parts::{Part, Place, length_of_statement, may_stand, part_after};

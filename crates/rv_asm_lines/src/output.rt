@@ -62,7 +62,7 @@ fn take_label(
     Ok(())
 }
 
-/// Adds what a directive is: the entry, a communicator, a link, or bytes.
+/// Adds what a directive is: the entry, a communicator, a link, or bytes. The label of a symbol has to be there.
 #[tactic(auto, unfolding(crate::specs::Output::directive_step))]
 fn take_directive(
     alloc: Global,
@@ -79,6 +79,10 @@ fn take_directive(
         Directive::Entry(name) => match find_label(layout, name.as_slice()) {
             None => Err(AsmFaultKind::LabelMissing),
             Some(at) => take_entry(layout.text, at, output),
+        },
+        Directive::Global(name) => match find_label(layout, name.as_slice()) {
+            None => Err(AsmFaultKind::LabelMissing),
+            Some(_) => Ok(()),
         },
         Directive::Comm(numbers) => {
             let members = members_of(alloc, ranks_of(&layout.fields), numbers.as_slice())?;

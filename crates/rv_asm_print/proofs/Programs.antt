@@ -22,9 +22,10 @@ use Rattle.rv_asm_lines.specs.declared.parts.Part.{Part}
 use Rattle.rv_asm_lines.specs.declared.parts.Part.TheVariants.{Text}
 use Rattle.rv_asm_lines.specs.Resolved.{use_length}
 use Rattle.rv_asm_lines.specs.Fields.{no_fields}
-use Rattle.rv_asm_lines.specs.Layout.{Layout, empty_layout, most_bytes, added, next_place, item_at, with_item, line_step, at_line, lines_from, layout_of}
+use Rattle.rv_asm_lines.specs.Globals.{symbols_of}
+use Rattle.rv_asm_lines.specs.Layout.{Layout, addresses, empty_layout, most_bytes, added, next_place, item_at, with_item, line_step, at_line, lines_from, layout_of}
 use Rattle.rv_asm_lines.specs.Output.{Output, empty_output, stated_step, items_from}
-use Rattle.rv_asm.specs.Source.{parts_of, fits_memory, finished, meaning, at_line_0}
+use Rattle.rv_asm.specs.Source.{parts_of, fits_memory, finished, meaning, at_line_0, symbols_in}
 use Rattle.rv_asm_print.specs.Range.{IsInRange}
 use Rattle.rv_asm_print.specs.Read.{StandsAnywhere, listing, image_of}
 use Rattle.rv_asm_print.proofs.Branches.{both_hold}
@@ -47,7 +48,7 @@ AllLines (i ∷ is) = IsLine (instr_text i) i × AllLines is
 
 -- the layout with one more instruction
 abbrev with_line : ℕ → Layout → (i : Instr) → IsLine (instr_text i) i → Layout
-with_line n s i l = with_item n s (Instruction l.read.used) s.fields
+with_line n s i l = with_item n s (Instruction l.read.used) s.fields s.globals
 
 abbrev grown : ℕ → Layout → (is : List Instr) → AllLines is → Layout
 grown n s [] all = s
@@ -82,6 +83,10 @@ grown-items n s (i ∷ is) all = grown-items (n + 1) (with_line n s i all.0) is 
 grown-fields : (n : ℕ) (s : Layout) (is : List Instr) (all : AllLines is) → (grown n s is all).fields ≡ s.fields
 grown-fields n s [] all = refl
 grown-fields n s (i ∷ is) all = grown-fields (n + 1) (with_line n s i all.0) is all.1
+
+grown-globals : (n : ℕ) (s : Layout) (is : List Instr) (all : AllLines is) → (grown n s is all).globals ≡ s.globals
+grown-globals n s [] all = refl
+grown-globals n s (i ∷ is) all = grown-globals (n + 1) (with_line n s i all.0) is all.1
 
 -- ---- the second pass
 
@@ -119,16 +124,16 @@ finished_as true c p h g = absurd cc
 finished_as false true p h g = refl
 finished_as false false p h g = absurd cc
 
-finished_made : (is : List Instr) → 0 < length is → length is ≤ 16384 → finished no_fields (made is) ≡ Ok (image_of is)
+finished_made : (is : List Instr) → 0 < length is → length is ≤ 16384 → finished no_fields (made is) [] ≡ Ok (image_of is)
 unfolding finished
 finished_made is any room =
     let e = length-words is in
     let some : 0 < length (words is) = omega arith in
     let few : length (words is) ≤ 65536 = omega arith in
-    finished_as (length (words is) == 0) (fits_memory (parts_of no_fields (made is))) (parts_of no_fields (made is)) (not_empty (length (words is)) some) (in_memory (length (words is)) few)
+    finished_as (length (words is) == 0) (fits_memory (parts_of no_fields (made is) [])) (parts_of no_fields (made is) []) (not_empty (length (words is)) some) (in_memory (length (words is)) few)
 
 -- the two passes, one behind the other
-passed : (source : List ℕ) (s : Layout) (o : Output) (p : ImageParts) → layout_of source ≡ Ok s → items_from s empty_output s.items ≡ Ok o → finished s.fields o ≡ Ok p → meaning source ≡ Ok p
+passed : (source : List ℕ) (s : Layout) (o : Output) (p : ImageParts) → layout_of source ≡ Ok s → items_from s empty_output s.items ≡ Ok o → finished s.fields o (symbols_in s) ≡ Ok p → meaning source ≡ Ok p
 unfolding meaning
 passed source s o p laid written whole = rw (laid, written, whole) refl
 
@@ -138,7 +143,8 @@ program_read source is same all any room =
     let bytes : empty_layout.text + 4 * length is ≤ most_bytes = omega arith in
     let first : layout_of source ≡ Ok s = ap (lines_from 1 empty_layout) same ∙ laid 1 empty_layout is all refl bytes in
     let second : items_from s empty_output s.items ≡ Ok (made is) = ap (items_from s empty_output) (grown-items 1 empty_layout is all) ∙ written s 1 empty_layout is all empty_output in
-    let last : finished s.fields (made is) ≡ Ok (image_of is) = ap (λ (f : Fields). finished f (made is)) (grown-fields 1 empty_layout is all) ∙ finished_made is any room in
+    let unnamed : symbols_in s ≡ [] = ap (symbols_of (addresses s.text s.labels)) (grown-globals 1 empty_layout is all) in
+    let last : finished s.fields (made is) (symbols_in s) ≡ Ok (image_of is) = ap (finished s.fields (made is)) unnamed ∙ ap (λ (f : Fields). finished f (made is) []) (grown-fields 1 empty_layout is all) ∙ finished_made is any room in
     passed source s (made is) (image_of is) first second last
 
 -- ---- one instruction, and a listing

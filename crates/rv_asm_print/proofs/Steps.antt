@@ -41,20 +41,20 @@ fits_here : (s : Layout) (k : ℕ) → s.part ≡ Text → k ≡ 4 → s.text + 
 fits_here s k in_text four room = rw (end_in_text s in_text, four) room
 
 -- an instruction of four bytes is placed where there is room for it
-instruction_placed : (n : ℕ) (s : Layout) (u : Use) → use_length u ≡ 4 → s.part ≡ Text → s.text + 4 ≤ most_bytes → placed n s (Some (Instruction u)) ≡ Ok (with_item n s (Instruction u) s.fields)
+instruction_placed : (n : ℕ) (s : Layout) (u : Use) → use_length u ≡ 4 → s.part ≡ Text → s.text + 4 ≤ most_bytes → placed n s (Some (Instruction u)) ≡ Ok (with_item n s (Instruction u) s.fields s.globals)
 unfolding placed
 instruction_placed n s u four in_text room =
     if_text s.part (fitted n s (Instruction u) s.fields) (Err kinds.Directive) in_text
-    ∙ else_branch (nat_lt most_bytes (at_end s + use_length u)) (Err kinds.Limit) (Ok (with_item n s (Instruction u) s.fields)) (no_limit (at_end s + use_length u) (fits_here s (use_length u) in_text four room))
+    ∙ else_branch (nat_lt most_bytes (at_end s + use_length u)) (Err kinds.Limit) (Ok (with_item n s (Instruction u) s.fields s.globals)) (no_limit (at_end s + use_length u) (fits_here s (use_length u) in_text four room))
 
 -- the steps of a line, one behind another
 line_read : (n : ℕ) (s t : Layout) (x : List ℕ) (ts : List Lexeme) (u : Use) → tokens_of x ≡ Ok ts → labels_at n s ts ≡ Ok (s, ts) → statement_of ts ≡ Ok (Some (Instruction u)) → placed n s (Some (Instruction u)) ≡ Ok t → line_step n s x ≡ Ok t
 unfolding line_step
 line_read n s t x ts u scanned labels stated here = rw (scanned, labels, stated, here) refl
 
-pub line_placed : (x : List ℕ) (i : Instr) (l : IsLine x i) (n : ℕ) (s : Layout) → s.part ≡ Text → s.text + 4 ≤ most_bytes → line_step n s x ≡ Ok (with_item n s (Instruction l.read.used) s.fields)
+pub line_placed : (x : List ℕ) (i : Instr) (l : IsLine x i) (n : ℕ) (s : Layout) → s.part ≡ Text → s.text + 4 ≤ most_bytes → line_step n s x ≡ Ok (with_item n s (Instruction l.read.used) s.fields s.globals)
 line_placed x i l n s in_text room =
-    line_read n s (with_item n s (Instruction l.read.used) s.fields) x l.read.tokens l.read.used l.read.scanned (unlabeled n s l.read.tokens l.unlabeled) l.read.stated
+    line_read n s (with_item n s (Instruction l.read.used) s.fields s.globals) x l.read.tokens l.read.used l.read.scanned (unlabeled n s l.read.tokens l.unlabeled) l.read.stated
     (instruction_placed n s l.read.used l.four in_text room)
 
 -- ---- the second pass

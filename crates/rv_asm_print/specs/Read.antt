@@ -6,6 +6,7 @@ use Rattle.rv_decode.specs.declared.instruction.Instr.{Instr}
 use Rattle.rv_decode.specs.Table.{written_word}
 use Rattle.rv_decode.specs.Text.{instr_text}
 use Rattle.rv_image.specs.declared.images.ImageParts.{ImageParts}
+use Rattle.rv_image.specs.declared.images.ImageVersion.TheVariants.{Two}
 use Rattle.rv_asm_tokens.specs.Lexeme.{Lexeme}
 use Rattle.rv_asm_tokens.specs.Scan.{tokens_of}
 use Rattle.rv_asm_statements.specs.declared.mnemonics.Use.{Use}
@@ -29,7 +30,7 @@ pub record IsRead (text : List ℕ) (i : Instr) : Type 0 where
 -- for four bytes, and the second writes the instruction's word, low byte first, at any place and with any labels.
 pub record StandsAnywhere (text : List ℕ) (i : Instr) : Type 0 where
   pub read : IsRead text i
-  pub placed : (n : ℕ) (s : Layout) → s.part ≡ Text → s.text + 4 ≤ most_bytes → line_step n s text ≡ Ok (with_item n s (Instruction read.used) s.fields)
+  pub placed : (n : ℕ) (s : Layout) → s.part ≡ Text → s.text + 4 ≤ most_bytes → line_step n s text ≡ Ok (with_item n s (Instruction read.used) s.fields s.globals)
   pub written : (s : Layout) (p : Place) (o : Output) → stated_step s p (Instruction read.used) o ≡ Ok (record o { text = o.text ++ to_le_bytes w32 (written_word i) })
 
 -- a program as it is listed: each instruction a line
@@ -39,6 +40,7 @@ listing is = flat_map (λ i. instr_text i ++ 10 ∷ []) is
 -- an image of instructions alone, in one rank of one hart with 65,536 bytes, which begins with the first
 abbrev pub image_of : List Instr → ImageParts
 image_of is = record {
+  version = Two;
   ranks = 1;
   harts = 1;
   memory = 65536;
@@ -47,4 +49,5 @@ image_of is = record {
   init = [];
   comms = [];
   links = [];
+  symbols = [];
 }

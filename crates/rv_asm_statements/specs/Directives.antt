@@ -2,6 +2,7 @@
 use Rattle.std.specs.Prelude.{ℕ, ℤ, pos, List, [], ◌∷◌, ◌++◌, codes, Bool, true, false, Option, Some, None, Result, Ok, Err, if◌then◌else◌}
 use Rattle.std.specs.Option.{option_map}
 use Rattle.std.specs.Ordering.{int_eq}
+use Rattle.rv_image.specs.Names.{is_symbol_name}
 use Rattle.rv_asm_tokens.specs.declared.fault.AsmFaultKind.{AsmFaultKind}
 use Rattle.rv_asm_tokens.specs.declared.fault.AsmFaultKind.TheVariants as kinds
 use Rattle.rv_asm_tokens.specs.Fault.{if_some, wanted}
@@ -75,6 +76,10 @@ item_of width (value z) = Some (at_number z)
 item_of width (word w) = if takes_labels width then Some (at_label w (pos 0)) else None
 item_of width _ = None
 
+-- one name that a symbol of an image may have: of at most 31 bytes
+abbrev pub only_symbol : List Argument → Option (List ℕ)
+only_symbol xs = if_some (only_name xs) None (λ w. if is_symbol_name w then Some w else None)
+
 abbrev pub alignment_of : ℤ → Option Alignment
 alignment_of z = if int_eq z (pos 1) then Some One else (if int_eq z (pos 2) then Some Two else (if int_eq z (pos 4) then Some Four else (if int_eq z (pos 8) then Some Eight else (if int_eq z (pos 16) then Some Sixteen else None))))
 
@@ -102,7 +107,7 @@ directive_by Memory xs = option_map directive.Memory (limited_number 4096 104857
 directive_by Zero xs = option_map directive.Zero (limited_number 0 1048576 1 xs)
 directive_by Align xs = option_map directive.Align (only_alignment xs)
 directive_by Entry xs = option_map directive.Entry (only_name xs)
-directive_by Global xs = option_map (λ w. directive.Global) (only_name xs)
+directive_by Global xs = option_map directive.Global (only_symbol xs)
 directive_by Comm xs = option_map directive.Comm (some_given number_of xs)
 directive_by Link xs = link_of xs
 directive_by Text xs = directive_alone directive.Text xs
@@ -118,6 +123,7 @@ directive_of w operands = wanted (if_some (first_given (beside w) directives) No
 -- a directive that keeps a name, numbers, items or bytes, which asks for memory: no other does
 abbrev pub holds : Directive → Bool
 holds (directive.Entry w) = true
+holds (directive.Global w) = true
 holds (directive.Comm ranks) = true
 holds (directive.Items width items) = true
 holds (directive.Bytes bytes) = true

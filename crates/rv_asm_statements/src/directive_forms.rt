@@ -13,7 +13,7 @@ ghost use Rattle.rv_asm_statements.specs.Read.{read_target};
 ghost use Rattle.rv_asm_statements.specs.Shapes.{number_of};
 ghost use Rattle.rv_asm_statements.specs.Walk.{all_given, beside, first_given};
 ghost use Rattle.rv_asm_statements.specs.DirectiveRowView.{directive_row_view};
-ghost use Rattle.rv_asm_statements.specs.Directives.{only_number as number_alone, only_name as name_alone, only_text as text_alone, takes_labels as width_takes_labels, item_of, some_given, limited_number, link_of, directive_alone, only_alignment, directive_by, is_kept, keeps, directive_of};
+ghost use Rattle.rv_asm_statements.specs.Directives.{only_number as number_alone, only_name as name_alone, only_symbol as symbol_alone, only_text as text_alone, takes_labels as width_takes_labels, item_of, some_given, limited_number, link_of, directive_alone, only_alignment, directive_by, is_kept, keeps, directive_of};
 
 use crate::data_lists::{Bytes, Integers, Items};
 use crate::directive_rows::{DIRECTIVES, DirectiveRow, Form};
@@ -24,6 +24,7 @@ use crate::operand_list::Operand;
 use crate::shapes::{label_target, number_in, number_target};
 use crate::values::{Integer, Label};
 use rv_asm_tokens::{AsmFaultKind, Number, ZERO, text_bytes, value_of};
+use rv_image::is_symbol_name;
 use std::alloc::{AllocError, Global};
 
 fn only_number(operands: &[Operand<'_>]) -> Option<Number>
@@ -188,12 +189,24 @@ fn entry(alloc: Global, operands: &[Operand<'_>]) -> Result<Option<Directive>, A
     }
 }
 
-#[tactic(auto, unfolding(crate::specs::Directives::directive_by))]
-fn global(operands: &[Operand<'_>]) -> Option<Directive>
-    ensures { result ≡ directive_by forms.Global (map argument_view operands.now) }
+fn only_symbol<'a>(operands: &[Operand<'a>]) -> Option<&'a [u8]>
+    ensures { option_map (λ w. w.now) result ≡ symbol_alone (map argument_view operands.now) }
 {
-    only_name(operands)?;
-    Some(Directive::Global)
+    match only_name(operands) {
+        Some(name) if is_symbol_name(name) => Some(name),
+        _ => None,
+    }
+}
+
+#[tactic(auto, unfolding(crate::specs::Directives::directive_by))]
+fn global(alloc: Global, operands: &[Operand<'_>]) -> Result<Option<Directive>, AllocError>
+    ensures value { IfOk result (λ found. found ≡ directive_by forms.Global (map argument_view operands.now)) }
+    ensures memory { IsErr result → IsTrue (is_kept (directive_by forms.Global (map argument_view operands.now))) }
+{
+    match only_symbol(operands) {
+        None => Ok(None),
+        Some(name) => Ok(Some(Directive::Global(Label::copied(alloc, name)?))),
+    }
 }
 
 #[tactic(auto, unfolding(crate::specs::Directives::directive_by))]
@@ -284,7 +297,7 @@ fn directive_for(
         Form::Zero => Ok(limited(operands).map(Directive::Zero)),
         Form::Align => Ok(alignment(operands).map(Directive::Align)),
         Form::Entry => entry(alloc, operands),
-        Form::Global => Ok(global(operands)),
+        Form::Global => global(alloc, operands),
         Form::Comm => communicator(alloc, operands),
         Form::Link => Ok(link(operands)),
         Form::Text => Ok(alone(Directive::Text, operands)),
@@ -310,7 +323,8 @@ fn form_in(table: &[DirectiveRow], name: &[u8]) -> Option<Form>
 /// The directive of a name and its operands, which are None where no operands stand there.
 ///
 /// `Directive` where there is no such directive, where it does not take these operands, and where a number is
-/// outside its limits; and `Memory` where no memory is left for what it keeps: a name, numbers, items or bytes.
+/// outside its limits or the name of a symbol over 31 bytes; and `Memory` where no memory is left for what it
+/// keeps: a name, numbers, items or bytes.
 #[tactic(auto, unfolding(crate::specs::Directives::directive_of))]
 pub fn directive(
     alloc: Global,

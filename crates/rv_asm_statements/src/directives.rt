@@ -50,6 +50,6 @@ pub enum Directive {
     Zero(Limited<0, 1_048_576, 1>),
     /// `.balign n`: zero bytes to a multiple of n.
     Align(Alignment),
-    /// `.globl name`, which says nothing.
-    Global,
+    /// `.globl name`: a name that a symbol may have, of at most 31 bytes.
+    Global(Label),
 }

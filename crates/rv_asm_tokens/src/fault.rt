@@ -30,7 +30,8 @@ pub enum AsmFaultKind {
     /// 7: a directive that is unknown, wrong, or not in its part; at line 0 a text part with nothing in it.
     #[error("Directive")]
     Directive,
-    /// 8: a part, or the number of communicators or links, grows past its limit; at line 0 the memory is too small.
+    /// 8: a part, or the number of communicators, links or symbols, grows past its limit; at line 0 the memory is too
+    /// small.
     #[error("Limit")]
     Limit,
     /// 9: the system refused memory.

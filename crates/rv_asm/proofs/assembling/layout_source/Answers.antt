@@ -6,7 +6,7 @@ use Rattle.rv_asm.proofs.Steps.{item_at, line_stops, line_goes, lines_end}
 use Rattle.rv_asm.proofs.assembling.layout_source.Goals as goal
 
 pub loop-i-init : goal.loop-i-init
-loop-i-init c = rw (c.new.ensures.empty, c.new-2.ensures.items) (ap (lines_from 1 empty_layout) (ap (map (λ x. x.now)) c.deref-line-items.ensures.value ∙ c.in-Ok.ensures))
+loop-i-init c = rw (c.new.ensures.empty, c.new-2.ensures.empty, c.new-3.ensures.items) (ap (lines_from 1 empty_layout) (ap (map (λ x. x.now)) c.deref-line-items.ensures.value ∙ c.in-Ok.ensures))
 
 pub returns-in-Err-take_line : goal.returns-in-Err-take_line
 returns-in-Err-take_line c =

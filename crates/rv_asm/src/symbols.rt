@@ -1,0 +1,28 @@
+//! The symbols of a source.
+
+ghost use Rattle.std.specs.Prelude.{◌≡◌, ◌<◌, ◌^◌, IfOk, IfSome, List, ℕ};
+ghost use Rattle.rv_asm_lines.specs.LayoutView.{addresses_view, layout_view};
+ghost use Rattle.rv_asm_lines.specs.Resolved.{address_in};
+ghost use Rattle.rv_asm.specs.Source.{symbols_in};
+
+use rv_asm_lines::{Layout, find_label};
+use rv_image::{Symbol, SymbolName, Symbols};
+use std::alloc::{AllocError, Global};
+
+/// The names of `.globl` in byte order, with the addresses of their labels.
+pub fn symbols_of(alloc: Global, layout: &Layout) -> Result<Symbols, AllocError>
+    requires { (w : List ℕ) → IfSome (address_in w (addresses_view layout.now)) (λ at. at < 2 ^ 32) }
+    ensures { IfOk result (λ symbols. symbols ≡ symbols_in (layout_view layout.now)) }
+{
+    let mut done = Vec::new(alloc);
+    for name in &layout.globals {
+        if let Some(at) = find_label(layout, name.as_slice()) {
+            let bytes = Vec::from_slice(alloc, name.as_slice())?;
+            done.push(Symbol {
+                name: SymbolName::from_vec(bytes),
+                address: at as u32,
+            })?;
+        }
+    }
+    Ok(Symbols::from_vec(done))
+}

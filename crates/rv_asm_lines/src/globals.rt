@@ -1,0 +1,54 @@
+//! The names of `.globl`.
+
+ghost use Rattle.std.specs.Prelude.{◌≡◌, Ok, Err, MatchResult};
+ghost use Rattle.rv_asm_tokens.specs.declared.fault.AsmFaultKind.TheVariants as kinds;
+ghost use Rattle.rv_asm_tokens.specs.Fault.{Fails};
+ghost use Rattle.rv_asm_lines.specs.Refused.{NoFault};
+ghost use Rattle.rv_asm_lines.specs.Globals.{globals_behind, with_global};
+ghost use Rattle.rv_asm_lines.specs.LayoutView.{names_view};
+
+use rv_asm_statements::{Directive, Statement};
+use rv_asm_tokens::AsmFaultKind;
+use std::alloc::Global;
+use std::collections::BTreeSet;
+
+/// Takes a name, if it isn't there: `Limit` for the 1,025th.
+fn add_global(
+    alloc: Global,
+    globals: &mut BTreeSet<Vec<u8>>,
+    name: &[u8],
+) -> Result<(), AsmFaultKind>
+    ensures names { MatchResult result
+        (λ _. with_global name.now (names_view globals.old) ≡ Ok (names_view globals.new))
+        (λ e. Fails e (with_global name.now (names_view globals.old))) }
+    ensures memory { result ≡ Err kinds.Memory → NoFault (with_global name.now (names_view globals.old)) }
+{
+    if globals.contains(name) {
+        return Ok(());
+    }
+    if globals.len() >= 1_024 {
+        return Err(AsmFaultKind::Limit);
+    }
+    let key = Vec::from_slice(alloc, name)?;
+    globals.insert(key)?;
+    Ok(())
+}
+
+/// Takes the name of a statement that is a `.globl`: `Limit` for the 1,025th, and `Memory`.
+pub fn take_global(
+    alloc: Global,
+    globals: &mut BTreeSet<Vec<u8>>,
+    statement: &Statement,
+) -> Result<(), AsmFaultKind>
+    ensures names { MatchResult result
+        (λ _. globals_behind statement.now (names_view globals.old) ≡ Ok (names_view globals.new))
+        (λ e. Fails e (globals_behind statement.now (names_view globals.old))) }
+    ensures memory { result ≡ Err kinds.Memory → NoFault (globals_behind statement.now (names_view globals.old)) }
+{
+    match statement {
+        Statement::Directive(Directive::Global(name)) => {
+            add_global(alloc, globals, name.as_slice())
+        }
+        _ => Ok(()),
+    }
+}
