@@ -2,7 +2,7 @@
 //!
 //! A line `%%` stands between two sources. An image is its fields, where they aren't those of a source without
 //! directives, then the words of its text, eight hex digits each, one a line, the bytes of its data in one line, its
-//! communicators and its links. A fault is `line L: NAME` and its number.
+//! communicators, its links, and its symbols in one line. A fault is `line L: NAME` and its number.
 //!
 //! The table in `stdin` and `stdout` is data from outside. Words and data are those of GNU as and ld, with the text at
 //! 0 and the data at the text's length rounded up to 16 (`-Ttext=0 -Tdata=ADDRESS`, no relaxation). Fields and faults,
@@ -10,7 +10,7 @@
 #![tactic(auto)]
 
 use rv_asm::assemble;
-use rv_image::ImageParts;
+use rv_image::{ImageParts, Symbol};
 use std::alloc::Global;
 use std::io;
 use std::io::Write;
@@ -59,6 +59,20 @@ fn print_communicator<W: Write>(out: &mut W, ranks: &[u8]) -> io::Result<()> {
     writeln!(out)
 }
 
+/// Prints the symbols, if there are some.
+fn print_symbols<W: Write>(out: &mut W, symbols: &[Symbol]) -> io::Result<()> {
+    if symbols.is_empty() {
+        return Ok(());
+    }
+    write!(out, "symbols")?;
+    for symbol in symbols {
+        write!(out, " ")?;
+        out.write_all(symbol.name.as_slice())?;
+        write!(out, " {}", symbol.address)?;
+    }
+    writeln!(out)
+}
+
 /// Prints an image.
 fn print_image<W: Write>(out: &mut W, parts: &ImageParts) -> io::Result<()> {
     print_fields(out, parts)?;
@@ -70,7 +84,7 @@ fn print_image<W: Write>(out: &mut W, parts: &ImageParts) -> io::Result<()> {
     for link in parts.links.as_slice() {
         writeln!(out, "link {} {}", link.from, link.to)?;
     }
-    Ok(())
+    print_symbols(out, parts.symbols.as_slice())
 }
 
 /// Prints what one source gives.

@@ -1,18 +1,38 @@
 -- Small sources, and what they come to.
-use Rattle.std.specs.Prelude.{◌≡◌, ℕ, List, pos, negsuc, [], ◌∷◌, codes, map, Ok, Err}
+use Rattle.std.specs.Prelude.{◌≡◌, ℕ, List, pos, negsuc, [], ◌∷◌, ◌++◌, codes, map, length, replicate, false, Ok, Err}
 use Rattle.rv_image.specs.declared.images.ImageParts.{ImageParts}
+use Rattle.rv_image.specs.declared.images.ImageVersion.TheVariants.{Two}
+use Rattle.rv_image.specs.declared.images.Symbol.{Symbol}
+use Rattle.rv_image.specs.Text.{image_text}
 use Rattle.rv_asm_tokens.specs.declared.fault.AsmFault.{AsmFault}
 use Rattle.rv_asm_tokens.specs.declared.fault.AsmFaultKind.{AsmFaultKind}
 use Rattle.rv_asm_tokens.specs.declared.fault.AsmFaultKind.TheVariants as kinds
+use Rattle.rv_asm_lines.specs.Globals.{is_global}
+use Rattle.rv_asm_lines.specs.Layout.{Layout, line_step}
 use Rattle.rv_asm.specs.Source.{meaning}
 
 -- what a source of a text alone comes to
 abbrev pub with_text : List ℕ → ImageParts
-with_text text = record { ranks = 1; harts = 1; memory = 65536; entry = 0; text = text; init = []; comms = []; links = [] }
+with_text text = record {
+  version = Two;
+  ranks = 1;
+  harts = 1;
+  memory = 65536;
+  entry = 0;
+  text = text;
+  init = [];
+  comms = [];
+  links = [];
+  symbols = [];
+}
+
+-- the word of `nop`
+abbrev pub nop : List ℕ
+nop = 0x13 ∷ 0 ∷ 0 ∷ 0 ∷ []
 
 -- what a source with one word of text, `nop`, and this data comes to
 abbrev pub with_data : List ℕ → ImageParts
-with_data init = record { ranks = 1; harts = 1; memory = 65536; entry = 0; text = 0x13 ∷ 0 ∷ 0 ∷ 0 ∷ []; init = init; comms = []; links = [] }
+with_data init = record (with_text nop) { init = init }
 
 -- sources with their text; the words are those of GNU as 2.40
 abbrev pub texts : List (List ℕ × List ℕ)
@@ -62,6 +82,34 @@ datas =
 abbrev pub DataStand : Type 0
 DataStand = map (λ row. meaning row.0) datas ≡ map (λ row. Ok (with_data row.1)) datas
 
+-- a source of one word with these symbols
+abbrev pub with_symbols : List Symbol → ImageParts
+with_symbols symbols = record (with_text nop) { memory = 4096; symbols = symbols }
+
+abbrev pub at : List ℕ → ℕ → Symbol
+at name address = record { name = name; address = address }
+
+-- sources with their symbols
+abbrev pub named : List (List ℕ × List Symbol)
+named =
+    -- before its label and behind it, in the text and in the data
+    (codes ".memory 4096\n.globl go\ngo: nop", at (codes "go") 0 ∷ [])
+    ∷ (codes ".memory 4096\nnop\ngo: .globl go", at (codes "go") 4 ∷ [])
+    ∷ (codes ".memory 4096\nnop\n.data\nx: .text\n.globl x", at (codes "x") 16 ∷ [])
+    -- once, however often it stands
+    ∷ (codes ".memory 4096\n.globl go\ngo: nop\n.globl go\n.data\n.globl go", at (codes "go") 0 ∷ [])
+    -- in the order of their bytes, and not in that of the source, of their addresses or of their lengths
+    ∷ (codes ".memory 4096\n.globl b\n.globl a\nb: nop\na:", at (codes "a") 4 ∷ at (codes "b") 0 ∷ [])
+    ∷ (codes ".memory 4096\n.globl b\n.globl ab\n.globl a\n.globl B\na: ab: b: B: nop", at (codes "B") 0 ∷ at (codes "a") 0 ∷ at (codes "ab") 0 ∷ at (codes "b") 0 ∷ [])
+    -- 31 bytes
+    ∷ (codes ".memory 4096\n.globl _.$A567890123456789012345678901\n_.$A567890123456789012345678901: nop", at (codes "_.$A567890123456789012345678901") 0 ∷ [])
+    -- a label without `.globl` is none
+    ∷ (codes ".memory 4096\nleft: nop\n.globl right\nright:", at (codes "right") 4 ∷ [])
+    ∷ []
+
+abbrev pub SymbolsStand : Type 0
+SymbolsStand = map (λ row. meaning row.0) named ≡ map (λ row. Ok (with_symbols row.1)) named
+
 -- a source, and the line and the kind of its first fault
 abbrev pub told : List ℕ → ℕ → AsmFaultKind → List ℕ × AsmFault
 told source line kind = (source, record { line = line; kind = kind })
@@ -103,6 +151,17 @@ faults =
     -- the end of the text is no entry, also where there is no text
     ∷ told (codes "nop\nend: .entry end") 2 kinds.Directive
     ∷ told (codes "_start:") 1 kinds.Directive
+    -- `.globl` takes one plain name, of 31 bytes at most
+    ∷ told (codes "nop\n.globl") 2 kinds.Directive
+    ∷ told (codes "nop\n.globl 5") 2 kinds.Directive
+    ∷ told (codes "nop\n.globl a, b\na: b:") 2 kinds.Directive
+    ∷ told (codes "nop\n.globl a+4\na:") 2 kinds.Directive
+    ∷ told (codes "nop\n.globl a1234567890123456789012345678901\na1234567890123456789012345678901:") 2 kinds.Directive
+    -- its label has to be there: told at its own line, in the second pass
+    ∷ told (codes ".globl go\nnop") 1 kinds.LabelMissing
+    ∷ told (codes "nop\n.data\na: .globl b\n.word c") 3 kinds.LabelMissing
+    ∷ told (codes "j c\n.globl b") 1 kinds.LabelMissing
+    ∷ told (codes ".globl go\nnop\n@") 3 kinds.Token
     -- the first pass comes before the second
     ∷ told (codes "j x\n@") 2 kinds.Token
     ∷ told (codes "nop\n.data\n.byte 256\n.zero 1048576") 4 kinds.Limit
@@ -115,7 +174,7 @@ FaultsAreTold = map (λ row. meaning row.0) faults ≡ map (λ row. Err row.1) f
 
 -- a source of a word that begins at an entry
 abbrev pub begun_at : ℕ → List ℕ → ImageParts
-begun_at entry text = record { ranks = 1; harts = 1; memory = 65536; entry = entry; text = text; init = []; comms = []; links = [] }
+begun_at entry text = record (with_text text) { entry = entry }
 
 abbrev pub two_nops : List ℕ
 two_nops = 0x13 ∷ 0 ∷ 0 ∷ 0 ∷ 0x13 ∷ 0 ∷ 0 ∷ 0 ∷ []
@@ -126,3 +185,30 @@ entries = (codes "nop\n_start: nop", 4) ∷ (codes ".entry a\n_start: nop\na: no
 
 abbrev pub EntriesStand : Type 0
 EntriesStand = map (λ row. meaning row.0) entries ≡ map (λ row. Ok (begun_at row.1 two_nops)) entries
+
+-- ---- names of `.globl`
+
+-- two lines, and the bytes of their image
+abbrev pub go_means : ImageParts
+go_means = record (with_text nop) { symbols = at (codes "go") 0 ∷ [] }
+
+abbrev pub go_bytes : List ℕ
+go_bytes =
+    codes "RVMC"
+    ++ (2 ∷ 0 ∷ 1 ∷ 1 ∷ 0 ∷ 0 ∷ 1 ∷ 0 ∷ 0 ∷ 0 ∷ 0 ∷ 0 ∷ 4 ∷ 0 ∷ 0 ∷ 0 ∷ 0 ∷ 0 ∷ 0 ∷ 0 ∷ 0 ∷ 0 ∷ 1 ∷ 0
+    ∷ 0x13 ∷ 0 ∷ 0 ∷ 0 ∷ 0 ∷ 0 ∷ 0 ∷ 0 ∷ 2 ∷ 0x67 ∷ 0x6f ∷ [])
+
+abbrev pub GoHasItsBytes : Type 0
+GoHasItsBytes = (meaning (codes ".globl go\ngo: nop\n") ≡ Ok go_means) × (image_text go_means ≡ go_bytes)
+
+-- the end of the memory is an address that a symbol may have
+abbrev pub EndIsKept : Type 0
+EndIsKept = meaning (codes ".memory 4096\nnop\n.data\n.zero 4080\nend: .globl end") ≡ Ok (record (with_symbols (at (codes "end") 4096 ∷ [])) { init = replicate 4080 0 })
+
+-- a name of 32 bytes is refused wherever it stands, however many names there are
+abbrev pub LongNamesAreRefused : Type 0
+LongNamesAreRefused = (n : ℕ) (s : Layout) → line_step n s (codes ".globl a1234567890123456789012345678901") ≡ Err kinds.Directive
+
+-- one more name than 1,024 is refused, whatever labels there are
+abbrev pub OneMoreIsRefused : Type 0
+OneMoreIsRefused = (n : ℕ) (s : Layout) → length s.globals ≡ 1024 → is_global (codes "go") s.globals ≡ false → line_step n s (codes ".globl go") ≡ Err kinds.Limit
