@@ -3,3 +3,4 @@ pub mod Lines
 pub mod OrderKept
 pub mod Probed
 pub mod Rows
+pub mod Received

@@ -1,8 +1,9 @@
 //! All posts with their pairs, over plain lists.
 
-ghost use Rattle.std.specs.Prelude.{◌≡◌, ◌+◌, ◌<◌, ◌≤◌, ◌^◌, ◌∷◌, ◌↔◌, [], length, not, ◌||◌, is_some, IfOk, IsOk, OnErr, Err, None, Some, ◌-◌, slice_get, slice_set};
+ghost use Rattle.std.specs.Prelude.{◌≡◌, ◌+◌, ◌<◌, ◌≤◌, ◌^◌, ◌∷◌, ◌↔◌, [], length, not, ◌||◌, is_some, IfOk, IfSome, IsNone, IsOk, OnErr, OnOk, Err, None, Some, ◌-◌, slice_get, slice_set};
 ghost use Rattle.mp_match.specs.Pairs.{accepts, fits, partner_at, partner_for, partner_set, partners_set};
-ghost use Rattle.mp_match.specs.Board.{bytes_in, claim_of, claim_posted, claimed_if, collect, envelope_at, held_count, is_collected, is_finished, is_held, is_receive_at, is_receive_of, is_send_of, line_of, no_posts, partner_of, posted, probed, receive_posted, send_posted};
+ghost use Rattle.mp_match.specs.Board.{bytes_in, claim_of, claim_posted, claimed_if, collect, collect_from, envelope_at, held_count, is_collected, is_finished, is_held, is_receive_at, is_receive_of, is_send_of, line_of, message_at, no_posts, partner_of, posted, probed, receive_posted, send_posted};
+ghost use Rattle.mp_types.specs.Carried.{carried_by_message};
 
 use crate::posts::{Line, Post, Selection, Sent};
 use mp_types::{Bytes, Envelope, Message};
@@ -161,9 +162,32 @@ impl Queues {
         ensures ok { IfOk result (λ partner. (partner ≡ partner_for self.old.lines new) × (self.new ≡ posted self.old new body)) }
         ensures err { OnErr result (self.new ≡ self.old) }
     {
+        let partner = self.partner_of_new(new);
+        self.add_to(partner, new, body)?;
+        Ok(partner)
+    }
+
+    // The partner that a new post would have.
+    fn partner_of_new(&self, new: Post) -> Option<u64>
+        ensures { result ≡ partner_for self.now.lines new }
+    {
+        find_partner(self.lines.as_slice(), new)
+    }
+
+    // One post more, whose partner was looked for before.
+    fn add_to(
+        &mut self,
+        partner: Option<u64>,
+        new: Post,
+        body: Option<Bytes>,
+    ) -> Result<(), AllocError>
+        requires few { length self.old.lines < 2 ^ 64 - 1 }
+        requires partner { partner ≡ partner_for self.old.lines new }
+        ensures ok { OnOk result (self.new ≡ posted self.old new body) }
+        ensures err { OnErr result (self.new ≡ self.old) }
+    {
         self.lines.reserve(1)?;
         self.bodies.reserve(1)?;
-        let partner = find_partner(self.lines.as_slice(), new);
         let place = self.lines.len() as u64;
         let more = count_of(&body);
         let line = Line { post: new, partner };
@@ -177,7 +201,7 @@ impl Queues {
         }
         set_partners(&mut self.lines, partner, place);
         self.held += more;
-        Ok(partner)
+        Ok(())
     }
 
     /// Posts a send, and tells whether it is complete: a standard send is, and a synchronous one that is paired.
@@ -213,10 +237,7 @@ impl Queues {
     fn probe_for(&self, new: Post) -> Option<Envelope>
         ensures { result ≡ probed self.now new }
     {
-        match find_partner(self.lines.as_slice(), new) {
-            None => None,
-            Some(place) => self.envelope(place),
-        }
+        self.envelope_from(self.partner_of_new(new))
     }
 
     /// What a receive would be given, if anything, and so what a claim would be given. (MPI 4.1, chapter 3.8.1.)
@@ -236,10 +257,11 @@ impl Queues {
         ensures free { probed self.old (Post.Claim selection) ≡ None → IsOk result }
         ensures err { OnErr result (self.new ≡ self.old) }
     {
-        match self.probe_for(Post::Claim(selection)) {
+        let partner = self.partner_of_new(Post::Claim(selection));
+        match self.envelope_from(partner) {
             None => Ok(None),
             Some(envelope) => {
-                self.add(Post::Claim(selection), None)?;
+                self.add_to(partner, Post::Claim(selection), None)?;
                 Ok(Some(envelope))
             }
         }
@@ -250,7 +272,87 @@ impl Queues {
         ensures message { result ≡ (collect self.old post).0 }
         ensures after { self.new ≡ (collect self.old post).1 }
     {
-        match self.partner(post) {
+        let partner = self.partner(post);
+        self.collect_from(partner)
+    }
+
+    /// Takes out the message of a receive or a claim as `collect` does, and gives it twice: as it lay here, and in memory
+    /// of its own.
+    ///
+    /// Refused for memory alone, and never where there is no message or one of no bytes; after a refusal all is as it was.
+    pub fn collect_twice(
+        &mut self,
+        alloc: Global,
+        post: u64,
+    ) -> Result<(Option<Message>, Option<Message>), AllocError>
+        ensures messages { IfOk result (λ got. got ≡ ((collect self.old post).0, (collect self.old post).0)) }
+        ensures after { OnOk result (self.new ≡ (collect self.old post).1) }
+        ensures free { carried_by_message (collect self.old post).0 ≡ 0 → IsOk result }
+        ensures err { OnErr result (self.new ≡ self.old) }
+    {
+        let partner = self.partner(post);
+        let copy = self.copy_from(alloc, partner)?;
+        Ok((self.collect_from(partner), copy))
+    }
+
+    /// A copy of the message that `collect` would take out.
+    ///
+    /// Refused for memory alone, and never where there is no message or one of no bytes.
+    pub fn copy_of(&self, alloc: Global, post: u64) -> Result<Option<Message>, AllocError>
+        ensures copy { IfOk result (λ copy. copy ≡ (collect self.now post).0) }
+        ensures free { carried_by_message (collect self.now post).0 ≡ 0 → IsOk result }
+    {
+        self.copy_from(alloc, self.partner(post))
+    }
+
+    /// Posts a receive and takes out its message at once, where there is one, and gives it twice as `collect_twice` does.
+    /// After a refusal for memory all is as it was, and nothing was posted.
+    pub fn receive_twice(
+        &mut self,
+        alloc: Global,
+        selection: Selection,
+    ) -> Result<(Option<Message>, Option<Message>), AllocError>
+        requires { length self.old.lines < 2 ^ 64 - 1 }
+        ensures messages { let got = (collect (receive_posted self.old selection) (length self.old.lines + 1)).0 in IfOk result (λ told. told ≡ (got, got)) }
+        ensures after { OnOk result (self.new ≡ (collect (receive_posted self.old selection) (length self.old.lines + 1)).1) }
+        ensures err { OnErr result (self.new ≡ self.old) }
+    {
+        let partner = self.partner_of_new(Post::Receive(selection));
+        let copy = self.copy_from(alloc, partner)?;
+        self.add_to(partner, Post::Receive(selection), None)?;
+        Ok((self.collect_from(partner), copy))
+    }
+
+    // The message of the send at the place, if any, in memory of its own.
+    fn copy_from(&self, alloc: Global, place: Option<u64>) -> Result<Option<Message>, AllocError>
+        ensures copy { IfOk result (λ copy. copy ≡ (collect_from self.now place).0) }
+        ensures free { carried_by_message (collect_from self.now place).0 ≡ 0 → IsOk result }
+    {
+        match place {
+            None => Ok(None),
+            Some(place) => self.copy_at(alloc, place),
+        }
+    }
+
+    fn copy_at(&self, alloc: Global, place: u64) -> Result<Option<Message>, AllocError>
+        ensures copy { IfOk result (λ copy. copy ≡ message_at self.now place) }
+        ensures free { carried_by_message (message_at self.now place) ≡ 0 → IsOk result }
+    {
+        match (self.envelope(place), self.body(place)) {
+            (Some(envelope), Some(bytes)) => {
+                let bytes = bytes.try_copy(alloc)?;
+                Ok(Some(Message { envelope, bytes }))
+            }
+            _ => Ok(None),
+        }
+    }
+
+    // Takes out the message of the send at the place, if any.
+    fn collect_from(&mut self, place: Option<u64>) -> Option<Message>
+        ensures message { result ≡ (collect_from self.old place).0 }
+        ensures after { self.new ≡ (collect_from self.old place).1 }
+    {
+        match place {
             None => None,
             Some(send) => {
                 let envelope = self.envelope(send);
@@ -367,6 +469,15 @@ impl Queues {
         }
     }
 
+    fn envelope_from(&self, place: Option<u64>) -> Option<Envelope>
+        ensures { result ≡ envelope_at self.now place }
+    {
+        match place {
+            None => None,
+            Some(place) => self.envelope(place),
+        }
+    }
+
     fn envelope(&self, place: u64) -> Option<Envelope>
         ensures { result ≡ envelope_at self.now (Some place) }
     {
@@ -377,6 +488,14 @@ impl Queues {
             },
             None => None,
         }
+    }
+
+    // The bytes of the message at the place, while it is held.
+    fn body(&self, place: u64) -> Option<&Bytes>
+        ensures none { IsNone result ↔ (bytes_in (slice_get self.now.bodies place) ≡ None) }
+        ensures some { IfSome result (λ bytes. bytes_in (slice_get self.now.bodies place) ≡ Some bytes.now) }
+    {
+        self.bodies.get(place as usize)?.as_ref()
     }
 
     fn is_held(&self, place: u64) -> bool

@@ -1,5 +1,6 @@
 -- The lists that requests and replies carry. A copy takes memory for the elements, and for nothing else.
-use Rattle.std.specs.Prelude.{ℕ, length}
+use Rattle.std.specs.Prelude.{ℕ, length, Option, Some, None}
+use Rattle.mp_types.specs.declared.messages.Message.{Message}
 use Rattle.mp_types.specs.declared.requests.Request.{Request}
 use Rattle.mp_types.specs.declared.requests.Request.TheVariants.{Send, All}
 use Rattle.mp_types.specs.declared.replies.Reply.{Reply}
@@ -16,3 +17,8 @@ abbrev pub carried_by_reply : Reply → ℕ
 carried_by_reply (Got message) = length message.bytes
 carried_by_reply (AllGot gots) = length gots
 carried_by_reply _ = 0
+
+-- how many bytes a message has, where there is one
+abbrev pub carried_by_message : Option Message → ℕ
+carried_by_message None = 0
+carried_by_message (Some message) = length message.bytes

@@ -1,7 +1,7 @@
 use Rattle.std.proofs.Common.{◌∷◌, [], arith, ap, ◌∙◌}
 use Rattle.mp_match.specs.Board.{held_count}
 use Rattle.mp_match.proofs.Rows.{held_set, slice_set_length}
-use Rattle.mp_match.proofs.plain_queues.Queues.collect.Goals as goal
+use Rattle.mp_match.proofs.plain_queues.Queues.collect_from.Goals as goal
 
 -- what is taken was counted
 pub overflow_sub-self : goal.overflow_sub-self

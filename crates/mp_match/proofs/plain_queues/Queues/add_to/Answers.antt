@@ -1,10 +1,10 @@
-use Rattle.std.proofs.Common.{◌≡◌, ◌∷◌, ◌++◌, [], length, arith, ap, ◌∙◌, length-append}
+use Rattle.std.proofs.Common.{◌≡◌, ◌∷◌, ◌++◌, [], length, arith, ap, sym, ◌∙◌, length-append}
 use Rattle.mp_match.specs.declared.posts.Line.{Line}
 use Rattle.mp_match.specs.Pairs.{add, partner_for}
 use Rattle.mp_match.specs.Board.{Board}
 use Rattle.mp_match.proofs.Lines.{add_length}
 use Rattle.mp_match.proofs.Rows.{held_snoc, held_below, one_held, partners_end, board_is}
-use Rattle.mp_match.proofs.plain_queues.Queues.add.Goals as goal
+use Rattle.mp_match.proofs.plain_queues.Queues.add_to.Goals as goal
 
 pub overflow_add-self : goal.overflow_add-self
 overflow_add-self c =
@@ -12,16 +12,16 @@ overflow_add-self c =
     let b = one_held c.args.body in
     let v : c.self.inside.lines.items ≡ c.args.self.now.lines = ap (λ (x : Board). x.lines) c.self.view_is in
     let n : length c.self.inside.lines.items ≡ length c.args.self.now.lines = ap length v in
-    omega (arith, a, b, n, c.requires, c.count_of-more.ensures, c.self.invariant.0, c.self.invariant.1)
+    omega (arith, a, b, n, c.requires.few, c.count_of-more.ensures, c.self.invariant.0, c.self.invariant.1)
 
-found_is : (c : goal.After-self-1) → c.find_partner-partner.result ≡ partner_for c.self.inside.lines.items c.args.new
-found_is c = c.find_partner-partner.ensures ∙ ap (λ l. partner_for l c.args.new) (c.as_slice.ensures.value ∙ c.in_ok-reserve.ensures.items)
+found_is : (c : goal.After-self-1) → c.args.partner ≡ partner_for c.self.inside.lines.items c.args.new
+found_is c = c.requires.partner ∙ ap (λ (x : Board). partner_for x.lines c.args.new) (sym c.self.view_is)
 
 lines_are : (c : goal.After-self-1) → c.set_partners.new.lines.items ≡ add c.self.inside.lines.items c.args.new
 lines_are c =
     let es = c.self.inside.lines.items in
-    let line : Line = record { post = c.args.new; partner = c.find_partner-partner.result } in
-    partners_end es c.push.new.self.items c.set_partners.new.lines.items c.find_partner-partner.result c.args.new c.len-place.result
+    let line : Line = record { post = c.args.new; partner = c.args.partner } in
+    partners_end es c.push.new.self.items c.set_partners.new.lines.items c.args.partner c.args.new c.len-place.result
     (found_is c)
     (c.in-Ok.ensures.items ∙ ap (λ l. l ++ line ∷ []) c.in_ok-reserve.ensures.items)
     (omega (arith, c.in_ok-reserve.ensures.len, c.len-place.ensures))
@@ -41,4 +41,4 @@ invariant_of-self-2 c =
     )
 
 pub returns-clause-ok : goal.returns-clause-ok
-returns-clause-ok c = rw (← c.self.view_is) (found_is c, board_is _ _ _ _ (lines_are c) (bodies_are c))
+returns-clause-ok c = rw (← c.self.view_is) (board_is _ _ _ _ (lines_are c) (bodies_are c))
