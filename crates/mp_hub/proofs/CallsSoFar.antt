@@ -1,10 +1,14 @@
 -- A state that stands for some calls, after one more.
-use Rattle.std.proofs.Common.{◌≡◌, ℕ, List, [], ◌∷◌, ◌++◌, refl, sym, ap, ◌∙◌, IfOk, OnOk, Result, Ok, Err}
+use Rattle.std.proofs.Common.{◌≡◌, ℕ, List, [], ◌∷◌, ◌++◌, refl, sym, ap, ◌∙◌, IfOk, OnOk, Result, Ok, Err, IsOk, subst}
 use Rattle.rv_image.specs.declared.images.Link.{Link}
 use Rattle.mp_types.specs.declared.requests.Request.{Request}
 use Rattle.mp_types.specs.declared.replies.Reply.{Reply}
 use Rattle.mp_hub.specs.declared.state.CallFault.{CallFault}
-use Rattle.mp_hub.specs.Hub.{HubView, Call, outcome, Gives, hub_on, started, reply_of, StandsFor}
+use Rattle.mp_hub.specs.Made.{TakesNothing}
+use Rattle.mp_types.specs.declared.requests.Request.TheVariants.{Recv}
+use Rattle.mp_match.specs.declared.posts.Selection.{Selection}
+use Rattle.std.proofs.Common.{Bool, true, Option}
+use Rattle.mp_hub.specs.Hub.{HubView, Call, outcome, recv_outcome, selecting, Gives, GivesTwice, hub_on, started, reply_of, StandsFor}
 
 pub hub_on-snoc : (cs : List Call) (h : HubView) (c : Call) → hub_on h (cs ++ c ∷ []) ≡ (outcome (hub_on h cs) c.0 c.1).1
 hub_on-snoc [] h c = refl
@@ -20,3 +24,26 @@ pub stands : (old new : HubView) (rank : ℕ) (q : Request) (r : Result Reply Ca
 stands old new rank q (Err f) g links calls s = tt
 stands old new rank q (Ok x) g links calls s =
     g.1 ∙ ap (λ (k : HubView). (outcome k rank q).1) s ∙ sym (hub_on-snoc calls (started links) (rank, q))
+
+pub replied_twice : (old new : HubView) (rank : ℕ) (q : Request) (r : Result (Reply × Reply) CallFault) → IfOk r (λ x. GivesTwice (outcome old rank q) x new)
+    → (links : List Link) (calls : List Call) → StandsFor old links calls → IfOk r (λ x. x ≡ (reply_of links calls rank q, reply_of links calls rank q))
+replied_twice old new rank q (Err f) g links calls s = tt
+replied_twice old new rank q (Ok x) g links calls s = g.0 ∙ ap (λ (k : HubView). ((outcome k rank q).0, (outcome k rank q).0)) s
+
+pub stands_twice : (old new : HubView) (rank : ℕ) (q : Request) (r : Result (Reply × Reply) CallFault) → IfOk r (λ x. GivesTwice (outcome old rank q) x new)
+    → (links : List Link) (calls : List Call) → StandsFor old links calls → OnOk r (StandsFor new links (calls ++ (rank, q) ∷ []))
+stands_twice old new rank q (Err f) g links calls s = tt
+stands_twice old new rank q (Ok x) g links calls s =
+    g.1 ∙ ap (λ (k : HubView). (outcome k rank q).1) s ∙ sym (hub_on-snoc calls (started links) (rank, q))
+
+pub spared_twice : (old : HubView) (rank : ℕ) (q : Request) (r : Result (Reply × Reply) CallFault) → (TakesNothing q (outcome old rank q).0 → IsOk r)
+    → (links : List Link) (calls : List Call) → StandsFor old links calls → TakesNothing q (reply_of links calls rank q) → IsOk r
+spared_twice old rank q r free links calls s nothing = free (subst (λ (h : HubView). TakesNothing q (outcome h rank q).0) (sym s) nothing)
+
+-- a receive that asks for its message at once
+pub received_twice : (old new : HubView) (rank : ℕ) (q : Request) (now : Bool) (comm : ℕ) (source tag : Option ℕ) (a : Selection)
+    (r : Result (Reply × Reply) CallFault) → q ≡ Recv now comm source tag → now ≡ true → a ≡ selecting rank comm source tag
+    → IfOk r (λ x. GivesTwice (recv_outcome old true a) x new) → IfOk r (λ x. GivesTwice (outcome old rank q) x new)
+received_twice old new rank q now comm source tag a r asked is_now is g =
+    subst (λ (p : Request). IfOk r (λ x. GivesTwice (outcome old rank p) x new)) (sym (asked ∙ ap (λ b. Recv b comm source tag) is_now))
+    (subst (λ (b : Selection). IfOk r (λ x. GivesTwice (recv_outcome old true b) x new)) is g)

@@ -1,33 +1,31 @@
 -- What the hub gives is what was sent.
 use Rattle.std.proofs.Common.{◌≡◌, ◌<◌, ℕ, zero, suc, ◌⊎◌, inl, inr, List, [], ◌∷◌, ◌++◌, length, Bool, true, false, cond, Option, Some, None, refl, sym, ap, ◌∙◌, subst, arith, add-one, append_assoc, append-nil, length-append}
-use Rattle.std.specs.Prelude.{nat_lt, ◌&&◌}
+use Rattle.std.specs.Prelude.{◌&&◌}
 use Rattle.std.specs.List.{list_all, slice_get, slice_set}
 use Rattle.std.proofs.lemmas.Option.{same_Some}
 use Rattle.rv_image.specs.declared.images.Link.{Link}
 use Rattle.mp_types.specs.declared.messages.Envelope.{Envelope}
 use Rattle.mp_types.specs.declared.messages.Message.{Message}
-use Rattle.mp_types.specs.declared.codes.Code.TheVariants.{BadRequest, BadMessage, Full, Shape}
+use Rattle.mp_types.specs.declared.codes.Code.TheVariants.{BadRequest}
 use Rattle.mp_types.specs.declared.replies.Reply.{Reply}
 use Rattle.mp_types.specs.declared.replies.Reply.TheVariants as reply
 use Rattle.mp_types.specs.declared.requests.Request.{Request}
-use Rattle.mp_types.specs.declared.requests.Request.TheVariants.{Send, Recv, Collect, Finished, Probe, Claim, Claimed, All, Init}
+use Rattle.mp_types.specs.declared.requests.Request.TheVariants.{Send, Claim, All}
 use Rattle.mp_match.specs.declared.posts.Sent.{Sent}
 use Rattle.mp_match.specs.declared.posts.Selection.{Selection}
 use Rattle.mp_match.specs.declared.posts.Post.{Post}
 use Rattle.mp_match.specs.declared.posts.Post.TheVariants as post
 use Rattle.mp_match.specs.declared.posts.Line.{Line}
 use Rattle.mp_match.specs.Pairs.{add, partner_for, partner_at, partner_of_line}
-use Rattle.mp_match.specs.Board.{Board, posted, send_posted, receive_posted, claim_posted, held_count, line_of, is_send_of, partner_of, envelope_in, envelope_at, probed, message_in, message_at, without, collect_from, collect, no_posts}
+use Rattle.mp_match.specs.Board.{Board, posted, send_posted, receive_posted, claim_posted, line_of, is_send_of, partner_of, envelope_in, envelope_at, message_in, message_at, without, collect_from, collect, no_posts}
 use Rattle.mp_match.proofs.Places.{get_snoc, get_within}
 use Rattle.mp_match.proofs.Lines.{Look, is_new, is_old, is_given, look, add_new, add_length}
-use Rattle.mp_probe.specs.Claims.{next_number, may_receive, received}
-use Rattle.mp_hub.specs.declared.sides.Setup.{Setup}
-use Rattle.mp_hub.specs.declared.sides.Side.{Side}
-use Rattle.mp_hub.specs.Inits.{peer_of, lowest_link, same_shape}
-use Rattle.mp_hub.specs.Hub.{HubView, Call, outcome, got_or, claim_found, claimed_now, may_collect, is_complete, init_with, init_first, setup_of, side_added, all_got, one_got, all_collected, are_distinct, is_known, is_ready, hub_after, started, sending, selecting, with_board, with_claims, is_done, seen}
+use Rattle.mp_probe.specs.Claims.{next_number}
+use Rattle.mp_hub.specs.Hub.{HubView, Call, outcome, message_or, claim_found, all_got, one_got, all_collected, are_distinct, is_known, is_ready, hub_after, reply_of, started, sending, selecting, seen}
 use Rattle.mp_hub.specs.Laws.{SentAt, PairedWith, collecting, GotIsSent, SeenIsSent, HeldIsSent, AllGotIsSent, SentLaw}
 use Rattle.mp_hub.proofs.CallsSoFar.{hub_on-snoc}
 use Rattle.mp_hub.proofs.BoardKept.{collect_lines, one_lines}
+use Rattle.mp_hub.proofs.Outcomes.{is_plain, post_envelope, IsReady, Comes, is_nothing, is_full, is_sent, is_posted, is_got, is_gathered, comes}
 
 -- ---- a message and its parts
 
@@ -51,10 +49,6 @@ line_in (Some line) e h = (line, refl)
 
 envelope_within : (b : Board) (place : ℕ) (e : Envelope) → envelope_at b (Some place) ≡ Some e → place < length b.lines
 envelope_within b place e h = (let l = line_in (slice_get b.lines place) e h in get_within b.lines place l.0 l.1)
-
--- the envelope of a post that has no partner yet
-abbrev post_envelope : Post → Option Envelope
-post_envelope p = envelope_in (Some (record { post = p; partner = None }))
 
 -- an envelope after one more post is the new post's or was there before
 envelope_more : (lines : List Line) (p : Post) (place : ℕ) (e : Envelope) → envelope_in (slice_get (add lines p) place) ≡ Some e
@@ -88,10 +82,10 @@ pub record Keeps (b c : Board) : Type 0 where
   pub messages : (place : ℕ) (m : Message) → message_at c place ≡ Some m → message_at b place ≡ Some m
   pub even : length b.bodies ≡ length b.lines → length c.bodies ≡ length c.lines
 
-keeps_refl : (b : Board) → Keeps b b
+pub keeps_refl : (b : Board) → Keeps b b
 keeps_refl b = record { envelopes = λ place e h. h; messages = λ place m h. h; even = λ h. h }
 
-keeps_trans : (b c d : Board) → Keeps b c → Keeps c d → Keeps b d
+pub keeps_trans : (b c d : Board) → Keeps b c → Keeps c d → Keeps b d
 keeps_trans b c d p q = record {
   envelopes = λ place e h. p.envelopes place e (q.envelopes place e h);
   messages = λ place m h. p.messages place m (q.messages place m h);
@@ -129,16 +123,6 @@ keeps_posted b p none = record {
     body place x (inl n) = (let f = n.1 in absurd (cc))
     body place x (inr o) = o
 
-got_board : (h : HubView) (r : Reply) (g : Option Message × Board) → ((got_or h r g).1).board ≡ g.1
-got_board h r g = go g.0 g.1
-  where
-    go : (o : Option Message) (b : Board) → ((got_or h r (o, b)).1).board ≡ b
-    go None b = refl
-    go (Some m) b = refl
-
-keeps_got : (b : Board) (h : HubView) (r : Reply) (g : Option Message × Board) → Keeps b g.1 → Keeps b ((got_or h r g).1).board
-keeps_got b h r g k = subst (λ (c : Board). Keeps b c) (sym (got_board h r g)) k
-
 pub keeps_one : (rank : ℕ) (b : Board) (n : ℕ) → Keeps b (one_got rank b n).1
 keeps_one rank b n = go (is_send_of rank (line_of b n))
   where
@@ -150,17 +134,9 @@ keeps_all : (rank : ℕ) (ns : List ℕ) (b : Board) → Keeps b (all_got rank b
 keeps_all rank [] b = keeps_refl b
 keeps_all rank (n ∷ ns) b = keeps_trans b (one_got rank b n).1 (all_got rank (one_got rank b n).1 ns).1 (keeps_one rank b n) (keeps_all rank ns (one_got rank b n).1)
 
-either : (b : Board) (c : Bool) (x y : Reply × HubView) → Keeps b (x.1).board → Keeps b (y.1).board → Keeps b ((cond c x y).1).board
-either b true x y p q = p
-either b false x y p q = q
-
-init_keeps : (h : HubView) (s : Setup) (o : Option Side) → Keeps h.board ((init_with h s o).1).board
-init_keeps h s None = free (lowest_link h.links h.sides s)
-  where
-    free : (o : Option ℕ) → Keeps h.board ((init_first h s o).1).board
-    free None = keeps_refl h.board
-    free (Some k) = keeps_refl h.board
-init_keeps h s (Some t) = either h.board (same_shape s t.setup) (side_added h s t.link) (reply.Code Shape, h) (keeps_refl h.board) (keeps_refl h.board)
+keeps_ready : (b c : Board) → IsReady b c → Keeps b c
+keeps_ready b c (inl same) = subst (λ (d : Board). Keeps b d) (sym same) (keeps_refl b)
+keeps_ready b c (inr r) = subst (λ (d : Board). Keeps b d) (sym r.1) (keeps_posted b (post.Receive r.0) refl)
 
 -- ---- the messages on a board are those that were sent
 
@@ -189,6 +165,10 @@ mail_keeps links calls call b c mail k = record {
   messages = λ place m h. sent_later links calls call place m (mail.messages place m (k.messages place m h));
   even = k.even mail.even;
 }
+
+kept_mail : (links : List Link) (calls : List Call) (call : Call) (b c d : Board) → Mail links calls b → Keeps b d → c ≡ d
+    → Mail links (calls ++ call ∷ []) c
+kept_mail links calls call b c d mail k e = subst (λ (x : Board). Mail links (calls ++ call ∷ []) x) (sym e) (mail_keeps links calls call b d mail k)
 
 abbrev sent_message : Sent → List ℕ → Message
 sent_message s bytes = record { envelope = s.envelope; bytes = bytes }
@@ -226,83 +206,42 @@ mail_send links calls call b s bytes mail new = record {
 
 -- ---- the hub after some calls
 
--- a send that is posted, and one that isn't
-abbrev posting : HubView → Sent → List ℕ → Reply × HubView
-posting h s bytes = (reply.Posted (next_number h.board) (is_done h.board s), with_board h (send_posted h.board s bytes))
-
-abbrev full : HubView → Reply × HubView
-full h = (reply.Code Full, h)
-
-mail_call : (links : List Link) (calls : List Call) (h : HubView) (rank : ℕ) (q : Request) → h ≡ hub_after links calls → Mail links calls h.board
-    → Mail links (calls ++ (rank, q) ∷ []) ((outcome h rank q).1).board
-mail_call links calls h rank (Send sync comm dest tag bytes) is mail = go (nat_lt (held_count h.board.bodies) 65536) refl
-  where
-    go : (room : Bool) → nat_lt (held_count h.board.bodies) 65536 ≡ room
-        → Mail links (calls ++ (rank, Send sync comm dest tag bytes) ∷ [])
-        ((cond room (posting h (sending rank sync comm dest tag bytes) bytes) (full h)).1).board
-    go false e = mail_keeps links calls (rank, Send sync comm dest tag bytes) h.board h.board mail (keeps_refl h.board)
-    go true e = mail_send links calls (rank, Send sync comm dest tag bytes) h.board (sending rank sync comm dest tag bytes) bytes mail (record {
+mail_call : (links : List Link) (calls : List Call) (h : HubView) (rank : ℕ) (q : Request) (b : Board) → h ≡ hub_after links calls
+    → Mail links calls h.board → Comes h rank q (outcome h rank q).0 b → Mail links (calls ++ (rank, q) ∷ []) b
+mail_call links calls h rank q b is mail (is_nothing p e) = kept_mail links calls (rank, q) h.board b h.board mail (keeps_refl h.board) e
+mail_call links calls h rank q b is mail (is_full f there e) = kept_mail links calls (rank, q) h.board b h.board mail (keeps_refl h.board) e
+mail_call links calls h rank q b is mail (is_sent sync comm dest tag bytes done asked f e) =
+    let s = sending rank sync comm dest tag bytes in
+    let request : Request = Send sync comm dest tag bytes in
+    let made : calls ++ (rank, q) ∷ [] ≡ calls ++ (rank, request) ∷ [] = ap (λ (x : Request). calls ++ (rank, x) ∷ []) asked in
+    let answered : reply_of links calls rank request ≡ reply.Posted (next_number h.board) done =
+    ap (λ (k : HubView). (outcome k rank request).0) (sym is) ∙ ap (λ (x : Request). (outcome h rank x).0) (sym asked) ∙ f in
+    subst (λ (c : Board). Mail links (calls ++ (rank, q) ∷ []) c) (sym e)
+    (mail_send links calls (rank, q) h.board s bytes mail (record {
       before = calls;
       after = [];
       sender = rank;
       sync = sync;
       dest = dest;
-      done = is_done h.board (sending rank sync comm dest tag bytes);
-      made = refl;
-      answered = ap (λ (k : HubView). (outcome k rank (Send sync comm dest tag bytes)).0) (sym is)
-          ∙ ap (λ room. (cond room (posting h (sending rank sync comm dest tag bytes) bytes) (full h)).0) e;
+      done = done;
+      made = made;
+      answered = answered;
       source = refl;
       count = refl;
-    })
-mail_call links calls h rank (Recv true comm source tag) is mail =
-    let a = selecting rank comm source tag in
-    let b = receive_posted h.board a in
-    let n = next_number h.board in
-    mail_keeps links calls (rank, Recv true comm source tag) h.board _ mail
-    (keeps_got h.board h (reply.Posted n false) (collect b n)
-    (keeps_trans h.board b (collect b n).1 (keeps_posted h.board (post.Receive a) refl) (keeps_collect b n)))
-mail_call links calls h rank (Recv false comm source tag) is mail =
-    mail_keeps links calls (rank, Recv false comm source tag) h.board _ mail (keeps_posted h.board (post.Receive (selecting rank comm source tag)) refl)
-mail_call links calls h rank (Collect n) is mail =
-    mail_keeps links calls (rank, Collect n) h.board _ mail
-    (either h.board (may_collect h rank n) (got_or h reply.NotYet (collect h.board n)) (reply.Code BadRequest, h)
-    (keeps_got h.board h reply.NotYet (collect h.board n) (keeps_collect h.board n)) (keeps_refl h.board))
-mail_call links calls h rank (Finished n) is mail =
-    mail_keeps links calls (rank, Finished n) h.board _ mail
-    (either h.board (is_send_of rank (line_of h.board n)) (cond (is_complete h n) reply.Done reply.NotYet, h) (reply.Code BadRequest, h)
-    (keeps_refl h.board) (keeps_refl h.board))
-mail_call links calls h rank (Probe comm source tag) is mail =
-    mail_keeps links calls (rank, Probe comm source tag) h.board _ mail (keeps_refl h.board)
-mail_call links calls h rank (Claim comm source tag) is mail =
-    mail_keeps links calls (rank, Claim comm source tag) h.board _ mail (go (probed h.board (post.Claim (selecting rank comm source tag))))
-  where
-    go : (o : Option Envelope) → Keeps h.board ((claim_found h (selecting rank comm source tag) o).1).board
-    go None = keeps_refl h.board
-    go (Some e) = keeps_posted h.board (post.Claim (selecting rank comm source tag)) refl
-mail_call links calls h rank (Claimed now n) is mail =
-    mail_keeps links calls (rank, Claimed now n) h.board _ mail
-    (either h.board (may_receive h.claims rank n) (claimed_now (with_claims h (received h.claims rank n)) now n) (reply.Code BadMessage, h)
-    (go now) (keeps_refl h.board))
-  where
-    go : (now : Bool) → Keeps h.board ((claimed_now (with_claims h (received h.claims rank n)) now n).1).board
-    go true = keeps_got h.board (with_claims h (received h.claims rank n)) reply.NotYet (collect h.board n) (keeps_collect h.board n)
-    go false = keeps_refl h.board
-mail_call links calls h rank (All ns) is mail =
-    mail_keeps links calls (rank, All ns) h.board _ mail
-    (either h.board (are_distinct ns && list_all (λ n. is_known h rank n) ns)
-    (cond (list_all (λ n. is_ready h rank n) ns) (all_collected h (all_got rank h.board ns)) (reply.NotYet, h)) (reply.Code BadRequest, h)
-    (either h.board (list_all (λ n. is_ready h rank n) ns) (all_collected h (all_got rank h.board ns)) (reply.NotYet, h)
-    (keeps_all rank ns h.board) (keeps_refl h.board))
-    (keeps_refl h.board))
-mail_call links calls h rank (Init sends comm peer tag parts size) is mail =
-    let s = setup_of rank sends comm peer tag parts size in
-    mail_keeps links calls (rank, Init sends comm peer tag parts size) h.board _ mail (init_keeps h s (peer_of h.sides s))
+    }))
+mail_call links calls h rank q b is mail (is_posted p none f e) =
+    kept_mail links calls (rank, q) h.board b (posted h.board p None) mail (keeps_posted h.board p none) e
+mail_call links calls h rank q b is mail (is_got c n other ready asked one p f e) =
+    kept_mail links calls (rank, q) h.board b (collect c n).1 mail
+    (keeps_trans h.board c (collect c n).1 (keeps_ready h.board c ready) (keeps_collect c n)) e
+mail_call links calls h rank q b is mail (is_gathered ns asked f e) =
+    kept_mail links calls (rank, q) h.board b (all_got rank h.board ns).1 mail (keeps_all rank ns h.board) e
 
 mail_on : (links : List Link) (rest calls : List Call) → Mail links calls (hub_after links calls).board
     → Mail links (calls ++ rest) (hub_after links (calls ++ rest)).board
 mail_on links [] calls mail = subst (λ cs. Mail links cs (hub_after links cs).board) (sym (append-nil calls)) mail
 mail_on links (c ∷ rest) calls mail =
-    let more = mail_call links calls (hub_after links calls) c.0 c.1 refl mail in
+    let more = mail_call links calls (hub_after links calls) c.0 c.1 _ refl mail (comes (hub_after links calls) c.0 c.1) in
     let next : Mail links (calls ++ c ∷ []) (hub_after links (calls ++ c ∷ [])).board =
     subst (λ (k : HubView). Mail links (calls ++ c ∷ []) k.board) (sym (hub_on-snoc calls (started links) c)) more in
     subst (λ cs. Mail links cs (hub_after links cs).board) (append_assoc calls (c ∷ []) rest) (mail_on links rest (calls ++ c ∷ []) next)
@@ -315,7 +254,7 @@ mail links calls = mail_on links calls [] (mail_none links)
 
 -- ---- what is got
 
-partner_lines : (b c : Board) → c.lines ≡ b.lines → (n : ℕ) → partner_of c n ≡ partner_of b n
+pub partner_lines : (b c : Board) → c.lines ≡ b.lines → (n : ℕ) → partner_of c n ≡ partner_of b n
 partner_lines b c e zero = refl
 partner_lines b c e (suc place) = ap (λ (ls : List Line). partner_at ls place) e
 
@@ -325,7 +264,7 @@ pub record Collects (b : Board) (n : ℕ) (m : Message) : Type 0 where
   pub message : message_at b place ≡ Some m
   pub after : partner_of (collect b n).1 n ≡ Some place
 
-collects : (b : Board) (n : ℕ) (m : Message) → (collect b n).0 ≡ Some m → Collects b n m
+pub collects : (b : Board) (n : ℕ) (m : Message) → (collect b n).0 ≡ Some m → Collects b n m
 collects b n m h = go (partner_of b n) refl h
   where
     go : (o : Option ℕ) → partner_of b n ≡ o → (collect_from b o).0 ≡ Some m → Collects b n m
@@ -337,89 +276,26 @@ collects b n m h = go (partner_of b n) refl h
       after = partner_lines b (collect b n).1 (collect_lines b n) n ∙ e;
     }
 
--- a reply that may be got
-abbrev NoGot : Reply → Type 0
-NoGot r = (m : Message) → r ≡ reply.Got m → ⊥
+plain_got : (r : Reply) (m : Message) → is_plain r ≡ true → r ≡ reply.Got m → ⊥
+plain_got r m p e = (let q : false ≡ true = sym (ap is_plain e) ∙ p in cc)
 
-got_back : (h : HubView) (r : Reply) (g : Option Message × Board) (m : Message) → NoGot r → (got_or h r g).0 ≡ reply.Got m → g.0 ≡ Some m
-got_back h r g m never e' = go g.0 g.1 e'
-  where
-    go : (o : Option Message) (b : Board) → (got_or h r (o, b)).0 ≡ reply.Got m → o ≡ Some m
-    go None b e = absurd (never m e)
-    go (Some k) b e = (let same : k ≡ m = (cc) in ap (λ x. Some x) same)
-
-neither : (c : Bool) (x y : Reply × HubView) (m : Message) → NoGot x.0 → NoGot y.0 → (cond c x y).0 ≡ reply.Got m → ⊥
-neither true x y m p q e = p m e
-neither false x y m p q e = q m e
+got_back : (other : Reply) (o : Option Message) (m : Message) → is_plain other ≡ true → message_or other o ≡ reply.Got m → o ≡ Some m
+got_back other None m p e = absurd (plain_got other m p e)
+got_back other (Some k) m p e = (let same : k ≡ m = (cc) in ap (λ x. Some x) same)
 
 abbrev GotOf : List Link → List Call → Board → Option ℕ → Message → Type 0
 GotOf links calls after number m = (n : ℕ) × (number ≡ Some n) × PairedWith links calls after n m
 
--- the collected message of a board whose messages were all sent
-got_from : (links : List Link) (calls : List Call) (b c : Board) (h : HubView) (r : Reply) (n : ℕ) (m : Message) → Mail links calls b → Keeps b c
-    → NoGot r → (got_or h r (collect c n)).0 ≡ reply.Got m → GotOf links calls ((got_or h r (collect c n)).1).board (Some n) m
-got_from links calls b c h r n m sent k never e =
-    let t = collects c n m (got_back h r (collect c n) m never e) in
-    (n, refl, (t.place, ap (λ (d : Board). partner_of d n) (got_board h r (collect c n)) ∙ t.after, sent.messages t.place m (k.messages t.place m t.message)))
-
-got_call : (links : List Link) (calls : List Call) (h : HubView) (rank : ℕ) (q : Request) (m : Message) → Mail links calls h.board
-    → (outcome h rank q).0 ≡ reply.Got m → GotOf links calls ((outcome h rank q).1).board (collecting h q) m
-got_call links calls h rank (Send sync comm dest tag bytes) m mail e =
-    let s = sending rank sync comm dest tag bytes in
-    absurd (neither (nat_lt (held_count h.board.bodies) 65536)
-    (reply.Posted (next_number h.board) (is_done h.board s), with_board h (send_posted h.board s bytes)) (reply.Code Full, h)
-    m (λ k g. (cc)) (λ k g. (cc)) e)
-got_call links calls h rank (Recv true comm source tag) m mail e =
-    let a = selecting rank comm source tag in
-    got_from links calls h.board (receive_posted h.board a) h (reply.Posted (next_number h.board) false) (next_number h.board) m mail
-    (keeps_posted h.board (post.Receive a) refl) (λ k g. (cc)) e
-got_call links calls h rank (Recv false comm source tag) m mail e = absurd (cc)
-got_call links calls h rank (Collect n) m mail e = go (may_collect h rank n) e
-  where
-    go : (c : Bool) → (cond c (got_or h reply.NotYet (collect h.board n)) (reply.Code BadRequest, h)).0 ≡ reply.Got m
-        → GotOf links calls ((cond c (got_or h reply.NotYet (collect h.board n)) (reply.Code BadRequest, h)).1).board (Some n) m
-    go true e = got_from links calls h.board h.board h reply.NotYet n m mail (keeps_refl h.board) (λ k g. (cc)) e
-    go false e = absurd (cc)
-got_call links calls h rank (Finished n) m mail e = absurd (go (is_send_of rank (line_of h.board n)) (is_complete h n) e)
-  where
-    go : (c d : Bool) → (let x : Reply × HubView = cond c (cond d reply.Done reply.NotYet, h) (reply.Code BadRequest, h) in x.0 ≡ reply.Got m) → ⊥
-    go true true e = (cc)
-    go true false e = (cc)
-    go false d e = (cc)
-got_call links calls h rank (Probe comm source tag) m mail e = absurd (go (probed h.board (post.Receive (selecting rank comm source tag))) e)
-  where
-    go : (o : Option Envelope) → seen o ≡ reply.Got m → ⊥
-    go None e = (cc)
-    go (Some k) e = (cc)
-got_call links calls h rank (Claim comm source tag) m mail e = absurd (go (probed h.board (post.Claim (selecting rank comm source tag))) e)
-  where
-    go : (o : Option Envelope) → (claim_found h (selecting rank comm source tag) o).0 ≡ reply.Got m → ⊥
-    go None e = (cc)
-    go (Some k) e = (cc)
-got_call links calls h rank (Claimed now n) m mail e = go (may_receive h.claims rank n) now e
-  where
-    go : (c now : Bool) → (cond c (claimed_now (with_claims h (received h.claims rank n)) now n) (reply.Code BadMessage, h)).0 ≡ reply.Got m
-        → GotOf links calls ((cond c (claimed_now (with_claims h (received h.claims rank n)) now n) (reply.Code BadMessage, h)).1).board (Some n) m
-    go true true e = got_from links calls h.board h.board (with_claims h (received h.claims rank n)) reply.NotYet n m mail (keeps_refl h.board) (λ k g. (cc)) e
-    go true false e = absurd (cc)
-    go false now e = absurd (cc)
-got_call links calls h rank (All ns) m mail e =
-    absurd (go (are_distinct ns && list_all (λ n. is_known h rank n) ns) (list_all (λ n. is_ready h rank n) ns) e)
-  where
-    go : (c d : Bool) → (cond c (cond d (all_collected h (all_got rank h.board ns)) (reply.NotYet, h)) (reply.Code BadRequest, h)).0 ≡ reply.Got m → ⊥
-    go true true e = (cc)
-    go true false e = (cc)
-    go false d e = (cc)
-got_call links calls h rank (Init sends comm peer tag parts size) m mail e =
-    absurd (go (setup_of rank sends comm peer tag parts size) (peer_of h.sides (setup_of rank sends comm peer tag parts size)) e)
-  where
-    free : (s : Setup) (o : Option ℕ) → (init_first h s o).0 ≡ reply.Got m → ⊥
-    free s None e = (cc)
-    free s (Some k) e = (cc)
-
-    go : (s : Setup) (o : Option Side) → (init_with h s o).0 ≡ reply.Got m → ⊥
-    go s None e = free s (lowest_link h.links h.sides s) e
-    go s (Some t) e = neither (same_shape s t.setup) (side_added h s t.link) (reply.Code Shape, h) m (λ k g. (cc)) (λ k g. (cc)) e
+got_call : (links : List Link) (calls : List Call) (h : HubView) (rank : ℕ) (q : Request) (r : Reply) (b : Board) (m : Message)
+    → Mail links calls h.board → Comes h rank q r b → r ≡ reply.Got m → GotOf links calls b (collecting h q) m
+got_call links calls h rank q r b m mail (is_nothing p e) g = absurd (plain_got r m p g)
+got_call links calls h rank q r b m mail (is_full f there e) g = absurd (cc)
+got_call links calls h rank q r b m mail (is_sent sync comm dest tag bytes done asked f e) g = absurd (cc)
+got_call links calls h rank q r b m mail (is_posted p none f e) g = absurd (plain_got r m f g)
+got_call links calls h rank q r b m mail (is_got c n other ready asked one p f e) g =
+    let t = collects c n m (got_back other (collect c n).0 m p (sym f ∙ g)) in
+    (n, asked, (t.place, ap (λ (d : Board). partner_of d n) e ∙ t.after, mail.messages t.place m ((keeps_ready h.board c ready).messages t.place m t.message)))
+got_call links calls h rank q r b m mail (is_gathered ns asked f e) g = absurd (cc)
 
 -- the board after one more call
 board_next : (links : List Link) (calls : List Call) (rank : ℕ) (q : Request)
@@ -428,7 +304,7 @@ board_next links calls rank q = ap (λ (k : HubView). k.board) (sym (hub_on-snoc
 
 got_law : (links : List Link) (calls : List Call) (rank : ℕ) (q : Request) → GotIsSent links calls rank q
 got_law links calls rank q m e =
-    let g = got_call links calls (hub_after links calls) rank q m (mail links calls) e in
+    let g = got_call links calls (hub_after links calls) rank q _ _ m (mail links calls) (comes (hub_after links calls) rank q) e in
     (g.0, g.1, subst (λ (b : Board). PairedWith links calls b g.0 m) (board_next links calls rank q) g.2)
 
 -- ---- what is seen and held

@@ -59,10 +59,13 @@ send_outcome h s bytes =
     (Posted (next_number h.board) (is_done h.board s), with_board h (send_posted h.board s bytes))
     (Code Full, h)
 
+abbrev pub message_or : Reply → Option Message → Reply
+message_or other None = other
+message_or other (Some m) = Got m
+
 -- the message that was collected, or else that reply
 abbrev pub got_or : HubView → Reply → Option Message × Board → Reply × HubView
-got_or h other (None, b) = (other, with_board h b)
-got_or h other (Some m, b) = (Got m, with_board h b)
+got_or h other g = (message_or other g.0, with_board h g.1)
 
 abbrev pub recv_outcome : HubView → Bool → Selection → Reply × HubView
 recv_outcome h true a =
@@ -214,3 +217,7 @@ StandsFor h links calls = h ≡ hub_after links calls
 -- the outcome is this reply and this hub
 abbrev pub Gives : Reply × HubView → Reply → HubView → Type 0
 Gives o r h = (r ≡ o.0) × (h ≡ o.1)
+
+-- the outcome is this reply, given twice, and this hub
+abbrev pub GivesTwice : Reply × HubView → Reply × Reply → HubView → Type 0
+GivesTwice o told h = (told ≡ (o.0, o.0)) × (h ≡ o.1)

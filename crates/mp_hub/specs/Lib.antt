@@ -2,4 +2,5 @@ pub mod Inits
 pub mod Hub
 pub mod Laws
 pub mod Made
+pub mod Twice
 pub mod Rows

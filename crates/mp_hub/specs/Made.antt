@@ -1,9 +1,10 @@
 -- What a call makes, for which the hub takes memory, and where a send finds no room.
-use Rattle.std.specs.Prelude.{ℕ, ◌≤◌, Bool, true, false, [], ◌∷◌}
+use Rattle.std.specs.Prelude.{ℕ, ◌≡◌, ◌≤◌, Bool, true, false, [], ◌∷◌}
 use Rattle.mp_types.specs.declared.requests.Request.{Request}
 use Rattle.mp_types.specs.declared.requests.Request.TheVariants as request
 use Rattle.mp_types.specs.declared.replies.Reply.{Reply}
 use Rattle.mp_types.specs.declared.replies.Reply.TheVariants.{Code, Posted, Got, NotYet, Done, Seen, Held, AllGot, Link as OnLink}
+use Rattle.mp_types.specs.Carried.{carried_by_reply}
 use Rattle.mp_match.specs.Board.{held_count}
 use Rattle.mp_hub.specs.Hub.{HubView}
 
@@ -31,6 +32,10 @@ makes (request.Claim comm source tag) r = brings r
 makes (request.Claimed now message) r = false
 makes (request.All posts) r = brings r
 makes (request.Init sends comm peer tag parts size) r = brings r
+
+-- a call for which no memory is taken though its reply is given twice: it makes nothing, and its reply carries nothing
+abbrev pub TakesNothing : Request → Reply → Type 0
+TakesNothing q r = (makes q r ≡ false) × (carried_by_reply r ≡ 0)
 
 -- a send where 65,536 messages are held
 abbrev pub IsFullFor : HubView → Request → Type 0
