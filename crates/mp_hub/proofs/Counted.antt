@@ -1,13 +1,12 @@
 -- A reply brings no more messages than its request may bring.
-use Rattle.std.proofs.Common.{◌≡◌, ◌≤◌, ℕ, Bool, true, false, Option, Some, None, refl, sym, ap, ◌∙◌, length, arith}
+use Rattle.std.proofs.Common.{◌≡◌, ◌≤◌, ℕ, true, Option, Some, None, refl, ap, arith}
 use Rattle.mp_types.specs.declared.messages.Message.{Message}
-use Rattle.mp_types.specs.declared.codes.Code.TheVariants as code
 use Rattle.mp_types.specs.declared.replies.Reply.{Reply}
 use Rattle.mp_types.specs.declared.replies.Reply.TheVariants as reply
 use Rattle.mp_types.specs.declared.requests.Request.{Request}
 use Rattle.mp_types.specs.Carried.{carried_by_reply}
 use Rattle.mp_match.specs.Board.{Board, collect}
-use Rattle.mp_hub.specs.Hub.{HubView, outcome, message_or, all_got, hub_after}
+use Rattle.mp_hub.specs.Hub.{HubView, outcome, message_or, hub_after}
 use Rattle.mp_hub.specs.Laws.{most_messages, message_count, CountLaw}
 use Rattle.mp_hub.proofs.Outcomes.{is_plain, Comes, is_nothing, is_full, is_sent, is_posted, is_got, is_gathered, comes}
 use Rattle.mp_hub.proofs.SentKept.{all_length}

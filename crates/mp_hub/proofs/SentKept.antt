@@ -17,7 +17,7 @@ use Rattle.mp_match.specs.declared.posts.Post.{Post}
 use Rattle.mp_match.specs.declared.posts.Post.TheVariants as post
 use Rattle.mp_match.specs.declared.posts.Line.{Line}
 use Rattle.mp_match.specs.Pairs.{add, partner_for, partner_at, partner_of_line}
-use Rattle.mp_match.specs.Board.{Board, posted, send_posted, receive_posted, claim_posted, line_of, is_send_of, partner_of, envelope_in, envelope_at, message_in, message_at, without, collect_from, collect, no_posts}
+use Rattle.mp_match.specs.Board.{Board, posted, send_posted, claim_posted, line_of, is_send_of, partner_of, envelope_in, envelope_at, message_in, message_at, without, collect_from, collect, no_posts}
 use Rattle.mp_match.proofs.Places.{get_snoc, get_within}
 use Rattle.mp_match.proofs.Lines.{Look, is_new, is_old, is_given, look, add_new, add_length}
 use Rattle.mp_probe.specs.Claims.{next_number}

@@ -1,5 +1,5 @@
 -- A claim takes the message that a probe shows.
-use Rattle.std.specs.Prelude.{ℕ, ◌+◌, ◌≡◌, Bool, cond, List, [], ◌∷◌, Some}
+use Rattle.std.specs.Prelude.{ℕ, ◌+◌, ◌≡◌, cond, List, [], ◌∷◌, Some}
 use Rattle.std.specs.List.{position_from}
 use Rattle.std.proofs.Common.{refl, ap}
 use Rattle.mp_match.specs.declared.posts.Selection.{Selection}

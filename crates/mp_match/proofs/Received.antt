@@ -3,12 +3,10 @@ use Rattle.std.specs.Prelude.{ℕ, zero, suc, ◌+◌, ◌≡◌, List, [], ◌�
 use Rattle.std.specs.List.{slice_get}
 use Rattle.std.proofs.Common.{refl, sym, ap, ◌∙◌, add-one}
 use Rattle.mp_types.specs.declared.messages.Envelope.{Envelope}
-use Rattle.mp_types.specs.declared.messages.Message.{Message}
 use Rattle.mp_match.specs.declared.posts.Selection.{Selection}
-use Rattle.mp_match.specs.declared.posts.Post.{Post}
-use Rattle.mp_match.specs.declared.posts.Post.TheVariants.{Send, Receive, Claim}
+use Rattle.mp_match.specs.declared.posts.Post.TheVariants.{Receive}
 use Rattle.mp_match.specs.declared.posts.Line.{Line}
-use Rattle.mp_match.specs.Pairs.{fits, partner_for, partner_of_line, add}
+use Rattle.mp_match.specs.Pairs.{fits, partner_for, partner_of_line}
 use Rattle.mp_match.specs.Board.{Board, envelope_in, envelope_at, message_in, message_at, collect_from, collect, receive_posted, partner_of}
 use Rattle.mp_match.proofs.Lines.{given, add_new, add_given}
 use Rattle.mp_match.proofs.Places.{found_first}
