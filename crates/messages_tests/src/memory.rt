@@ -1,0 +1,80 @@
+//! Calls of the hub that aren't refused memory, each proved from the contract alone.
+
+ghost use Rattle.std.specs.Prelude.{◌≡◌, ◌≢◌, ◌+◌, ◌-◌, ◌<◌, ◌^◌, ◌∷◌, [], length, max};
+ghost use Rattle.mp_hub.specs.Hub.{reply_of, started};
+ghost use Rattle.cl_journal.specs.Journal.{calls_of, clock_of, entries_by};
+
+use cl_journal::{Hub, HubFault};
+use mp_hub::{CallFault, HubState};
+use mp_types::{Code, Reply, Request, Stamp};
+
+/// A poll whose message isn't there yet is answered so, whatever memory there is: behind the entry that ends the first
+/// block of the journal but one.
+pub fn vain_poll(
+    hub: &mut Hub,
+    rank: u8,
+    clock: Stamp,
+    post: u64,
+) -> Result<(Reply, Stamp), HubFault>
+    requires begun { length hub.old.entries ≡ 1023 }
+    requires few { length (entries_by rank hub.old.entries) < 1048576 }
+    requires low { max clock (clock_of hub.old) + 1 < 2 ^ 62 }
+    requires vain { reply_of hub.old.links (calls_of hub.old.entries) rank (Request.Collect post) ≡ Reply.NotYet }
+    ensures { result ≡ Ok (Reply.NotYet, max clock (clock_of hub.old) + 1) }
+{
+    hub.call(rank, 0, clock, Request::Collect { post })
+}
+
+/// So is a probe that finds nothing, behind the first entry of a block.
+pub fn vain_probe(hub: &mut Hub, rank: u8, clock: Stamp) -> Result<(Reply, Stamp), HubFault>
+    requires begun { length hub.old.entries ≡ 1025 }
+    requires few { length (entries_by rank hub.old.entries) < 1048576 }
+    requires low { max clock (clock_of hub.old) + 1 < 2 ^ 62 }
+    requires vain { reply_of hub.old.links (calls_of hub.old.entries) rank (Request.Probe 0 None None) ≡ Reply.NotYet }
+    ensures { result ≡ Ok (Reply.NotYet, max clock (clock_of hub.old) + 1) }
+{
+    let probe = Request::Probe {
+        comm: 0,
+        source: None,
+        tag: None,
+    };
+    hub.call(rank, 0, clock, probe)
+}
+
+/// And several requests of which one isn't complete, however many they are.
+pub fn vain_test_of_all(
+    hub: &mut Hub,
+    rank: u8,
+    clock: Stamp,
+    request: Request,
+) -> Result<(Reply, Stamp), HubFault>
+    requires begun { length hub.old.entries ≡ 1 }
+    requires few { length (entries_by rank hub.old.entries) < 1048576 }
+    requires low { max clock (clock_of hub.old) + 1 < 2 ^ 62 }
+    requires all { request ≡ Request.All (1 ∷ 2 ∷ 3 ∷ []) }
+    requires vain { reply_of hub.old.links (calls_of hub.old.entries) rank (Request.All (1 ∷ 2 ∷ 3 ∷ [])) ≡ Reply.NotYet }
+    ensures { result ≡ Ok (Reply.NotYet, max clock (clock_of hub.old) + 1) }
+{
+    hub.call(rank, 0, clock, request)
+}
+
+/// A refusal that isn't for memory is told whatever memory there is, also by the first call of a hub.
+pub fn full_before_memory(hub: &mut Hub, rank: u8) -> Result<(Reply, Stamp), HubFault>
+    requires { hub.old.entries ≡ [] }
+    ensures { result ≡ Err (HubFault.ClockFull (2 ^ 62 - 1)) }
+{
+    hub.call(
+        rank,
+        0,
+        0x3fff_ffff_ffff_ffff,
+        Request::Finished { post: 1 },
+    )
+}
+
+/// A hub that was never called knows no post 5, and tells it twice whatever memory there is.
+pub fn unknown_post_told_twice(hub: &mut HubState, rank: u8) -> Result<(Reply, Reply), CallFault>
+    requires { hub.old ≡ started [] }
+    ensures { result ≡ Ok (Reply.Code Code.BadRequest, Reply.Code Code.BadRequest) }
+{
+    hub.answer_twice(rank, &Request::Collect { post: 5 })
+}
