@@ -1,11 +1,13 @@
 //! Words and instructions (rv_decode).
-ghost use Rattle.std.specs.Prelude.{◌≡◌, ◌<◌, false, Some, None, IfOk, pos, negsuc, codes, string_bytes};
+ghost use Rattle.std.specs.Prelude.{◌≡◌, ◌<◌, false, true, Some, None, IfOk, pos, negsuc, codes, string_bytes};
 ghost use Rattle.rv_decode.specs.declared.instruction.ArithOp.TheVariants.{Addw};
 ghost use Rattle.rv_decode.specs.declared.instruction.ImmOp.TheVariants.{Addi};
 ghost use Rattle.rv_decode.specs.declared.instruction.Instr.TheVariants.{Arith, Imm, Shift, Fence};
 ghost use Rattle.rv_decode.specs.declared.instruction.ShiftOp.TheVariants.{Srai};
 
-use rv_decode::{BranchOp, Instr, Reg, UpperOp, decode, encode, print_instr};
+use rv_decode::{
+    ArithOp, BranchOp, ImmOp, Instr, Reg, StoreOp, UpperOp, decode, encode, print_instr,
+};
 use std::alloc::{AllocError, Global};
 
 /// A register has the number that it was made with.
@@ -69,6 +71,45 @@ pub fn bit_11_of_a_branch_stands_in_bit_7() -> u32
     })
 }
 
+/// The second source stands above the first: `sub x1, x2, x3` is 403100b3.
+#[tactic(auto, unfolding(rv_decode::specs::Table::written_word))]
+pub fn sources_stand_in_their_order() -> u32
+    ensures { result ≡ 0x403100b3 }
+{
+    encode(&Instr::Arith {
+        op: ArithOp::Sub,
+        rd: Reg::new(1),
+        rs1: Reg::new(2),
+        rs2: Reg::new(3),
+    })
+}
+
+/// An immediate of 2047 fits its word.
+pub fn immediate_2047_fits() -> bool
+    ensures { result ≡ true }
+{
+    let least = Instr::Imm {
+        op: ImmOp::Addi,
+        rd: Reg::new(1),
+        rs1: Reg::new(2),
+        imm: 2047,
+    };
+    least.fits()
+}
+
+/// One of 2048 fits none.
+pub fn immediate_2048_does_not_fit() -> bool
+    ensures { result ≡ false }
+{
+    let more = Instr::Imm {
+        op: ImmOp::Addi,
+        rd: Reg::new(1),
+        rs1: Reg::new(2),
+        imm: 2048,
+    };
+    more.fits()
+}
+
 /// A branch by an odd offset fits no word.
 pub fn odd_branch_does_not_fit() -> bool
     ensures { result ≡ false }
@@ -91,6 +132,21 @@ pub fn offset_is_printed_with_its_sign(alloc: Global) -> Result<String, AllocErr
         &Instr::Jal {
             rd: Reg::new(1),
             off: -4,
+        },
+    )
+}
+
+/// What a store stores is printed first, and then where.
+pub fn store_is_printed_with_its_value_first(alloc: Global) -> Result<String, AllocError>
+    ensures { IfOk result (λ text. string_bytes text ≡ codes "sd x5, -8(x2)") }
+{
+    print_instr(
+        alloc,
+        &Instr::Store {
+            op: StoreOp::Sd,
+            rs1: Reg::new(2),
+            rs2: Reg::new(5),
+            off: -8,
         },
     )
 }

@@ -1,13 +1,13 @@
 //! A hart, and its steps (rv_hart).
 ghost use Rattle.std.specs.Prelude.{◌≡◌, ◌≢◌, ℕ, ◌+◌, ◌-◌, ◌*◌, ◌^◌, ◌<◌, pos, negsuc, Some, None, Ok, true};
-ghost use Rattle.rv_decode.specs.declared.instruction.ArithOp.TheVariants.{Addw, Srl, Mulh, Divw, Remu};
+ghost use Rattle.rv_decode.specs.declared.instruction.ArithOp.TheVariants.{Addw, Srl, Mulh, Divw, Divuw, Remu};
 ghost use Rattle.rv_decode.specs.declared.instruction.BranchOp.TheVariants.{Bgeu};
 ghost use Rattle.rv_decode.specs.declared.instruction.ImmOp.TheVariants.{Sltiu};
 ghost use Rattle.rv_decode.specs.declared.instruction.ShiftOp.TheVariants.{Srai};
 ghost use Rattle.rv_decode.specs.declared.instruction.StoreOp.TheVariants.{Sw};
 ghost use Rattle.rv_decode.specs.declared.instruction.UpperOp.TheVariants.{Auipc};
 ghost use Rattle.rv_hart.specs.Results.{arith_result, imm_result, upper_result, shift_result, is_taken, store_width};
-ghost use Rattle.rv_hart.specs.State.{at_pc, in_mode};
+ghost use Rattle.rv_hart.specs.State.{at_pc, in_mode, write};
 ghost use Rattle.rv_hart.specs.declared.state.Mode.TheVariants.{Running, Trapped};
 ghost use Rattle.rv_memory.specs.Access.{word_at};
 ghost use Rattle.rv_memory.specs.declared.memory.Width.TheVariants.{Word};
@@ -122,6 +122,47 @@ pub fn misaligned_jump_leaves_the_link(
     step(hart, memory)
 }
 
+/// A fence is done, and not given up: 0ff0000f is `fence`.
+#[tactic(auto, unfolding(rv_hart::specs::Stepped::stepped, rv_decode::specs::Decoded::decoded))]
+pub fn fence_goes_on(hart: &mut Hart, memory: &mut RankMemory) -> Result<Did, AllocError>
+    requires running { hart.old.mode ≡ Running }
+    requires at_four { hart.old.pc ≡ 4 }
+    requires fence { word_at memory.old hart.old.pc ≡ Some 0x0ff0000f }
+    ensures did { result ≡ Ok Did.Plain }
+    ensures hart { hart.new ≡ at_pc hart.old 8 }
+{
+    step(hart, memory)
+}
+
+/// A jump leaves the address of the instruction behind it: 008000ef is `jal x1, 8`.
+#[tactic(auto, unfolding(rv_hart::specs::Stepped::stepped, rv_decode::specs::Decoded::decoded, rv_hart::specs::Effect::jumps))]
+pub fn jump_links_to_what_is_behind_it(
+    hart: &mut Hart,
+    memory: &mut RankMemory,
+) -> Result<Did, AllocError>
+    requires running { hart.old.mode ≡ Running }
+    requires at_four { hart.old.pc ≡ 4 }
+    requires jump { word_at memory.old hart.old.pc ≡ Some 0x008000ef }
+    ensures did { result ≡ Ok Did.Plain }
+    ensures hart { hart.new ≡ at_pc (write hart.old 1 8) 12 }
+{
+    step(hart, memory)
+}
+
+/// A jump by a register drops bit 0 of its target: 00100067 is `jalr x0, 1(x0)`.
+#[tactic(auto, unfolding(rv_hart::specs::Stepped::stepped, rv_decode::specs::Decoded::decoded, rv_hart::specs::Effect::jumps))]
+pub fn jump_by_a_register_drops_bit_0(
+    hart: &mut Hart,
+    memory: &mut RankMemory,
+) -> Result<Did, AllocError>
+    requires running { hart.old.mode ≡ Running }
+    requires jump { word_at memory.old hart.old.pc ≡ Some 0x00100067 }
+    ensures did { result ≡ Ok Did.Plain }
+    ensures hart { hart.new ≡ at_pc hart.old 0 }
+{
+    step(hart, memory)
+}
+
 // ---- what instructions compute: laws of the definitions, with no code
 
 /// A sum of words is extended from bit 31.
@@ -176,6 +217,12 @@ pub fn auipc_adds_to_the_pc()
 #[tactic(auto, unfolding(rv_hart::specs::Results::is_taken))]
 pub fn equal_is_at_least_as_great()
     ensures { is_taken Bgeu 5 5 ≡ true }
+{}
+
+/// A quotient of unsigned words by zero is all ones, in its upper half too.
+#[tactic(auto, unfolding(rv_hart::specs::Results::arith_result))]
+pub fn quotient_by_zero_is_all_ones()
+    ensures { arith_result Divuw 5 0 ≡ 2 ^ 64 - 1 }
 {}
 
 /// SW stores a word.

@@ -1,6 +1,6 @@
 //! The bytes of a rank (rv_memory).
-ghost use Rattle.std.specs.Prelude.{◌≡◌, ◌+◌, ◌-◌, ◌*◌, ◌^◌, ◌<◌, ◌≤◌, [], ◌∷◌, length, slice_index, true, false, Err, IsOk, IfOk};
-ghost use Rattle.rv_memory.specs.Memory.{value_at};
+ghost use Rattle.std.specs.Prelude.{◌≡◌, ◌+◌, ◌-◌, ◌*◌, ◌^◌, ◌<◌, ◌≤◌, [], ◌∷◌, length, slice_index, true, false, Some, None, Err, IsOk, IfOk};
+ghost use Rattle.rv_memory.specs.Memory.{bytes_at, init_start, value_at};
 
 use rv_memory::{BytesFault, Cause, RankMemory, StoreFault, Width};
 use std::alloc::{AllocError, Global};
@@ -55,6 +55,11 @@ pub fn no_bytes_are_read_anywhere(
     memory.read_bytes(alloc, address, 0)
 }
 
+/// Bytes are read from where they stand: the third and the fourth of these four.
+pub fn bytes_are_read_from_their_address()
+    ensures { bytes_at (record { bytes = 1 ∷ 2 ∷ 3 ∷ 4 ∷ []; text = 0 }) 2 2 ≡ 3 ∷ 4 ∷ [] }
+{}
+
 /// A write that begins in the text writes nothing, not even what lies behind the text.
 pub fn write_into_the_text_writes_nothing(
     memory: &mut RankMemory,
@@ -106,6 +111,28 @@ pub fn half_has_its_lower_byte_first(memory: &RankMemory, address: u64) -> Resul
 /// The eighth byte of a word counts.
 pub fn word_has_eight_bytes()
     ensures { value_at (0 ∷ 0 ∷ 0 ∷ 0 ∷ 0 ∷ 0 ∷ 0 ∷ 1 ∷ []) 0 8 ≡ 2 ^ 56 }
+{}
+
+/// The last eight bytes are loaded like any others.
+pub fn the_last_bytes_are_loaded(memory: &RankMemory) -> Result<u64, Cause>
+    requires { length memory.now.bytes ≡ 8192 }
+    ensures { IsOk result }
+{
+    memory.load(8184, Width::Double)
+}
+
+/// The last word of the text is fetched, and no word behind it.
+pub fn the_last_word_is_fetched(memory: &RankMemory) -> (Option<u32>, Option<u32>)
+    requires { memory.now.text ≡ 8 }
+    ensures last { result.0 ≡ Some (value_at memory.now.bytes 4 4) }
+    ensures behind { result.1 ≡ None }
+{
+    (memory.text_word(4), memory.text_word(8))
+}
+
+/// The initial data stands at a multiple of 16, and not right behind the text.
+pub fn data_stands_at_a_multiple_of_16()
+    ensures { init_start (0x13 ∷ 0 ∷ 0 ∷ 0 ∷ []) ≡ 16 }
 {}
 
 /// The size counts the text.
