@@ -1,0 +1,124 @@
+//! Reads calls of a hub from standard input, and prints what the hub answers.
+//!
+//! `hub N` starts a hub of two ranks, with N links from rank 0 to rank 1. `RANK HART CLOCK REQUEST` is a call of it: the stamp
+//! and the reply are printed, or why it was refused. `times N` before a call makes it so often, and tells the last; a `#` in it
+//! is then how often it was made before. `entries` prints how many calls were entered, and the hart of the last. Behind `!` a
+//! request or a reply stands whose copy isn't the same.
+//!
+//! The rows of `stdin` and `stdout` were worked out by hand from what the calls are said to answer.
+#![tactic(auto)]
+
+mod printing;
+mod requests;
+
+use cl_journal::{Hub, HubFault};
+use mp_types::{Reply, Request, Stamp};
+use printing::print_reply;
+use requests::{Row, byte, number, request};
+use rv_image::{ImageFault, read_image};
+use std::alloc::{AllocError, Global};
+use std::io;
+use std::io::Write;
+
+/// A hub of two ranks, with so many links from rank 0 to rank 1.
+fn hub(alloc: Global, links: u8) -> Result<Hub, ImageFault> {
+    let header = b"RVMC\x01\0\x02\x01\0\x10\0\0\0\0\0\0\x04\0\0\0\0\0\0\0\0";
+    let mut bytes = Vec::from_slice(alloc, header)?;
+    bytes.extend_from_slice(&[links, 0, 0])?;
+    for _ in 0..links {
+        bytes.extend_from_slice(&[0, 1])?;
+    }
+    bytes.extend_from_slice(&[0x13, 0, 0, 0])?;
+    Ok(Hub::start(alloc, &read_image(alloc, &bytes)?)?)
+}
+
+/// Calls the hub as the row says, and tells `copied` where a copy of the request is the same.
+fn call(
+    alloc: Global,
+    hub: &mut Hub,
+    row: &Row<'_>,
+    request: Request,
+) -> Result<(bool, Result<(Reply, Stamp), HubFault>), AllocError> {
+    let copied = request.try_copy(alloc)? == request;
+    let answer = hub.call(byte(row, 0), byte(row, 1), number(row, 2), request);
+    Ok((copied, answer))
+}
+
+/// Prints what the hub answered.
+fn print_answer<W: Write>(
+    alloc: Global,
+    out: &mut W,
+    copied: bool,
+    answer: &Result<(Reply, Stamp), HubFault>,
+) -> io::Result<()> {
+    if !copied {
+        write!(out, "! ")?;
+    }
+    match answer {
+        Ok((reply, stamp)) => {
+            write!(out, "{stamp}: ")?;
+            if reply.try_copy(alloc)? != *reply {
+                write!(out, "! ")?;
+            }
+            print_reply(out, reply)
+        }
+        Err(HubFault::Memory) => writeln!(out, "memory"),
+        Err(HubFault::ClockFull(clock)) => writeln!(out, "clock {clock}"),
+        Err(HubFault::Calls(count)) => writeln!(out, "calls {count}"),
+    }
+}
+
+/// Makes the call of a row so often, and prints what the last was answered.
+fn repeat<W: Write>(
+    alloc: Global,
+    out: &mut W,
+    hub: &mut Hub,
+    row: &mut Row<'_>,
+    times: u64,
+) -> io::Result<()> {
+    for turn in 0..times {
+        row.turn = turn;
+        let Some(request) = request(alloc, row)? else {
+            return writeln!(out, "no request");
+        };
+        let (copied, answer) = call(alloc, hub, row, request)?;
+        if turn + 1 == times {
+            print_answer(alloc, out, copied, &answer)?;
+        }
+    }
+    Ok(())
+}
+
+/// Prints how many calls were entered, and the hart of the last.
+fn print_entries<W: Write>(out: &mut W, hub: &Hub) -> io::Result<()> {
+    match hub.entries().last() {
+        Some(entry) => writeln!(out, "{} entries, hart {}", hub.entries().len(), entry.hart),
+        None => writeln!(out, "no entries"),
+    }
+}
+
+fn main(rt: HostRuntime) -> io::Result<()> {
+    let alloc = rt.alloc();
+    let Ok(mut current) = hub(alloc, 0) else {
+        return println!(rt; "no hub");
+    };
+    let mut times = 1;
+    for line in rt.lines(alloc) {
+        let line = line?;
+        let words: Vec<&str> = line.split(' ').collect(alloc)?;
+        let mut row = Row { words, turn: 0 };
+        if line.starts_with("hub") {
+            if let Ok(next) = hub(alloc, byte(&row, 1)) {
+                current = next;
+            }
+        } else if line.starts_with("times") {
+            times = number(&row, 1);
+        } else if line.starts_with("entries") {
+            print_entries(&mut rt.stdout(), &current)?;
+        } else {
+            repeat(alloc, &mut rt.stdout(), &mut current, &mut row, times)?;
+            times = 1;
+        }
+    }
+    Ok(())
+}
