@@ -4,11 +4,18 @@
 //! A line with a word and three more hex numbers: one step over the word, from 0, where x5 reads the first, x6 the second,
 //! and the double word at address 16 is the third. What x7 reads then, and the pc.
 //!
+//! A line `image` and bytes in hex: `image` where they are read as one that is written as the same bytes, or their fault.
+//! `parts` and four numbers: the same of an image of 8 ranks with so many communicators, links, and bytes of text and data.
+//! `memory` and a number: how many bytes are read of a memory of that size.
+//!
 //! The table in `stdin` and `stdout` is data from outside. The words and texts are GNU as 2.40's (`-march=rv64im`, a jump's
 //! or a branch's offset as `.+8`): edges of the operands' ranges and random numbers. What steps do is qemu-riscv64 7.2.22's,
-//! by a program that does each instruction once and writes what it gave.
+//! by a program that does each instruction once and writes what it gave. Images and their faults are those of docs/FORMATS.md.
 #![tactic(auto)]
 
+mod images;
+
+use images::{print_image, print_memory, print_parts};
 use rv_decode::{Reg, decode, encode, print_instr};
 use rv_hart::{Hart, Mode, step};
 use rv_memory::RankMemory;
@@ -62,6 +69,12 @@ fn number(text: &str) -> u64 {
 /// Prints what a line asks for.
 fn print_line<W: Write>(alloc: Global, out: &mut W, line: &str) -> io::Result<()> {
     let words: Vec<&str> = line.split(' ').collect(alloc)?;
+    match words.first() {
+        Some(name) if *name == "image" => return print_image(alloc, out, &words[1..]),
+        Some(name) if *name == "parts" => return print_parts(alloc, out, &words[1..]),
+        Some(name) if *name == "memory" => return print_memory(alloc, out, &words[1..]),
+        _ => {}
+    }
     let Some(Ok(word)) = words.first().map(|text| u32::from_str_radix(text, 16)) else {
         return writeln!(out, "no word");
     };

@@ -1,15 +1,16 @@
 //! A hart, and its steps (rv_hart).
-ghost use Rattle.std.specs.Prelude.{◌≡◌, ◌≢◌, ℕ, ◌+◌, ◌-◌, ◌*◌, ◌^◌, ◌<◌, pos, negsuc, Some, None, Ok, true};
+ghost use Rattle.std.specs.Prelude.{◌≡◌, ◌≢◌, [], ◌∷◌, ℕ, ◌+◌, ◌-◌, ◌*◌, ◌^◌, ◌<◌, pos, negsuc, Some, None, Ok, true};
 ghost use Rattle.rv_decode.specs.declared.instruction.ArithOp.TheVariants.{Addw, Srl, Mulh, Divw, Divuw, Remu};
 ghost use Rattle.rv_decode.specs.declared.instruction.BranchOp.TheVariants.{Bgeu};
 ghost use Rattle.rv_decode.specs.declared.instruction.ImmOp.TheVariants.{Sltiu};
 ghost use Rattle.rv_decode.specs.declared.instruction.ShiftOp.TheVariants.{Srai};
 ghost use Rattle.rv_decode.specs.declared.instruction.StoreOp.TheVariants.{Sw};
-ghost use Rattle.rv_decode.specs.declared.instruction.UpperOp.TheVariants.{Auipc};
+ghost use Rattle.rv_decode.specs.declared.instruction.UpperOp.TheVariants.{Auipc, Lui};
+ghost use Rattle.rv_hart.specs.Effect.{offset};
 ghost use Rattle.rv_hart.specs.Results.{arith_result, imm_result, upper_result, shift_result, is_taken, store_width};
-ghost use Rattle.rv_hart.specs.State.{at_pc, in_mode, write};
+ghost use Rattle.rv_hart.specs.State.{at_pc, in_mode, read, write};
 ghost use Rattle.rv_hart.specs.declared.state.Mode.TheVariants.{Running, Trapped};
-ghost use Rattle.rv_memory.specs.Access.{word_at};
+ghost use Rattle.rv_memory.specs.Access.{stored, word_at};
 ghost use Rattle.rv_memory.specs.declared.memory.Width.TheVariants.{Word};
 
 use rv_decode::Reg;
@@ -163,6 +164,19 @@ pub fn jump_by_a_register_drops_bit_0(
     step(hart, memory)
 }
 
+/// A jump by the register that it writes goes by what that held before: 000080e7 is `jalr x1, 0(x1)`.
+#[tactic(auto, unfolding(rv_hart::specs::Stepped::stepped, rv_decode::specs::Decoded::decoded, rv_hart::specs::Effect::jumps))]
+pub fn jump_by_its_own_link(hart: &mut Hart, memory: &mut RankMemory) -> Result<Did, AllocError>
+    requires running { hart.old.mode ≡ Running }
+    requires at_four { hart.old.pc ≡ 4 }
+    requires link { read hart.old 1 ≡ 16 }
+    requires jump { word_at memory.old hart.old.pc ≡ Some 0x000080e7 }
+    ensures did { result ≡ Ok Did.Plain }
+    ensures hart { hart.new ≡ at_pc (write hart.old 1 8) 16 }
+{
+    step(hart, memory)
+}
+
 // ---- what instructions compute: laws of the definitions, with no code
 
 /// A sum of words is extended from bit 31.
@@ -211,6 +225,23 @@ pub fn immediate_is_extended_and_compared_without_sign()
 #[tactic(auto, unfolding(rv_hart::specs::Results::upper_result))]
 pub fn auipc_adds_to_the_pc()
     ensures { upper_result Auipc 4 (pos 4096) ≡ 4100 }
+{}
+
+/// It goes round below 0, and LUI extends from bit 31.
+#[tactic(auto, unfolding(rv_hart::specs::Results::upper_result))]
+pub fn upper_immediates_are_signed()
+    ensures auipc { upper_result Auipc 0 (negsuc 4095) ≡ 0xfffffffffffff000 }
+    ensures lui { upper_result Lui 4 (negsuc 0x7fffffff) ≡ 0xffffffff80000000 }
+{}
+
+/// A jump from 0 back by 4 goes to the last word of all addresses.
+pub fn offsets_go_round()
+    ensures { offset 0 (negsuc 3) ≡ 0xfffffffffffffffc }
+{}
+
+/// A store of a half changes two bytes, and takes the lowest ones of its value.
+pub fn half_changes_two_bytes()
+    ensures { (stored (record { bytes = 0x88 ∷ 0x87 ∷ 0x86 ∷ 0x85 ∷ []; text = 0 }) 2 2 0x0102030405060708).bytes ≡ 0x88 ∷ 0x87 ∷ 0x08 ∷ 0x07 ∷ [] }
 {}
 
 /// What equals is at least as great.

@@ -1,0 +1,113 @@
+//! Images that are read and written, and memories that are made.
+
+use rv_image::{ImageFault, read_image, write_image};
+use rv_memory::RankMemory;
+use std::alloc::{AllocError, Global};
+use std::io;
+use std::io::Write;
+
+/// Seven communicators, a number of members and the members each.
+const COMMS: [u8; 42] = [
+    8, 0, 1, 2, 3, 4, 5, 6, 7, // 1
+    7, 7, 6, 5, 4, 3, 2, 1, // 2
+    6, 2, 4, 6, 1, 3, 5, // 3
+    5, 0, 2, 4, 6, 7, // 4
+    4, 3, 1, 0, 2, // 5
+    3, 5, 0, 7, // 6
+    2, 4, 0, // 7
+];
+
+/// Where each communicator begins, and where the last one ends.
+const COMM_STARTS: [usize; 8] = [0, 9, 17, 24, 30, 35, 39, 42];
+
+/// 32 links, from a rank and to a rank each.
+const LINKS: [u8; 64] = [
+    0, 1, 1, 2, 2, 3, 3, 4, 4, 5, 5, 6, 6, 7, 7, 0, //
+    0, 2, 1, 3, 2, 4, 3, 5, 4, 6, 5, 7, 6, 0, 7, 1, //
+    0, 3, 1, 4, 2, 5, 3, 6, 4, 7, 5, 0, 6, 1, 7, 2, //
+    1, 0, 2, 1, 3, 2, 4, 3, 5, 4, 6, 5, 7, 6, 0, 7, //
+];
+
+/// The decimal number at a place, or 0 where there is none.
+fn number(words: &[&str], at: usize) -> u32 {
+    match words.get(at) {
+        Some(word) => word.parse().unwrap_or(0),
+        None => 0,
+    }
+}
+
+/// Reads an image and writes it again: whether that gave the same bytes.
+fn is_written_back(alloc: Global, bytes: &[u8]) -> Result<bool, ImageFault> {
+    let image = read_image(alloc, bytes)?;
+    let written = write_image(alloc, &image)?;
+    Ok(written.as_slice() == bytes)
+}
+
+/// Prints what became of the bytes of an image.
+fn print_read<W: Write>(alloc: Global, out: &mut W, bytes: &[u8]) -> io::Result<()> {
+    match is_written_back(alloc, bytes) {
+        Ok(true) => writeln!(out, "image"),
+        Ok(false) => writeln!(out, "another image"),
+        Err(fault) => writeln!(out, "{fault}"),
+    }
+}
+
+/// Prints what became of the bytes that the words spell.
+pub fn print_image<W: Write>(alloc: Global, out: &mut W, words: &[&str]) -> io::Result<()> {
+    let mut bytes = Vec::new(alloc);
+    for word in words {
+        bytes.push(u8::from_str_radix(word, 16).unwrap_or(0))?;
+    }
+    print_read(alloc, out, &bytes)
+}
+
+/// An image of 8 ranks of 4 harts with 1,048,576 bytes of memory.
+fn parts(
+    alloc: Global,
+    comms: u32,
+    links: u32,
+    text: u32,
+    init: u32,
+) -> Result<Vec<u8>, AllocError> {
+    let mut bytes = Vec::from_slice(alloc, b"RVMC\x01\0\x08\x04\0\0\x10\0\0\0\0\0")?;
+    bytes.extend_from_slice(&text.to_le_bytes())?;
+    bytes.extend_from_slice(&init.to_le_bytes())?;
+    bytes.extend_from_slice(&[(comms % 256) as u8, (links % 256) as u8, 0, 0])?;
+    let end = COMM_STARTS[(comms % 8) as usize];
+    bytes.extend_from_slice(&COMMS[..end])?;
+    bytes.extend_from_slice(&LINKS[..(2 * (links % 33)) as usize])?;
+    for place in 0..u64::from(text) + u64::from(init) {
+        bytes.push((place % 251) as u8)?;
+    }
+    Ok(bytes)
+}
+
+/// Prints what became of an image with these numbers of communicators, links, and bytes of text and data.
+pub fn print_parts<W: Write>(alloc: Global, out: &mut W, words: &[&str]) -> io::Result<()> {
+    let bytes = parts(
+        alloc,
+        number(words, 0),
+        number(words, 1),
+        number(words, 2),
+        number(words, 3),
+    )?;
+    print_read(alloc, out, &bytes)
+}
+
+/// Makes a memory and reads all of it: how many bytes that were.
+fn read_of(alloc: Global, size: u32) -> Result<usize, AllocError> {
+    if size < 4096 || size > 1_048_576 || size % 4096 != 0 {
+        return Ok(0);
+    }
+    let memory = RankMemory::new(alloc, size as usize, &[0x13, 0, 0, 0], &[])?;
+    match memory.read_bytes(alloc, 0, memory.size()) {
+        Ok(bytes) => Ok(bytes.len()),
+        Err(_) => Err(AllocError),
+    }
+}
+
+/// Prints how many bytes are read of a memory.
+pub fn print_memory<W: Write>(alloc: Global, out: &mut W, words: &[&str]) -> io::Result<()> {
+    let count = read_of(alloc, number(words, 0))?;
+    writeln!(out, "{count} bytes")
+}

@@ -1,4 +1,0 @@
-//! Values from outside, and each call that asks for memory.
-mod hart;
-mod image;
-mod memory;
