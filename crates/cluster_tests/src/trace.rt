@@ -71,3 +71,18 @@ pub fn two_are_read_in_order<'a>(cursor: &mut Cursor<'a>) -> (Option<Seen<'a>>, 
 {
     (cursor.next(), cursor.next())
 }
+
+/// What is seen ahead is what is read next.
+pub fn first_is_seen_ahead<'a>(cursor: &mut Cursor<'a>) -> (Option<Seen<'a>>, Option<Seen<'a>>)
+    ensures { (first : Event) (rest : List Event) → cursor.old ≡ first ∷ rest → Reads first result.0 × Reads first result.1 × (cursor.new ≡ rest) }
+{
+    (cursor.peek(), cursor.next())
+}
+
+/// A reader begins with the first event, however few there are.
+pub fn a_reader_begins_with_the_first(trace: &Trace) -> Option<Seen<'_>>
+    ensures { (first : Event) (rest : List Event) → trace.now.events ≡ first ∷ rest → Reads first result }
+{
+    let mut cursor = trace.cursor();
+    cursor.next()
+}
