@@ -43,6 +43,15 @@ pub fn a_told_take_was_loaded(place: &PartBox, key: &mut SendKey) -> Option<u64>
     place.freed(key)
 }
 
+/// A look for a take loads the gate, whatever it answers.
+pub fn a_take_is_looked_for(place: &PartBox, key: &mut SendKey) -> Option<u64>
+    requires own { key.old.at ≡ place.now.at }
+    requires made { 0 < length key.old.view.made }
+    ensures { length key.new.view.loads ≡ length key.old.view.loads + 1 }
+{
+    place.freed(key)
+}
+
 /// The stamp of a thing that was seen stood in the gate word that was loaded, which was odd.
 pub fn a_seen_thing_was_loaded(place: &PartBox, key: &mut RecvKey) -> Option<u64>
     requires own { key.old.at ≡ place.now.at }

@@ -2,7 +2,7 @@
 use Rattle.std.proofs.Common.{◌≡◌, map}
 use Rattle.part_channel.specs.Channels.{sender_box}
 use Rattle.part_channel.specs.Sending.{IsPast}
-use Rattle.boxes_tests.proofs.channel_tests.sent.Given as goal
+use Rattle.boxes_rows.proofs.channels.sent.Given as goal
 
 abbrev pub invariant-loop-i : goal.invariant-loop-i
 invariant-loop-i l = record {

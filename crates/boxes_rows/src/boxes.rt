@@ -1,10 +1,11 @@
-//! What no clause says of a box: that its calls succeed, and one thing from look to freed.
+//! What a box shows, from look to freed, and what it is left with.
 ghost use Rattle.std.specs.Prelude.{◌≡◌, ◌⊎◌, ℕ, ◌+◌, ◌^◌, ◌<◌, ◌≤◌, [], length, take, Some, IsTrue};
 ghost use Rattle.part_box.specs.Keys.{after_ready, after_empty};
 
 use part_box::{PartBox, RecvKey, SendKey, Settled};
 use std::alloc::{AllocError, Global};
-use std::test::*;
+use std::io;
+use std::io::Write;
 
 const WORDS: [u64; 16] = [
     1,
@@ -25,9 +26,6 @@ const WORDS: [u64; 16] = [
     1 << 63,
 ];
 
-/// The first 8 of them, as they are left in a box: 0 past its width.
-const EIGHT: [u64; 16] = [1, 2, 3, 4, 5, 6, 7, u64::MAX, 0, 0, 0, 0, 0, 0, 0, 0];
-
 fn empty_at(stamp: u64) -> Settled {
     Settled {
         full: false,
@@ -36,16 +34,8 @@ fn empty_at(stamp: u64) -> Settled {
     }
 }
 
-fn full_at(stamp: u64, words: [u64; 16]) -> Settled {
-    Settled {
-        full: true,
-        stamp,
-        words,
-    }
-}
-
 /// Makes a thing of the first words ready.
-pub(crate) fn make(place: &PartBox, key: &mut SendKey, width: usize, words: &[u64; 16], stamp: u64)
+fn make(place: &PartBox, key: &mut SendKey, width: usize, words: &[u64; 16], stamp: u64)
     requires own { (key.old.at ≡ place.now.at) × (place.now.width ≡ width) × (width ≤ 16) }
     requires open { IsTrue key.old.view.is_open × (key.old.view.filled ≡ []) }
     requires stamp { (key.old.view.front < stamp) × (stamp < 2 ^ 62) }
@@ -58,7 +48,7 @@ pub(crate) fn make(place: &PartBox, key: &mut SendKey, width: usize, words: &[u6
 }
 
 /// Takes the thing that was seen. The words past the width are 0.
-pub(crate) fn take(place: &PartBox, key: &mut RecvKey, width: usize, stamp: u64) -> [u64; 16]
+fn take(place: &PartBox, key: &mut RecvKey, width: usize, stamp: u64) -> [u64; 16]
     requires own { (key.old.at ≡ place.now.at) × (place.now.width ≡ width) × (width ≤ 16) }
     requires seen { (n : ℕ) × (key.old.view.seen ≡ Some n) × (n < stamp) × (stamp < 2 ^ 62) }
     requires fresh { key.old.view.copied ≡ [] }
@@ -79,13 +69,6 @@ fn settled_new(alloc: Global, width: usize) -> Result<Settled, AllocError>
     Ok(place.settle(send, recv))
 }
 
-#[test]
-fn a_new_box_settles_empty(rt: HostRuntime) -> Result<(), Fail> {
-    assert_eq!(rt; settled_new(rt.alloc(), 8)?, empty_at(0));
-    assert_eq!(rt; settled_new(rt.alloc(), 16)?, empty_at(0));
-    Ok(())
-}
-
 fn settled_after_three_fills(alloc: Global, width: usize) -> Result<Settled, AllocError>
     requires { (width ≡ 8) ⊎ (width ≡ 16) }
 {
@@ -96,13 +79,6 @@ fn settled_after_three_fills(alloc: Global, width: usize) -> Result<Settled, All
     Ok(place.settle(send, recv))
 }
 
-#[test]
-fn three_fills_settle_empty(rt: HostRuntime) -> Result<(), Fail> {
-    assert_eq!(rt; settled_after_three_fills(rt.alloc(), 8)?, empty_at(0));
-    assert_eq!(rt; settled_after_three_fills(rt.alloc(), 16)?, empty_at(0));
-    Ok(())
-}
-
 fn settled_after_ready(alloc: Global, width: usize, stamp: u64) -> Result<Settled, AllocError>
     requires wide { (width ≡ 8) ⊎ (width ≡ 16) }
     requires stamp { (0 < stamp) × (stamp < 2 ^ 62) }
@@ -110,14 +86,6 @@ fn settled_after_ready(alloc: Global, width: usize, stamp: u64) -> Result<Settle
     let (place, mut send, recv) = PartBox::new(alloc, width)?;
     make(&place, &mut send, width, &WORDS, stamp);
     Ok(place.settle(send, recv))
-}
-
-// The gate is twice the stamp and one more: 11.
-#[test]
-fn a_ready_thing_settles_full(rt: HostRuntime) -> Result<(), Fail> {
-    assert_eq!(rt; settled_after_ready(rt.alloc(), 8, 5)?, full_at(5, EIGHT));
-    assert_eq!(rt; settled_after_ready(rt.alloc(), 16, 5)?, full_at(5, WORDS));
-    Ok(())
 }
 
 /// What one thing showed on its way, made ready under stamp 5 and taken under stamp 9.
@@ -164,28 +132,6 @@ fn way(alloc: Global, width: usize) -> Result<Showed, AllocError>
     })
 }
 
-// Here a look that loaded another word than the gate would be found out: it would miss the thing, or show another stamp.
-#[test]
-fn one_thing_goes_through(rt: HostRuntime) -> Result<(), Fail> {
-    let seen = Showed {
-        early_look: None,
-        early_freed: None,
-        look: Some(5),
-        words: EIGHT,
-        freed: Some(9),
-        left: empty_at(9),
-    };
-    assert_eq!(rt; way(rt.alloc(), 8)?, seen);
-    assert_eq!(rt;
-        way(rt.alloc(), 16)?,
-        Showed {
-            words: WORDS,
-            ..seen
-        }
-    );
-    Ok(())
-}
-
 fn look_at_the_greatest(alloc: Global, width: usize) -> Result<(Option<u64>, Settled), AllocError>
     requires { (width ≡ 8) ⊎ (width ≡ 16) }
 {
@@ -201,10 +147,49 @@ fn look_at_the_greatest(alloc: Global, width: usize) -> Result<(Option<u64>, Set
     Ok((look, place.settle(send, recv)))
 }
 
-#[test]
-fn the_greatest_stamp_shows_nothing(rt: HostRuntime) -> Result<(), Fail> {
-    let left = full_at(4_611_686_018_427_387_903, [0; 16]);
-    assert_eq!(rt; look_at_the_greatest(rt.alloc(), 8)?, (None, left));
-    assert_eq!(rt; look_at_the_greatest(rt.alloc(), 16)?, (None, left));
-    Ok(())
+/// Prints what a box is left with.
+pub fn print_left<W: Write>(out: &mut W, left: &Settled) -> io::Result<()> {
+    let state = if left.full { "full" } else { "empty" };
+    write!(out, "{state} {}", left.stamp)?;
+    for word in &left.words {
+        write!(out, " {word:x}")?;
+    }
+    writeln!(out)
+}
+
+/// Prints a stamp, or `nothing`.
+fn print_stamp<W: Write>(out: &mut W, what: &str, stamp: Option<u64>) -> io::Result<()> {
+    match stamp {
+        Some(stamp) => writeln!(out, "{what} {stamp}"),
+        None => writeln!(out, "{what} nothing"),
+    }
+}
+
+/// Prints what one thing showed. A look that loaded another word than the gate would be found out here: it would miss the
+/// thing, or show another stamp.
+fn print_way<W: Write>(out: &mut W, showed: &Showed) -> io::Result<()> {
+    print_stamp(out, "early look", showed.early_look)?;
+    print_stamp(out, "early freed", showed.early_freed)?;
+    print_stamp(out, "look", showed.look)?;
+    write!(out, "words")?;
+    for word in &showed.words {
+        write!(out, " {word:x}")?;
+    }
+    writeln!(out)?;
+    print_stamp(out, "freed", showed.freed)?;
+    print_left(out, &showed.left)
+}
+
+/// Prints what boxes of this width show.
+pub fn print_boxes<W: Write>(alloc: Global, out: &mut W, width: usize) -> io::Result<()>
+    requires { (width ≡ 8) ⊎ (width ≡ 16) }
+{
+    writeln!(out, "boxes of {width} words")?;
+    print_left(out, &settled_new(alloc, width)?)?;
+    print_left(out, &settled_after_three_fills(alloc, width)?)?;
+    print_left(out, &settled_after_ready(alloc, width, 5)?)?;
+    print_way(out, &way(alloc, width)?)?;
+    let (look, left) = look_at_the_greatest(alloc, width)?;
+    print_stamp(out, "look", look)?;
+    print_left(out, &left)
 }

@@ -3,11 +3,13 @@ ghost use Rattle.std.specs.Prelude.{◌≡◌, ◌⊎◌, ◌*◌, ◌≤◌, ma
 ghost use Rattle.part_channel.specs.Channels.{sender_box, receiver_box};
 ghost use Rattle.part_channel.specs.Sending.{IsPast};
 
+use crate::boxes::print_left;
 use mp_types::{Code, Stamp};
 use part_box::Settled;
 use part_channel::{Channel, Progress, RecvSide, SendSide, Take};
 use std::alloc::{AllocError, Global};
-use std::test::*;
+use std::io;
+use std::io::Write;
 
 /// No clock of a row is above this one.
 const LAST_CLOCK: Stamp = 1_000;
@@ -212,13 +214,6 @@ fn second_of_eight(
     sent(channel, send, 8, &last, clock).is_some() && recv.next() == None && send.next() == None
 }
 
-#[test]
-fn two_partitions_of_eight_bytes(rt: HostRuntime) -> Result<(), Fail> {
-    assert!(rt; two_of_eight(rt.alloc(), 8)?);
-    assert!(rt; two_of_eight(rt.alloc(), 16)?);
-    Ok(())
-}
-
 // A sender of 3 partitions of 64 bytes, and a receiver that cuts the same 192 bytes into 2 of 96: which box each of the
 // receiver's partitions waits for. The sender makes partition 2 ready, then 0, and at last 1. Bytes 0 to 95 are in boxes
 // 0 and 1, and bytes 96 to 191 in boxes 1 and 2.
@@ -308,25 +303,17 @@ fn all_three_are_taken(channel: &Channel, recv: &mut RecvSide) -> bool
     taken(channel, recv, &last) && recv.next_of(1) == None
 }
 
-#[test]
-fn three_partitions_against_two(rt: HostRuntime) -> Result<(), Fail> {
-    assert!(rt; three_against_two(rt.alloc(), 8)?);
-    assert!(rt; three_against_two(rt.alloc(), 16)?);
-    Ok(())
-}
-
 // The sender's cut is learnt while a phase is going on.
-#[test]
-fn a_cut_is_learnt_in_a_phase(rt: HostRuntime) -> Result<(), Fail> {
-    let (_channel, _send, mut recv) = Channel::new(rt.alloc(), 16)?;
+fn cut_in_a_phase(alloc: Global, width: usize) -> Result<bool, AllocError>
+    requires { (width ≡ 8) ⊎ (width ≡ 16) }
+{
+    let (_channel, _send, mut recv) = Channel::new(alloc, width)?;
     recv.shape(2, 96);
-    assert_eq!(rt; recv.start(), Ok(()));
-    assert!(rt; !recv.knows_cut());
-    assert_eq!(rt; recv.next(), None);
+    if recv.start().is_err() || recv.knows_cut() || recv.next() != None {
+        return Ok(false);
+    }
     recv.cut(3, 64);
-    assert!(rt; recv.knows_cut());
-    assert_eq!(rt; recv.next(), Some(0));
-    Ok(())
+    Ok(recv.knows_cut() && recv.next() == Some(0))
 }
 
 // What a channel is left with where one thing was taken, one wasn't, and none was made in the third.
@@ -354,34 +341,53 @@ fn left_of_three(alloc: Global, width: usize) -> Result<Option<[Settled; 16]>, A
     Ok(Some(channel.settle(send, recv)))
 }
 
-#[test]
-fn a_channel_settles_box_by_box(rt: HostRuntime) -> Result<(), Fail> {
-    let nothing = Settled {
-        full: false,
-        stamp: 0,
-        words: [0; 16],
-    };
-    let mut left = [nothing; 16];
-    left[0].stamp = 7;
-    left[1].full = true;
-    left[1].stamp = 2;
-    left[1].words[0] = 0x0202_0202_0202_0202;
-    assert_eq!(rt; left_of_three(rt.alloc(), 8)?, Some(left));
-    assert_eq!(rt; left_of_three(rt.alloc(), 16)?, Some(left));
-    Ok(())
-}
-
-#[test]
-fn a_phase_is_not_begun_twice(rt: HostRuntime) -> Result<(), Fail> {
-    let (_channel, mut send, mut recv) = Channel::new(rt.alloc(), 8)?;
+// A phase that is going on isn't begun, on either side.
+fn begun_twice(alloc: Global, width: usize) -> Result<bool, AllocError>
+    requires { (width ≡ 8) ⊎ (width ≡ 16) }
+{
+    let (_channel, mut send, mut recv) = Channel::new(alloc, width)?;
     send.shape(1, 8);
     recv.shape(1, 8);
-    assert_eq!(rt; (send.next(), recv.next()), (None, None));
-    assert_eq!(rt; (send.start(), recv.start()), (Ok(()), Ok(())));
-    assert_eq!(rt; (send.next(), recv.next()), (Some(0), None));
-    assert_eq!(rt;
-        (send.start(), recv.start()),
-        (Err(Code::Active), Err(Code::Active))
-    );
+    if send.next() != None || recv.next() != None {
+        return Ok(false);
+    }
+    if send.start().is_err() || recv.start().is_err() {
+        return Ok(false);
+    }
+    if send.next() != Some(0) || recv.next() != None {
+        return Ok(false);
+    }
+    Ok(send.start() == Err(Code::Active) && recv.start() == Err(Code::Active))
+}
+
+/// Prints whether a row's calls answered as they should.
+fn print_row<W: Write>(out: &mut W, row: &str, right: bool) -> io::Result<()> {
+    let told = if right { "as it should be" } else { "WRONG" };
+    writeln!(out, "{row}: {told}")
+}
+
+/// Prints how channels of boxes of this width answer, and what one is left with, box by box.
+pub fn print_channels<W: Write>(alloc: Global, out: &mut W, width: usize) -> io::Result<()>
+    requires { (width ≡ 8) ⊎ (width ≡ 16) }
+{
+    writeln!(out, "channels of {width} words")?;
+    print_row(
+        out,
+        "two partitions of 8 bytes",
+        two_of_eight(alloc, width)?,
+    )?;
+    print_row(
+        out,
+        "3 of 64 against 2 of 96",
+        three_against_two(alloc, width)?,
+    )?;
+    print_row(out, "a cut in a phase", cut_in_a_phase(alloc, width)?)?;
+    print_row(out, "a phase begun twice", begun_twice(alloc, width)?)?;
+    let Some(left) = left_of_three(alloc, width)? else {
+        return print_row(out, "three partitions", false);
+    };
+    for settled in &left {
+        print_left(out, settled)?;
+    }
     Ok(())
 }

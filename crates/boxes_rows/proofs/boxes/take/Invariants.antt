@@ -1,6 +1,6 @@
 -- While one thing is taken: the words read so far are the copied ones.
 use Rattle.std.proofs.Common.{◌≡◌, length, take}
-use Rattle.boxes_tests.proofs.box_tests.take.Given as goal
+use Rattle.boxes_rows.proofs.boxes.take.Given as goal
 
 abbrev pub invariant-loop-i : goal.invariant-loop-i
 invariant-loop-i l = record {
