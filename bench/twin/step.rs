@@ -1,4 +1,4 @@
-//! The twin of `bench_step`: the same design as rv_decode, rv_memory and rv_hart, written by hand in Rust, to compare
+//! The twin of the steps of `bench_turn`: the same design as rv_decode, rv_memory and rv_hart, written by hand in Rust, to compare
 //! speeds with. Not a part of the emulator, and nothing here is proved.
 use std::env;
 
@@ -679,7 +679,7 @@ fn step(hart: &mut Hart, memory: &mut Memory) -> Did {
     execute(hart, memory, instr)
 }
 
-/// The guest of `bench_step`.
+/// The guest of `bench_turn`.
 static GUEST: [u32; 18] = [
     0x0000_1437, // lui x8, 0x1
     0x0010_0293, // addi x5, x0, 1

@@ -1,9 +1,13 @@
 //! Matches messages while others wait, and prints how many it matched: a program to time the matching with.
 //!
 //! Its first argument says how many messages wait that no receive asks for, its second how often a message is sent,
-//! received and collected beside them.
+//! received and collected beside them. With the word `hub` and a number it has a hub do it instead, and prints how many
+//! messages were got in how many calls; without words it does both.
 #![tactic(auto)]
 
+mod hub;
+
+use hub::got_of;
 use mp_match::{Queues, Selection, Sent};
 use mp_types::{Bytes, Envelope};
 use std::alloc::Global;
@@ -51,10 +55,9 @@ fn number_at(rt: &HostRuntime, place: usize, other: u32) -> io::Result<u32> {
     Ok(word.as_str().parse().unwrap_or(other))
 }
 
-fn main(rt: HostRuntime) -> io::Result<()> {
+/// Matches messages while others wait.
+fn print_matches(rt: &HostRuntime, waiting: u32, matches: u32) -> io::Result<()> {
     let alloc = rt.alloc();
-    let waiting = number_at(&rt, 1, 10)?;
-    let matches = number_at(&rt, 2, 100)?;
     let mut queues = Queues::new(alloc);
     for _ in 0..waiting {
         send(alloc, &mut queues, WANTED + 1)?;
@@ -69,4 +72,21 @@ fn main(rt: HostRuntime) -> io::Result<()> {
         "{matched} of {matches} messages matched, {} held",
         queues.held()
     )
+}
+
+/// Has a hub match them.
+fn print_hub(rt: &HostRuntime, messages: u32) -> io::Result<()> {
+    let (got, calls) = got_of(rt.alloc(), messages)?;
+    println!(rt; "{got} of {messages} messages got in {calls} calls")
+}
+
+fn main(rt: HostRuntime) -> io::Result<()> {
+    match env::args(&rt)?.nth(1) {
+        Some(word) if word.as_str() == "hub" => print_hub(&rt, number_at(&rt, 2, 100)?),
+        Some(_) => print_matches(&rt, number_at(&rt, 1, 10)?, number_at(&rt, 2, 100)?),
+        None => {
+            print_matches(&rt, 10, 100)?;
+            print_hub(&rt, 100)
+        }
+    }
 }

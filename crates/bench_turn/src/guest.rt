@@ -9,7 +9,7 @@ const HEAD: [u8; 28] = [
     0x48, 0x00, 0x00, 0x00, 0x00, 0x00, 0x00, 0x00, 0x00, 0x00, 0x00, 0x00,
 ];
 
-/// The guest of `bench_step`: in 64 cells from 4096 on, over and over, sums, products, loads, stores and branches, of which
+/// Its text: in 64 cells from 4096 on, over and over, sums, products, loads, stores and branches, of which
 /// one is hard to foresee. Made with GNU as 2.40 from the lines beside the words.
 static TEXT: [u32; 18] = [
     0x0000_1437, // lui x8, 0x1
