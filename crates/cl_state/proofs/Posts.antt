@@ -1,8 +1,8 @@
 -- Where one request of several needs the hub, a list of posts is asked for.
-use Rattle.std.proofs.Common.{◌≡◌, ◌++◌, ℕ, refl, subst, List, [], ◌∷◌, Option, Some, None, IsTrue}
+use Rattle.std.proofs.Common.{◌≡◌, ◌<◌, ◌++◌, ℕ, refl, subst, List, [], ◌∷◌, Option, Some, None, IsTrue, arith}
 use Rattle.std.specs.List.{cons_option}
 use Rattle.cl_state.specs.declared.pending.Pending.{Pending}
-use Rattle.cl_state.specs.Asked.{carries_list}
+use Rattle.cl_state.specs.Asked.{carried}
 use Rattle.cl_state.specs.Several.{asked_all, has_posts, post_of, posts_of}
 
 with_post : (before : List ℕ) (o : Option ℕ) (post : ℕ) (after : List ℕ) → o ≡ Some post → IsTrue (has_posts (before ++ cons_option o after))
@@ -14,6 +14,6 @@ pub posts_asked : (before : List ℕ) (post : ℕ) (p : Pending) (ps : List Pend
 posts_asked before post p ps all is same =
     subst (λ (l : List ℕ). IsTrue (has_posts l)) same (with_post before (post_of p) post (posts_of ps) is)
 
-pub carries_posts : (posts : List ℕ) → IsTrue (has_posts posts) → IsTrue (carries_list (asked_all posts))
-carries_posts [] there = there
-carries_posts (post ∷ posts) there = refl
+pub carries_posts : (posts : List ℕ) → IsTrue (has_posts posts) → 0 < carried (asked_all posts)
+carries_posts [] there = cc
+carries_posts (post ∷ posts) there = omega arith

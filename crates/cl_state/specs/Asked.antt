@@ -6,6 +6,7 @@ use Rattle.rv_hart.specs.State.{State}
 use Rattle.rv_hart.specs.declared.state.Mode.{Mode}
 use Rattle.rv_hart.specs.declared.state.Mode.TheVariants.{Running, Waiting, Ended, Trapped}
 use Rattle.rv_hart.specs.declared.state.Wait.TheVariants.{Post, Again}
+use Rattle.mp_types.specs.Carried.{carried_by_request}
 use Rattle.mp_types.specs.declared.codes.Code.{Code}
 use Rattle.mp_types.specs.declared.requests.Request.TheVariants as request
 use Rattle.mp_request.specs.declared.entries.OpenRequest.{OpenRequest}
@@ -128,12 +129,11 @@ asked_in site memory table (Go c) = asked_by site memory table c
 asked_in site memory table (Poll c post) = asked_poll c post
 asked_in site memory table Stopped = ask.Idle
 
--- a question that carries a list, of bytes or of posts: the list takes memory
-abbrev pub carries_list : Ask → Bool
-carries_list (ask.Hub (request.Send sync comm dest tag bytes)) = true
-carries_list (ask.Hub (request.All posts)) = true
-carries_list (ask.Ready link part bytes) = true
-carries_list _ = false
+-- how many elements the list has that a question carries. The list takes memory for them, and for nothing else
+abbrev pub carried : Ask → ℕ
+carried (ask.Hub r) = carried_by_request r
+carried (ask.Ready link part bytes) = length bytes
+carried _ = 0
 
 -- what the hart's registers, mode and memory spell for its next turn
 unfoldable pub asked : Rank → ℕ → Ask

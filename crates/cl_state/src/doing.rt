@@ -1,8 +1,8 @@
 //! What the next turn of a hart is, and what it asks.
 
-ghost use Rattle.std.specs.Prelude.{◌≡◌, IsTrue, MatchResult, false};
+ghost use Rattle.std.specs.Prelude.{◌≡◌, ◌<◌, MatchResult, false};
 ghost use Rattle.cl_calls.specs.Needs.{needs_of_probing};
-ghost use Rattle.cl_state.specs.Asked.{asked_by, asked_claim, asked_in, asked_poll, asked_probe, asked_start, carries_list, checked as checked_of, doing as doing_of, is_ecall as is_ecall_of};
+ghost use Rattle.cl_state.specs.Asked.{asked_by, asked_claim, asked_in, asked_poll, asked_probe, asked_start, carried, checked as checked_of, doing as doing_of, is_ecall as is_ecall_of};
 ghost use Rattle.cl_state.specs.Right.{IsChecked, IsNoStep, IsRight, IsRunning};
 ghost use Rattle.cl_state.specs.declared.asking.Doing.TheVariants.{Go};
 
@@ -79,7 +79,7 @@ impl Doing {
         requests: &Requests,
     ) -> Result<Ask, AllocError>
         requires { IsChecked site.now memory.now requests.now self.now }
-        ensures { MatchResult result (λ ask. ask ≡ asked_in site.now memory.now requests.now self.now) (λ e. IsTrue (carries_list (asked_in site.now memory.now requests.now self.now))) }
+        ensures { MatchResult result (λ ask. ask ≡ asked_in site.now memory.now requests.now self.now) (λ e. 0 < carried (asked_in site.now memory.now requests.now self.now)) }
     {
         match *self {
             Doing::Step => Ok(Ask::Plain),
@@ -134,7 +134,7 @@ fn start(
     memory: &RankMemory,
     request: Option<OpenRequest>,
 ) -> Result<Ask, AllocError>
-    ensures { MatchResult result (λ ask. ask ≡ asked_start memory.now request) (λ e. IsTrue (carries_list (asked_start memory.now request))) }
+    ensures { MatchResult result (λ ask. ask ≡ asked_start memory.now request) (λ e. 0 < carried (asked_start memory.now request)) }
 {
     match request {
         None => Ok(Ask::Local),
@@ -150,7 +150,7 @@ fn ask_by(
     call: &Call,
 ) -> Result<Ask, AllocError>
     requires { IsChecked site.now memory.now requests.now (Go call.now) }
-    ensures { MatchResult result (λ ask. ask ≡ asked_by site.now memory.now requests.now call.now) (λ e. IsTrue (carries_list (asked_by site.now memory.now requests.now call.now))) }
+    ensures { MatchResult result (λ ask. ask ≡ asked_by site.now memory.now requests.now call.now) (λ e. 0 < carried (asked_by site.now memory.now requests.now call.now)) }
 {
     match *call {
         Call::Send(sending) => ask(alloc, memory, true, &send(site, false, &sending)),

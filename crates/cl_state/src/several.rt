@@ -1,10 +1,10 @@
 //! Calls that complete several requests together.
 
-ghost use Rattle.std.specs.Prelude.{◌≡◌, ◌≤◌, List, ℕ, IsTrue, MatchResult, length};
+ghost use Rattle.std.specs.Prelude.{◌≡◌, ◌<◌, ◌≤◌, List, ℕ, IsTrue, MatchResult, length};
 ghost use Rattle.std.specs.List.{list_any};
 ghost use Rattle.cl_calls.specs.Checks.{is_array, is_few};
 ghost use Rattle.cl_calls.specs.Needs.{array_at};
-ghost use Rattle.cl_state.specs.Asked.{asked_several, carries_list};
+ghost use Rattle.cl_state.specs.Asked.{asked_several, carried};
 ghost use Rattle.cl_state.specs.Pending.{pending_of};
 ghost use Rattle.cl_state.specs.Several.{Given, are_fit, completed_each, fits_one, given, given_message, given_nothing, given_one, got_of, has_posts, left_of, pendings, post_of, posts_of, status_of, statuses_of, with_all_bytes};
 ghost use Rattle.cl_state.specs.Told.{completed_all, told_all, told_gots};
@@ -59,7 +59,7 @@ pub(crate) fn ask_several(
 ) -> Result<Ask, AllocError>
     requires few { IsTrue (is_few (array_at several.now.array several.now.count)) }
     requires inside { IsTrue (is_array memory.now (array_at several.now.array several.now.count)) }
-    ensures { MatchResult result (λ ask. ask ≡ asked_several memory.now requests.now several.now) (λ e. IsTrue (carries_list (asked_several memory.now requests.now several.now))) }
+    ensures { MatchResult result (λ ask. ask ≡ asked_several memory.now requests.now several.now) (λ e. 0 < carried (asked_several memory.now requests.now several.now)) }
 {
     let array = Array {
         address: several.array,

@@ -1,8 +1,8 @@
 //! A rank as it runs.
 
-ghost use Rattle.std.specs.Prelude.{◌≡◌, ◌<◌, get_or, vec_len, IfOk, IsOk, IsOkAnd, IsTrue, MatchResult, OnOk};
+ghost use Rattle.std.specs.Prelude.{◌≡◌, ◌<◌, get_or, vec_len, IfOk, IsOk, IsOkAnd, MatchResult, OnOk};
 ghost use Rattle.rv_memory.specs.Memory.{bytes_at};
-ghost use Rattle.cl_state.specs.Asked.{asked, carries_list, doing as doing_of, no_hart, part_of};
+ghost use Rattle.cl_state.specs.Asked.{asked, carried, doing as doing_of, no_hart, part_of};
 ghost use Rattle.cl_state.specs.Right.{IsChecked, IsRunning, growth_of};
 ghost use Rattle.cl_state.specs.Told.{told};
 
@@ -76,7 +76,7 @@ impl RankState {
     #[tactic(auto, unfolding(crate::specs::Asked::asked))]
     pub fn ask(&self, hart: u8) -> Result<Ask, AllocError>
         requires { hart < vec_len self.now.harts }
-        ensures { MatchResult result (λ ask. ask ≡ asked (rank_of self.now) hart) (λ e. IsTrue (carries_list (asked (rank_of self.now) hart))) }
+        ensures { MatchResult result (λ ask. ask ≡ asked (rank_of self.now) hart) (λ e. 0 < carried (asked (rank_of self.now) hart)) }
     {
         self.doing(hart)
             .ask(self.alloc, &self.site, &self.memory, &self.requests)

@@ -1,11 +1,11 @@
 //! What a call transfers, what the hub is asked for it, and how far it is once that was answered.
 
-ghost use Rattle.std.specs.Prelude.{◌≡◌, ◌≢◌, ◌≤◌, IfOk, IsTrue, MatchResult, Some, false};
+ghost use Rattle.std.specs.Prelude.{◌≡◌, ◌≢◌, ◌<◌, ◌≤◌, IsTrue, MatchResult, Some, false, length};
 ghost use Rattle.rv_memory.specs.Memory.{bytes_at};
 ghost use Rattle.cl_calls.specs.Calls.{no_rank};
 ghost use Rattle.cl_calls.specs.Checks.{is_peer, is_tag};
 ghost use Rattle.cl_calls.specs.Needs.{needs_of_receiving, needs_of_sending, source as source_peer, tag_or_any};
-ghost use Rattle.cl_state.specs.Asked.{carries_list};
+ghost use Rattle.cl_state.specs.Asked.{carried};
 ghost use Rattle.cl_state.specs.Right.{IsRight};
 ghost use Rattle.cl_state.specs.Transfers.{asked_claimed, asked_transfer, begun as begun_by, claimed_of, posted as posted_by, receive_of, send_of, sent_on, source_of, tag_of};
 
@@ -86,11 +86,18 @@ pub(crate) fn receive_claimed(claimed: &Claimed) -> Transfer
     }
 }
 
-/// The bytes of a send. They are in the memory, and at most 4,096: its range was checked when the send was made.
-fn copy(alloc: Global, memory: &RankMemory, buffer: u64, count: u16) -> Result<Bytes, AllocError>
-    ensures { IfOk result (λ bytes. bytes ≡ bytes_at memory.now buffer count) }
+/// How many of these bytes are in the memory. All of a send's are: its range was checked when it was made.
+fn present(memory: &RankMemory, buffer: u64, count: u16) -> u64
+    ensures { result ≡ length (bytes_at memory.now buffer count) }
 {
-    let Ok(bytes) = memory.read_bytes(alloc, buffer, u64::from(count)) else {
+    u64::from(count).min(memory.size().saturating_sub(buffer))
+}
+
+/// The bytes of a send, at most 4,096. No bytes take no memory.
+fn copy(alloc: Global, memory: &RankMemory, buffer: u64, count: u16) -> Result<Bytes, AllocError>
+    ensures { MatchResult result (λ bytes. bytes ≡ bytes_at memory.now buffer count) (λ e. 0 < length (bytes_at memory.now buffer count)) }
+{
+    let Ok(bytes) = memory.read_bytes(alloc, buffer, present(memory, buffer, count)) else {
         return Err(AllocError);
     };
     if bytes.len() > MESSAGE_MAX {
@@ -106,7 +113,7 @@ pub(crate) fn ask(
     now: bool,
     transfer: &Transfer,
 ) -> Result<Ask, AllocError>
-    ensures { MatchResult result (λ ask. ask ≡ asked_transfer memory.now now transfer.now) (λ e. IsTrue (carries_list (asked_transfer memory.now now transfer.now))) }
+    ensures { MatchResult result (λ ask. ask ≡ asked_transfer memory.now now transfer.now) (λ e. 0 < carried (asked_transfer memory.now now transfer.now)) }
 {
     match *transfer {
         Transfer::Send {
