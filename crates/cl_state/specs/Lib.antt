@@ -7,6 +7,8 @@ pub mod Several
 pub mod Asked
 pub mod Right
 pub mod Room
+pub mod Table
 pub mod Told
+pub mod Turn
 pub mod Laws
 pub mod Rows

@@ -1,5 +1,5 @@
 -- What a request still needs to complete (MPI 4.1, 3.7.3).
-use Rattle.std.specs.Prelude.{ℕ, Option, Some, None}
+use Rattle.std.specs.Prelude.{ℕ, Option, Some, None, Bool, true, false}
 use Rattle.mp_types.specs.declared.requests.Request.TheVariants as request
 use Rattle.mp_request.specs.declared.entries.OpenRequest.{OpenRequest}
 use Rattle.mp_request.specs.declared.entries.Progress.{Progress}
@@ -8,8 +8,6 @@ use Rattle.mp_request.specs.declared.entries.State.{State}
 use Rattle.mp_request.specs.declared.entries.State.TheVariants.{Ordinary, Inactive, Active}
 use Rattle.mp_request.specs.declared.entries.Transfer.{Transfer}
 use Rattle.mp_request.specs.declared.entries.Transfer.TheVariants.{SendToNull, ReceiveFromNull, Send, Receive, ReceiveClaimed, SendPartitions, ReceivePartitions}
-use Rattle.cl_calls.specs.declared.calls.Call.{Call}
-use Rattle.cl_calls.specs.declared.calls.Call.TheVariants as call
 use Rattle.cl_state.specs.declared.asking.Ask.{Ask}
 use Rattle.cl_state.specs.declared.asking.Ask.TheVariants as ask
 use Rattle.cl_state.specs.declared.pending.Manner.{Manner}
@@ -17,18 +15,15 @@ use Rattle.cl_state.specs.declared.pending.Manner.TheVariants.{Immediate, Blocki
 use Rattle.cl_state.specs.declared.pending.Pending.{Pending}
 use Rattle.cl_state.specs.declared.pending.Pending.TheVariants.{Nothing, FromNull, Message, Word}
 
--- the calls that end at once, whether or not there is something (MPI 4.1, 3.7.3, 3.7.5 and 3.8); the others wait
-abbrev pub manner_of : Call → Manner
-manner_of (call.Test c) = Immediate
-manner_of (call.Iprobe p) = Immediate
-manner_of (call.Improbe p) = Immediate
-manner_of (call.Testall s) = Immediate
-manner_of _ = Blocking
-
--- the flag of an immediate call that completes; a blocking one gives no value
+-- the flag of an immediate call that completes; no other gives one
 abbrev pub flag : Manner → ℕ
 flag Immediate = 1
-flag Blocking = 0
+flag _ = 0
+
+-- a blocking receive wants its message with the reply
+abbrev pub is_blocking : Manner → Bool
+is_blocking Blocking = true
+is_blocking _ = false
 
 -- a receive needs its message, and a send word that it is complete
 abbrev pub pending_on : ℕ → Transfer → Pending

@@ -1,6 +1,5 @@
 -- The rank after the answer. A reply that isn't one for its request is told as the code BadRequest.
-use Rattle.std.specs.Prelude.{ℕ, ◌==◌, if◌then◌else◌, List, [], ◌++◌, length, take, set, Option, Some, None, Result, Ok, Err, Bool, true, false, nat_lt}
-use Rattle.std.specs.Option.{unwrap_or}
+use Rattle.std.specs.Prelude.{ℕ, ◌==◌, if◌then◌else◌, List, [], ◌++◌, length, take, set, Option, Some, None, Bool, true, false, nat_lt}
 use Rattle.rv_memory.specs.Memory.{Memory, bytes_of, bytes_at}
 use Rattle.rv_hart.specs.State.{State, write, at_pc, in_mode}
 use Rattle.rv_hart.specs.Effect.{next}
@@ -12,40 +11,33 @@ use Rattle.mp_types.specs.declared.codes.Code.{Code}
 use Rattle.mp_types.specs.declared.codes.Code.TheVariants as code
 use Rattle.mp_types.specs.declared.messages.Envelope.{Envelope}
 use Rattle.mp_types.specs.declared.messages.Message.{Message}
+use Rattle.mp_types.specs.declared.replies.Reply.{Reply}
 use Rattle.mp_types.specs.declared.replies.Reply.TheVariants as reply
 use Rattle.mp_request.specs.declared.entries.OpenRequest.{OpenRequest}
-use Rattle.mp_request.specs.declared.entries.Progress.{Progress}
-use Rattle.mp_request.specs.declared.entries.Progress.TheVariants as progress
-use Rattle.mp_request.specs.declared.entries.State.TheVariants as state
-use Rattle.mp_request.specs.declared.entries.Transfer.{Transfer}
-use Rattle.mp_request.specs.Table.{request_at, with_request, lowest_free, started, completed}
-use Rattle.cl_calls.specs.declared.calls.Call.{Call}
-use Rattle.cl_calls.specs.declared.calls.Call.TheVariants as call
-use Rattle.cl_calls.specs.declared.calls.Claimed.{Claimed}
-use Rattle.cl_calls.specs.declared.calls.Completing.{Completing}
-use Rattle.cl_calls.specs.declared.calls.Probing.{Probing}
-use Rattle.cl_calls.specs.declared.calls.Receiving.{Receiving}
-use Rattle.cl_calls.specs.declared.calls.Several.{Several}
+use Rattle.mp_request.specs.Table.{with_request, lowest_free, started, completed}
 use Rattle.cl_calls.specs.declared.sites.Site.{Site}
 use Rattle.cl_calls.specs.Site.{members, place_of}
-use Rattle.cl_calls.specs.Calls.{any, no_rank, no_message}
+use Rattle.cl_calls.specs.Calls.{any, no_rank}
 use Rattle.cl_calls.specs.Handles.{handles_in}
 use Rattle.cl_calls.specs.Needs.{array_at}
 use Rattle.cl_state.specs.declared.asking.Answer.{Answer}
 use Rattle.cl_state.specs.declared.asking.Answer.TheVariants as answer
 use Rattle.cl_state.specs.declared.asking.Doing.{Doing}
-use Rattle.cl_state.specs.declared.asking.Doing.TheVariants.{Step, Refused, Go, Poll, Stopped}
 use Rattle.cl_state.specs.declared.pending.Manner.{Manner}
-use Rattle.cl_state.specs.declared.pending.Manner.TheVariants.{Immediate, Blocking}
-use Rattle.cl_state.specs.declared.pending.Pending.{Pending}
-use Rattle.cl_state.specs.declared.pending.Pending.TheVariants.{Nothing, FromNull, Message as Awaited, Word}
+use Rattle.cl_state.specs.declared.pending.Manner.TheVariants.{Immediate, Blocking, Posting, Polling}
 use Rattle.cl_state.specs.declared.pending.Target.{Target}
+use Rattle.cl_state.specs.declared.row.Outcome.{Outcome}
+use Rattle.cl_state.specs.declared.row.Outcome.TheVariants.{Steps, Stays, Exits, Ends, Waits, Puts, Opens, Starts, Frees, Completes, FindsNothing, CompletesAll}
+use Rattle.cl_state.specs.declared.row.Row.{Row}
+use Rattle.cl_state.specs.declared.row.Row.TheVariants.{AtOnce, OnReply}
+use Rattle.cl_state.specs.declared.row.Wanted.{Wanted}
+use Rattle.cl_state.specs.declared.row.Wanted.TheVariants as wanted
 use Rattle.cl_state.specs.Rank.{Rank}
-use Rattle.cl_state.specs.Transfers.{send_of, receive_of, claimed_of, begun}
-use Rattle.cl_state.specs.Pending.{flag, pending_of}
-use Rattle.cl_state.specs.Several.{pendings, posts_of, has_posts, are_fit, given, with_all_bytes, with_statuses, code_of, completed_each}
+use Rattle.cl_state.specs.Transfers.{posted}
+use Rattle.cl_state.specs.Several.{pendings, are_fit, given, with_all_bytes, with_statuses, code_of, completed_each}
 use Rattle.cl_state.specs.Written.{written}
 use Rattle.cl_state.specs.Asked.{Part, part_of, doing}
+use Rattle.cl_state.specs.Table.{begun, row_in}
 
 -- ---- how a call ends
 
@@ -63,11 +55,6 @@ waiting post part = record part { hart = in_mode part.hart (Waiting (Post post))
 -- the hart makes its call anew in its next turn
 abbrev pub again : Part → Part
 again part = record part { hart = in_mode part.hart (Waiting Again) }
-
--- what was asked for isn't there yet: an immediate call ends with flag 0, a blocking one waits
-abbrev pub not_yet : Manner → Part → Part
-not_yet Immediate part = ended code.Ok 0 part
-not_yet Blocking part = again part
 
 -- ---- what is written
 
@@ -97,29 +84,7 @@ unfoldable pub received_message : Site → Target → Message → Part → Part
 received_message site target message part =
     received_from (place_of message.envelope.source (members site message.envelope.comm)) target message part
 
--- a call that waits for its message itself, and has no request
-abbrev pub into : ℕ → ℕ → ℕ → Target
-into buffer capacity status = record { buffer = buffer; capacity = capacity; status = status; handle = 0; value = 0 }
-
--- nothing comes from the null process (3.11): no byte, and the status (-2, -1, 0)
-abbrev pub received_nothing : Target → Part → Part
-received_nothing target part = received target no_rank any [] part
-
--- the answer to a receive
-abbrev pub told_recv : Site → Target → Answer → Part → Part
-told_recv site target (answer.Reply (reply.Got message)) part = received_message site target message part
-told_recv site target (answer.Reply (reply.Posted post done)) part = waiting post part
-told_recv site target (answer.Reply (reply.Code c)) part = ended c 0 part
-told_recv site target _ part = ended code.BadRequest 0 part
-
--- ---- sends, and requests that are opened, started and freed
-
--- a send that isn't complete waits for its post
-abbrev pub told_send : Result Progress Code → Part → Part
-told_send (Ok progress.Finished) part = ended code.Ok 0 part
-told_send (Ok (progress.OnPost post)) part = waiting post part
-told_send (Ok progress.InPhase) part = ended code.BadRequest 0 part
-told_send (Err c) part = ended c 0 part
+-- ---- requests that are opened and freed
 
 -- a request is opened at the lowest free handle, which the call gives (MPI 4.1, 3.7.2)
 abbrev pub opened_at : Option ℕ → OpenRequest → Part → Part
@@ -130,89 +95,28 @@ opened_at (Some handle) request part =
 abbrev pub opened : OpenRequest → Part → Part
 opened request part = opened_at (lowest_free part.requests) request part
 
--- an ordinary request is open once its post was made, and is active (3.7.2)
-abbrev pub told_open : Transfer → Result Progress Code → Part → Part
-told_open transfer (Ok progress) part = opened (record { transfer = transfer; state = state.Ordinary progress }) part
-told_open transfer (Err c) part = ended c 0 part
-
--- a persistent request is inactive when it is made (3.9)
-abbrev pub made : Transfer → Part → Part
-made transfer part = opened (record { transfer = transfer; state = state.Inactive }) part
-
-abbrev pub told_begun : ℕ → Result Progress Code → Part → Part
-told_begun handle (Ok progress) part = ended code.Ok 0 (record part { requests = started part.requests handle progress })
-told_begun handle (Err c) part = ended c 0 part
-
--- a start posts what its request transfers (3.9)
-abbrev pub told_start : ℕ → Option OpenRequest → Answer → Part → Part
-told_start handle None a part = ended code.BadRequest 0 part
-told_start handle (Some r) a part = told_begun handle (begun r.transfer a) part
-
 unfoldable pub freed : ℕ → Part → Part
 freed handle part = ended code.Ok 0 (record part { requests = with_request part.requests handle None })
-
--- ---- calls that complete a request
-
--- what completes a request goes where its receive said, and its status where the call says
-abbrev pub completing : Manner → Completing → ℕ → ℕ → Target
-completing m c buffer capacity =
-    record { buffer = buffer; capacity = capacity; status = c.status; handle = c.handle; value = flag m }
-
--- nothing is received, and the status is empty: (-1, -1, 0)
-abbrev pub completed_empty : Target → Part → Part
-completed_empty target part = received target any any [] part
-
-abbrev pub told_message : Site → Manner → Target → Answer → Part → Part
-told_message site m target (answer.Reply (reply.Got message)) part = received_message site target message part
-told_message site m target (answer.Reply reply.NotYet) part = not_yet m part
-told_message site m target (answer.Reply (reply.Code c)) part = ended c 0 part
-told_message site m target _ part = ended code.BadRequest 0 part
-
-abbrev pub told_word : Manner → Target → Answer → Part → Part
-told_word m target (answer.Reply reply.Done) part = completed_empty target part
-told_word m target (answer.Reply reply.NotYet) part = not_yet m part
-told_word m target (answer.Reply (reply.Code c)) part = ended c 0 part
-told_word m target _ part = ended code.BadRequest 0 part
-
--- the answer to a test or a wait, by what its request needed (MPI 4.1, 3.7.3)
-abbrev pub told_completing : Site → Manner → Completing → Pending → Answer → Part → Part
-told_completing site m c Nothing a part = completed_empty (completing m c 0 0) part
-told_completing site m c FromNull a part = received_nothing (completing m c 0 0) part
-told_completing site m c (Awaited post buffer capacity) a part = told_message site m (completing m c buffer capacity) a part
-told_completing site m c (Word post) a part = told_word m (completing m c 0 0) a part
 
 -- ---- several requests
 
 -- all complete: all bytes, then all statuses (MPI 4.1, 3.7.5)
-unfoldable pub completed_all : Site → Manner → ℕ → List ℕ → List (Option Message) → Part → Part
-completed_all site m statuses handles gots part =
+unfoldable pub completed_all : Site → ℕ → ℕ → List ℕ → List (Option Message) → Part → Part
+completed_all site value statuses handles gots part =
     let gs = given site (pendings part.requests handles) gots in
-    ended (code_of gs) (flag m) (record part {
+    ended (code_of gs) value (record part {
       memory = with_statuses (with_all_bytes part.memory gs) statuses gs;
       requests = completed_each part.requests handles;
     })
 
-abbrev pub completed_if : Bool → Site → Manner → ℕ → List ℕ → List (Option Message) → Part → Part
-completed_if true site m statuses handles gots part = completed_all site m statuses handles gots part
-completed_if false site m statuses handles gots part = ended code.BadRequest 0 part
+abbrev pub gathered_if : Bool → Site → ℕ → ℕ → List ℕ → List (Option Message) → Part → Part
+gathered_if true site value statuses handles gots part = completed_all site value statuses handles gots part
+gathered_if false site value statuses handles gots part = ended code.BadRequest 0 part
 
-abbrev pub told_gots : Site → Manner → ℕ → List ℕ → Answer → Part → Part
-told_gots site m statuses handles (answer.Reply (reply.AllGot gots)) part =
-    completed_if (are_fit site (pendings part.requests handles) gots) site m statuses handles gots part
-told_gots site m statuses handles (answer.Reply reply.NotYet) part = not_yet m part
-told_gots site m statuses handles (answer.Reply (reply.Code c)) part = ended c 0 part
-told_gots site m statuses handles _ part = ended code.BadRequest 0 part
-
--- where no post was asked for all complete at once, and else all or none
-abbrev pub told_handles : Site → Manner → ℕ → List ℕ → Answer → Part → Part
-told_handles site m statuses handles a part =
-    if has_posts (posts_of (pendings part.requests handles))
-    then told_gots site m statuses handles a part
-    else completed_all site m statuses handles [] part
-
--- the handles are read before anything is written
-abbrev pub told_all : Site → Manner → Several → Answer → Part → Part
-told_all site m s a part = told_handles site m s.statuses (handles_in part.memory (array_at s.array s.count)) a part
+-- where each got what it waits for
+abbrev pub gathered : Site → ℕ → ℕ → List ℕ → List (Option Message) → Part → Part
+gathered site value statuses handles gots part =
+    gathered_if (are_fit site (pendings part.requests handles) gots) site value statuses handles gots part
 
 -- ---- probes
 
@@ -230,93 +134,54 @@ found site value status envelope part =
 unfoldable pub found_nothing : ℕ → ℕ → Part → Part
 found_nothing value status part = ended code.Ok value (record part { memory = with_status part.memory status no_rank any 0 })
 
-abbrev pub told_seen : Site → Manner → Probing → Answer → Part → Part
-told_seen site m p (answer.Reply (reply.Seen envelope)) part = found site (flag m) p.status envelope part
-told_seen site m p (answer.Reply reply.NotYet) part = not_yet m part
-told_seen site m p (answer.Reply (reply.Code c)) part = ended c 0 part
-told_seen site m p _ part = ended code.BadRequest 0 part
-
-abbrev pub told_held : Site → Manner → Probing → Answer → Part → Part
-told_held site m p (answer.Reply (reply.Held message envelope)) part = found site message p.status envelope part
-told_held site m p (answer.Reply reply.NotYet) part = not_yet m part
-told_held site m p (answer.Reply (reply.Code c)) part = ended c 0 part
-told_held site m p _ part = ended code.BadRequest 0 part
-
-abbrev pub told_probe : Site → Manner → Probing → Answer → Part → Part
-told_probe site m p a part = if (p.source == no_rank) then found_nothing (flag m) p.status part else told_seen site m p a part
-
--- a claimed message is given as its handle
-abbrev pub told_claim : Site → Manner → Probing → Answer → Part → Part
-told_claim site m p a part = if (p.source == no_rank) then found_nothing no_message p.status part else told_held site m p a part
-
 -- ---- a turn
 
-abbrev pub received_call : Site → Receiving → ℕ → Answer → Part → Part
-received_call site r status a part =
-    if (r.source == no_rank)
-    then received_nothing (into r.buffer r.capacity status) part
-    else told_recv site (into r.buffer r.capacity status) a part
+-- what isn't there yet: an immediate call ends with flag 0, a blocking one is made anew, a poll waits on; no post is told so
+abbrev pub not_yet : Manner → Part → Part
+not_yet Immediate part = ended code.Ok 0 part
+not_yet Blocking part = again part
+not_yet Polling part = part
+not_yet Posting part = ended code.BadRequest 0 part
 
-abbrev pub received_claimed : Site → Claimed → ℕ → Answer → Part → Part
-received_claimed site m status a part =
-    if (m.message == no_message)
-    then received_nothing (into m.buffer m.capacity status) part
-    else told_recv site (into m.buffer m.capacity status) a part
+-- what is done at once
+abbrev pub done : Site → Outcome → Part → Part
+done site Steps part = let after = stepped part.hart part.memory in record part { hart = after.state; memory = after.memory }
+done site Stays part = part
+done site (Exits value) part = record part { hart = in_mode part.hart (Ended value) }
+done site (Ends c value) part = ended c value part
+done site (Waits post) part = waiting post part
+done site (Puts buffer count) part = ended code.Ok 0 (record part { out = part.out ++ bytes_at part.memory buffer count })
+done site (Opens request) part = opened request part
+done site (Starts handle progress) part = ended code.Ok 0 (record part { requests = started part.requests handle progress })
+done site (Frees handle) part = freed handle part
+done site (Completes source target) part = received target source any [] part
+done site (FindsNothing value status) part = found_nothing value status part
+done site (CompletesAll value s) part = completed_all site value s.statuses (handles_in part.memory (array_at s.array s.count)) [] part
 
--- the answer to a call that is right
-abbrev pub told_call : Site → ℕ → Call → Answer → Part → Part
-told_call site hart (call.Exit value) a part = record part { hart = in_mode part.hart (Ended value) }
-told_call site hart (call.Put buffer count) a part = ended code.Ok 0 (record part { out = part.out ++ bytes_at part.memory buffer count })
-told_call site hart (call.Rank comm) a part = ended code.Ok (unwrap_or (place_of site.number (members site comm)) 0) part
-told_call site hart (call.Size comm) a part = ended code.Ok (length (members site comm)) part
-told_call site hart call.Hart a part = ended code.Ok hart part
-told_call site hart (call.Send s) a part = told_send (begun (send_of site false s) a) part
-told_call site hart (call.Ssend s) a part = told_send (begun (send_of site true s) a) part
-told_call site hart (call.Recv r status) a part = received_call site r status a part
-told_call site hart (call.Isend s) a part = told_open (send_of site false s) (begun (send_of site false s) a) part
-told_call site hart (call.Issend s) a part = told_open (send_of site true s) (begun (send_of site true s) a) part
-told_call site hart (call.Irecv r) a part = told_open (receive_of site r) (begun (receive_of site r) a) part
-told_call site hart (call.Test c) a part = told_completing site Immediate c (pending_of (request_at part.requests c.handle)) a part
-told_call site hart (call.Wait c) a part = told_completing site Blocking c (pending_of (request_at part.requests c.handle)) a part
-told_call site hart (call.Iprobe p) a part = told_probe site Immediate p a part
-told_call site hart (call.Probe p) a part = told_probe site Blocking p a part
-told_call site hart (call.Improbe p) a part = told_claim site Immediate p a part
-told_call site hart (call.Mprobe p) a part = told_claim site Blocking p a part
-told_call site hart (call.Imrecv m) a part = told_open (claimed_of m) (begun (claimed_of m) a) part
-told_call site hart (call.Mrecv m status) a part = received_claimed site m status a part
-told_call site hart (call.SendInit s) a part = made (send_of site false s) part
-told_call site hart (call.RecvInit r) a part = made (receive_of site r) part
-told_call site hart (call.Start handle) a part = told_start handle (request_at part.requests handle) a part
-told_call site hart (call.RequestFree handle) a part = freed handle part
-told_call site hart (call.Testall s) a part = told_all site Immediate s a part
-told_call site hart (call.Waitall s) a part = told_all site Blocking s a part
-told_call site hart call.Unknown a part = part
+-- what a reply does where it is wanted; any other doesn't fit
+abbrev pub replied : Site → Wanted → Reply → Part → Part
+replied site (wanted.Post why t) (reply.Posted post paired) part = done site (begun why t (posted t post paired)) part
+replied site (wanted.MessageOrPost target) (reply.Posted post paired) part = waiting post part
+replied site (wanted.MessageOrPost target) (reply.Got message) part = received_message site target message part
+replied site (wanted.Message target) (reply.Got message) part = received_message site target message part
+replied site (wanted.Word target) reply.Done part = received target any any [] part
+replied site wanted.Sent reply.Done part = ended code.Ok 0 part
+replied site (wanted.All value s) (reply.AllGot gots) part =
+    gathered site value s.statuses (handles_in part.memory (array_at s.array s.count)) gots part
+replied site (wanted.Sight value status) (reply.Seen envelope) part = found site value status envelope part
+replied site (wanted.Claim status) (reply.Held message envelope) part = found site message status envelope part
+replied site _ _ part = ended code.BadRequest 0 part
 
--- what a poll of a receive got
-abbrev pub polled : Site → Call → Message → Part → Part
-polled site (call.Recv r status) message part = received_message site (into r.buffer r.capacity status) message part
-polled site (call.Mrecv m status) message part = received_message site (into m.buffer m.capacity status) message part
-polled site _ message part = ended code.BadRequest 0 part
-
--- word that a post is complete, which is a synchronous send's
-abbrev pub polled_done : Call → Part → Part
-polled_done (call.Ssend s) part = ended code.Ok 0 part
-polled_done _ part = ended code.BadRequest 0 part
-
--- the answer to a poll; NotYet leaves the hart waiting
-abbrev pub told_poll : Site → Call → Answer → Part → Part
-told_poll site c (answer.Reply (reply.Got message)) part = polled site c message part
-told_poll site c (answer.Reply reply.Done) part = polled_done c part
-told_poll site c (answer.Reply reply.NotYet) part = part
-told_poll site c (answer.Reply (reply.Code refused)) part = ended refused 0 part
-told_poll site c _ part = ended code.BadRequest 0 part
+-- where the hub is asked, NotYet is told by the call's manner, a code ends the call, and the rest is what the reply does
+abbrev pub told_row : Site → Row → Answer → Part → Part
+told_row site (AtOnce o) a part = done site o part
+told_row site (OnReply m w) (answer.Reply reply.NotYet) part = not_yet m part
+told_row site (OnReply m w) (answer.Reply (reply.Code c)) part = ended c 0 part
+told_row site (OnReply m w) (answer.Reply r) part = replied site w r part
+told_row site (OnReply m w) _ part = ended code.BadRequest 0 part
 
 abbrev pub told_in : Site → ℕ → Doing → Answer → Part → Part
-told_in site hart Step a part = let after = stepped part.hart part.memory in record part { hart = after.state; memory = after.memory }
-told_in site hart (Refused c) a part = ended c 0 part
-told_in site hart (Go c) a part = told_call site hart c a part
-told_in site hart (Poll c post) a part = told_poll site c a part
-told_in site hart Stopped a part = part
+told_in site hart d a part = told_row site (row_in site hart part.memory part.requests d) a part
 
 -- the rank with this part of the hart's, at this clock
 abbrev pub with_part : Rank → ℕ → Part → ℕ → Rank

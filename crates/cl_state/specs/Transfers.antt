@@ -1,9 +1,6 @@
--- What a call transfers, what the hub is asked for it, and how far it is once that was answered.
-use Rattle.std.specs.Prelude.{ℕ, ◌==◌, if◌then◌else◌, Option, Some, None, Result, Ok, Err, Bool, not, ◌&&◌}
+-- What a call transfers, what the hub is asked for it, and how far it is once it has its post.
+use Rattle.std.specs.Prelude.{ℕ, ◌==◌, if◌then◌else◌, Option, Some, None, Bool, not, ◌&&◌}
 use Rattle.rv_memory.specs.Memory.{Memory, bytes_at}
-use Rattle.mp_types.specs.declared.codes.Code.{Code}
-use Rattle.mp_types.specs.declared.codes.Code.TheVariants as code
-use Rattle.mp_types.specs.declared.replies.Reply.TheVariants as reply
 use Rattle.mp_types.specs.declared.requests.Request.TheVariants as request
 use Rattle.mp_request.specs.declared.entries.Progress.{Progress}
 use Rattle.mp_request.specs.declared.entries.Progress.TheVariants.{Finished, OnPost}
@@ -15,8 +12,6 @@ use Rattle.cl_calls.specs.declared.calls.Sending.{Sending}
 use Rattle.cl_calls.specs.declared.sites.Site.{Site}
 use Rattle.cl_calls.specs.Site.{member}
 use Rattle.cl_calls.specs.Calls.{any, no_rank, no_message}
-use Rattle.cl_state.specs.declared.asking.Answer.{Answer}
-use Rattle.cl_state.specs.declared.asking.Answer.TheVariants as answer
 use Rattle.cl_state.specs.declared.asking.Ask.{Ask}
 use Rattle.cl_state.specs.declared.asking.Ask.TheVariants as ask
 
@@ -55,26 +50,11 @@ asked_transfer memory now (ReceivePartitions side) = ask.Local
 abbrev pub asked_claimed : Bool → Claimed → Ask
 asked_claimed now m = if (m.message == no_message) then ask.Local else ask.Hub (request.Claimed now m.message)
 
--- the hub's answer to a post: its number and whether it is done, or a code
-abbrev pub posted : Answer → Result (ℕ × Bool) Code
-posted (answer.Reply (reply.Posted post done)) = Ok (post, done)
-posted (answer.Reply (reply.Code c)) = Err c
-posted _ = Err code.BadRequest
-
-abbrev pub on_post : (ℕ → Bool → Progress) → Result (ℕ × Bool) Code → Result Progress Code
-on_post progress (Ok p) = Ok (progress p.0 p.1)
-on_post progress (Err c) = Err c
-
 -- a standard send is complete at once, a synchronous one when it is paired with a receive (3.4)
 abbrev pub sent_on : Bool → ℕ → Bool → Progress
 sent_on sync post done = if sync && not done then OnPost post else Finished
 
--- how far a transfer is once its post was answered, or the code of a refusal
-abbrev pub begun : Transfer → Answer → Result Progress Code
-begun SendToNull a = Ok Finished
-begun ReceiveFromNull a = Ok Finished
-begun (Send sync buffer count dest tag comm) a = on_post (sent_on sync) (posted a)
-begun (Receive buffer capacity source tag comm) a = on_post (λ post done. OnPost post) (posted a)
-begun (ReceiveClaimed buffer capacity) a = on_post (λ post done. OnPost post) (posted a)
-begun (SendPartitions side) a = Err code.BadRequest
-begun (ReceivePartitions side) a = Err code.BadRequest
+-- how far a transfer is once it has its post
+abbrev pub posted : Transfer → ℕ → Bool → Progress
+posted (Send sync buffer count dest tag comm) post done = sent_on sync post done
+posted _ post done = OnPost post

@@ -7,9 +7,9 @@ ghost use Rattle.cl_state.specs.Right.{IsChecked, IsNoStep, IsRight, IsRunning};
 ghost use Rattle.cl_state.specs.declared.asking.Doing.TheVariants.{Go};
 
 use crate::asking::{Ask, Doing};
-use crate::pending::Pending;
+use crate::pending::{Manner, Pending};
 use crate::several::ask_several;
-use crate::transfers::{ask, ask_claimed, receive, send, source, tag};
+use crate::transfers::{ask, ask_claimed, receive, send, send_synchronously, source, tag};
 use cl_calls::{Call, NO_RANK, Probing, Site, fault};
 use mp_request::{OpenRequest, Requests};
 use mp_types::Request;
@@ -138,7 +138,7 @@ fn start(
 {
     match request {
         None => Ok(Ask::Local),
-        Some(request) => ask(alloc, memory, false, &request.transfer),
+        Some(request) => ask(alloc, memory, Manner::Immediate, &request.transfer),
     }
 }
 
@@ -153,15 +153,30 @@ fn ask_by(
     ensures { MatchResult result (λ ask. ask ≡ asked_by site.now memory.now requests.now call.now) (λ e. 0 < carried (asked_by site.now memory.now requests.now call.now)) }
 {
     match *call {
-        Call::Send(sending) => ask(alloc, memory, true, &send(site, false, &sending)),
-        Call::Ssend(sending) => ask(alloc, memory, true, &send(site, true, &sending)),
-        Call::Recv { receiving, .. } => ask(alloc, memory, true, &receive(site, &receiving)),
-        Call::Isend(sending) => ask(alloc, memory, false, &send(site, false, &sending)),
-        Call::Issend(sending) => ask(alloc, memory, false, &send(site, true, &sending)),
-        Call::Irecv(receiving) => ask(alloc, memory, false, &receive(site, &receiving)),
+        Call::Send(sending) => ask(alloc, memory, Manner::Blocking, &send(site, &sending)),
+        Call::Ssend(sending) => ask(
+            alloc,
+            memory,
+            Manner::Blocking,
+            &send_synchronously(site, &sending),
+        ),
+        Call::Recv { receiving, .. } => ask(
+            alloc,
+            memory,
+            Manner::Blocking,
+            &receive(site, &receiving),
+        ),
+        Call::Isend(sending) => ask(alloc, memory, Manner::Immediate, &send(site, &sending)),
+        Call::Issend(sending) => ask(
+            alloc,
+            memory,
+            Manner::Immediate,
+            &send_synchronously(site, &sending),
+        ),
+        Call::Irecv(receiving) => ask(alloc, memory, Manner::Immediate, &receive(site, &receiving)),
         Call::Start { handle } => start(alloc, memory, requests.get(handle)),
-        Call::Imrecv(claimed) => Ok(ask_claimed(false, &claimed)),
-        Call::Mrecv { claimed, .. } => Ok(ask_claimed(true, &claimed)),
+        Call::Imrecv(claimed) => Ok(ask_claimed(Manner::Immediate, &claimed)),
+        Call::Mrecv { claimed, .. } => Ok(ask_claimed(Manner::Blocking, &claimed)),
         Call::Test(completing) | Call::Wait(completing) => {
             Ok(Pending::of(requests.get(completing.handle)).ask())
         }

@@ -4,18 +4,18 @@
 #![tactic(auto)]
 
 mod asking;
-mod completing;
 mod doing;
-mod ending;
 mod loading;
-mod opening;
 mod pending;
-mod probing;
+mod row;
 mod several;
 mod state;
+mod table;
 mod telling;
 mod transfers;
+mod turn;
 
 pub use asking::{Answer, Ask, Doing};
 pub use pending::{Manner, Pending, Target};
+pub use row::{Outcome, Purpose, Row, Wanted};
 pub use state::RankState;

@@ -2,24 +2,27 @@
 
 ghost use Rattle.std.specs.Prelude.{◌≡◌};
 ghost use Rattle.cl_state.specs.Several.{post_of};
-ghost use Rattle.cl_state.specs.Pending.{asked_pending, flag as flag_of, manner_of, pending_at, pending_of, pending_on};
+ghost use Rattle.cl_state.specs.Pending.{asked_pending, flag as flag_of, is_blocking as is_blocking_of, pending_at, pending_of, pending_on};
 
 use crate::asking::Ask;
-use cl_calls::Call;
 use mp_request::{OpenRequest, Progress, State, Transfer};
 use mp_types::Request;
 
-/// Whether a call ends at once or waits (MPI 4.1, chapters 3.7.3 and 3.8).
-#[derive(Clone, Copy, Drop, Debug)]
+/// How a call takes it that what it asked for isn't there yet (MPI 4.1, chapters 3.7.3 and 3.8).
+#[derive(Clone, Copy, Drop)]
 pub enum Manner {
     /// It ends at once, with a flag that tells whether there was something.
     Immediate,
-    /// It waits until there is something.
+    /// It is made anew in the hart's next turn, until there is something.
     Blocking,
+    /// It waits on for the post that it polls.
+    Polling,
+    /// It makes a post, which is never told so.
+    Posting,
 }
 
 /// What a request still needs to complete.
-#[derive(Clone, Copy, Drop, Debug)]
+#[derive(Clone, Copy, Drop)]
 pub enum Pending {
     /// Nothing: the null request, an inactive one, or a send that is known to be complete.
     Nothing,
@@ -36,7 +39,7 @@ pub enum Pending {
 }
 
 /// Where a received message goes, and what the call does then.
-#[derive(Clone, Copy, Drop, Debug)]
+#[derive(Clone, Copy, Drop)]
 pub struct Target {
     /// The address of the buffer, and the most bytes that it takes.
     pub buffer: u64,
@@ -50,25 +53,23 @@ pub struct Target {
 }
 
 impl Manner {
-    /// The manner of a call that completes requests or probes.
-    pub(crate) fn of(call: &Call) -> Manner
-        ensures { result ≡ manner_of call.now }
+    /// Whether a receive wants its message with the reply, as a blocking one does.
+    pub(crate) fn is_blocking(self) -> bool
+        ensures { result ≡ is_blocking_of self }
     {
-        match *call {
-            Call::Test(_) | Call::Iprobe(_) | Call::Improbe(_) | Call::Testall(_) => {
-                Manner::Immediate
-            }
-            _ => Manner::Blocking,
+        match self {
+            Manner::Blocking => true,
+            Manner::Immediate | Manner::Polling | Manner::Posting => false,
         }
     }
 
-    /// The flag of an immediate call that completes; a blocking one gives no value.
+    /// The flag of an immediate call that completes; no other gives one.
     pub(crate) fn flag(self) -> u64
         ensures { result ≡ flag_of self }
     {
         match self {
             Manner::Immediate => 1,
-            Manner::Blocking => 0,
+            Manner::Blocking | Manner::Polling | Manner::Posting => 0,
         }
     }
 }

@@ -7,18 +7,20 @@ ghost use Rattle.cl_calls.specs.Needs.{array_at};
 ghost use Rattle.cl_state.specs.Asked.{asked_several, carried};
 ghost use Rattle.cl_state.specs.Pending.{pending_of};
 ghost use Rattle.cl_state.specs.Several.{Given, are_fit, completed_each, fits_one, given, given_message, given_nothing, given_one, got_of, has_posts, left_of, pendings, post_of, posts_of, status_of, statuses_of, with_all_bytes};
-ghost use Rattle.cl_state.specs.Told.{completed_all, told_all, told_gots};
+ghost use Rattle.cl_state.specs.Told.{completed_all, done, gathered};
+ghost use Rattle.cl_state.specs.Turn.{Becomes, HasArray, part_in};
+ghost use Rattle.cl_state.specs.declared.row.Outcome.TheVariants.{CompletesAll};
+ghost use Rattle.cl_calls.specs.Handles.{handles_in};
 ghost use Rattle.cl_state.specs.Written.{written};
 ghost use Rattle.mp_request.specs.Table.{request_at};
 
-use crate::asking::{Answer, Ask};
-use crate::ending::{end, is_longer, kept, not_yet, status_bytes, write_where_right};
-use crate::pending::{Manner, Pending};
+use crate::asking::Ask;
+use crate::pending::Pending;
+use crate::turn::{Turn, is_longer, kept, status_bytes, write_where_right};
 use arrayvec::ArrayVec;
 use cl_calls::{ANY, Array, NO_RANK, Several, Site, handles_at, place};
 use mp_request::Requests;
-use mp_types::{Code, Message, Posts, Reply, Request};
-use rv_hart::Hart;
+use mp_types::{Code, Message, Posts, Request};
 use rv_memory::RankMemory;
 use std::alloc::{AllocError, Global};
 
@@ -61,11 +63,11 @@ pub(crate) fn ask_several(
     requires inside { IsTrue (is_array memory.now (array_at several.now.array several.now.count)) }
     ensures { MatchResult result (λ ask. ask ≡ asked_several memory.now requests.now several.now) (λ e. 0 < carried (asked_several memory.now requests.now several.now)) }
 {
-    let array = Array {
-        address: several.array,
-        count: several.count,
-    };
-    let posts = posts(alloc, requests, handles_at(memory, array).as_slice())?;
+    let posts = posts(
+        alloc,
+        requests,
+        handles_at(memory, array(several)).as_slice(),
+    )?;
     if posts.is_empty() {
         return Ok(Ask::Local);
     }
@@ -314,65 +316,8 @@ fn close_all(requests: &mut Requests, handles: &[u64])
     }
 }
 
-/// All requests complete: all bytes are written, then all statuses.
-#[tactic(auto, unfolding(crate::specs::Told::completed_all))]
-fn complete_all(
-    site: &Site,
-    hart: &mut Hart,
-    memory: &mut RankMemory,
-    requests: &mut Requests,
-    manner: Manner,
-    address: u64,
-    handles: &[u64],
-    gots: &[Option<Message>],
-)
-    requires { length handles.now ≤ 255 }
-    ensures { (out : List ℕ) → record { hart = hart.new; memory = memory.new; requests = requests.new; out = out } ≡ completed_all site.now manner address handles.now gots.now (record { hart = hart.old; memory = memory.old; requests = requests.old; out = out }) }
-{
-    write_all(site, memory, requests, handles, gots);
-    if address != 0 {
-        let bytes = statuses(site, requests, handles, gots);
-        write_where_right(memory, address, bytes.as_slice());
-    }
-    let code = if any_truncated(site, requests, handles, gots) {
-        Code::Truncated
-    } else {
-        Code::Ok
-    };
-    close_all(requests, handles);
-    end(hart, code, manner.flag());
-}
-
-fn answer_gots(
-    site: &Site,
-    hart: &mut Hart,
-    memory: &mut RankMemory,
-    requests: &mut Requests,
-    manner: Manner,
-    address: u64,
-    handles: &[u64],
-    answer: &Answer,
-)
-    requires { length handles.now ≤ 255 }
-    ensures { (out : List ℕ) → record { hart = hart.new; memory = memory.new; requests = requests.new; out = out } ≡ told_gots site.now manner address handles.now answer.now (record { hart = hart.old; memory = memory.old; requests = requests.old; out = out }) }
-{
-    match answer {
-        Answer::Reply(Reply::AllGot(gots)) => {
-            if all_fit(site, requests, handles, gots.as_slice()) {
-                let gots = gots.as_slice();
-                complete_all(site, hart, memory, requests, manner, address, handles, gots)
-            } else {
-                end(hart, Code::BadRequest, 0)
-            }
-        }
-        Answer::Reply(Reply::NotYet) => not_yet(hart, manner),
-        Answer::Reply(Reply::Code(code)) => end(hart, *code, 0),
-        _ => end(hart, Code::BadRequest, 0),
-    }
-}
-
 /// Whether one of several requests needs the hub.
-fn needs_hub(requests: &Requests, handles: &[u64]) -> bool
+pub(crate) fn needs_hub(requests: &Requests, handles: &[u64]) -> bool
     ensures { result ≡ has_posts (posts_of (pendings requests.now handles.now)) }
 {
     let mut rest = handles;
@@ -385,32 +330,56 @@ fn needs_hub(requests: &Requests, handles: &[u64]) -> bool
     false
 }
 
-/// The answer to a call that completes several requests.
-pub(crate) fn complete_several(
-    site: &Site,
-    hart: &mut Hart,
-    memory: &mut RankMemory,
-    requests: &mut Requests,
-    manner: Manner,
-    several: &Several,
-    answer: &Answer,
-)
-    requires few { IsTrue (is_few (array_at several.now.array several.now.count)) }
-    requires inside { IsTrue (is_array memory.old (array_at several.now.array several.now.count)) }
-    ensures { (out : List ℕ) → record { hart = hart.new; memory = memory.new; requests = requests.new; out = out } ≡ told_all site.now manner several.now answer.now (record { hart = hart.old; memory = memory.old; requests = requests.old; out = out }) }
+/// The array of handles of a call.
+pub(crate) fn array(several: &Several) -> Array
+    ensures { result ≡ array_at several.now.array several.now.count }
 {
-    let array = Array {
+    Array {
         address: several.array,
         count: several.count,
-    };
-    let handles = handles_at(memory, array);
-    let handles = handles.as_slice();
-    let address = several.statuses;
-    if needs_hub(requests, handles) {
-        answer_gots(
-            site, hart, memory, requests, manner, address, handles, answer,
-        )
-    } else {
-        complete_all(site, hart, memory, requests, manner, address, handles, &[])
+    }
+}
+
+impl<'a> Turn<'a> {
+    /// All requests complete: all bytes are written, then all statuses.
+    #[tactic(auto, unfolding(crate::specs::Told::completed_all))]
+    fn complete_all(&mut self, value: u64, address: u64, handles: &[u64], gots: &[Option<Message>])
+        requires { length handles.now ≤ 255 }
+        ensures { Becomes self.old self.new (completed_all self.old.site.now value address handles.now gots.now (part_in self.old)) }
+    {
+        write_all(self.site, self.memory, self.requests, handles, gots);
+        if address != 0 {
+            let bytes = statuses(self.site, self.requests, handles, gots);
+            write_where_right(self.memory, address, bytes.as_slice());
+        }
+        let code = if any_truncated(self.site, self.requests, handles, gots) {
+            Code::Truncated
+        } else {
+            Code::Ok
+        };
+        close_all(self.requests, handles);
+        self.end(code, value);
+    }
+
+    /// All requests of an array complete, where none needs the hub.
+    pub(crate) fn complete_several(&mut self, value: u64, several: Several)
+        requires { HasArray self.old several }
+        ensures { Becomes self.old self.new (done self.old.site.now (CompletesAll value several) (part_in self.old)) }
+    {
+        let handles = handles_at(self.memory, array(&several));
+        self.complete_all(value, several.statuses, handles.as_slice(), &[])
+    }
+
+    /// All requests of an array complete, where each got what it needs.
+    pub(crate) fn gather(&mut self, value: u64, several: Several, gots: &[Option<Message>])
+        requires { HasArray self.old several }
+        ensures { Becomes self.old self.new (gathered self.old.site.now value several.statuses (handles_in self.old.memory.now (array_at several.array several.count)) gots.now (part_in self.old)) }
+    {
+        let handles = handles_at(self.memory, array(&several));
+        if all_fit(self.site, self.requests, handles.as_slice(), gots) {
+            self.complete_all(value, several.statuses, handles.as_slice(), gots)
+        } else {
+            self.end(Code::BadRequest, 0)
+        }
     }
 }

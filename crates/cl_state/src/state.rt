@@ -7,7 +7,7 @@ ghost use Rattle.cl_state.specs.Right.{IsChecked, IsRunning, growth_of};
 ghost use Rattle.cl_state.specs.Told.{told};
 
 use crate::asking::{Answer, Ask, Doing};
-use crate::telling::answer_hart;
+use crate::telling::{News, tell_hart};
 use cl_calls::{Call, Site};
 use mp_request::Requests;
 use mp_types::Stamp;
@@ -124,16 +124,19 @@ impl RankState {
         ensures harts { vec_len self.new.harts ≡ vec_len self.old.harts }
     {
         let doing = self.doing(hart);
-        answer_hart(
-            &self.site,
-            hart,
+        let news = News {
+            site: &self.site,
+            number: hart,
+            fresh: self.fresh.as_slice(),
+            doing: &doing,
+            answer,
+        };
+        tell_hart(
+            &news,
             &mut self.harts[hart as usize],
             &mut self.memory,
             &mut self.requests,
             &mut self.out,
-            self.fresh.as_slice(),
-            &doing,
-            answer,
         );
         self.clock = stamp;
     }

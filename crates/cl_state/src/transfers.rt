@@ -1,18 +1,20 @@
-//! What a call transfers, what the hub is asked for it, and how far it is once that was answered.
+//! What a call transfers, what the hub is asked for it, and how far it is once it has its post.
 
-ghost use Rattle.std.specs.Prelude.{◌≡◌, ◌≢◌, ◌<◌, ◌≤◌, IsTrue, MatchResult, Some, false, length};
+ghost use Rattle.std.specs.Prelude.{◌≡◌, ◌≢◌, ◌<◌, ◌≤◌, IsTrue, MatchResult, Some, false, true, length};
 ghost use Rattle.rv_memory.specs.Memory.{bytes_at};
 ghost use Rattle.cl_calls.specs.Calls.{no_rank};
 ghost use Rattle.cl_calls.specs.Checks.{is_peer, is_tag};
 ghost use Rattle.cl_calls.specs.Needs.{needs_of_receiving, needs_of_sending, source as source_peer, tag_or_any};
 ghost use Rattle.cl_state.specs.Asked.{carried};
+ghost use Rattle.cl_state.specs.Pending.{is_blocking};
 ghost use Rattle.cl_state.specs.Right.{IsRight};
-ghost use Rattle.cl_state.specs.Transfers.{asked_claimed, asked_transfer, begun as begun_by, claimed_of, posted as posted_by, receive_of, send_of, sent_on, source_of, tag_of};
+ghost use Rattle.cl_state.specs.Transfers.{asked_claimed, asked_transfer, claimed_of, posted as posted_by, receive_of, send_of, source_of, tag_of};
 
-use crate::asking::{Answer, Ask};
+use crate::asking::Ask;
+use crate::pending::Manner;
 use cl_calls::{ANY, Claimed, NO_MESSAGE, NO_RANK, Receiving, Sending, Site};
 use mp_request::{Progress, Transfer};
-use mp_types::{Bytes, Code, MESSAGE_MAX, Reply, Request};
+use mp_types::{Bytes, MESSAGE_MAX, Request};
 use rv_memory::RankMemory;
 use std::alloc::{AllocError, Global};
 
@@ -37,16 +39,34 @@ pub(crate) fn tag(tag: u64) -> Option<u16>
     if tag == ANY { None } else { Some(tag as u16) }
 }
 
-/// What a send with right arguments transfers.
-pub(crate) fn send(site: &Site, sync: bool, sending: &Sending) -> Transfer
+/// What a send with right arguments transfers, in standard mode.
+pub(crate) fn send(site: &Site, sending: &Sending) -> Transfer
     requires { IsRight site.now (needs_of_sending false sending.now) }
-    ensures { result ≡ send_of site.now sync sending.now }
+    ensures { result ≡ send_of site.now false sending.now }
 {
     if sending.dest == NO_RANK {
         return Transfer::SendToNull;
     }
     Transfer::Send {
-        sync,
+        sync: false,
+        buffer: sending.buffer,
+        count: sending.count as u16,
+        dest: site.member(sending.comm, sending.dest),
+        tag: sending.tag as u16,
+        comm: site.comm_number(sending.comm),
+    }
+}
+
+/// The same in synchronous mode.
+pub(crate) fn send_synchronously(site: &Site, sending: &Sending) -> Transfer
+    requires { IsRight site.now (needs_of_sending false sending.now) }
+    ensures { result ≡ send_of site.now true sending.now }
+{
+    if sending.dest == NO_RANK {
+        return Transfer::SendToNull;
+    }
+    Transfer::Send {
+        sync: true,
         buffer: sending.buffer,
         count: sending.count as u16,
         dest: site.member(sending.comm, sending.dest),
@@ -110,10 +130,10 @@ fn copy(alloc: Global, memory: &RankMemory, buffer: u64, count: u16) -> Result<B
 pub(crate) fn ask(
     alloc: Global,
     memory: &RankMemory,
-    now: bool,
+    manner: Manner,
     transfer: &Transfer,
 ) -> Result<Ask, AllocError>
-    ensures { MatchResult result (λ ask. ask ≡ asked_transfer memory.now now transfer.now) (λ e. 0 < carried (asked_transfer memory.now now transfer.now)) }
+    ensures { MatchResult result (λ ask. ask ≡ asked_transfer memory.now (is_blocking manner) transfer.now) (λ e. 0 < carried (asked_transfer memory.now (is_blocking manner) transfer.now)) }
 {
     match *transfer {
         Transfer::Send {
@@ -136,7 +156,7 @@ pub(crate) fn ask(
             comm,
             ..
         } => Ok(Ask::Hub(Request::Recv {
-            now,
+            now: manner.is_blocking(),
             comm,
             source,
             tag,
@@ -150,53 +170,30 @@ pub(crate) fn ask(
 }
 
 /// What is asked for a receive of a claimed message.
-pub(crate) fn ask_claimed(now: bool, claimed: &Claimed) -> Ask
-    ensures { result ≡ asked_claimed now claimed.now }
+pub(crate) fn ask_claimed(manner: Manner, claimed: &Claimed) -> Ask
+    ensures { result ≡ asked_claimed (is_blocking manner) claimed.now }
 {
     if claimed.message == NO_MESSAGE {
         return Ask::Local;
     }
     Ask::Hub(Request::Claimed {
-        now,
+        now: manner.is_blocking(),
         message: claimed.message,
     })
 }
 
-/// The number of a post and whether it is done, or the code of a refusal.
-fn posted(answer: &Answer) -> Result<(u64, bool), Code>
-    ensures { result ≡ posted_by answer.now }
-{
-    match answer {
-        Answer::Reply(Reply::Posted { post, done }) => Ok((*post, *done)),
-        Answer::Reply(Reply::Code(code)) => Err(*code),
-        _ => Err(Code::BadRequest),
-    }
-}
-
-fn sent(sync: bool, post: u64, done: bool) -> Progress
-    ensures { result ≡ sent_on sync post done }
-{
-    if sync && !done {
-        Progress::OnPost(post)
-    } else {
-        Progress::Finished
-    }
-}
-
-/// How far a transfer is once its post was answered, or the code of a refusal.
-pub(crate) fn begun(transfer: &Transfer, answer: &Answer) -> Result<Progress, Code>
-    ensures { result ≡ begun_by transfer.now answer.now }
+/// How far a transfer is once it has its post: a synchronous send waits until it is paired with a receive.
+pub(crate) fn posted(transfer: &Transfer, post: u64, done: bool) -> Progress
+    ensures { result ≡ posted_by transfer.now post done }
 {
     match *transfer {
-        Transfer::SendToNull | Transfer::ReceiveFromNull => Ok(Progress::Finished),
         Transfer::Send { sync, .. } => {
-            let (post, done) = posted(answer)?;
-            Ok(sent(sync, post, done))
+            if sync && !done {
+                Progress::OnPost(post)
+            } else {
+                Progress::Finished
+            }
         }
-        Transfer::Receive { .. } | Transfer::ReceiveClaimed { .. } => {
-            let (post, _) = posted(answer)?;
-            Ok(Progress::OnPost(post))
-        }
-        Transfer::SendPartitions(_) | Transfer::ReceivePartitions(_) => Err(Code::BadRequest),
+        _ => Progress::OnPost(post),
     }
 }

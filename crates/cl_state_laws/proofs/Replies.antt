@@ -1,108 +1,117 @@
 -- What replies that complete nothing leave as it was.
-use Rattle.std.proofs.Common.{◌≡◌, ℕ, refl, ap, subst, sym, Bool, true, false, List, [], ◌∷◌, Option, Some, None, Result, Err}
+use Rattle.std.proofs.Common.{◌≡◌, ℕ, refl, ap, Bool, true, false, List, [], ◌∷◌, Option, Some, None}
 use Rattle.std.specs.Prelude.{◌==◌, if◌then◌else◌}
 use Rattle.rv_memory.specs.Memory.{Memory}
 use Rattle.mp_types.specs.declared.codes.Code.{Code}
 use Rattle.mp_types.specs.declared.replies.Reply.TheVariants as reply
 use Rattle.mp_types.specs.declared.requests.Request.{Request}
 use Rattle.mp_request.specs.declared.entries.OpenRequest.{OpenRequest}
-use Rattle.mp_request.specs.declared.entries.Progress.{Progress}
-use Rattle.mp_request.specs.declared.entries.Progress.TheVariants.{OnPost}
 use Rattle.mp_request.specs.declared.entries.Transfer.{Transfer}
 use Rattle.mp_request.specs.declared.entries.Transfer.TheVariants.{ReceiveFromNull, Send, Receive, ReceiveClaimed}
-use Rattle.mp_request.specs.Table.{request_at}
+use Rattle.mp_request.specs.Table.{Table, request_at}
 use Rattle.cl_calls.specs.declared.calls.Call.{Call}
 use Rattle.cl_calls.specs.declared.calls.Call.TheVariants as call
 use Rattle.cl_calls.specs.declared.calls.Completing.{Completing}
+use Rattle.cl_calls.specs.declared.calls.Several.{Several}
 use Rattle.cl_calls.specs.declared.sites.Site.{Site}
 use Rattle.cl_calls.specs.Calls.{no_rank, no_message}
 use Rattle.cl_calls.specs.Handles.{handles_in}
 use Rattle.cl_calls.specs.Needs.{array_at}
-use Rattle.cl_state.specs.declared.asking.Answer.{Answer}
 use Rattle.cl_state.specs.declared.asking.Answer.TheVariants as answer
 use Rattle.cl_state.specs.declared.asking.Ask.{Ask}
 use Rattle.cl_state.specs.declared.asking.Ask.TheVariants as ask
 use Rattle.cl_state.specs.declared.asking.Doing.{Doing}
 use Rattle.cl_state.specs.declared.asking.Doing.TheVariants.{Go, Poll}
 use Rattle.cl_state.specs.declared.pending.Manner.{Manner}
-use Rattle.cl_state.specs.declared.pending.Manner.TheVariants.{Immediate, Blocking}
+use Rattle.cl_state.specs.declared.pending.Manner.TheVariants.{Immediate, Blocking, Polling, Posting}
 use Rattle.cl_state.specs.declared.pending.Pending.{Pending}
 use Rattle.cl_state.specs.declared.pending.Pending.TheVariants.{Message as Awaited, Word}
+use Rattle.cl_state.specs.declared.row.Purpose.{Purpose}
+use Rattle.cl_state.specs.declared.row.Purpose.TheVariants as purpose
+use Rattle.cl_state.specs.declared.row.Row.{Row}
+use Rattle.cl_state.specs.declared.row.Row.TheVariants.{AtOnce, OnReply}
 use Rattle.cl_state.specs.Asked.{Part, part_of, doing, asked, asked_by, asked_in, asked_start}
 use Rattle.cl_state.specs.Pending.{asked_pending}
-use Rattle.cl_state.specs.Several.{asked_all, has_posts, pendings, posts_of}
-use Rattle.cl_state.specs.Told.{ended, not_yet, told, told_call, told_completing, told_in, told_open, told_send, told_begun, told_start, with_part}
-use Rattle.cl_state.specs.Transfers.{asked_transfer, begun, claimed_of, on_post, posted, receive_of, send_of, sent_on}
+use Rattle.cl_state.specs.Several.{asked_all, pendings, posts_of}
+use Rattle.cl_state.specs.Table.{begins, completes, gathers, row_in, row_of, starts}
+use Rattle.cl_state.specs.Told.{ended, told, told_in, told_row, with_part}
+use Rattle.cl_state.specs.Transfers.{asked_transfer, receive_of, send_of}
 use Rattle.cl_state_laws.specs.Laws.{HubRefusalLaw, NotYetLaw}
 
--- where the hub was asked for a transfer and no post came of it, neither does the transfer begin
-begun_err : (memory : Memory) (now : Bool) (t : Transfer) (r : Request) (a : Answer) (c : Code) → asked_transfer memory now t ≡ ask.Hub r → posted a ≡ Err c → begun t a ≡ Err c
-begun_err memory now (Send sync buffer count dest tag comm) r a c hub refused = ap (on_post (sent_on sync)) refused
-begun_err memory now (Receive buffer capacity source tag comm) r a c hub refused = ap (on_post (λ (post : ℕ) (done : Bool). OnPost post)) refused
-begun_err memory now _ r a c hub refused = cc
+-- ---- a turn that asks the hub has the row of one that waits for a reply
+
+abbrev pub Waits : Row → Type 0
+Waits (AtOnce o) = ⊥
+Waits (OnReply m w) = Unit {0}
 
 -- of two ways the one that asks the hub was taken
-asks_hub : (local : Bool) (a : Ask) (r : Request) → (if local then ask.Local else a) ≡ ask.Hub r → local ≡ false
-asks_hub true a r hub = cc
-asks_hub false a r hub = refl
+either_waits : (local : Bool) (a : Ask) (r : Request) (x y : Row) → Waits y → (if local then ask.Local else a) ≡ ask.Hub r → Waits (if local then x else y)
+either_waits true a r x y waits hub = cc
+either_waits false a r x y waits hub = waits
 
 -- a transfer with the null process isn't asked
-not_null : (local : Bool) (memory : Memory) (now : Bool) (t : Transfer) (r : Request) → asked_transfer memory now (if local then ReceiveFromNull else t) ≡ ask.Hub r → local ≡ false
-not_null true memory now t r hub = cc
-not_null false memory now t r hub = refl
+receives_wait : (null : Bool) (memory : Memory) (now : Bool) (t : Transfer) (r : Request) (x y : Row) → Waits y → asked_transfer memory now (if null then ReceiveFromNull else t) ≡ ask.Hub r → Waits (if null then x else y)
+receives_wait true memory now t r x y waits hub = cc
+receives_wait false memory now t r x y waits hub = waits
 
-taken : (local : Bool) (x y : Part) → local ≡ false → (if local then x else y) ≡ y
-taken true x y is = cc
-taken false x y is = refl
+begins_waits : (memory : Memory) (now : Bool) (why : Purpose) (t : Transfer) (r : Request) → asked_transfer memory now t ≡ ask.Hub r → Waits (begins why t)
+begins_waits memory now why (Send sync buffer count dest tag comm) r hub = tt
+begins_waits memory now why (Receive buffer capacity source tag comm) r hub = tt
+begins_waits memory now why _ r hub = cc
 
--- nor does a claimed message's
-claimed_err : (local : Bool) (buffer capacity : ℕ) (a : Answer) (c : Code) → local ≡ false → posted a ≡ Err c → begun (if local then ReceiveFromNull else ReceiveClaimed buffer capacity) a ≡ Err c
-claimed_err true buffer capacity a c is refused = cc
-claimed_err false buffer capacity a c is refused = ap (on_post (λ (post : ℕ) (done : Bool). OnPost post)) refused
+claimed_waits : (null : Bool) (buffer capacity : ℕ) (a : Ask) (r : Request) → (if null then ask.Local else a) ≡ ask.Hub r → Waits (begins purpose.Open (if null then ReceiveFromNull else ReceiveClaimed buffer capacity))
+claimed_waits true buffer capacity a r hub = cc
+claimed_waits false buffer capacity a r hub = tt
 
-completing_refused : (site : Site) (m : Manner) (completing : Completing) (p : Pending) (r : Request) (c : Code) (part : Part) → asked_pending p ≡ ask.Hub r → told_completing site m completing p (answer.Reply (reply.Code c)) part ≡ ended c 0 part
-completing_refused site m completing (Awaited post buffer capacity) r c part hub = refl
-completing_refused site m completing (Word post) r c part hub = refl
-completing_refused site m completing _ r c part hub = cc
+starts_waits : (memory : Memory) (handle : ℕ) (o : Option OpenRequest) (r : Request) → asked_start memory o ≡ ask.Hub r → Waits (starts handle o)
+starts_waits memory handle None r hub = cc
+starts_waits memory handle (Some o) r hub = begins_waits memory false (purpose.Start handle) o.transfer r hub
 
-start_refused : (memory : Memory) (handle : ℕ) (request : Option OpenRequest) (r : Request) (c : Code) (part : Part) → asked_start memory request ≡ ask.Hub r → told_start handle request (answer.Reply (reply.Code c)) part ≡ ended c 0 part
-start_refused memory handle None r c part hub = cc
-start_refused memory handle (Some o) r c part hub = ap (λ (b : Result Progress Code). told_begun handle b part) (begun_err memory false o.transfer r _ c hub refl)
+completes_waits : (m : Manner) (c : Completing) (p : Pending) (r : Request) → asked_pending p ≡ ask.Hub r → Waits (completes m c p)
+completes_waits m c (Awaited post buffer capacity) r hub = tt
+completes_waits m c (Word post) r hub = tt
+completes_waits m c _ r hub = cc
 
--- several requests are asked for where one of them needs the hub
-some_posts : (posts : List ℕ) (r : Request) (x y : Part) → asked_all posts ≡ ask.Hub r → (if has_posts posts then x else y) ≡ x
-some_posts [] r x y hub = cc
-some_posts (post ∷ posts) r x y hub = refl
+gathers_waits : (m : Manner) (s : Several) (posts : List ℕ) (r : Request) → asked_all posts ≡ ask.Hub r → Waits (gathers m s posts)
+gathers_waits m s [] r hub = cc
+gathers_waits m s (post ∷ posts) r hub = tt
 
-call_refused : (site : Site) (hart : ℕ) (c : Call) (part : Part) (r : Request) (refusal : Code) → asked_by site part.memory part.requests c ≡ ask.Hub r → told_call site hart c (answer.Reply (reply.Code refusal)) part ≡ ended refusal 0 part
-call_refused site hart (call.Send s) part r refusal hub = ap (λ (b : Result Progress Code). told_send b part) (begun_err part.memory true (send_of site false s) r _ refusal hub refl)
-call_refused site hart (call.Ssend s) part r refusal hub = ap (λ (b : Result Progress Code). told_send b part) (begun_err part.memory true (send_of site true s) r _ refusal hub refl)
-call_refused site hart (call.Recv v status) part r refusal hub = taken _ _ _ (not_null (v.source == no_rank) part.memory true _ r hub)
-call_refused site hart (call.Isend s) part r refusal hub = ap (λ (b : Result Progress Code). told_open (send_of site false s) b part) (begun_err part.memory false (send_of site false s) r _ refusal hub refl)
-call_refused site hart (call.Issend s) part r refusal hub = ap (λ (b : Result Progress Code). told_open (send_of site true s) b part) (begun_err part.memory false (send_of site true s) r _ refusal hub refl)
-call_refused site hart (call.Irecv v) part r refusal hub = ap (λ (b : Result Progress Code). told_open (receive_of site v) b part) (begun_err part.memory false (receive_of site v) r _ refusal hub refl)
-call_refused site hart (call.Test c) part r refusal hub = completing_refused site Immediate c _ r refusal part hub
-call_refused site hart (call.Wait c) part r refusal hub = completing_refused site Blocking c _ r refusal part hub
-call_refused site hart (call.Iprobe p) part r refusal hub = taken _ _ _ (asks_hub (p.source == no_rank) _ r hub)
-call_refused site hart (call.Probe p) part r refusal hub = taken _ _ _ (asks_hub (p.source == no_rank) _ r hub)
-call_refused site hart (call.Improbe p) part r refusal hub = taken _ _ _ (asks_hub (p.source == no_rank) _ r hub)
-call_refused site hart (call.Mprobe p) part r refusal hub = taken _ _ _ (asks_hub (p.source == no_rank) _ r hub)
-call_refused site hart (call.Imrecv m) part r refusal hub = ap (λ (b : Result Progress Code). told_open (claimed_of m) b part) (claimed_err (m.message == no_message) m.buffer m.capacity _ refusal (asks_hub (m.message == no_message) _ r hub) refl)
-call_refused site hart (call.Mrecv m status) part r refusal hub = taken _ _ _ (asks_hub (m.message == no_message) _ r hub)
-call_refused site hart (call.Start handle) part r refusal hub = start_refused part.memory handle (request_at part.requests handle) r refusal part hub
-call_refused site hart (call.Testall s) part r refusal hub = some_posts (posts_of (pendings part.requests (handles_in part.memory (array_at s.array s.count)))) r _ _ hub
-call_refused site hart (call.Waitall s) part r refusal hub = some_posts (posts_of (pendings part.requests (handles_in part.memory (array_at s.array s.count)))) r _ _ hub
-call_refused site hart _ part r refusal hub = cc
+call_waits : (site : Site) (hart : ℕ) (memory : Memory) (table : Table) (c : Call) (r : Request) → asked_by site memory table c ≡ ask.Hub r → Waits (row_of site hart memory table c)
+call_waits site hart memory table (call.Send s) r hub = begins_waits memory true purpose.Send (send_of site false s) r hub
+call_waits site hart memory table (call.Ssend s) r hub = begins_waits memory true purpose.Send (send_of site true s) r hub
+call_waits site hart memory table (call.Recv v status) r hub = receives_wait (v.source == no_rank) memory true _ r _ _ tt hub
+call_waits site hart memory table (call.Isend s) r hub = begins_waits memory false purpose.Open (send_of site false s) r hub
+call_waits site hart memory table (call.Issend s) r hub = begins_waits memory false purpose.Open (send_of site true s) r hub
+call_waits site hart memory table (call.Irecv v) r hub = begins_waits memory false purpose.Open (receive_of site v) r hub
+call_waits site hart memory table (call.Test c) r hub = completes_waits Immediate c _ r hub
+call_waits site hart memory table (call.Wait c) r hub = completes_waits Blocking c _ r hub
+call_waits site hart memory table (call.Iprobe p) r hub = either_waits (p.source == no_rank) _ r _ _ tt hub
+call_waits site hart memory table (call.Probe p) r hub = either_waits (p.source == no_rank) _ r _ _ tt hub
+call_waits site hart memory table (call.Improbe p) r hub = either_waits (p.source == no_rank) _ r _ _ tt hub
+call_waits site hart memory table (call.Mprobe p) r hub = either_waits (p.source == no_rank) _ r _ _ tt hub
+call_waits site hart memory table (call.Imrecv m) r hub = claimed_waits (m.message == no_message) m.buffer m.capacity _ r hub
+call_waits site hart memory table (call.Mrecv m status) r hub = either_waits (m.message == no_message) _ r _ _ tt hub
+call_waits site hart memory table (call.Start handle) r hub = starts_waits memory handle (request_at table handle) r hub
+call_waits site hart memory table (call.Testall s) r hub = gathers_waits Immediate s (posts_of (pendings table (handles_in memory (array_at s.array s.count)))) r hub
+call_waits site hart memory table (call.Waitall s) r hub = gathers_waits Blocking s (posts_of (pendings table (handles_in memory (array_at s.array s.count)))) r hub
+call_waits site hart memory table _ r hub = cc
 
-turn_refused : (site : Site) (hart : ℕ) (d : Doing) (part : Part) (r : Request) (c : Code) → asked_in site part.memory part.requests d ≡ ask.Hub r → told_in site hart d (answer.Reply (reply.Code c)) part ≡ ended c 0 part
-turn_refused site hart (Go c) part r refusal hub = call_refused site hart c part r refusal hub
-turn_refused site hart (Poll c post) part r refusal hub = refl
-turn_refused site hart _ part r refusal hub = cc
+turn_waits : (site : Site) (hart : ℕ) (memory : Memory) (table : Table) (d : Doing) (r : Request) → asked_in site memory table d ≡ ask.Hub r → Waits (row_in site hart memory table d)
+turn_waits site hart memory table (Go c) r hub = call_waits site hart memory table c r hub
+turn_waits site hart memory table (Poll c post) r hub = tt
+turn_waits site hart memory table _ r hub = cc
+
+-- ---- a refusal by the hub
+
+row_refused : (site : Site) (row : Row) (c : Code) (part : Part) → Waits row → told_row site row (answer.Reply (reply.Code c)) part ≡ ended c 0 part
+row_refused site (AtOnce o) c part waits = absurd waits
+row_refused site (OnReply m w) c part waits = refl
 
 pub refused_by_hub : HubRefusalLaw
 unfolding told asked
 refused_by_hub rank hart request c stamp hub =
-    ap (λ (part : Part). with_part rank hart part stamp) (turn_refused rank.site hart (doing rank.site (part_of rank hart)) (part_of rank hart) request c hub)
+    ap (λ (part : Part). with_part rank hart part stamp)
+    (row_refused rank.site _ c (part_of rank hart) (turn_waits rank.site hart rank.memory rank.requests (doing rank.site (part_of rank hart)) request hub))
 
 -- ---- NotYet
 
@@ -112,52 +121,15 @@ pub record IsPartKept (old new : Part) : Type 0 where
   pub requests : new.requests ≡ old.requests
   pub out : new.out ≡ old.out
 
-kept_as : (part x y : Part) → x ≡ y → IsPartKept part y → IsPartKept part x
-kept_as part x y same kept = subst (λ (z : Part). IsPartKept part z) (sym same) kept
-
-kept_ended : (c : Code) (value : ℕ) (part : Part) → IsPartKept part (ended c value part)
-kept_ended c value part = record { memory = refl; requests = refl; out = refl }
-
-kept_not_yet : (m : Manner) (part : Part) → IsPartKept part (not_yet m part)
-kept_not_yet Immediate part = record { memory = refl; requests = refl; out = refl }
-kept_not_yet Blocking part = record { memory = refl; requests = refl; out = refl }
-
-completing_kept : (site : Site) (m : Manner) (completing : Completing) (p : Pending) (r : Request) (part : Part) → asked_pending p ≡ ask.Hub r → IsPartKept part (told_completing site m completing p (answer.Reply reply.NotYet) part)
-completing_kept site m completing (Awaited post buffer capacity) r part hub = kept_not_yet m part
-completing_kept site m completing (Word post) r part hub = kept_not_yet m part
-completing_kept site m completing _ r part hub = cc
-
-start_kept : (memory : Memory) (handle : ℕ) (request : Option OpenRequest) (r : Request) (part : Part) → asked_start memory request ≡ ask.Hub r → IsPartKept part (told_start handle request (answer.Reply reply.NotYet) part)
-start_kept memory handle None r part hub = kept_ended _ _ _
-start_kept memory handle (Some o) r part hub = kept_as part _ _ (ap (λ (b : Result Progress Code). told_begun handle b part) (begun_err memory false o.transfer r _ _ hub refl)) (kept_ended _ _ _)
-
-call_kept : (site : Site) (hart : ℕ) (c : Call) (part : Part) (r : Request) → asked_by site part.memory part.requests c ≡ ask.Hub r → IsPartKept part (told_call site hart c (answer.Reply reply.NotYet) part)
-call_kept site hart (call.Send s) part r hub = kept_as part _ _ (ap (λ (b : Result Progress Code). told_send b part) (begun_err part.memory true (send_of site false s) r _ _ hub refl)) (kept_ended _ _ _)
-call_kept site hart (call.Ssend s) part r hub = kept_as part _ _ (ap (λ (b : Result Progress Code). told_send b part) (begun_err part.memory true (send_of site true s) r _ _ hub refl)) (kept_ended _ _ _)
-call_kept site hart (call.Recv v status) part r hub = kept_as part _ _ (taken _ _ _ (not_null (v.source == no_rank) part.memory true _ r hub)) (kept_ended _ _ _)
-call_kept site hart (call.Isend s) part r hub = kept_as part _ _ (ap (λ (b : Result Progress Code). told_open (send_of site false s) b part) (begun_err part.memory false (send_of site false s) r _ _ hub refl)) (kept_ended _ _ _)
-call_kept site hart (call.Issend s) part r hub = kept_as part _ _ (ap (λ (b : Result Progress Code). told_open (send_of site true s) b part) (begun_err part.memory false (send_of site true s) r _ _ hub refl)) (kept_ended _ _ _)
-call_kept site hart (call.Irecv v) part r hub = kept_as part _ _ (ap (λ (b : Result Progress Code). told_open (receive_of site v) b part) (begun_err part.memory false (receive_of site v) r _ _ hub refl)) (kept_ended _ _ _)
-call_kept site hart (call.Test c) part r hub = completing_kept site Immediate c _ r part hub
-call_kept site hart (call.Wait c) part r hub = completing_kept site Blocking c _ r part hub
-call_kept site hart (call.Iprobe p) part r hub = kept_as part _ _ (taken _ _ _ (asks_hub (p.source == no_rank) _ r hub)) (kept_not_yet Immediate part)
-call_kept site hart (call.Probe p) part r hub = kept_as part _ _ (taken _ _ _ (asks_hub (p.source == no_rank) _ r hub)) (kept_not_yet Blocking part)
-call_kept site hart (call.Improbe p) part r hub = kept_as part _ _ (taken _ _ _ (asks_hub (p.source == no_rank) _ r hub)) (kept_not_yet Immediate part)
-call_kept site hart (call.Mprobe p) part r hub = kept_as part _ _ (taken _ _ _ (asks_hub (p.source == no_rank) _ r hub)) (kept_not_yet Blocking part)
-call_kept site hart (call.Imrecv m) part r hub = kept_as part _ _ (ap (λ (b : Result Progress Code). told_open (claimed_of m) b part) (claimed_err (m.message == no_message) m.buffer m.capacity _ _ (asks_hub (m.message == no_message) _ r hub) refl)) (kept_ended _ _ _)
-call_kept site hart (call.Mrecv m status) part r hub = kept_as part _ _ (taken _ _ _ (asks_hub (m.message == no_message) _ r hub)) (kept_ended _ _ _)
-call_kept site hart (call.Start handle) part r hub = start_kept part.memory handle (request_at part.requests handle) r part hub
-call_kept site hart (call.Testall s) part r hub = kept_as part _ _ (some_posts (posts_of (pendings part.requests (handles_in part.memory (array_at s.array s.count)))) r _ _ hub) (kept_not_yet Immediate part)
-call_kept site hart (call.Waitall s) part r hub = kept_as part _ _ (some_posts (posts_of (pendings part.requests (handles_in part.memory (array_at s.array s.count)))) r _ _ hub) (kept_not_yet Blocking part)
-call_kept site hart _ part r hub = cc
-
-turn_kept : (site : Site) (hart : ℕ) (d : Doing) (part : Part) (r : Request) → asked_in site part.memory part.requests d ≡ ask.Hub r → IsPartKept part (told_in site hart d (answer.Reply reply.NotYet) part)
-turn_kept site hart (Go c) part r hub = call_kept site hart c part r hub
-turn_kept site hart (Poll c post) part r hub = record { memory = refl; requests = refl; out = refl }
-turn_kept site hart _ part r hub = cc
+row_kept : (site : Site) (row : Row) (part : Part) → Waits row → IsPartKept part (told_row site row (answer.Reply reply.NotYet) part)
+row_kept site (AtOnce o) part waits = absurd waits
+row_kept site (OnReply Immediate w) part waits = record { memory = refl; requests = refl; out = refl }
+row_kept site (OnReply Blocking w) part waits = record { memory = refl; requests = refl; out = refl }
+row_kept site (OnReply Polling w) part waits = record { memory = refl; requests = refl; out = refl }
+row_kept site (OnReply Posting w) part waits = record { memory = refl; requests = refl; out = refl }
 
 pub kept_not_yet_told : NotYetLaw
 unfolding told asked
 kept_not_yet_told rank hart request stamp hub =
-    let kept = turn_kept rank.site hart (doing rank.site (part_of rank hart)) (part_of rank hart) request hub in
+    let kept = row_kept rank.site _ (part_of rank hart) (turn_waits rank.site hart rank.memory rank.requests (doing rank.site (part_of rank hart)) request hub) in
     record { memory = kept.memory; requests = kept.requests; out = kept.out }

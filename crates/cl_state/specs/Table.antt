@@ -1,0 +1,176 @@
+-- The table of calls: one row a call, with what it does at once, or the reply that it wants of the hub.
+use Rattle.std.specs.Prelude.{ℕ, ◌==◌, if◌then◌else◌, List, length, Option, Some, None, true, false}
+use Rattle.std.specs.Option.{unwrap_or}
+use Rattle.rv_memory.specs.Memory.{Memory}
+use Rattle.mp_types.specs.declared.codes.Code.TheVariants as code
+use Rattle.mp_request.specs.declared.entries.OpenRequest.{OpenRequest}
+use Rattle.mp_request.specs.declared.entries.Progress.{Progress}
+use Rattle.mp_request.specs.declared.entries.Progress.TheVariants as progress
+use Rattle.mp_request.specs.declared.entries.State.TheVariants as state
+use Rattle.mp_request.specs.declared.entries.Transfer.{Transfer}
+use Rattle.mp_request.specs.declared.entries.Transfer.TheVariants as transfer
+use Rattle.mp_request.specs.Table.{Table, request_at}
+use Rattle.cl_calls.specs.declared.calls.Call.{Call}
+use Rattle.cl_calls.specs.declared.calls.Call.TheVariants as call
+use Rattle.cl_calls.specs.declared.calls.Claimed.{Claimed}
+use Rattle.cl_calls.specs.declared.calls.Completing.{Completing}
+use Rattle.cl_calls.specs.declared.calls.Probing.{Probing}
+use Rattle.cl_calls.specs.declared.calls.Receiving.{Receiving}
+use Rattle.cl_calls.specs.declared.calls.Several.{Several}
+use Rattle.cl_calls.specs.declared.sites.Site.{Site}
+use Rattle.cl_calls.specs.Site.{members, place_of}
+use Rattle.cl_calls.specs.Calls.{any, no_rank, no_message}
+use Rattle.cl_calls.specs.Handles.{handles_in}
+use Rattle.cl_calls.specs.Needs.{array_at}
+use Rattle.cl_state.specs.declared.asking.Doing.{Doing}
+use Rattle.cl_state.specs.declared.asking.Doing.TheVariants.{Step, Refused, Go, Poll, Stopped}
+use Rattle.cl_state.specs.declared.pending.Manner.{Manner}
+use Rattle.cl_state.specs.declared.pending.Manner.TheVariants.{Immediate, Blocking, Posting, Polling}
+use Rattle.cl_state.specs.declared.pending.Pending.{Pending}
+use Rattle.cl_state.specs.declared.pending.Pending.TheVariants as pending
+use Rattle.cl_state.specs.declared.pending.Target.{Target}
+use Rattle.cl_state.specs.declared.row.Outcome.{Outcome}
+use Rattle.cl_state.specs.declared.row.Outcome.TheVariants.{Steps, Stays, Exits, Ends, Waits, Puts, Opens, Starts, Frees, Completes, FindsNothing, CompletesAll}
+use Rattle.cl_state.specs.declared.row.Purpose.{Purpose}
+use Rattle.cl_state.specs.declared.row.Purpose.TheVariants as purpose
+use Rattle.cl_state.specs.declared.row.Row.{Row}
+use Rattle.cl_state.specs.declared.row.Row.TheVariants.{AtOnce, OnReply}
+use Rattle.cl_state.specs.declared.row.Wanted.{Wanted}
+use Rattle.cl_state.specs.declared.row.Wanted.TheVariants as wanted
+use Rattle.cl_state.specs.Transfers.{send_of, receive_of, claimed_of}
+use Rattle.cl_state.specs.Pending.{flag, pending_of}
+use Rattle.cl_state.specs.Several.{pendings, posts_of, has_posts}
+
+-- ---- transfers
+
+-- how a call goes on once its transfer has begun: a send that isn't complete waits for its post, a request is opened as an
+-- ordinary one (MPI 4.1, 3.7.2) or started (3.9)
+abbrev pub begun : Purpose → Transfer → Progress → Outcome
+begun purpose.Send t progress.Finished = Ends code.Ok 0
+begun purpose.Send t (progress.OnPost post) = Waits post
+begun purpose.Send t progress.InPhase = Ends code.BadRequest 0
+begun purpose.Open t p = Opens (record { transfer = t; state = state.Ordinary p })
+begun (purpose.Start handle) t p = Starts handle p
+
+-- a transfer with the null process begins and is finished at once (3.11), any other by a post
+abbrev pub begins : Purpose → Transfer → Row
+begins why transfer.SendToNull = AtOnce (begun why transfer.SendToNull progress.Finished)
+begins why transfer.ReceiveFromNull = AtOnce (begun why transfer.ReceiveFromNull progress.Finished)
+begins why (transfer.SendPartitions side) = AtOnce (Ends code.BadRequest 0)
+begins why (transfer.ReceivePartitions side) = AtOnce (Ends code.BadRequest 0)
+begins why t = OnReply Posting (wanted.Post why t)
+
+-- a start begins what its request transfers (3.9)
+abbrev pub starts : ℕ → Option OpenRequest → Row
+starts handle None = AtOnce (Ends code.BadRequest 0)
+starts handle (Some r) = begins (purpose.Start handle) r.transfer
+
+-- a persistent request is inactive when it is made (3.9)
+abbrev pub makes : Transfer → Row
+makes t = AtOnce (Opens (record { transfer = t; state = state.Inactive }))
+
+-- ---- receives, and calls that complete requests
+
+-- a call that waits for its message itself, and has no request
+abbrev pub into : ℕ → ℕ → ℕ → Target
+into buffer capacity status = record { buffer = buffer; capacity = capacity; status = status; handle = 0; value = 0 }
+
+-- from the null process nothing comes (3.11); else a message comes with the reply, or is waited for
+abbrev pub nothing_comes : Target → Row
+nothing_comes target = AtOnce (Completes no_rank target)
+
+abbrev pub comes : Target → Row
+comes target = OnReply Posting (wanted.MessageOrPost target)
+
+abbrev pub receives : Receiving → ℕ → Row
+receives r status =
+    if (r.source == no_rank)
+    then nothing_comes (into r.buffer r.capacity status)
+    else comes (into r.buffer r.capacity status)
+
+abbrev pub receives_claimed : Claimed → ℕ → Row
+receives_claimed m status =
+    if (m.message == no_message)
+    then nothing_comes (into m.buffer m.capacity status)
+    else comes (into m.buffer m.capacity status)
+
+-- what completes a request goes where its receive said, and its status where the call says
+abbrev pub completing : Manner → Completing → ℕ → ℕ → Target
+completing m c buffer capacity =
+    record { buffer = buffer; capacity = capacity; status = c.status; handle = c.handle; value = flag m }
+
+-- a test or a wait, by what its request needs (3.7.3)
+abbrev pub completes : Manner → Completing → Pending → Row
+completes m c pending.Nothing = AtOnce (Completes any (completing m c 0 0))
+completes m c pending.FromNull = nothing_comes (completing m c 0 0)
+completes m c (pending.Message post buffer capacity) = OnReply m (wanted.Message (completing m c buffer capacity))
+completes m c (pending.Word post) = OnReply m (wanted.Word (completing m c 0 0))
+
+-- where no post is asked for all complete at once, and else all or none (3.7.5)
+abbrev pub gathers : Manner → Several → List ℕ → Row
+gathers m s posts =
+    if has_posts posts then OnReply m (wanted.All (flag m) s) else AtOnce (CompletesAll (flag m) s)
+
+-- ---- probes
+
+-- a probe of the null process finds at once that nothing comes from there, with this value (3.8, 3.11)
+abbrev pub probes : Manner → Probing → ℕ → Wanted → Row
+probes m p value w = if (p.source == no_rank) then AtOnce (FindsNothing value p.status) else OnReply m w
+
+-- a probe tells the envelope of a message that is there
+abbrev pub sees : Manner → Probing → Row
+sees m p = probes m p (flag m) (wanted.Sight (flag m) p.status)
+
+-- a matched one gives the handle of the message that it claimed
+abbrev pub claims : Manner → Probing → Row
+claims m p = probes m p no_message (wanted.Claim p.status)
+
+-- ---- the table
+
+abbrev pub gives : ℕ → Row
+gives value = AtOnce (Ends code.Ok value)
+
+abbrev pub row_of : Site → ℕ → Memory → Table → Call → Row
+row_of site hart memory table (call.Exit value) = AtOnce (Exits value)
+row_of site hart memory table (call.Put buffer count) = AtOnce (Puts buffer count)
+row_of site hart memory table (call.Rank comm) = gives (unwrap_or (place_of site.number (members site comm)) 0)
+row_of site hart memory table (call.Size comm) = gives (length (members site comm))
+row_of site hart memory table call.Hart = gives hart
+row_of site hart memory table (call.Send s) = begins purpose.Send (send_of site false s)
+row_of site hart memory table (call.Ssend s) = begins purpose.Send (send_of site true s)
+row_of site hart memory table (call.Recv r status) = receives r status
+row_of site hart memory table (call.Isend s) = begins purpose.Open (send_of site false s)
+row_of site hart memory table (call.Issend s) = begins purpose.Open (send_of site true s)
+row_of site hart memory table (call.Irecv r) = begins purpose.Open (receive_of site r)
+row_of site hart memory table (call.Test c) = completes Immediate c (pending_of (request_at table c.handle))
+row_of site hart memory table (call.Wait c) = completes Blocking c (pending_of (request_at table c.handle))
+row_of site hart memory table (call.Iprobe p) = sees Immediate p
+row_of site hart memory table (call.Probe p) = sees Blocking p
+row_of site hart memory table (call.Improbe p) = claims Immediate p
+row_of site hart memory table (call.Mprobe p) = claims Blocking p
+row_of site hart memory table (call.Imrecv m) = begins purpose.Open (claimed_of m)
+row_of site hart memory table (call.Mrecv m status) = receives_claimed m status
+row_of site hart memory table (call.SendInit s) = makes (send_of site false s)
+row_of site hart memory table (call.RecvInit r) = makes (receive_of site r)
+row_of site hart memory table (call.Start handle) = starts handle (request_at table handle)
+row_of site hart memory table (call.RequestFree handle) = AtOnce (Frees handle)
+row_of site hart memory table (call.Testall s) =
+    gathers Immediate s (posts_of (pendings table (handles_in memory (array_at s.array s.count))))
+row_of site hart memory table (call.Waitall s) =
+    gathers Blocking s (posts_of (pendings table (handles_in memory (array_at s.array s.count))))
+row_of site hart memory table call.Unknown = AtOnce Stays
+
+-- a poll wants the message of a receive, or word that a synchronous send is complete
+abbrev pub polled : Call → Wanted
+polled (call.Recv r status) = wanted.Message (into r.buffer r.capacity status)
+polled (call.Mrecv m status) = wanted.Message (into m.buffer m.capacity status)
+polled (call.Ssend s) = wanted.Sent
+polled _ = wanted.Nothing
+
+-- and the row of any turn
+abbrev pub row_in : Site → ℕ → Memory → Table → Doing → Row
+row_in site hart memory table Step = AtOnce Steps
+row_in site hart memory table (Refused c) = AtOnce (Ends c 0)
+row_in site hart memory table (Go c) = row_of site hart memory table c
+row_in site hart memory table (Poll c post) = OnReply Polling (polled c)
+row_in site hart memory table Stopped = AtOnce Stays

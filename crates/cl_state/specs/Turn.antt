@@ -1,0 +1,72 @@
+-- A hart's turn under way, and the part of its rank that it changes.
+use Rattle.std.specs.Prelude.{◌≡◌, ◌≤◌, ℕ, ◌+◌, length, vec_len, vec_capacity, IsTrue}
+use Rattle.rv_memory.specs.Memory.{bytes_at}
+use Rattle.rv_hart.specs.declared.state.Mode.TheVariants.{Running}
+use Rattle.mp_request.specs.Entries.{is_new}
+use Rattle.mp_request.specs.Table.{IsInactive}
+use Rattle.cl_calls.specs.declared.calls.Several.{Several}
+use Rattle.cl_calls.specs.Checks.{is_few, is_array}
+use Rattle.cl_calls.specs.Needs.{array_at}
+use Rattle.cl_state.specs.declared.asking.Doing.{Doing}
+use Rattle.cl_state.specs.declared.row.Outcome.{Outcome}
+use Rattle.cl_state.specs.declared.row.Outcome.TheVariants.{Steps, Puts, Opens, Starts, Frees, CompletesAll}
+use Rattle.cl_state.specs.declared.row.Purpose.TheVariants.{Start}
+use Rattle.cl_state.specs.declared.row.Row.{Row}
+use Rattle.cl_state.specs.declared.row.Row.TheVariants.{AtOnce, OnReply}
+use Rattle.cl_state.specs.declared.row.Wanted.{Wanted}
+use Rattle.cl_state.specs.declared.row.Wanted.TheVariants as wanted
+use Rattle.cl_state.specs.declared.turn.Turn.{Turn}
+use Rattle.cl_state.specs.Asked.{Part}
+use Rattle.cl_state.specs.Right.{IsChecked, IsRunning, output_of}
+use Rattle.cl_state.specs.Table.{row_in}
+
+-- what may change, as it is now
+abbrev pub part_in : Turn → Part
+part_in turn =
+    record { hart = turn.hart.now; memory = turn.memory.now; requests = turn.requests.now; out = turn.out.now.items }
+
+-- this part stands behind the same references now
+pub record Becomes (old new : Turn) (then : Part) : Type 0 where
+  pub part : part_in new ≡ then
+  pub site : new.site ≡ old.site
+  pub number : new.number ≡ old.number
+  pub hart : new.hart.ghost_name ≡ old.hart.ghost_name
+  pub memory : new.memory.ghost_name ≡ old.memory.ghost_name
+  pub requests : new.requests.ghost_name ≡ old.requests.ghost_name
+  pub out : new.out.ghost_name ≡ old.out.ghost_name
+
+-- what the checks and `room` made sure of, for what the turn does
+pub record IsReady (turn : Turn) (d : Doing) : Type 0 where
+  pub running : IsRunning d turn.hart.now
+  pub checked : IsChecked turn.site.now turn.memory.now turn.requests.now d
+  pub fresh : turn.fresh.now ≡ output_of turn.memory.now d
+  pub room : vec_len turn.out.now + length turn.fresh.now ≤ vec_capacity turn.out.now
+
+abbrev pub row_for : Turn → Doing → Row
+row_for turn d = row_in turn.site.now turn.number turn.memory.now turn.requests.now d
+
+-- an array of handles, not too long, that is in the memory
+abbrev pub HasArray : Turn → Several → Type 0
+HasArray turn s = IsTrue (is_few (array_at s.array s.count)) × IsTrue (is_array turn.memory.now (array_at s.array s.count))
+
+-- what an outcome leans on: an instruction is a running hart's, the bytes lie ready and there is room for them, a request
+-- that is opened is a new one, one that is started or freed is inactive
+abbrev pub IsAble : Turn → Outcome → Type 0
+IsAble turn Steps = turn.hart.now.mode ≡ Running
+IsAble turn (Puts buffer count) =
+    (turn.fresh.now ≡ bytes_at turn.memory.now buffer count)
+    × (vec_len turn.out.now + length turn.fresh.now ≤ vec_capacity turn.out.now)
+IsAble turn (Opens request) = IsTrue (is_new request.state)
+IsAble turn (Starts handle progress) = IsInactive turn.requests.now handle
+IsAble turn (Frees handle) = IsInactive turn.requests.now handle
+IsAble turn (CompletesAll value s) = HasArray turn s
+IsAble turn _ = Unit {0}
+
+abbrev pub IsWantable : Turn → Wanted → Type 0
+IsWantable turn (wanted.Post (Start handle) t) = IsInactive turn.requests.now handle
+IsWantable turn (wanted.All value s) = HasArray turn s
+IsWantable turn _ = Unit {0}
+
+abbrev pub IsRow : Turn → Row → Type 0
+IsRow turn (AtOnce o) = IsAble turn o
+IsRow turn (OnReply m w) = IsWantable turn w
