@@ -1,14 +1,19 @@
 //! Answers of `cl_state`.
 
-ghost use Rattle.std.specs.Prelude.{◌≡◌, ◌<◌, Ok, vec_len, IsOk};
-ghost use Rattle.cl_state.specs.declared.asking.Ask.TheVariants as ask;
+ghost use Rattle.std.specs.Prelude.{◌≡◌, ◌<◌, [], Ok, vec_len, IsOk, OnOk, OnErr};
 ghost use Rattle.cl_state.specs.declared.asking.Doing.TheVariants.{Step};
-ghost use Rattle.cl_state.specs.Asked.{asked, doing, part_of};
+ghost use Rattle.cl_state.specs.Asked.{asked, carried, doing, part_of};
 ghost use Rattle.cl_state.specs.Room.{rank_of};
+ghost use Rattle.cl_state.specs.Told.{told};
 ghost use Rattle.calls_tests.specs.Turns.{AskedPlaces, BreakRow, ExitRow, IssendAmongSeveral, IssendRow, LoadedRow, NoStatus, ProbeWaits, RankSizeRow, ReceiveFromNullRow, SecondHartRow, SendToNullRow, SeveralPlaces, StatusOverBuffer, StoppedRows, ToldPlaces};
 
-use cl_state::{Ask, RankState};
-use std::alloc::AllocError;
+use cl_calls::Site;
+use cl_state::{Answer, Ask, RankState};
+use mp_request::Requests;
+use mp_types::Stamp;
+use rv_hart::Hart;
+use rv_memory::RankMemory;
+use std::alloc::{AllocError, Global};
 
 /// EXIT ends its hart with its code.
 pub fn exits()
@@ -90,13 +95,43 @@ pub fn loads()
     ensures { LoadedRow }
 {}
 
-/// A turn that asks nobody isn't refused memory.
-pub fn asks_nobody(rank: &RankState, hart: u8) -> Result<Ask, AllocError>
+/// What carries no list is asked as the hart's registers spell it, and isn't refused memory.
+pub fn asks_without_memory(rank: &RankState, hart: u8) -> Result<Ask, AllocError>
     requires hart { hart < vec_len rank.now.harts }
-    requires local { asked (rank_of rank.now) hart ≡ ask.Local }
-    ensures { result ≡ Ok ask.Local }
+    requires nothing { carried (asked (rank_of rank.now) hart) ≡ 0 }
+    ensures { result ≡ Ok (asked (rank_of rank.now) hart) }
 {
     rank.ask(hart)
+}
+
+/// Whatever a hart is answered, the rank is told it once there is room, and else stays as it was.
+pub fn tells_what_was_answered(
+    rank: &mut RankState,
+    hart: u8,
+    answer: &Answer,
+    stamp: Stamp,
+) -> Result<(), AllocError>
+    requires { hart < vec_len rank.old.harts }
+    ensures told { OnOk result (rank_of rank.new ≡ told (rank_of rank.old) hart answer.now stamp) }
+    ensures same { OnErr result (rank_of rank.new ≡ rank_of rank.old) }
+{
+    rank.room(hart)?;
+    rank.tell(hart, answer, stamp);
+    Ok(())
+}
+
+/// A new rank has put nothing out, and is at clock 0.
+pub fn begins_at_clock_0(
+    alloc: Global,
+    site: Site,
+    memory: RankMemory,
+    harts: Vec<Hart>,
+    requests: Requests,
+) -> RankState
+    ensures out { result.out.items ≡ [] }
+    ensures clock { result.clock ≡ 0 }
+{
+    RankState::new(alloc, site, memory, harts, requests)
 }
 
 /// An instruction needs no room.
