@@ -23,8 +23,11 @@ clock_moved old new d h = ap (λ (r : Rank). r.clock) h.4 ∙ (told_at old d.har
 
 pub rising : RisingLaw
 rising old new [] h = tt
-rising old new (d ∷ ds) h =
-    (stamp_above old.clock d.stamp d.act h.1.3, subst (λ clock. RisesFrom clock ds) (clock_moved old h.0 d h.1) (rising h.0 new ds h.2))
+rising old new (d ∷ ds) h = (
+  stamp_above old.clock d.stamp d.act h.1.3,
+  subst (λ clock. RisesFrom clock ds) (clock_moved old h.0 d h.1)
+      (rising h.0 new ds h.2),
+)
 
 pub one_rank : OneRankLaw
 one_rank old a b [] p q = p ∙ sym q

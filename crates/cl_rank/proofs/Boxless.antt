@@ -5,7 +5,8 @@ use Rattle.rv_memory.specs.Memory.{Memory}
 use Rattle.mp_types.specs.declared.requests.Request.TheVariants as request
 use Rattle.mp_request.specs.declared.entries.OpenRequest.{OpenRequest}
 use Rattle.mp_request.specs.declared.entries.Transfer.{Transfer}
-use Rattle.mp_request.specs.declared.entries.Transfer.TheVariants.{SendToNull, ReceiveFromNull, Send, Receive, ReceiveClaimed, SendPartitions, ReceivePartitions}
+use Rattle.mp_request.specs.declared.entries.Transfer.TheVariants.{SendToNull, ReceiveFromNull, Send, Receive}
+use Rattle.mp_request.specs.declared.entries.Transfer.TheVariants.{ReceiveClaimed, SendPartitions, ReceivePartitions}
 use Rattle.mp_request.specs.Table.{Table, request_at}
 use Rattle.cl_calls.specs.Calls.{no_rank, no_message}
 use Rattle.cl_calls.specs.declared.calls.Call.{Call}
@@ -26,7 +27,8 @@ use Rattle.cl_state.specs.Pending.{pending_of, asked_pending}
 use Rattle.cl_state.specs.Rank.{Rank}
 use Rattle.cl_state.specs.Several.{pendings, posts_of, asked_all}
 use Rattle.cl_state.specs.Transfers.{source_of, tag_of, send_of, receive_of, asked_transfer, asked_claimed}
-use Rattle.cl_state.specs.Asked.{part_of, doing, asked, asked_in, asked_by, asked_poll, asked_probe, asked_claim, asked_start, asked_several}
+use Rattle.cl_state.specs.Asked.{part_of, doing, asked, asked_in, asked_by, asked_poll, asked_probe, asked_claim}
+use Rattle.cl_state.specs.Asked.{asked_start, asked_several}
 use Rattle.cl_rank.specs.Turns.{AsksNoBox}
 
 either : (b : Bool) (x y : Ask) → AsksNoBox x → AsksNoBox y → AsksNoBox (if b then x else y)
@@ -53,11 +55,13 @@ by_claimed now m = either (m.message == no_message) ask.Local (ask.Hub (request.
 
 by_probe : (site : Site) (p : Probing) → AsksNoBox (asked_probe site p)
 by_probe site p =
-    either (p.source == no_rank) ask.Local (ask.Hub (request.Probe p.comm (source_of site p.comm p.source) (tag_of p.tag))) tt tt
+    either (p.source == no_rank) ask.Local
+    (ask.Hub (request.Probe p.comm (source_of site p.comm p.source) (tag_of p.tag))) tt tt
 
 by_claim : (site : Site) (p : Probing) → AsksNoBox (asked_claim site p)
 by_claim site p =
-    either (p.source == no_rank) ask.Local (ask.Hub (request.Claim p.comm (source_of site p.comm p.source) (tag_of p.tag))) tt tt
+    either (p.source == no_rank) ask.Local
+    (ask.Hub (request.Claim p.comm (source_of site p.comm p.source) (tag_of p.tag))) tt tt
 
 by_start : (memory : Memory) (r : Option OpenRequest) → AsksNoBox (asked_start memory r)
 by_start memory None = tt

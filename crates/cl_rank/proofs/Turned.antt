@@ -36,16 +36,21 @@ event hart stamp kind request = record { hart = hart; stamp = stamp; kind = kind
 
 -- a turn that asks nobody, of a rank that room was made for
 pub alone_turn : {D : Type 0} (gives : Gives D) (hart : ℕ) (old mid new : Rank) (desk : D) (act : Act) (e : Event)
-    → mid ≡ old → hart < length old.harts → old.clock + 1 < 2 ^ 62 → Answers (asked old hart) act → IsStamp old.clock act (old.clock + 1)
+    → mid ≡ old → hart < length old.harts → old.clock + 1 < 2 ^ 62 → Answers (asked old hart) act
+    → IsStamp old.clock act (old.clock + 1)
     → answer_of act ≡ Alone → request_of act ≡ None → TellsAct gives old.site.number hart (old.clock + 1) desk desk act
-    → e ≡ record { hart = hart; stamp = mid.clock + 1; kind = kind_of act; request = None } → new ≡ told mid hart Alone (mid.clock + 1)
+    → e ≡ record { hart = hart; stamp = mid.clock + 1; kind = kind_of act; request = None }
+    → new ≡ told mid hart Alone (mid.clock + 1)
     → (events : List Event) → IsTurn gives hart old new events (events ++ e ∷ []) desk desk
 alone_turn gives hart old mid new desk act e same there low answers is_stamp alone none tells is_event is_told events =
     let told_so : new ≡ told old hart (answer_of act) (old.clock + 1) =
-    is_told ∙ ap (λ (r : Rank). told r hart Alone (r.clock + 1)) same ∙ ap (λ a. told old hart a (old.clock + 1)) (sym alone) in
+    is_told ∙ ap (λ (r : Rank). told r hart Alone (r.clock + 1)) same ∙ ap (λ a. told old hart a (old.clock + 1))
+    (sym alone) in
     let event_so : e ≡ event_of (deed_by old hart (old.clock + 1) act) =
-    is_event ∙ ap (λ (r : Rank). event hart (r.clock + 1) (kind_of act) None) same ∙ ap (λ request. event hart (old.clock + 1) (kind_of act) request) (sym none) in
-    turned gives hart (old.clock + 1) old new desk desk act there low answers is_stamp told_so tells events _ (ap (λ x. events ++ x ∷ []) event_so)
+    is_event ∙ ap (λ (r : Rank). event hart (r.clock + 1) (kind_of act) None) same ∙ ap
+    (λ request. event hart (old.clock + 1) (kind_of act) request) (sym none) in
+    turned gives hart (old.clock + 1) old new desk desk act there low answers is_stamp told_so tells events _
+    (ap (λ x. events ++ x ∷ []) event_so)
 
 -- a told rank's clock is the stamp
 pub clock_told : (old new : Rank) (hart : ℕ) (a : Answer) (stamp : ℕ) → new ≡ told old hart a stamp → new.clock ≡ stamp

@@ -10,7 +10,8 @@ use Rattle.cl_state.specs.Rank.{Rank}
 use Rattle.cl_state.specs.Asked.{asked}
 use Rattle.cl_state.specs.Told.{told}
 
--- what an event was, with all that it met: the rank's clock and the hub's reply; the box, its gate's stamp and its bytes
+-- what an event was, with all that it met: the rank's clock
+-- and the hub's reply; the box, its gate's stamp and its bytes
 pub data Act : Type 0 where
   Plain : Act
   Local : Act
@@ -70,7 +71,8 @@ Answers asks (Act.Freed link part gate) = asks ≡ Ask.Freed link part
 Answers asks Act.Held = asks ≡ Ask.Held
 Answers asks Act.Idle = asks ≡ Ask.Idle
 
--- the stamp of an act at a rank's clock. A gate's stamp is passed; the hub's clock too, which the rank alone doesn't see
+-- the stamp of an act at a rank's clock. A gate's stamp is
+-- passed; the hub's clock too, which the rank alone doesn't see
 abbrev pub IsStamp : ℕ → Act → ℕ → Type 0
 IsStamp clock (Act.Hub at request reply) stamp = (at ≡ clock) × (clock < stamp)
 IsStamp clock (Act.Take link part gate bytes) stamp = stamp ≡ max clock gate + 1

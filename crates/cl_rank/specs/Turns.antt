@@ -17,8 +17,8 @@ use Rattle.cl_rank.specs.Deeds.{Act, Deed, event_of, RankMoves}
 use Rattle.cl_rank.specs.declared.stops.Stop.{Stop}
 use Rattle.cl_rank.specs.declared.stops.Stop.TheVariants as stop
 
--- what a desk may do in a call: the desk before, the rank, the hart, the rank's clock, the request, what was answered with
--- its stamp, the desk after
+-- what a desk may do in a call: the desk before, the rank, the hart, the
+-- rank's clock, the request, what was answered with its stamp, the desk after
 abbrev pub Gives : Type 0 → Type 1
 Gives D = D → ℕ → ℕ → ℕ → Request → Result (Reply × ℕ) HubFault → D → Type 0
 
@@ -29,14 +29,16 @@ Answered before rank hart clock request (Err fault) after = IsRefusal before ran
 
 -- what an act tells the desk: a hub act its call, any other nothing
 abbrev pub TellsAct : {D : Type 0} → Gives D → ℕ → ℕ → ℕ → D → D → Act → Type 0
-TellsAct gives rank hart stamp before after (Act.Hub clock request reply) = gives before rank hart clock request (Ok (reply, stamp)) after
+TellsAct gives rank hart stamp before after (Act.Hub clock request reply) =
+    gives before rank hart clock request (Ok (reply, stamp)) after
 TellsAct gives rank hart stamp before after _ = after ≡ before
 
 abbrev pub Tells : {D : Type 0} → Gives D → D → D → Deed → Type 0
 Tells gives before after d = TellsAct gives d.rank d.hart d.stamp before after d.act
 
 -- a turn of a hart: a deed by which the rank moves, with its event behind the events before, and what it told the desk
-pub record IsTurn {D : Type 0} (gives : Gives D) (hart : ℕ) (old new : Rank) (before after : List Event) (desk left : D) : Type 0 where
+pub record IsTurn {D : Type 0} (gives : Gives D) (hart : ℕ) (old new : Rank) (before after : List Event)
+    (desk left : D) : Type 0 where
   pub deed : Deed
   pub rank : deed.rank ≡ old.site.number
   pub by : deed.hart ≡ hart
@@ -83,13 +85,15 @@ stop_of (fault.Calls n) = stop.Calls n
 -- the desk refused the request that the hart asked for
 abbrev pub Refuses : {D : Type 0} → Gives D → ℕ → Rank → D → D → HubFault → Type 0
 Refuses gives hart rank before after f =
-    (request : Request) × (asked rank hart ≡ Ask.Hub request) × gives before rank.site.number hart rank.clock request (Err f) after
+    (request : Request) × (asked rank hart ≡ Ask.Hub request)
+    × gives before rank.site.number hart rank.clock request (Err f) after
 
 -- why a rank stops of itself. All harts being stopped is asked first, then the budget, then its clock, then memory
 abbrev pub IsCause : Rank → ℕ → ℕ → Stop → Type 0
 IsCause rank turns budget stop.AllEnded = AllStopped rank
 IsCause rank turns budget stop.Budget = (¬ (AllStopped rank)) × (turns ≡ budget)
-IsCause rank turns budget (stop.ClockFull c) = (¬ (AllStopped rank)) × (turns < budget) × (rank.clock ≡ c) × (c + 1 ≡ 2 ^ 62)
+IsCause rank turns budget (stop.ClockFull c) =
+    (¬ (AllStopped rank)) × (turns < budget) × (rank.clock ≡ c) × (c + 1 ≡ 2 ^ 62)
 IsCause rank turns budget stop.Memory = IsActive rank turns budget
 IsCause rank turns budget (stop.Calls n) = ⊥
 
@@ -97,4 +101,6 @@ IsCause rank turns budget (stop.Calls n) = ⊥
 abbrev pub StopHolds : {D : Type 0} → Gives D → ℕ → Rank → ℕ → ℕ → D → D → Stop → Type 0
 StopHolds gives hart rank turns budget before after s =
     (IsCause rank turns budget s × (after ≡ before))
-    ⊎ (IsActive rank turns budget × ((f : HubFault) × (s ≡ stop_of f) × IsFault f × Refuses gives hart rank before after f))
+    ⊎
+    (IsActive rank turns budget × ((f : HubFault) × (s
+    ≡ stop_of f) × IsFault f × Refuses gives hart rank before after f))

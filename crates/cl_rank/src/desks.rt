@@ -15,7 +15,8 @@ pub trait Desk<R> {
     ghost use Rattle.cl_journal.specs.declared.journal.HubFault.{HubFault};
     ghost use Rattle.cl_rank.specs.Turns.{IsFault};
 
-    // the desk before, the rank, the hart, the rank's clock, the request, what was answered with its stamp, the desk after
+    // the desk before, the rank, the hart, the rank's clock, the
+    // request, what was answered with its stamp, the desk after
     ghost gives: { Self → ℕ → ℕ → ℕ → Request → Result (Reply × ℕ) HubFault → Self → Type 0 };
 
     /// Makes one call of a rank, whose clock is given. An answer's stamp is above that clock and below 2^62.
@@ -44,7 +45,8 @@ impl<'a, R: Wait> Desk<R> for LockedDesk<'a> {
     ghost use Rattle.cl_rank.specs.Turns.{Answered};
 
     // some journal before and one after answered just this call of just this rank and hart
-    ghost gives = { λ before rank hart clock request told after. (j : Journal) × (k : Journal) × Answered j rank hart clock request told k };
+    ghost gives = { λ before rank hart clock request told after. (j : Journal) ×
+        (k : Journal) × Answered j rank hart clock request told k };
 
     fn call(
         &mut self,
@@ -69,7 +71,8 @@ impl<'a, R> Desk<R> for PlainDesk<'a> {
     ghost use Rattle.cl_rank.specs.Turns.{Answered};
 
     // the desk keeps its reference to the hub, so that its owner learns what the hub became
-    ghost gives = { λ before rank hart clock request told after. (after.hub.ghost_name ≡ before.hub.ghost_name) × Answered before.hub.now rank hart clock request told after.hub.now };
+    ghost gives = { λ before rank hart clock request told after. (after.hub.ghost_name
+        ≡ before.hub.ghost_name) × Answered before.hub.now rank hart clock request told after.hub.now };
 
     fn call(
         &mut self,

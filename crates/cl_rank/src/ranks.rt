@@ -44,14 +44,20 @@ impl Rank {
 
     /// Takes a turn of a hart that is there: one event, behind those before. Only a call of the hub reaches the desk.
     ///
-    /// Refusals, in this order: AllEnded where all harts are stopped, Budget where there are as many events as the budget
-    /// allows, ClockFull where the rank's clock is 2^62 - 1, then Memory or the desk's. After each the rank is as it was.
+    /// Refusals, in this order: AllEnded where all harts are stopped, Budget where
+    /// there are as many events as the budget allows, ClockFull where the rank's clock
+    /// is 2^62 - 1, then Memory or the desk's. After each the rank is as it was.
     #[inline(always)]
     pub fn turn<R, D: Desk<R>>(&mut self, rt: &R, desk: &mut D, hart: u8) -> Result<(), Stop>
         requires { hart < vec_len self.old.state.harts }
-        ensures turned { OnOk result (IsTurn D.gives hart (rank_of self.old.state) (rank_of self.new.state) self.old.trace.events self.new.trace.events desk.old desk.new) }
-        ensures active { OnOk result (IsActive (rank_of self.old.state) (length self.old.trace.events) self.old.budget) }
-        ensures stop { IfErr result (λ stop. StopHolds D.gives hart (rank_of self.old.state) (length self.old.trace.events) self.old.budget desk.old desk.new stop) }
+        ensures turned { OnOk result
+            (IsTurn D.gives hart (rank_of self.old.state)
+            (rank_of self.new.state) self.old.trace.events self.new.trace.events desk.old desk.new) }
+        ensures active { OnOk result (IsActive (rank_of self.old.state)
+            (length self.old.trace.events) self.old.budget) }
+        ensures stop { IfErr result
+            (λ stop. StopHolds D.gives hart (rank_of self.old.state)
+            (length self.old.trace.events) self.old.budget desk.old desk.new stop) }
         ensures state { OnErr result (rank_of self.new.state ≡ rank_of self.old.state) }
         ensures events { OnErr result (self.new.trace.events ≡ self.old.trace.events) }
         ensures budget { self.new.budget ≡ self.old.budget }
@@ -74,9 +80,14 @@ impl Rank {
     /// Takes a turn of a hart over the hub itself, and never waits. After a refusal the hub is as it was, too.
     pub fn turn_plain(&mut self, hub: &mut Hub, hart: u8) -> Result<(), Stop>
         requires { hart < vec_len self.old.state.harts }
-        ensures turned { OnOk result (IsTurn Answered hart (rank_of self.old.state) (rank_of self.new.state) self.old.trace.events self.new.trace.events hub.old hub.new) }
-        ensures active { OnOk result (IsActive (rank_of self.old.state) (length self.old.trace.events) self.old.budget) }
-        ensures stop { IfErr result (λ stop. StopHolds Answered hart (rank_of self.old.state) (length self.old.trace.events) self.old.budget hub.old hub.new stop) }
+        ensures turned { OnOk result
+            (IsTurn Answered hart (rank_of self.old.state)
+            (rank_of self.new.state) self.old.trace.events self.new.trace.events hub.old hub.new) }
+        ensures active { OnOk result (IsActive (rank_of self.old.state)
+            (length self.old.trace.events) self.old.budget) }
+        ensures stop { IfErr result
+            (λ stop. StopHolds Answered hart (rank_of self.old.state)
+            (length self.old.trace.events) self.old.budget hub.old hub.new stop) }
         ensures state { OnErr result (rank_of self.new.state ≡ rank_of self.old.state) }
         ensures events { OnErr result (self.new.trace.events ≡ self.old.trace.events) }
         ensures hub { OnErr result (hub.new ≡ hub.old) }
@@ -125,9 +136,14 @@ impl Rank {
         requires left { length self.old.trace.events < self.old.budget }
         requires few { length self.old.trace.events + 1 < 2 ^ 64 }
         requires room { 0 < self.old.trace.room }
-        ensures turned { OnOk result (IsTurn D.gives hart (rank_of self.old.state) (rank_of self.new.state) self.old.trace.events self.new.trace.events desk.old desk.new) }
-        ensures active { OnOk result (IsActive (rank_of self.old.state) (length self.old.trace.events) self.old.budget) }
-        ensures stop { IfErr result (λ stop. StopHolds D.gives hart (rank_of self.old.state) (length self.old.trace.events) self.old.budget desk.old desk.new stop) }
+        ensures turned { OnOk result
+            (IsTurn D.gives hart (rank_of self.old.state)
+            (rank_of self.new.state) self.old.trace.events self.new.trace.events desk.old desk.new) }
+        ensures active { OnOk result (IsActive (rank_of self.old.state)
+            (length self.old.trace.events) self.old.budget) }
+        ensures stop { IfErr result
+            (λ stop. StopHolds D.gives hart (rank_of self.old.state)
+            (length self.old.trace.events) self.old.budget desk.old desk.new stop) }
         ensures state { OnErr result (rank_of self.new.state ≡ rank_of self.old.state) }
         ensures events { OnErr result (self.new.trace.events ≡ self.old.trace.events) }
         ensures budget { self.new.budget ≡ self.old.budget }

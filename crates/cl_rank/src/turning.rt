@@ -1,18 +1,20 @@
 //! What a turn does to a rank.
 
-ghost use Rattle.std.specs.Prelude.{◌≡◌, ◌<◌, ◌+◌, ◌^◌, ◌++◌, ◌∷◌, ℕ, List, [], vec_len, None, IfOk, IfErr, OnOk, OnErr, IsTrue, IsFalse};
+ghost use Rattle.std.specs.Prelude.{◌≡◌, ◌<◌, ◌+◌, ◌^◌, ◌++◌, ◌∷◌, ℕ, List, [], vec_len, None, IfOk, IfErr, OnOk};
+ghost use Rattle.std.specs.Prelude.{OnErr, IsTrue, IsFalse};
 ghost use Rattle.mp_types.specs.declared.replies.Reply.{Reply};
 ghost use Rattle.cl_state.specs.declared.asking.Ask.TheVariants as ask;
 ghost use Rattle.cl_state.specs.declared.asking.Answer.TheVariants.{Alone, Reply as AnswerReply};
 ghost use Rattle.cl_state.specs.Asked.{asked, is_ecall as is_ecall_of};
-ghost use Rattle.cl_state.specs.Room.{HasRoom, rank_of};
+ghost use Rattle.cl_state.specs.Room.{HasRoom, IsNext, rank_of};
 ghost use Rattle.cl_state.specs.Told.{told};
 ghost use Rattle.cl_trace.specs.declared.events.Event.{Event};
-ghost use Rattle.cl_rank.specs.Turns.{AllStopped, IsTurn, StopHolds, all_stopped as all_stopped_of, is_stopped as is_stopped_of};
+ghost use Rattle.cl_rank.specs.Turns.{AllStopped, IsTurn, StopHolds, all_stopped as all_stopped_of};
+ghost use Rattle.cl_rank.specs.Turns.{is_stopped as is_stopped_of};
 
 use crate::desks::Desk;
 use crate::stops::{Stop, stop_of};
-use cl_state::{Answer, Ask, RankState};
+use cl_state::{Answer, Ask, Doing, RankState};
 use cl_trace::{Event, Kind};
 use mp_types::{Reply, Request, Stamp};
 use rv_hart::{Hart, Mode, step};
@@ -79,8 +81,8 @@ pub(crate) fn all_stopped(state: &RankState) -> bool
 }
 
 /// Tells the rank that what a hart asked was done, at the next stamp.
-fn tell_alone(state: &mut RankState, hart: u8, kind: Kind) -> Event
-    requires hart { hart < vec_len state.old.harts }
+fn tell_alone(state: &mut RankState, hart: u8, doing: &Doing, kind: Kind) -> Event
+    requires next { IsNext state.old hart doing.now }
     requires room { HasRoom state.old hart }
     requires low { state.old.clock + 1 < 2 ^ 62 }
     ensures event { result ≡ record { hart = hart; stamp = state.old.clock + 1; kind = kind; request = None } }
@@ -89,7 +91,7 @@ fn tell_alone(state: &mut RankState, hart: u8, kind: Kind) -> Event
     ensures harts { vec_len state.new.harts ≡ vec_len state.old.harts }
 {
     let stamp = state.clock + 1;
-    state.tell(hart, &Answer::Alone, stamp);
+    state.tell_next(hart, doing, &Answer::Alone, stamp);
     Event {
         hart,
         stamp,
@@ -111,37 +113,52 @@ fn into_reply(answer: Answer) -> Reply
     }
 }
 
-/// Makes the call that a hart asked for, and tells the rank its reply. The event keeps a copy of the request, made before the
-/// call: nothing can fail once the hub has answered.
+/// A call of the hub that a hart asked for. The copy of the request was made before the call, so that nothing can fail
+/// once the hub has answered.
+#[derive(Drop)]
+struct HubCall {
+    /// What the hart's turn is.
+    doing: Doing,
+    request: Request,
+    /// The request that the event keeps.
+    copy: Request,
+}
+
+/// Makes the call that a hart asked for, and tells the rank its reply.
 fn tell_reply<R, D: Desk<R>>(
-    alloc: Global,
     state: &mut RankState,
     rt: &R,
     desk: &mut D,
     hart: u8,
-    request: Request,
+    call: HubCall,
 ) -> Result<Event, Stop>
-    requires hart { hart < vec_len state.old.harts }
-    requires asked { asked (rank_of state.old) hart ≡ ask.Hub request }
+    requires next { IsNext state.old hart call.doing }
+    requires asked { asked (rank_of state.old) hart ≡ ask.Hub call.request }
+    requires copy { call.copy ≡ call.request }
     requires room { HasRoom state.old hart }
     requires low { state.old.clock + 1 < 2 ^ 62 }
     requires active { ¬ (AllStopped (rank_of state.old)) }
-    ensures turned { IfOk result (λ e. (events : List Event) → IsTurn D.gives hart (rank_of state.old) (rank_of state.new) events (events ++ e ∷ []) desk.old desk.new) }
-    ensures stop { (turns budget : ℕ) → turns < budget → IfErr result (λ stop. StopHolds D.gives hart (rank_of state.old) turns budget desk.old desk.new stop) }
+    ensures turned { IfOk result
+        (λ e. (events : List Event)
+        → IsTurn D.gives hart (rank_of state.old) (rank_of state.new) events (events ++ e ∷ []) desk.old desk.new) }
+    ensures stop { (turns budget : ℕ) → turns < budget
+        → IfErr result (λ stop. StopHolds D.gives hart (rank_of state.old) turns budget desk.old desk.new stop) }
     ensures err { OnErr result (rank_of state.new ≡ rank_of state.old) }
     ensures stamp { IfOk result (λ e. e.stamp < 2 ^ 62) }
     ensures clock { OnOk result (state.new.clock < 2 ^ 62) }
     ensures harts { vec_len state.new.harts ≡ vec_len state.old.harts }
 {
-    let Ok(copy) = request.try_copy(alloc) else {
-        return Err(Stop::Memory);
-    };
+    let HubCall {
+        doing,
+        request,
+        copy,
+    } = call;
     let clock = state.clock;
     match desk.call(rt, state.site.number, hart, clock, request) {
         Err(fault) => Err(stop_of(fault)),
         Ok((reply, stamp)) => {
             let answer = Answer::Reply(reply);
-            state.tell(hart, &answer, stamp);
+            state.tell_next(hart, &doing, &answer, stamp);
             Ok(Event {
                 hart,
                 stamp,
@@ -163,25 +180,39 @@ pub(crate) fn take_turn<R, D: Desk<R>>(
     requires hart { hart < vec_len state.old.harts }
     requires low { state.old.clock + 1 < 2 ^ 62 }
     requires active { ¬ (AllStopped (rank_of state.old)) }
-    ensures turned { IfOk result (λ e. (events : List Event) → IsTurn D.gives hart (rank_of state.old) (rank_of state.new) events (events ++ e ∷ []) desk.old desk.new) }
-    ensures stop { (turns budget : ℕ) → turns < budget → IfErr result (λ stop. StopHolds D.gives hart (rank_of state.old) turns budget desk.old desk.new stop) }
+    ensures turned { IfOk result
+        (λ e. (events : List Event)
+        → IsTurn D.gives hart (rank_of state.old) (rank_of state.new) events (events ++ e ∷ []) desk.old desk.new) }
+    ensures stop { (turns budget : ℕ) → turns < budget
+        → IfErr result (λ stop. StopHolds D.gives hart (rank_of state.old) turns budget desk.old desk.new stop) }
     ensures err { OnErr result (rank_of state.new ≡ rank_of state.old) }
     ensures stamp { IfOk result (λ e. e.stamp < 2 ^ 62) }
     ensures clock { OnOk result (state.new.clock < 2 ^ 62) }
     ensures harts { vec_len state.new.harts ≡ vec_len state.old.harts }
 {
-    let Ok(ask) = state.ask(hart) else {
+    let doing = state.next(hart);
+    let Ok(ask) = state.ask_next(hart, &doing) else {
         return Err(Stop::Memory);
     };
-    let Ok(()) = state.room(hart) else {
+    let Ok(()) = state.room_next(hart, &doing) else {
         return Err(Stop::Memory);
     };
     match ask {
-        Ask::Hub(request) => tell_reply(alloc, state, rt, desk, hart, request),
-        Ask::Plain => Ok(tell_alone(state, hart, Kind::Plain)),
-        Ask::Local => Ok(tell_alone(state, hart, Kind::Local)),
-        Ask::Held => Ok(tell_alone(state, hart, Kind::Held)),
-        Ask::Idle => Ok(tell_alone(state, hart, Kind::Idle)),
+        Ask::Hub(request) => {
+            let Ok(copy) = request.try_copy(alloc) else {
+                return Err(Stop::Memory);
+            };
+            let call = HubCall {
+                doing,
+                request,
+                copy,
+            };
+            tell_reply(state, rt, desk, hart, call)
+        }
+        Ask::Plain => Ok(tell_alone(state, hart, &doing, Kind::Plain)),
+        Ask::Local => Ok(tell_alone(state, hart, &doing, Kind::Local)),
+        Ask::Held => Ok(tell_alone(state, hart, &doing, Kind::Held)),
+        Ask::Idle => Ok(tell_alone(state, hart, &doing, Kind::Idle)),
         Ask::Ready {
             link: _,
             part: _,

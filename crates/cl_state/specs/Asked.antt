@@ -60,7 +60,8 @@ abbrev pub is_ecall : Option ℕ → Bool
 is_ecall None = false
 is_ecall (Some word) = word == 0x73
 
--- a running hart does the instruction at its pc; one that waits on a post polls it; one that waits otherwise makes its call anew
+-- a running hart does the instruction at its pc; one that waits on
+-- a post polls it; one that waits otherwise makes its call anew
 abbrev pub doing_in : Mode → Site → Part → Doing
 doing_in Running site part = if is_ecall (word_at part.memory part.hart.pc) then checked site part else Step
 doing_in (Waiting (Post post)) site part = Poll (call_of part.hart) post
@@ -71,14 +72,17 @@ doing_in (Trapped cause pc) site part = Stopped
 unfoldable pub doing : Site → Part → Doing
 doing site part = doing_in part.hart.mode site part
 
--- a probe tells what a receive would give, a matched one takes it (MPI 4.1, 3.8.1 and 3.8.2); the null process isn't asked
+-- a probe tells what a receive would give, a matched one takes
+-- it (MPI 4.1, 3.8.1 and 3.8.2); the null process isn't asked
 abbrev pub asked_probe : Site → Probing → Ask
 asked_probe site p =
-    if (p.source == no_rank) then ask.Local else ask.Hub (request.Probe p.comm (source_of site p.comm p.source) (tag_of p.tag))
+    if (p.source == no_rank) then ask.Local else ask.Hub
+    (request.Probe p.comm (source_of site p.comm p.source) (tag_of p.tag))
 
 abbrev pub asked_claim : Site → Probing → Ask
 asked_claim site p =
-    if (p.source == no_rank) then ask.Local else ask.Hub (request.Claim p.comm (source_of site p.comm p.source) (tag_of p.tag))
+    if (p.source == no_rank) then ask.Local else ask.Hub
+    (request.Claim p.comm (source_of site p.comm p.source) (tag_of p.tag))
 
 -- a start asks what its request transfers (3.9)
 abbrev pub asked_start : Memory → Option OpenRequest → Ask

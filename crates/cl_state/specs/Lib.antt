@@ -5,6 +5,7 @@ pub mod Pending
 pub mod Written
 pub mod Several
 pub mod Asked
+pub mod Deals
 pub mod Right
 pub mod Room
 pub mod Table

@@ -23,7 +23,8 @@ below (suc n) = below n ++ n ∷ []
 
 -- communicator 0 is all ranks in order; the image has the others, from 1
 abbrev pub site_of : ImageParts → ℕ → Site
-site_of image rank = record { number = rank; ranks = image.ranks; comms = below image.ranks ∷ image.comms; links = image.links }
+site_of image rank =
+    record { number = rank; ranks = image.ranks; comms = below image.ranks ∷ image.comms; links = image.links }
 
 -- the first n harts
 abbrev pub start_harts : ImageParts → ℕ → ℕ → List State

@@ -12,7 +12,8 @@ use Rattle.cl_calls.specs.declared.sites.Site.{Site}
 use Rattle.cl_calls.specs.Needs.{needs_of}
 use Rattle.cl_calls.specs.Checks.{is_named, is_comm, is_peer, is_tag, is_count, is_idle, is_few, is_array}
 
--- what the checks make sure of, and the code leans on: arguments that name a member of a communicator, a tag and a length
+-- what the checks make sure of, and the code leans on: arguments
+-- that name a member of a communicator, a tag and a length
 abbrev pub IsRight : Site → Needs → Type 0
 IsRight site needs =
     IsTrue (is_comm site needs.comm)
@@ -30,7 +31,8 @@ HasHandles memory needs = IsTrue (is_few needs.handles) × IsTrue (is_array memo
 
 -- a call that goes on has passed the checks
 abbrev pub IsChecked : Site → Memory → Table → Doing → Type 0
-IsChecked site memory table (Go call) = IsRight site (needs_of call) × IsThere table (needs_of call) × HasHandles memory (needs_of call)
+IsChecked site memory table (Go call) =
+    IsRight site (needs_of call) × IsThere table (needs_of call) × HasHandles memory (needs_of call)
 IsChecked site memory table _ = Unit {0}
 
 -- an instruction is a running hart's

@@ -17,7 +17,12 @@ small_memory = record { bytes = 0 ∷ 0 ∷ 0 ∷ 0 ∷ 0x73 ∷ 0 ∷ 0 ∷ 0 �
 
 -- a hart at the ECALL, with a0 to a5 and the call's number in a7
 abbrev pub calling : List ℕ → ℕ → State
-calling arguments number = record { regs = replicate 10 0 ++ take 7 (arguments ++ replicate 7 0) ++ number ∷ replicate 14 0; pc = 4; mode = Running }
+calling arguments number =
+    record {
+      regs = replicate 10 0 ++ take 7 (arguments ++ replicate 7 0) ++ number ∷ replicate 14 0;
+      pc = 4;
+      mode = Running;
+    }
 
 abbrev pub guest : List ℕ → ℕ → Rank
 guest arguments number = record {

@@ -1,5 +1,6 @@
 -- Several requests that complete together (MPI 4.1, chapter 3.7.5).
-use Rattle.std.specs.Prelude.{ℕ, ◌==◌, if◌then◌else◌, List, [], ◌∷◌, ◌++◌, fold, length, map, take, Option, Some, None, Bool, true, false, ◌&&◌, nat_lt, is_some}
+use Rattle.std.specs.Prelude.{ℕ, ◌==◌, if◌then◌else◌, List, [], ◌∷◌, ◌++◌, fold, length, map, take, Option, Some, None}
+use Rattle.std.specs.Prelude.{Bool, true, false, ◌&&◌, nat_lt, is_some}
 use Rattle.std.specs.List.{filter_map, flat_map, list_all, list_any}
 use Rattle.std.specs.Option.{unwrap_or}
 use Rattle.rv_memory.specs.Memory.{Memory, bytes_of}

@@ -30,7 +30,8 @@ use Rattle.cl_state.specs.declared.pending.Pending.{Pending}
 use Rattle.cl_state.specs.declared.pending.Pending.TheVariants as pending
 use Rattle.cl_state.specs.declared.pending.Target.{Target}
 use Rattle.cl_state.specs.declared.row.Outcome.{Outcome}
-use Rattle.cl_state.specs.declared.row.Outcome.TheVariants.{Steps, Stays, Exits, Ends, Waits, Puts, Opens, Starts, Frees, Completes, FindsNothing, CompletesAll}
+use Rattle.cl_state.specs.declared.row.Outcome.TheVariants.{Steps, Stays, Exits, Ends, Waits, Puts, Opens, Starts}
+use Rattle.cl_state.specs.declared.row.Outcome.TheVariants.{Frees, Completes, FindsNothing, CompletesAll}
 use Rattle.cl_state.specs.declared.row.Purpose.{Purpose}
 use Rattle.cl_state.specs.declared.row.Purpose.TheVariants as purpose
 use Rattle.cl_state.specs.declared.row.Row.{Row}
@@ -43,8 +44,8 @@ use Rattle.cl_state.specs.Several.{pendings, posts_of, has_posts}
 
 -- ---- transfers
 
--- how a call goes on once its transfer has begun: a send that isn't complete waits for its post, a request is opened as an
--- ordinary one (MPI 4.1, 3.7.2) or started (3.9)
+-- how a call goes on once its transfer has begun: a send that isn't complete waits for
+-- its post, a request is opened as an ordinary one (MPI 4.1, 3.7.2) or started (3.9)
 abbrev pub begun : Purpose → Transfer → Progress → Outcome
 begun purpose.Send t progress.Finished = Ends code.Ok 0
 begun purpose.Send t (progress.OnPost post) = Waits post

@@ -1,5 +1,6 @@
 -- The rank after the answer. A reply that isn't one for its request is told as the code BadRequest.
-use Rattle.std.specs.Prelude.{ℕ, ◌==◌, if◌then◌else◌, List, [], ◌++◌, length, take, set, Option, Some, None, Bool, true, false, nat_lt}
+use Rattle.std.specs.Prelude.{ℕ, ◌==◌, if◌then◌else◌, List, [], ◌++◌, length, take, set, Option, Some, None, Bool, true}
+use Rattle.std.specs.Prelude.{false, nat_lt}
 use Rattle.rv_memory.specs.Memory.{Memory, bytes_of, bytes_at}
 use Rattle.rv_hart.specs.State.{State, write, at_pc, in_mode}
 use Rattle.rv_hart.specs.Effect.{next}
@@ -27,7 +28,8 @@ use Rattle.cl_state.specs.declared.pending.Manner.{Manner}
 use Rattle.cl_state.specs.declared.pending.Manner.TheVariants.{Immediate, Blocking, Posting, Polling}
 use Rattle.cl_state.specs.declared.pending.Target.{Target}
 use Rattle.cl_state.specs.declared.row.Outcome.{Outcome}
-use Rattle.cl_state.specs.declared.row.Outcome.TheVariants.{Steps, Stays, Exits, Ends, Waits, Puts, Opens, Starts, Frees, Completes, FindsNothing, CompletesAll}
+use Rattle.cl_state.specs.declared.row.Outcome.TheVariants.{Steps, Stays, Exits, Ends, Waits, Puts, Opens, Starts}
+use Rattle.cl_state.specs.declared.row.Outcome.TheVariants.{Frees, Completes, FindsNothing, CompletesAll}
 use Rattle.cl_state.specs.declared.row.Row.{Row}
 use Rattle.cl_state.specs.declared.row.Row.TheVariants.{AtOnce, OnReply}
 use Rattle.cl_state.specs.declared.row.Wanted.{Wanted}
@@ -65,7 +67,8 @@ with_status memory address source tag count =
 
 -- ---- receives
 
--- a receive completes: as many of the bytes as fit, then the status; a longer message is truncated; its request completes
+-- a receive completes: as many of the bytes as fit, then the
+-- status; a longer message is truncated; its request completes
 unfoldable pub received : Target → ℕ → ℕ → List ℕ → Part → Part
 received target source tag bytes part =
     let kept = take target.capacity bytes in
@@ -132,11 +135,13 @@ found site value status envelope part =
 
 -- a probe of the null process finds at once that nothing comes from there (3.8, 3.11)
 unfoldable pub found_nothing : ℕ → ℕ → Part → Part
-found_nothing value status part = ended code.Ok value (record part { memory = with_status part.memory status no_rank any 0 })
+found_nothing value status part =
+    ended code.Ok value (record part { memory = with_status part.memory status no_rank any 0 })
 
 -- ---- a turn
 
--- what isn't there yet: an immediate call ends with flag 0, a blocking one is made anew, a poll waits on; no post is told so
+-- what isn't there yet: an immediate call ends with flag 0, a
+-- blocking one is made anew, a poll waits on; no post is told so
 abbrev pub not_yet : Manner → Part → Part
 not_yet Immediate part = ended code.Ok 0 part
 not_yet Blocking part = again part
@@ -145,18 +150,22 @@ not_yet Posting part = ended code.BadRequest 0 part
 
 -- what is done at once
 abbrev pub done : Site → Outcome → Part → Part
-done site Steps part = let after = stepped part.hart part.memory in record part { hart = after.state; memory = after.memory }
+done site Steps part =
+    let after = stepped part.hart part.memory in record part { hart = after.state; memory = after.memory }
 done site Stays part = part
 done site (Exits value) part = record part { hart = in_mode part.hart (Ended value) }
 done site (Ends c value) part = ended c value part
 done site (Waits post) part = waiting post part
-done site (Puts buffer count) part = ended code.Ok 0 (record part { out = part.out ++ bytes_at part.memory buffer count })
+done site (Puts buffer count) part =
+    ended code.Ok 0 (record part { out = part.out ++ bytes_at part.memory buffer count })
 done site (Opens request) part = opened request part
-done site (Starts handle progress) part = ended code.Ok 0 (record part { requests = started part.requests handle progress })
+done site (Starts handle progress) part =
+    ended code.Ok 0 (record part { requests = started part.requests handle progress })
 done site (Frees handle) part = freed handle part
 done site (Completes source target) part = received target source any [] part
 done site (FindsNothing value status) part = found_nothing value status part
-done site (CompletesAll value s) part = completed_all site value s.statuses (handles_in part.memory (array_at s.array s.count)) [] part
+done site (CompletesAll value s) part =
+    completed_all site value s.statuses (handles_in part.memory (array_at s.array s.count)) [] part
 
 -- what a reply does where it is wanted; any other doesn't fit
 abbrev pub replied : Site → Wanted → Reply → Part → Part
@@ -172,7 +181,8 @@ replied site (wanted.Sight value status) (reply.Seen envelope) part = found site
 replied site (wanted.Claim status) (reply.Held message envelope) part = found site message status envelope part
 replied site _ _ part = ended code.BadRequest 0 part
 
--- where the hub is asked, NotYet is told by the call's manner, a code ends the call, and the rest is what the reply does
+-- where the hub is asked, NotYet is told by the call's manner,
+-- a code ends the call, and the rest is what the reply does
 abbrev pub told_row : Site → Row → Answer → Part → Part
 told_row site (AtOnce o) a part = done site o part
 told_row site (OnReply m w) (answer.Reply reply.NotYet) part = not_yet m part
@@ -186,8 +196,15 @@ told_in site hart d a part = told_row site (row_in site hart part.memory part.re
 -- the rank with this part of the hart's, at this clock
 abbrev pub with_part : Rank → ℕ → Part → ℕ → Rank
 with_part rank hart part clock =
-    record rank { memory = part.memory; harts = set rank.harts hart part.hart; requests = part.requests; out = part.out; clock = clock }
+    record rank {
+      memory = part.memory;
+      harts = set rank.harts hart part.hart;
+      requests = part.requests;
+      out = part.out;
+      clock = clock;
+    }
 
 -- the rank after the answer to what the hart asked; the event's stamp becomes the clock
 unfoldable pub told : Rank → ℕ → Answer → ℕ → Rank
-told rank hart a stamp = with_part rank hart (told_in rank.site hart (doing rank.site (part_of rank hart)) a (part_of rank hart)) stamp
+told rank hart a stamp =
+    with_part rank hart (told_in rank.site hart (doing rank.site (part_of rank hart)) a (part_of rank hart)) stamp

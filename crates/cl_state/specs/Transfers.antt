@@ -5,7 +5,8 @@ use Rattle.mp_types.specs.declared.requests.Request.TheVariants as request
 use Rattle.mp_request.specs.declared.entries.Progress.{Progress}
 use Rattle.mp_request.specs.declared.entries.Progress.TheVariants.{Finished, OnPost}
 use Rattle.mp_request.specs.declared.entries.Transfer.{Transfer}
-use Rattle.mp_request.specs.declared.entries.Transfer.TheVariants.{SendToNull, ReceiveFromNull, Send, Receive, ReceiveClaimed, SendPartitions, ReceivePartitions}
+use Rattle.mp_request.specs.declared.entries.Transfer.TheVariants.{SendToNull, ReceiveFromNull, Send, Receive}
+use Rattle.mp_request.specs.declared.entries.Transfer.TheVariants.{ReceiveClaimed, SendPartitions, ReceivePartitions}
 use Rattle.cl_calls.specs.declared.calls.Claimed.{Claimed}
 use Rattle.cl_calls.specs.declared.calls.Receiving.{Receiving}
 use Rattle.cl_calls.specs.declared.calls.Sending.{Sending}
@@ -41,7 +42,8 @@ claimed_of m = if (m.message == no_message) then ReceiveFromNull else ReceiveCla
 abbrev pub asked_transfer : Memory → Bool → Transfer → Ask
 asked_transfer memory now SendToNull = ask.Local
 asked_transfer memory now ReceiveFromNull = ask.Local
-asked_transfer memory now (Send sync buffer count dest tag comm) = ask.Hub (request.Send sync comm dest tag (bytes_at memory buffer count))
+asked_transfer memory now (Send sync buffer count dest tag comm) =
+    ask.Hub (request.Send sync comm dest tag (bytes_at memory buffer count))
 asked_transfer memory now (Receive buffer capacity source tag comm) = ask.Hub (request.Recv now comm source tag)
 asked_transfer memory now (ReceiveClaimed buffer capacity) = ask.Local
 asked_transfer memory now (SendPartitions side) = ask.Local

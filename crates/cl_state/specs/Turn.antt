@@ -1,11 +1,12 @@
 -- A hart's turn under way, and the part of its rank that it changes.
-use Rattle.std.specs.Prelude.{◌≡◌, ◌≤◌, ℕ, ◌+◌, length, vec_len, vec_capacity, IsTrue}
+use Rattle.std.specs.Prelude.{◌≡◌, ◌≤◌, ℕ, ◌+◌, List, length, vec_len, vec_capacity, IsTrue}
 use Rattle.rv_memory.specs.Memory.{bytes_at}
 use Rattle.rv_hart.specs.declared.state.Mode.TheVariants.{Running}
 use Rattle.mp_request.specs.Entries.{is_new}
 use Rattle.mp_request.specs.Table.{IsInactive}
 use Rattle.cl_calls.specs.declared.calls.Several.{Several}
 use Rattle.cl_calls.specs.Checks.{is_few, is_array}
+use Rattle.cl_calls.specs.Handles.{handles_in}
 use Rattle.cl_calls.specs.Needs.{array_at}
 use Rattle.cl_state.specs.declared.asking.Doing.{Doing}
 use Rattle.cl_state.specs.declared.row.Outcome.{Outcome}
@@ -15,10 +16,13 @@ use Rattle.cl_state.specs.declared.row.Row.{Row}
 use Rattle.cl_state.specs.declared.row.Row.TheVariants.{AtOnce, OnReply}
 use Rattle.cl_state.specs.declared.row.Wanted.{Wanted}
 use Rattle.cl_state.specs.declared.row.Wanted.TheVariants as wanted
+use Rattle.cl_state.specs.declared.telling.News.{News}
 use Rattle.cl_state.specs.declared.turn.Turn.{Turn}
 use Rattle.cl_state.specs.Asked.{Part}
 use Rattle.cl_state.specs.Right.{IsChecked, IsRunning, output_of}
+use Rattle.cl_state.specs.Several.{pendings, posts_of}
 use Rattle.cl_state.specs.Table.{row_in}
+use Rattle.cl_state.specs.Told.{told_in}
 
 -- what may change, as it is now
 abbrev pub part_in : Turn → Part
@@ -42,15 +46,27 @@ pub record IsReady (turn : Turn) (d : Doing) : Type 0 where
   pub fresh : turn.fresh.now ≡ output_of turn.memory.now d
   pub room : vec_len turn.out.now + length turn.fresh.now ≤ vec_capacity turn.out.now
 
+-- what a hart's part of its rank becomes by the news
+abbrev pub told_by : News → Part → Part
+told_by news part = told_in news.site.now news.number news.doing.now news.answer.now part
+
 abbrev pub row_for : Turn → Doing → Row
 row_for turn d = row_in turn.site.now turn.number turn.memory.now turn.requests.now d
 
 -- an array of handles, not too long, that is in the memory
 abbrev pub HasArray : Turn → Several → Type 0
-HasArray turn s = IsTrue (is_few (array_at s.array s.count)) × IsTrue (is_array turn.memory.now (array_at s.array s.count))
+HasArray turn s =
+    IsTrue (is_few (array_at s.array s.count)) × IsTrue (is_array turn.memory.now (array_at s.array s.count))
 
--- what an outcome leans on: an instruction is a running hart's, the bytes lie ready and there is room for them, a request
--- that is opened is a new one, one that is started or freed is inactive
+-- the handles of such an array, and the posts of those requests that need the hub
+abbrev pub handles_of : Turn → Several → List ℕ
+handles_of turn s = handles_in turn.memory.now (array_at s.array s.count)
+
+abbrev pub posts_wanted : Turn → Several → List ℕ
+posts_wanted turn s = posts_of (pendings turn.requests.now (handles_of turn s))
+
+-- what an outcome leans on: an instruction is a running hart's, the bytes lie ready and there is
+-- room for them, a request that is opened is a new one, one that is started or freed is inactive
 abbrev pub IsAble : Turn → Outcome → Type 0
 IsAble turn Steps = turn.hart.now.mode ≡ Running
 IsAble turn (Puts buffer count) =

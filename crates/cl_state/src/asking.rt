@@ -4,7 +4,7 @@ use cl_calls::Call;
 use mp_types::{Bytes, Code, Reply, Request};
 
 /// What the next turn of a hart is.
-#[derive(Clone, Copy, Drop, Debug)]
+#[derive(Clone, Copy, Drop)]
 pub enum Doing {
     /// The instruction at the pc, which is no ECALL.
     Step,
@@ -19,7 +19,7 @@ pub enum Doing {
 }
 
 /// What a hart asks in its next turn.
-#[derive(Drop, Debug)]
+#[derive(Drop)]
 pub enum Ask {
     /// Nothing: it does an instruction.
     Plain,
@@ -40,7 +40,7 @@ pub enum Ask {
 }
 
 /// What a hart is answered.
-#[derive(Drop, Debug)]
+#[derive(Drop)]
 pub enum Answer {
     /// Nothing was asked of anybody, or nothing is told but that it was done.
     Alone,

@@ -2,7 +2,8 @@
 
 ghost use Rattle.std.specs.Prelude.{◌≡◌, ◌<◌, MatchResult, false};
 ghost use Rattle.cl_calls.specs.Needs.{needs_of_probing};
-ghost use Rattle.cl_state.specs.Asked.{asked_by, asked_claim, asked_in, asked_poll, asked_probe, asked_start, carried, checked as checked_of, doing as doing_of, is_ecall as is_ecall_of};
+ghost use Rattle.cl_state.specs.Asked.{asked_by, asked_claim, asked_in, asked_poll, asked_probe, asked_start, carried};
+ghost use Rattle.cl_state.specs.Asked.{checked as checked_of, doing as doing_of, is_ecall as is_ecall_of};
 ghost use Rattle.cl_state.specs.Right.{IsChecked, IsNoStep, IsRight, IsRunning};
 ghost use Rattle.cl_state.specs.declared.asking.Doing.TheVariants.{Go};
 
@@ -30,7 +31,9 @@ pub(crate) fn is_ecall(word: Option<u32>) -> bool
 
 /// The call that a hart's registers spell, if all its checks hold.
 fn checked(site: &Site, memory: &RankMemory, requests: &Requests, out: &[u8], hart: &Hart) -> Doing
-    ensures doing { result ≡ checked_of site.now (record { hart = hart.now; memory = memory.now; requests = requests.now; out = out.now }) }
+    ensures doing { result
+        ≡ checked_of site.now
+        (record { hart = hart.now; memory = memory.now; requests = requests.now; out = out.now }) }
     ensures right { IsChecked site.now memory.now requests.now result }
     ensures call { IsNoStep result }
 {
@@ -51,7 +54,9 @@ impl Doing {
         out: &[u8],
         hart: &Hart,
     ) -> Doing
-        ensures doing { result ≡ doing_of site.now (record { hart = hart.now; memory = memory.now; requests = requests.now; out = out.now }) }
+        ensures doing { result
+            ≡ doing_of site.now
+            (record { hart = hart.now; memory = memory.now; requests = requests.now; out = out.now }) }
         ensures right { IsChecked site.now memory.now requests.now result }
         ensures running { IsRunning result hart.now }
     {
@@ -70,7 +75,8 @@ impl Doing {
         }
     }
 
-    /// What such a turn asks. Only a copy of bytes to be sent, or a list of posts, takes memory: nothing else is refused.
+    /// What such a turn asks. Only a copy of bytes to be sent, or a
+    /// list of posts, takes memory: nothing else is refused.
     pub fn ask(
         &self,
         alloc: Global,
@@ -79,7 +85,8 @@ impl Doing {
         requests: &Requests,
     ) -> Result<Ask, AllocError>
         requires { IsChecked site.now memory.now requests.now self.now }
-        ensures { MatchResult result (λ ask. ask ≡ asked_in site.now memory.now requests.now self.now) (λ e. 0 < carried (asked_in site.now memory.now requests.now self.now)) }
+        ensures { MatchResult result (λ ask. ask ≡ asked_in site.now memory.now requests.now self.now)
+            (λ e. 0 < carried (asked_in site.now memory.now requests.now self.now)) }
     {
         match *self {
             Doing::Step => Ok(Ask::Plain),
@@ -134,7 +141,8 @@ fn start(
     memory: &RankMemory,
     request: Option<OpenRequest>,
 ) -> Result<Ask, AllocError>
-    ensures { MatchResult result (λ ask. ask ≡ asked_start memory.now request) (λ e. 0 < carried (asked_start memory.now request)) }
+    ensures { MatchResult result (λ ask. ask ≡ asked_start memory.now request)
+        (λ e. 0 < carried (asked_start memory.now request)) }
 {
     match request {
         None => Ok(Ask::Local),
@@ -150,7 +158,8 @@ fn ask_by(
     call: &Call,
 ) -> Result<Ask, AllocError>
     requires { IsChecked site.now memory.now requests.now (Go call.now) }
-    ensures { MatchResult result (λ ask. ask ≡ asked_by site.now memory.now requests.now call.now) (λ e. 0 < carried (asked_by site.now memory.now requests.now call.now)) }
+    ensures { MatchResult result (λ ask. ask ≡ asked_by site.now memory.now requests.now call.now)
+        (λ e. 0 < carried (asked_by site.now memory.now requests.now call.now)) }
 {
     match *call {
         Call::Send(sending) => ask(alloc, memory, Manner::Blocking, &send(site, &sending)),

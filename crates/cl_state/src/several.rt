@@ -1,17 +1,18 @@
 //! Calls that complete several requests together.
 
-ghost use Rattle.std.specs.Prelude.{◌≡◌, ◌<◌, ◌≤◌, List, ℕ, IsTrue, MatchResult, length};
+ghost use Rattle.std.specs.Prelude.{◌≡◌, ◌<◌, ◌≤◌, [], IsTrue, MatchResult, length};
 ghost use Rattle.std.specs.List.{list_any};
 ghost use Rattle.cl_calls.specs.Checks.{is_array, is_few};
 ghost use Rattle.cl_calls.specs.Needs.{array_at};
 ghost use Rattle.cl_state.specs.Asked.{asked_several, carried};
+ghost use Rattle.cl_state.specs.Deals.{given_by, given_in};
 ghost use Rattle.cl_state.specs.Pending.{pending_of};
-ghost use Rattle.cl_state.specs.Several.{Given, are_fit, completed_each, fits_one, given, given_message, given_nothing, given_one, got_of, has_posts, left_of, pendings, post_of, posts_of, status_of, statuses_of, with_all_bytes};
+ghost use Rattle.cl_state.specs.Several.{Given, are_fit, completed_each, fits_one, given_message, given_nothing};
+ghost use Rattle.cl_state.specs.Several.{given_one, got_of, has_posts};
+ghost use Rattle.cl_state.specs.Several.{left_of, pendings, post_of, posts_of, status_of, statuses_of, with_all_bytes};
 ghost use Rattle.cl_state.specs.Told.{completed_all, done, gathered};
-ghost use Rattle.cl_state.specs.Turn.{Becomes, HasArray, part_in};
+ghost use Rattle.cl_state.specs.Turn.{Becomes, HasArray, handles_of, part_in};
 ghost use Rattle.cl_state.specs.declared.row.Outcome.TheVariants.{CompletesAll};
-ghost use Rattle.cl_calls.specs.Handles.{handles_in};
-ghost use Rattle.cl_state.specs.Written.{written};
 ghost use Rattle.mp_request.specs.Table.{request_at};
 
 use crate::asking::Ask;
@@ -37,7 +38,8 @@ fn pending(requests: &Requests, handle: u64) -> Pending
 /// The posts of those that need the hub, in the array's order. Their list takes memory where there is one.
 #[tactic(auto, using(crate::proofs::Posts::posts_asked))]
 fn posts(alloc: Global, requests: &Requests, handles: &[u64]) -> Result<Vec<u64>, AllocError>
-    ensures { MatchResult result (λ posts. posts.items ≡ posts_of (pendings requests.now handles.now)) (λ e. IsTrue (has_posts (posts_of (pendings requests.now handles.now)))) }
+    ensures { MatchResult result (λ posts. posts.items ≡ posts_of (pendings requests.now handles.now))
+        (λ e. IsTrue (has_posts (posts_of (pendings requests.now handles.now)))) }
 {
     let mut posts = Vec::new(alloc);
     let mut rest = handles;
@@ -61,7 +63,8 @@ pub(crate) fn ask_several(
 ) -> Result<Ask, AllocError>
     requires few { IsTrue (is_few (array_at several.now.array several.now.count)) }
     requires inside { IsTrue (is_array memory.now (array_at several.now.array several.now.count)) }
-    ensures { MatchResult result (λ ask. ask ≡ asked_several memory.now requests.now several.now) (λ e. 0 < carried (asked_several memory.now requests.now several.now)) }
+    ensures { MatchResult result (λ ask. ask ≡ asked_several memory.now requests.now several.now)
+        (λ e. 0 < carried (asked_several memory.now requests.now several.now)) }
 {
     let posts = posts(
         alloc,
@@ -153,156 +156,111 @@ fn all_fit(site: &Site, requests: &Requests, handles: &[u64], gots: &[Option<Mes
     true
 }
 
-/// Writes the bytes that a request got.
-fn write_one(memory: &mut RankMemory, pending: Pending, gots: &[Option<Message>])
-    ensures { (site : Site) → memory.new ≡ written memory.old (given_one site pending (got_of (post_of pending) gots.now)).buffer (given_one site pending (got_of (post_of pending) gots.now)).bytes }
-{
-    match pending {
-        Pending::Message {
-            post: _,
+/// What a request writes that completes: bytes for its buffer, and what its status tells.
+#[derive(Drop)]
+struct Giving<'a> {
+    buffer: u64,
+    bytes: &'a [u8],
+    source: u64,
+    tag: u64,
+    truncated: bool,
+}
+
+impl<'a> Giving<'a> {
+    /// No bytes, and a status of this source.
+    fn nothing(source: u64) -> Giving<'a>
+        ensures { given_by result ≡ given_nothing source }
+    {
+        Giving {
+            buffer: 0,
+            bytes: &[],
+            source,
+            tag: ANY,
+            truncated: false,
+        }
+    }
+
+    /// As many of a message's bytes as fit.
+    fn message(site: &Site, buffer: u64, capacity: u16, message: &'a Message) -> Giving<'a>
+        ensures { given_by result ≡ given_message site.now buffer capacity message.now }
+    {
+        let envelope = message.envelope;
+        let bytes = message.bytes.as_slice();
+        Giving {
             buffer,
-            capacity,
-        } => match gots.split_first() {
-            None => {}
-            Some((got, _)) => match got {
-                None => {}
-                Some(message) => {
-                    let kept = kept(u64::from(capacity), message.bytes.as_slice());
-                    write_where_right(memory, buffer, kept)
-                }
+            bytes: kept(u64::from(capacity), bytes),
+            source: place(envelope.source, site.members(u64::from(envelope.comm))).unwrap_or(0),
+            tag: u64::from(envelope.tag),
+            truncated: is_longer(u64::from(capacity), bytes),
+        }
+    }
+
+    /// What a request gives, by what the hub gave for it.
+    fn one(site: &Site, pending: Pending, gots: &'a [Option<Message>]) -> Giving<'a>
+        ensures { given_by result ≡ given_one site.now pending (got_of (post_of pending) gots.now) }
+    {
+        match pending {
+            Pending::Message {
+                post: _,
+                buffer,
+                capacity,
+            } => match gots.split_first() {
+                None => Giving::nothing(ANY),
+                Some((got, _)) => match got {
+                    None => Giving::nothing(ANY),
+                    Some(message) => Giving::message(site, buffer, capacity, message),
+                },
             },
-        },
-        Pending::Nothing => {}
-        Pending::FromNull => {}
-        Pending::Word(_) => {}
+            Pending::FromNull => Giving::nothing(NO_RANK),
+            Pending::Nothing | Pending::Word(_) => Giving::nothing(ANY),
+        }
+    }
+
+    /// The status of what is given.
+    #[tactic(auto, unfolding(crate::specs::Several::status_of))]
+    fn status(&self) -> [u8; 24]
+        ensures { result ≡ status_of (given_by self.now) }
+    {
+        status_bytes(self.source, self.tag, self.bytes.len() as u64)
     }
 }
 
-/// Writes all bytes, in the array's order.
+/// The requests of an array that complete, and what the hub gave for them.
+#[derive(Drop)]
+struct Deal<'a> {
+    site: &'a Site,
+    handles: &'a [u64],
+    gots: &'a [Option<Message>],
+}
+
+/// Writes all bytes, in the array's order, and gathers all statuses. The answer is whether a message was truncated.
 fn write_all(
-    site: &Site,
-    memory: &mut RankMemory,
+    deal: &Deal<'_>,
     requests: &Requests,
-    handles: &[u64],
-    gots: &[Option<Message>],
-)
-    ensures { memory.new ≡ with_all_bytes memory.old (given site.now (pendings requests.now handles.now) gots.now) }
+    memory: &mut RankMemory,
+    statuses: &mut Statuses,
+) -> bool
+    requires few { length deal.now.handles.now ≤ 255 }
+    requires empty { statuses.old.items ≡ [] }
+    ensures memory { memory.new ≡ with_all_bytes memory.old (given_in deal.now requests.now) }
+    ensures statuses { statuses.new.items ≡ statuses_of (given_in deal.now requests.now) }
+    ensures truncated { result ≡ list_any (λ (g : Given). g.truncated) (given_in deal.now requests.now) }
 {
-    let mut rest = handles;
-    let mut behind = gots;
+    let mut truncated = false;
+    let mut rest = deal.handles;
+    let mut behind = deal.gots;
     while let Some((handle, after)) = rest.split_first() {
         let pending = pending(requests, *handle);
-        write_one(memory, pending, behind);
-        behind = left(pending, behind);
-        rest = after;
-    }
-}
-
-/// The status of a request that gives nothing.
-#[tactic(auto, unfolding(crate::specs::Several::status_of))]
-fn empty_status(source: u64) -> [u8; 24]
-    ensures { result ≡ status_of (given_nothing source) }
-{
-    status_bytes(source, ANY, 0)
-}
-
-/// The status of a message.
-#[tactic(auto, unfolding(crate::specs::Several::status_of))]
-fn message_status(site: &Site, capacity: u16, message: &Message) -> [u8; 24]
-    ensures { (buffer : ℕ) → result ≡ status_of (given_message site.now buffer capacity message.now) }
-{
-    let envelope = message.envelope;
-    let source = match place(envelope.source, site.members(u64::from(envelope.comm))) {
-        None => 0,
-        Some(source) => source,
-    };
-    let count = kept(u64::from(capacity), message.bytes.as_slice()).len() as u64;
-    status_bytes(source, u64::from(envelope.tag), count)
-}
-
-/// The status of a request that completes.
-fn status(site: &Site, pending: Pending, gots: &[Option<Message>]) -> [u8; 24]
-    ensures { result ≡ status_of (given_one site.now pending (got_of (post_of pending) gots.now)) }
-{
-    match pending {
-        Pending::Nothing => empty_status(ANY),
-        Pending::FromNull => empty_status(NO_RANK),
-        Pending::Message {
-            post: _,
-            buffer: _,
-            capacity,
-        } => match gots.split_first() {
-            None => empty_status(ANY),
-            Some((got, _)) => match got {
-                None => empty_status(ANY),
-                Some(message) => message_status(site, capacity, message),
-            },
-        },
-        Pending::Word(_) => empty_status(ANY),
-    }
-}
-
-/// All statuses, one after the other, of at most 255 requests.
-fn statuses(site: &Site, requests: &Requests, handles: &[u64], gots: &[Option<Message>]) -> Statuses
-    requires { length handles.now ≤ 255 }
-    ensures { result.items ≡ statuses_of (given site.now (pendings requests.now handles.now) gots.now) }
-{
-    let mut bytes = ArrayVec::new();
-    let mut rest = handles;
-    let mut behind = gots;
-    while let Some((handle, after)) = rest.split_first() {
-        let pending = pending(requests, *handle);
-        let Ok(()) = bytes.try_extend_from_slice(&status(site, pending, behind)) else {
+        let given = Giving::one(deal.site, pending, behind);
+        write_where_right(memory, given.buffer, given.bytes);
+        let Ok(()) = statuses.try_extend_from_slice(&given.status()) else {
             unreachable!()
         };
+        truncated = truncated || given.truncated;
         behind = left(pending, behind);
         rest = after;
     }
-    bytes
-}
-
-/// Whether the message of a request is longer than its buffer.
-fn is_truncated(pending: Pending, gots: &[Option<Message>]) -> bool
-    ensures { (site : Site) → result ≡ (given_one site pending (got_of (post_of pending) gots.now)).truncated }
-{
-    match pending {
-        Pending::Message {
-            post: _,
-            buffer: _,
-            capacity,
-        } => match gots.split_first() {
-            None => false,
-            Some((got, _)) => match got {
-                None => false,
-                Some(message) => is_longer(u64::from(capacity), message.bytes.as_slice()),
-            },
-        },
-        Pending::Nothing => false,
-        Pending::FromNull => false,
-        Pending::Word(_) => false,
-    }
-}
-
-/// Whether a message was longer than its buffer.
-fn any_truncated(
-    site: &Site,
-    requests: &Requests,
-    handles: &[u64],
-    gots: &[Option<Message>],
-) -> bool
-    ensures { result ≡ list_any (λ (g : Given). g.truncated) (given site.now (pendings requests.now handles.now) gots.now) }
-{
-    let mut rest = handles;
-    let mut behind = gots;
-    while let Some((handle, after)) = rest.split_first() {
-        let pending = pending(requests, *handle);
-        if is_truncated(pending, behind) {
-            return true;
-        }
-        behind = left(pending, behind);
-        rest = after;
-    }
-    false
+    truncated
 }
 
 /// All requests complete.
@@ -345,18 +303,20 @@ impl<'a> Turn<'a> {
     #[tactic(auto, unfolding(crate::specs::Told::completed_all))]
     fn complete_all(&mut self, value: u64, address: u64, handles: &[u64], gots: &[Option<Message>])
         requires { length handles.now ≤ 255 }
-        ensures { Becomes self.old self.new (completed_all self.old.site.now value address handles.now gots.now (part_in self.old)) }
+        ensures { Becomes self.old self.new
+            (completed_all self.old.site.now value address handles.now gots.now (part_in self.old)) }
     {
-        write_all(self.site, self.memory, self.requests, handles, gots);
-        if address != 0 {
-            let bytes = statuses(self.site, self.requests, handles, gots);
-            write_where_right(self.memory, address, bytes.as_slice());
-        }
-        let code = if any_truncated(self.site, self.requests, handles, gots) {
-            Code::Truncated
-        } else {
-            Code::Ok
+        let deal = Deal {
+            site: self.site,
+            handles,
+            gots,
         };
+        let mut statuses = ArrayVec::new();
+        let truncated = write_all(&deal, self.requests, self.memory, &mut statuses);
+        if address != 0 {
+            write_where_right(self.memory, address, statuses.as_slice());
+        }
+        let code = if truncated { Code::Truncated } else { Code::Ok };
         close_all(self.requests, handles);
         self.end(code, value);
     }
@@ -373,7 +333,9 @@ impl<'a> Turn<'a> {
     /// All requests of an array complete, where each got what it needs.
     pub(crate) fn gather(&mut self, value: u64, several: Several, gots: &[Option<Message>])
         requires { HasArray self.old several }
-        ensures { Becomes self.old self.new (gathered self.old.site.now value several.statuses (handles_in self.old.memory.now (array_at several.array several.count)) gots.now (part_in self.old)) }
+        ensures { Becomes self.old self.new
+            (gathered self.old.site.now value several.statuses (handles_of self.old several) gots.now
+            (part_in self.old)) }
     {
         let handles = handles_at(self.memory, array(&several));
         if all_fit(self.site, self.requests, handles.as_slice(), gots) {

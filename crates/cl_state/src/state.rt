@@ -1,9 +1,9 @@
 //! A rank as it runs.
 
-ghost use Rattle.std.specs.Prelude.{◌≡◌, ◌<◌, get_or, vec_len, IfOk, IsOk, IsOkAnd, MatchResult, OnOk};
+ghost use Rattle.std.specs.Prelude.{◌≡◌, ◌<◌, vec_len, IfOk, IsOk, IsOkAnd, MatchResult, OnOk};
 ghost use Rattle.rv_memory.specs.Memory.{bytes_at};
-ghost use Rattle.cl_state.specs.Asked.{asked, carried, doing as doing_of, no_hart, part_of};
-ghost use Rattle.cl_state.specs.Right.{IsChecked, IsRunning, growth_of};
+ghost use Rattle.cl_state.specs.Asked.{asked, carried, doing as doing_of, part_of};
+ghost use Rattle.cl_state.specs.Right.{growth_of};
 ghost use Rattle.cl_state.specs.Told.{told};
 
 use crate::asking::{Answer, Ask, Doing};
@@ -31,7 +31,7 @@ pub struct RankState {
 
 impl RankState {
     ghost use Rattle.std.specs.Prelude.{[]};
-    ghost use Rattle.cl_state.specs.Room.{HasRoom, rank_of};
+    ghost use Rattle.cl_state.specs.Room.{HasRoom, IsNext, rank_of};
 
     /// A rank with no output at clock 0.
     pub fn new(
@@ -41,7 +41,16 @@ impl RankState {
         harts: Vec<Hart>,
         requests: Requests,
     ) -> RankState
-        ensures rank { rank_of result ≡ record { site = site; memory = memory; harts = harts.items; requests = requests; phases = []; out = []; clock = 0 } }
+        ensures rank { rank_of result
+            ≡ record {
+              site = site;
+              memory = memory;
+              harts = harts.items;
+              requests = requests;
+              phases = [];
+              out = [];
+              clock = 0;
+            } }
         ensures harts { vec_len result.harts ≡ vec_len harts }
     {
         RankState {
@@ -56,11 +65,10 @@ impl RankState {
         }
     }
 
-    fn doing(&self, hart: u8) -> Doing
+    /// What the next turn of a hart is. A turn works it out once, and hands it to what follows.
+    pub fn next(&self, hart: u8) -> Doing
         requires { hart < vec_len self.now.harts }
-        ensures doing { result ≡ doing_of self.now.site (part_of (rank_of self.now) hart) }
-        ensures right { IsChecked self.now.site self.now.memory self.now.requests result }
-        ensures running { IsRunning result (get_or self.now.harts.items hart no_hart) }
+        ensures { IsNext self.now hart result }
     {
         Doing::of(
             &self.site,
@@ -73,13 +81,22 @@ impl RankState {
 
     /// What the hart asks in its next turn. Only a copy of bytes to be sent, or a list of posts, takes memory: nothing
     /// else is refused.
-    #[tactic(auto, unfolding(crate::specs::Asked::asked))]
     pub fn ask(&self, hart: u8) -> Result<Ask, AllocError>
         requires { hart < vec_len self.now.harts }
-        ensures { MatchResult result (λ ask. ask ≡ asked (rank_of self.now) hart) (λ e. 0 < carried (asked (rank_of self.now) hart)) }
+        ensures { MatchResult result (λ ask. ask ≡ asked (rank_of self.now) hart)
+            (λ e. 0 < carried (asked (rank_of self.now) hart)) }
     {
-        self.doing(hart)
-            .ask(self.alloc, &self.site, &self.memory, &self.requests)
+        self.ask_next(hart, &self.next(hart))
+    }
+
+    /// The same of a turn that was worked out.
+    #[tactic(auto, unfolding(crate::specs::Asked::asked))]
+    pub fn ask_next(&self, hart: u8, doing: &Doing) -> Result<Ask, AllocError>
+        requires { IsNext self.now hart doing.now }
+        ensures { MatchResult result (λ ask. ask ≡ asked (rank_of self.now) hart)
+            (λ e. 0 < carried (asked (rank_of self.now) hart)) }
+    {
+        doing.ask(self.alloc, &self.site, &self.memory, &self.requests)
     }
 
     /// A copy of bytes to be put behind the output. No bytes take no memory.
@@ -101,7 +118,20 @@ impl RankState {
         ensures room { OnOk result (HasRoom self.new hart) }
         ensures sure { growth_of (doing_of self.old.site (part_of (rank_of self.old) hart)) ≡ 0 → IsOk result }
     {
-        match self.doing(hart) {
+        let doing = self.next(hart);
+        self.room_next(hart, &doing)
+    }
+
+    /// The same of a turn that was worked out, which stays the hart's next.
+    pub fn room_next(&mut self, hart: u8, doing: &Doing) -> Result<(), AllocError>
+        requires { IsNext self.old hart doing.now }
+        ensures same { rank_of self.new ≡ rank_of self.old }
+        ensures harts { vec_len self.new.harts ≡ vec_len self.old.harts }
+        ensures room { OnOk result (HasRoom self.new hart) }
+        ensures sure { growth_of doing.now ≡ 0 → IsOk result }
+        ensures next { IsNext self.new hart doing.now }
+    {
+        match *doing {
             Doing::Go(Call::Put { buffer, count }) => {
                 let bytes = self.copy(buffer, count)?;
                 self.out.reserve(bytes.len())?;
@@ -116,19 +146,29 @@ impl RankState {
     }
 
     /// Tells the rank the answer to what the hart asked. Takes no memory.
-    #[tactic(auto, unfolding(crate::specs::Told::told))]
     pub fn tell(&mut self, hart: u8, answer: &Answer, stamp: Stamp)
         requires hart { hart < vec_len self.old.harts }
         requires room { HasRoom self.old hart }
         ensures told { rank_of self.new ≡ told (rank_of self.old) hart answer.now stamp }
         ensures harts { vec_len self.new.harts ≡ vec_len self.old.harts }
     {
-        let doing = self.doing(hart);
+        let doing = self.next(hart);
+        self.tell_next(hart, &doing, answer, stamp)
+    }
+
+    /// The same of a turn that was worked out.
+    #[tactic(auto, unfolding(crate::specs::Told::told))]
+    pub fn tell_next(&mut self, hart: u8, doing: &Doing, answer: &Answer, stamp: Stamp)
+        requires next { IsNext self.old hart doing.now }
+        requires room { HasRoom self.old hart }
+        ensures told { rank_of self.new ≡ told (rank_of self.old) hart answer.now stamp }
+        ensures harts { vec_len self.new.harts ≡ vec_len self.old.harts }
+    {
         let news = News {
             site: &self.site,
             number: hart,
             fresh: self.fresh.as_slice(),
-            doing: &doing,
+            doing,
             answer,
         };
         tell_hart(

@@ -2,18 +2,16 @@
 
 ghost use Rattle.std.specs.Prelude.{◌≡◌};
 ghost use Rattle.mp_request.specs.Table.{request_at};
-ghost use Rattle.cl_calls.specs.Handles.{handles_in};
-ghost use Rattle.cl_calls.specs.Needs.{array_at};
 ghost use Rattle.cl_state.specs.declared.asking.Doing.TheVariants.{Go};
 ghost use Rattle.cl_state.specs.Pending.{pending_of};
 ghost use Rattle.cl_state.specs.Right.{IsChecked};
-ghost use Rattle.cl_state.specs.Several.{pendings, posts_of};
 ghost use Rattle.cl_state.specs.Table.{begins as begins_of, begun as begun_of, claims as claims_of, comes as comes_of};
 ghost use Rattle.cl_state.specs.Table.{completes as completes_of, completing, gathers as gathers_of, gives as gives_of};
 ghost use Rattle.cl_state.specs.Table.{into as into_of, makes as makes_of, nothing_comes as nothing_comes_of};
 ghost use Rattle.cl_state.specs.Table.{polled as polled_by, probes as probes_of, receives as receives_of};
-ghost use Rattle.cl_state.specs.Table.{receives_claimed as receives_claimed_of, row_of as row_by, sees as sees_of, starts as starts_of};
-ghost use Rattle.cl_state.specs.Turn.{HasArray, row_for};
+ghost use Rattle.cl_state.specs.Table.{receives_claimed as receives_claimed_of, row_of as row_by, sees as sees_of};
+ghost use Rattle.cl_state.specs.Table.{starts as starts_of};
+ghost use Rattle.cl_state.specs.Turn.{HasArray, posts_wanted, row_for};
 
 use crate::asking::Doing;
 use crate::pending::{Manner, Pending, Target};
@@ -231,7 +229,7 @@ impl<'a> Turn<'a> {
     /// Where no request needs the hub all complete at once, and else all or none.
     fn gathers(&self, manner: Manner, several: Several) -> Row
         requires { HasArray self.now several }
-        ensures { result ≡ gathers_of manner several (posts_of (pendings self.now.requests.now (handles_in self.now.memory.now (array_at several.array several.count)))) }
+        ensures { result ≡ gathers_of manner several (posts_wanted self.now several) }
     {
         let handles = handles_at(self.memory, array(&several));
         let value = manner.flag();

@@ -3,7 +3,7 @@
 ghost use Rattle.std.specs.Prelude.{◌≡◌, ◌≤◌, ◌+◌, length, vec_capacity, vec_len};
 ghost use Rattle.cl_state.specs.Right.{IsChecked, IsRunning, output_of};
 ghost use Rattle.cl_state.specs.Told.{done, replied, told_in, told_row};
-ghost use Rattle.cl_state.specs.Turn.{Becomes, IsAble, IsReady, IsRow, IsWantable, part_in};
+ghost use Rattle.cl_state.specs.Turn.{Becomes, IsAble, IsReady, IsRow, IsWantable, part_in, told_by};
 
 use crate::asking::{Answer, Doing};
 use crate::row::{Outcome, Row, Wanted};
@@ -87,14 +87,16 @@ impl<'a> Turn<'a> {
     #[tactic(auto, using(crate::proofs::Ready::row_of_ready))]
     fn finish(&mut self, doing: &Doing, answer: &Answer)
         requires { IsReady self.old doing.now }
-        ensures { Becomes self.old self.new (told_in self.old.site.now self.old.number doing.now answer.now (part_in self.old)) }
+        ensures { Becomes self.old self.new
+            (told_in self.old.site.now self.old.number doing.now answer.now (part_in self.old)) }
     {
         let row = self.row(doing);
         self.answer(row, answer);
     }
 }
 
-/// What a hart is told: its rank and number, the bytes that it puts behind the output, what its turn is, and the answer.
+/// What a hart is told: its rank and number, the bytes that it
+/// puts behind the output, what its turn is, and the answer.
 #[derive(Drop)]
 pub(crate) struct News<'a> {
     pub(crate) site: &'a Site,
@@ -116,7 +118,9 @@ pub(crate) fn tell_hart(
     requires checked { IsChecked news.now.site.now memory.old requests.old news.now.doing.now }
     requires fresh { news.now.fresh.now ≡ output_of memory.old news.now.doing.now }
     requires room { vec_len out.old + length news.now.fresh.now ≤ vec_capacity out.old }
-    ensures { record { hart = hart.new; memory = memory.new; requests = requests.new; out = out.new.items } ≡ told_in news.now.site.now news.now.number news.now.doing.now news.now.answer.now (record { hart = hart.old; memory = memory.old; requests = requests.old; out = out.old.items }) }
+    ensures { record { hart = hart.new; memory = memory.new; requests = requests.new; out = out.new.items }
+        ≡ told_by news.now
+        (record { hart = hart.old; memory = memory.old; requests = requests.old; out = out.old.items }) }
 {
     let mut turn = Turn {
         site: news.site,

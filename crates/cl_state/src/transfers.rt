@@ -8,7 +8,8 @@ ghost use Rattle.cl_calls.specs.Needs.{needs_of_receiving, needs_of_sending, sou
 ghost use Rattle.cl_state.specs.Asked.{carried};
 ghost use Rattle.cl_state.specs.Pending.{is_blocking};
 ghost use Rattle.cl_state.specs.Right.{IsRight};
-ghost use Rattle.cl_state.specs.Transfers.{asked_claimed, asked_transfer, claimed_of, posted as posted_by, receive_of, send_of, source_of, tag_of};
+ghost use Rattle.cl_state.specs.Transfers.{asked_claimed, asked_transfer, claimed_of, posted as posted_by, receive_of};
+ghost use Rattle.cl_state.specs.Transfers.{send_of, source_of, tag_of};
 
 use crate::asking::Ask;
 use crate::pending::Manner;
@@ -115,7 +116,8 @@ fn present(memory: &RankMemory, buffer: u64, count: u16) -> u64
 
 /// The bytes of a send, at most 4,096. No bytes take no memory.
 fn copy(alloc: Global, memory: &RankMemory, buffer: u64, count: u16) -> Result<Bytes, AllocError>
-    ensures { MatchResult result (λ bytes. bytes ≡ bytes_at memory.now buffer count) (λ e. 0 < length (bytes_at memory.now buffer count)) }
+    ensures { MatchResult result (λ bytes. bytes ≡ bytes_at memory.now buffer count)
+        (λ e. 0 < length (bytes_at memory.now buffer count)) }
 {
     let Ok(bytes) = memory.read_bytes(alloc, buffer, present(memory, buffer, count)) else {
         return Err(AllocError);
@@ -133,7 +135,8 @@ pub(crate) fn ask(
     manner: Manner,
     transfer: &Transfer,
 ) -> Result<Ask, AllocError>
-    ensures { MatchResult result (λ ask. ask ≡ asked_transfer memory.now (is_blocking manner) transfer.now) (λ e. 0 < carried (asked_transfer memory.now (is_blocking manner) transfer.now)) }
+    ensures { MatchResult result (λ ask. ask ≡ asked_transfer memory.now (is_blocking manner) transfer.now)
+        (λ e. 0 < carried (asked_transfer memory.now (is_blocking manner) transfer.now)) }
 {
     match *transfer {
         Transfer::Send {

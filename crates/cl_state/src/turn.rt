@@ -6,7 +6,8 @@ ghost use Rattle.rv_memory.specs.Memory.{bytes_of};
 ghost use Rattle.mp_request.specs.Entries.{is_new};
 ghost use Rattle.mp_request.specs.Table.{IsInactive, completed};
 ghost use Rattle.cl_state.specs.declared.row.Outcome.TheVariants as outcome;
-ghost use Rattle.cl_state.specs.Told.{done, ended, found as found_by, found_nothing, freed, not_yet as not_yet_of, opened, received, received_message, returned, waiting, with_status};
+ghost use Rattle.cl_state.specs.Told.{done, ended, found as found_by, found_nothing, freed, not_yet as not_yet_of};
+ghost use Rattle.cl_state.specs.Told.{opened, received, received_message, returned, waiting, with_status};
 ghost use Rattle.cl_state.specs.Turn.{Becomes, IsAble, part_in};
 ghost use Rattle.cl_state.specs.Written.{written as written_in};
 
@@ -198,7 +199,8 @@ impl<'a> Turn<'a> {
     /// Starts an inactive request.
     pub(crate) fn start(&mut self, handle: u64, progress: Progress)
         requires { IsInactive self.old.requests.now handle }
-        ensures { Becomes self.old self.new (done self.old.site.now (outcome.Starts handle progress) (part_in self.old)) }
+        ensures { Becomes self.old self.new
+            (done self.old.site.now (outcome.Starts handle progress) (part_in self.old)) }
     {
         let Ok(()) = self.requests.start(handle, progress) else {
             unreachable!()

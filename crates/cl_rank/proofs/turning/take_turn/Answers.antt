@@ -20,20 +20,31 @@ unreachable-requires-in-Freed g c =
 
 pub returns-in-Plain-clause-turned : goal.returns-in-Plain-clause-turned
 returns-in-Plain-clause-turned g c =
-    alone_turn g.D.Desk.gives c.args.hart (rank_of c.args.state.now) (rank_of c.room.new.self) (rank_of c.tell_alone.new.state) c.args.desk.now Act.Plain c.tell_alone.result
-    c.in-Ok-room.ensures.same (search rules) c.requires.low (sym c.in-Ok.ensures ∙ c.in-Plain.is) refl refl refl refl c.tell_alone.ensures.event c.tell_alone.ensures.told
+    alone_turn g.D.Desk.gives c.args.hart (rank_of c.args.state.now) (rank_of c.room_next.new.self)
+    (rank_of c.tell_alone.new.state) c.args.desk.now Act.Plain c.tell_alone.result
+    c.in-Ok-room_next.ensures.same (search rules) c.requires.low
+    (sym c.in-Ok.ensures ∙ c.in-Plain.is) refl refl refl refl c.tell_alone.ensures.event c.tell_alone.ensures.told
 
 pub returns-in-Local-clause-turned : goal.returns-in-Local-clause-turned
 returns-in-Local-clause-turned g c =
-    alone_turn g.D.Desk.gives c.args.hart (rank_of c.args.state.now) (rank_of c.room.new.self) (rank_of c.tell_alone-in-Local.new.state) c.args.desk.now Act.Local c.tell_alone-in-Local.result
-    c.in-Ok-room.ensures.same (search rules) c.requires.low (sym c.in-Ok.ensures ∙ c.in-Local.is) refl refl refl refl c.tell_alone-in-Local.ensures.event c.tell_alone-in-Local.ensures.told
+    alone_turn g.D.Desk.gives c.args.hart (rank_of c.args.state.now) (rank_of c.room_next.new.self)
+    (rank_of c.tell_alone-in-Local.new.state) c.args.desk.now Act.Local c.tell_alone-in-Local.result
+    c.in-Ok-room_next.ensures.same (search rules) c.requires.low
+    (sym c.in-Ok.ensures ∙ c.in-Local.is) refl refl refl refl c.tell_alone-in-Local.ensures.event
+    c.tell_alone-in-Local.ensures.told
 
 pub returns-in-Held-clause-turned : goal.returns-in-Held-clause-turned
 returns-in-Held-clause-turned g c =
-    alone_turn g.D.Desk.gives c.args.hart (rank_of c.args.state.now) (rank_of c.room.new.self) (rank_of c.tell_alone-in-Held.new.state) c.args.desk.now Act.Held c.tell_alone-in-Held.result
-    c.in-Ok-room.ensures.same (search rules) c.requires.low (sym c.in-Ok.ensures ∙ c.in-Held.is) refl refl refl refl c.tell_alone-in-Held.ensures.event c.tell_alone-in-Held.ensures.told
+    alone_turn g.D.Desk.gives c.args.hart (rank_of c.args.state.now) (rank_of c.room_next.new.self)
+    (rank_of c.tell_alone-in-Held.new.state) c.args.desk.now Act.Held c.tell_alone-in-Held.result
+    c.in-Ok-room_next.ensures.same (search rules) c.requires.low
+    (sym c.in-Ok.ensures ∙ c.in-Held.is) refl refl refl refl c.tell_alone-in-Held.ensures.event
+    c.tell_alone-in-Held.ensures.told
 
 pub returns-in-Idle-clause-turned : goal.returns-in-Idle-clause-turned
 returns-in-Idle-clause-turned g c =
-    alone_turn g.D.Desk.gives c.args.hart (rank_of c.args.state.now) (rank_of c.room.new.self) (rank_of c.tell_alone-in-Idle.new.state) c.args.desk.now Act.Idle c.tell_alone-in-Idle.result
-    c.in-Ok-room.ensures.same (search rules) c.requires.low (sym c.in-Ok.ensures ∙ c.in-Idle.is) refl refl refl refl c.tell_alone-in-Idle.ensures.event c.tell_alone-in-Idle.ensures.told
+    alone_turn g.D.Desk.gives c.args.hart (rank_of c.args.state.now) (rank_of c.room_next.new.self)
+    (rank_of c.tell_alone-in-Idle.new.state) c.args.desk.now Act.Idle c.tell_alone-in-Idle.result
+    c.in-Ok-room_next.ensures.same (search rules) c.requires.low
+    (sym c.in-Ok.ensures ∙ c.in-Idle.is) refl refl refl refl c.tell_alone-in-Idle.ensures.event
+    c.tell_alone-in-Idle.ensures.told

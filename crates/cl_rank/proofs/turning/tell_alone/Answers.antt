@@ -5,5 +5,6 @@ use Rattle.cl_rank.proofs.turning.tell_alone.Goals as goal
 
 pub returns-clause-clock : goal.returns-clause-clock
 returns-clause-clock c =
-    let clock = clock_told (rank_of c.args.state.now) (rank_of c.tell.new.self) c.args.hart _ _ c.tell.ensures.told in
+    let clock =
+    clock_told (rank_of c.args.state.now) (rank_of c.tell_next.new.self) c.args.hart _ _ c.tell_next.ensures.told in
     omega (arith, clock, c.requires.low)

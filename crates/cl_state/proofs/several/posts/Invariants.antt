@@ -3,7 +3,8 @@ use Rattle.cl_state.specs.Several.{pendings, posts_of}
 use Rattle.cl_state.proofs.several.posts.Given as goal
 
 abbrev pub invariant-loop-handle : goal.invariant-loop-handle
-invariant-loop-handle l = l.posts.items ++ posts_of (pendings l.requests l.rest) ≡ posts_of (pendings l.requests l.handles)
+invariant-loop-handle l =
+    l.posts.items ++ posts_of (pendings l.requests l.rest) ≡ posts_of (pendings l.requests l.handles)
 
 abbrev pub decreases-loop-handle : goal.decreases-loop-handle
 decreases-loop-handle l = length l.rest
