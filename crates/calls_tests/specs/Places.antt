@@ -20,7 +20,8 @@ MemberRows =
 -- a member of 0 and of 1, and of no other; where no communicator is asked for there is none to be a member of
 abbrev pub CommRows : Type 0
 CommRows =
-    map (is_comm of_two) (None ∷ Some 0 ∷ Some 1 ∷ Some 2 ∷ Some 3 ∷ Some (2 ^ 64 - 1) ∷ []) ≡ true ∷ true ∷ true ∷ false ∷ false ∷ false ∷ []
+    map (is_comm of_two) (None ∷ Some 0 ∷ Some 1 ∷ Some 2 ∷ Some 3 ∷ Some (2 ^ 64 - 1) ∷ [])
+    ≡ true ∷ true ∷ true ∷ false ∷ false ∷ false ∷ []
 
 abbrev pub is_peer_of_1 : Peer → Bool
 is_peer_of_1 peer = is_peer of_two (Some 1) (Some peer)
@@ -28,6 +29,8 @@ is_peer_of_1 peer = is_peer of_two (Some 1) (Some peer)
 -- positions 0 and 1; the null process for both, and any rank for a source alone
 abbrev pub PeerRows : Type 0
 PeerRows =
-    (map (λ rank. is_peer_of_1 (destination rank)) (0 ∷ 1 ∷ 2 ∷ any ∷ no_rank ∷ []) ≡ true ∷ true ∷ false ∷ false ∷ true ∷ [])
-    × (map (λ rank. is_peer_of_1 (source rank)) (0 ∷ 1 ∷ 2 ∷ any ∷ no_rank ∷ []) ≡ true ∷ true ∷ false ∷ true ∷ true ∷ [])
+    (map (λ rank. is_peer_of_1 (destination rank)) (0 ∷ 1 ∷ 2 ∷ any ∷ no_rank ∷ [])
+    ≡ true ∷ true ∷ false ∷ false ∷ true ∷ [])
+    ×
+    (map (λ rank. is_peer_of_1 (source rank)) (0 ∷ 1 ∷ 2 ∷ any ∷ no_rank ∷ []) ≡ true ∷ true ∷ false ∷ true ∷ true ∷ [])
     × (map (is_peer of_two None) (Some (source 9) ∷ None ∷ []) ≡ true ∷ true ∷ [])

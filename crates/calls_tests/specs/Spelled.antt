@@ -41,19 +41,22 @@ LocalCalls =
 abbrev pub TransferCalls : Type 0
 TransferCalls =
     map spelled (16 ∷ 17 ∷ 18 ∷ 19 ∷ 20 ∷ 21 ∷ [])
-    ≡ Call.Send sending ∷ Call.Ssend sending ∷ Call.Recv receiving 6 ∷ Call.Isend sending ∷ Call.Issend sending ∷ Call.Irecv receiving ∷ []
+    ≡ Call.Send sending ∷ Call.Ssend sending ∷ Call.Recv receiving 6 ∷ Call.Isend sending ∷ Call.Issend sending
+    ∷ Call.Irecv receiving ∷ []
 
 -- 24 to 29: probes and claimed messages
 abbrev pub ProbeCalls : Type 0
 ProbeCalls =
     map spelled (24 ∷ 25 ∷ 26 ∷ 27 ∷ 28 ∷ 29 ∷ [])
-    ≡ Call.Iprobe probing ∷ Call.Probe probing ∷ Call.Improbe probing ∷ Call.Mprobe probing ∷ Call.Imrecv claimed ∷ Call.Mrecv claimed 4 ∷ []
+    ≡ Call.Iprobe probing ∷ Call.Probe probing ∷ Call.Improbe probing ∷ Call.Mprobe probing ∷ Call.Imrecv claimed
+    ∷ Call.Mrecv claimed 4 ∷ []
 
 -- 22, 23 and 30 to 35: of requests
 abbrev pub RequestCalls : Type 0
 RequestCalls =
     map spelled (22 ∷ 23 ∷ 30 ∷ 31 ∷ 32 ∷ 33 ∷ 34 ∷ 35 ∷ [])
-    ≡ Call.Test completing ∷ Call.Wait completing ∷ Call.SendInit sending ∷ Call.RecvInit receiving ∷ Call.Start 1 ∷ Call.RequestFree 1
+    ≡ Call.Test completing ∷ Call.Wait completing ∷ Call.SendInit sending ∷ Call.RecvInit receiving ∷ Call.Start 1
+    ∷ Call.RequestFree 1
     ∷ Call.Testall several ∷ Call.Waitall several ∷ []
 
 -- those between, and those above

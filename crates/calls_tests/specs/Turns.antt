@@ -23,7 +23,8 @@ use Rattle.cl_state.specs.Rows.{small_memory, calling, guest}
 use Rattle.cl_state.specs.Several.{Given, with_statuses}
 use Rattle.cl_state.specs.Told.{told, with_status}
 use Rattle.cl_state_laws.specs.CallRows.{behind, message, status_bytes}
-use Rattle.cl_state_laws.specs.RequestRows.{complete_empty, completing, ended_with, null_status, one, ordinary, probing, replied}
+use Rattle.cl_state_laws.specs.RequestRows.{complete_empty, completing, ended_with, null_status, one, ordinary, probing}
+use Rattle.cl_state_laws.specs.RequestRows.{replied}
 use Rattle.cl_state_laws.specs.SeveralRows.{arrayed, completing_two, ended_two, handle}
 use Rattle.calls_tests.specs.Places.{of_two}
 
@@ -37,7 +38,9 @@ alone rank = told rank 0 Answer.Alone 9
 abbrev pub ExitRow : Type 0
 ExitRow =
     (asked (guest (5 ∷ []) 0) 0 ≡ Ask.Local)
-    × (alone (guest (5 ∷ []) 0) ≡ record (guest (5 ∷ []) 0) { harts = record (calling (5 ∷ []) 0) { mode = Ended 5 } ∷ []; clock = 9 })
+    ×
+    (alone (guest (5 ∷ []) 0)
+    ≡ record (guest (5 ∷ []) 0) { harts = record (calling (5 ∷ []) 0) { mode = Ended 5 } ∷ []; clock = 9 })
 
 -- the small rank in the communicators of `of_two`
 abbrev pub placed : List ℕ → ℕ → Rank
@@ -79,7 +82,8 @@ StoppedRows = ((code : ℕ) → IsIdle (Ended code)) × ((cause : Cause) (pc : �
 -- EBREAK is no call
 abbrev pub BreakRow : Type 0
 BreakRow =
-    asked (record (guest [] 0) { memory = record { bytes = replicate 4 0 ++ 0x73 ∷ 0 ∷ 0x10 ∷ 0 ∷ []; text = 8 } }) 0 ≡ Ask.Plain
+    asked (record (guest [] 0) { memory = record { bytes = replicate 4 0 ++ 0x73 ∷ 0 ∷ 0x10 ∷ 0 ∷ []; text = 8 } }) 0
+    ≡ Ask.Plain
 
 -- ---- the null process
 
@@ -89,7 +93,9 @@ SendToNullRow =
     (asked (guest (9 ∷ 2 ∷ no_rank ∷ 7 ∷ 0 ∷ []) 16) 0 ≡ Ask.Local)
     × (alone (guest (9 ∷ 2 ∷ no_rank ∷ 7 ∷ 0 ∷ []) 16) ≡ ended_with 0 0 no_requests (no_rank ∷ 7 ∷ 0 ∷ []) 16)
     × (asked (guest (9 ∷ 2 ∷ no_rank ∷ 7 ∷ 0 ∷ []) 19) 0 ≡ Ask.Local)
-    × (alone (guest (9 ∷ 2 ∷ no_rank ∷ 7 ∷ 0 ∷ []) 19) ≡ ended_with 0 1 (one (ordinary SendToNull Finished)) (no_rank ∷ 7 ∷ 0 ∷ []) 19)
+    ×
+    (alone (guest (9 ∷ 2 ∷ no_rank ∷ 7 ∷ 0 ∷ []) 19)
+    ≡ ended_with 0 1 (one (ordinary SendToNull Finished)) (no_rank ∷ 7 ∷ 0 ∷ []) 19)
 
 -- the status of a receive from it is (-2, -1, 0): of TEST and of MRECV
 abbrev pub ReceiveFromNullRow : Type 0
@@ -98,7 +104,8 @@ ReceiveFromNullRow =
     × (alone (completing (one (ordinary ReceiveFromNull Finished)) 1 22) ≡ record (ended_with 0 1 no_requests [] 22) {
       memory = record { bytes = take 32 small_memory.bytes ++ null_status ++ replicate 8 9; text = 8 };
     })
-    × (alone (guest (16 ∷ 4 ∷ no_message ∷ 32 ∷ []) 29) ≡ record (ended_with 0 0 no_requests (no_message ∷ 32 ∷ []) 29) {
+    ×
+    (alone (guest (16 ∷ 4 ∷ no_message ∷ 32 ∷ []) 29) ≡ record (ended_with 0 0 no_requests (no_message ∷ 32 ∷ []) 29) {
       memory = record { bytes = take 32 small_memory.bytes ++ null_status ++ replicate 8 9; text = 8 };
     })
 
@@ -121,7 +128,13 @@ AskedPlaces =
 
 -- a status tells the position, of RECV, PROBE, MPROBE and TESTALL
 abbrev pub status_at_32 : Rank → Rank
-status_at_32 rank = record rank { memory = record { bytes = take 32 small_memory.bytes ++ status_bytes 0 7 10 ++ replicate 8 9; text = 8 } }
+status_at_32 rank =
+    record rank {
+      memory = record {
+        bytes = take 32 small_memory.bytes ++ status_bytes 0 7 10 ++ replicate 8 9;
+        text = 8;
+      };
+    }
 
 abbrev pub ToldPlaces : Type 0
 ToldPlaces =
@@ -129,16 +142,26 @@ ToldPlaces =
     ≡ record (placed_told (0 ∷ 0 ∷ any ∷ any ∷ 1 ∷ 32 ∷ []) 18) {
       memory = record { bytes = take 32 small_memory.bytes ++ status_bytes 0 7 0 ++ replicate 8 9; text = 8 };
     })
-    × (replied (placed (any ∷ any ∷ 1 ∷ 32 ∷ []) 25) (reply.Seen placed_envelope) ≡ status_at_32 (placed_told (0 ∷ 0 ∷ 1 ∷ 32 ∷ []) 25))
-    × (replied (placed (any ∷ any ∷ 1 ∷ 32 ∷ []) 27) (reply.Held 5 placed_envelope) ≡ status_at_32 (placed_told (0 ∷ 5 ∷ 1 ∷ 32 ∷ []) 27))
+    ×
+    (replied (placed (any ∷ any ∷ 1 ∷ 32 ∷ []) 25) (reply.Seen placed_envelope)
+    ≡ status_at_32 (placed_told (0 ∷ 0 ∷ 1 ∷ 32 ∷ []) 25))
+    ×
+    (replied (placed (any ∷ any ∷ 1 ∷ 32 ∷ []) 27) (reply.Held 5 placed_envelope)
+    ≡ status_at_32 (placed_told (0 ∷ 5 ∷ 1 ∷ 32 ∷ []) 27))
 
 abbrev pub waits_on_3 : Table
 waits_on_3 = one (ordinary (Receive 32 0 None None 1) (OnPost 3))
 
 abbrev pub SeveralPlaces : Type 0
 SeveralPlaces =
-    replied (record (completing_two waits_on_3 1 0 16 34) { site = of_two }) (reply.AllGot (Some (placed_message []) ∷ []))
-    ≡ record (ended_two 0 1 no_requests (record { bytes = take 16 small_memory.bytes ++ status_bytes 0 7 0 ++ replicate 16 255 ++ replicate 8 0; text = 8 }) 16 34) {
+    replied (record (completing_two waits_on_3 1 0 16 34) { site = of_two })
+    (reply.AllGot (Some (placed_message []) ∷ []))
+    ≡ record
+    (ended_two 0 1 no_requests
+    (record {
+      bytes = take 16 small_memory.bytes ++ status_bytes 0 7 0 ++ replicate 16 255 ++ replicate 8 0;
+      text = 8;
+    }) 16 34) {
       site = of_two;
     }
 
@@ -147,7 +170,8 @@ SeveralPlaces =
 abbrev pub issend : Table
 issend = one (ordinary (Send true 9 2 1 7 0) (OnPost 5))
 
--- TEST asks whether it is complete: flag 0 where it isn't, the empty status where it is; another reply completes nothing
+-- TEST asks whether it is complete: flag 0 where it isn't, the
+-- empty status where it is; another reply completes nothing
 abbrev pub IssendRow : Type 0
 IssendRow =
     (asked (completing issend 1 22) 0 ≡ Ask.Hub (request.Finished 5))
@@ -159,14 +183,21 @@ IssendRow =
 abbrev pub IssendAmongSeveral : Type 0
 IssendAmongSeveral =
     (asked (completing_two issend 1 0 0 34) 0 ≡ Ask.Hub (request.All (5 ∷ [])))
-    × (replied (completing_two issend 1 0 0 34) (reply.AllGot (None ∷ [])) ≡ ended_two 0 1 no_requests (arrayed (handle 1 ++ handle 0)) 0 34)
+    ×
+    (replied (completing_two issend 1 0 0 34) (reply.AllGot (None ∷ []))
+    ≡ ended_two 0 1 no_requests (arrayed (handle 1 ++ handle 0)) 0 34)
     × (replied (completing_two issend 1 0 0 34) (reply.AllGot (Some (message []) ∷ []))
     ≡ ended_two 6 0 issend (arrayed (handle 1 ++ handle 0)) 0 34)
 
 -- ---- blocking probes
 
 abbrev pub probe_waits : ℕ → Rank
-probe_waits number = record (probing any number) { harts = record (calling (any ∷ any ∷ 0 ∷ 32 ∷ []) number) { mode = Waiting Again } ∷ []; clock = 9 }
+probe_waits number =
+    record
+    (probing any number) {
+      harts = record (calling (any ∷ any ∷ 0 ∷ 32 ∷ []) number) { mode = Waiting Again } ∷ [];
+      clock = 9;
+    }
 
 -- PROBE and MPROBE ask what IPROBE and IMPROBE do, and wait where nothing is there
 abbrev pub ProbeWaits : Type 0

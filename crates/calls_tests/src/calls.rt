@@ -109,8 +109,10 @@ pub fn many_handles(
 
 /// TEST and WAIT take the null request and open ones, START persistent ones, and REQUEST_FREE open ones.
 pub fn named(call: &Call) -> Needs
-    ensures test { (completing : Completing) → call.now ≡ Call.Test completing → result.request ≡ NullOrOpen completing.handle }
-    ensures wait { (completing : Completing) → call.now ≡ Call.Wait completing → result.request ≡ NullOrOpen completing.handle }
+    ensures test { (completing : Completing) → call.now ≡ Call.Test completing
+        → result.request ≡ NullOrOpen completing.handle }
+    ensures wait { (completing : Completing) → call.now ≡ Call.Wait completing
+        → result.request ≡ NullOrOpen completing.handle }
     ensures start { (handle : ℕ) → call.now ≡ Call.Start handle → result.request ≡ Persistent handle }
     ensures free { (handle : ℕ) → call.now ≡ Call.RequestFree handle → result.request ≡ Open handle }
 {

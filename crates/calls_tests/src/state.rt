@@ -5,7 +5,9 @@ ghost use Rattle.cl_state.specs.declared.asking.Doing.TheVariants.{Step};
 ghost use Rattle.cl_state.specs.Asked.{asked, carried, doing, part_of};
 ghost use Rattle.cl_state.specs.Room.{rank_of};
 ghost use Rattle.cl_state.specs.Told.{told};
-ghost use Rattle.calls_tests.specs.Turns.{AskedPlaces, BreakRow, ExitRow, IssendAmongSeveral, IssendRow, LoadedRow, NoStatus, ProbeWaits, RankSizeRow, ReceiveFromNullRow, SecondHartRow, SendToNullRow, SeveralPlaces, StatusOverBuffer, StoppedRows, ToldPlaces};
+ghost use Rattle.calls_tests.specs.Turns.{AskedPlaces, BreakRow, ExitRow, IssendAmongSeveral, IssendRow, LoadedRow};
+ghost use Rattle.calls_tests.specs.Turns.{NoStatus, ProbeWaits, RankSizeRow, ReceiveFromNullRow, SecondHartRow};
+ghost use Rattle.calls_tests.specs.Turns.{SendToNullRow, SeveralPlaces, StatusOverBuffer, StoppedRows, ToldPlaces};
 
 use cl_calls::Site;
 use cl_state::{Answer, Ask, RankState};

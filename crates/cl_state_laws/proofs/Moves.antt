@@ -16,18 +16,26 @@ refused rank hart code answer stamp is = record {
 }
 
 -- two registers were set, one after the other
-two_set : (regs : List ℕ) (a b register : ℕ) → register ≢ 10 → register ≢ 11 → get_or (set (set regs 10 a) 11 b) register 0 ≡ get_or regs register 0
+two_set : (regs : List ℕ) (a b register : ℕ) → register ≢ 10 → register ≢ 11
+    → get_or (set (set regs 10 a) 11 b) register 0 ≡ get_or regs register 0
 two_set regs a b register first second =
     get_or-set_other (set regs 10 a) 11 register b 0 second ∙ get_or-set_other regs 10 register a 0 first
 
-other_read : (regs : List ℕ) (a b register : ℕ) → register ≢ 10 → register ≢ 11 → (if (register == 0) then 0 else get_or (set (set regs 10 a) 11 b) register 0) ≡ (if (register == 0) then 0 else get_or regs register 0)
-other_read regs a b register first second = ap (λ (x : ℕ). if (register == 0) then 0 else x) (two_set regs a b register first second)
+other_read : (regs : List ℕ) (a b register : ℕ) → register ≢ 10 → register ≢ 11
+    → (if (register == 0) then 0 else get_or (set (set regs 10 a) 11 b) register 0) ≡
+    (if (register == 0) then 0 else get_or regs register 0)
+other_read regs a b register first second =
+    ap (λ (x : ℕ). if (register == 0) then 0 else x) (two_set regs a b register first second)
 
 pub returns : ReturnLaw
 unfolding returned
 returns c v hart long = record {
-  code = get_or-set_other (set hart.regs 10 (code_number c)) 11 10 v 0 (λ same. omega (arith, same)) ∙ get_or-set_same hart.regs 10 (code_number c) 0 (omega (arith, long));
-  value = get_or-set_same (set hart.regs 10 (code_number c)) 11 v 0 (omega (arith, long, length-set hart.regs 10 (code_number c)));
+  code =
+      get_or-set_other (set hart.regs 10 (code_number c)) 11 10 v 0
+      (λ same. omega (arith, same)) ∙ get_or-set_same hart.regs 10 (code_number c) 0 (omega (arith, long));
+  value =
+      get_or-set_same (set hart.regs 10 (code_number c)) 11 v 0
+      (omega (arith, long, length-set hart.regs 10 (code_number c)));
   others = other_read hart.regs (code_number c) v;
   pc = refl;
 }

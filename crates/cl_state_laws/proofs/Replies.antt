@@ -45,65 +45,85 @@ Waits (AtOnce o) = ⊥
 Waits (OnReply m w) = Unit {0}
 
 -- of two ways the one that asks the hub was taken
-either_waits : (local : Bool) (a : Ask) (r : Request) (x y : Row) → Waits y → (if local then ask.Local else a) ≡ ask.Hub r → Waits (if local then x else y)
+either_waits : (local : Bool) (a : Ask) (r : Request) (x y : Row) → Waits y
+    → (if local then ask.Local else a) ≡ ask.Hub r → Waits (if local then x else y)
 either_waits true a r x y waits hub = cc
 either_waits false a r x y waits hub = waits
 
 -- a transfer with the null process isn't asked
-receives_wait : (null : Bool) (memory : Memory) (now : Bool) (t : Transfer) (r : Request) (x y : Row) → Waits y → asked_transfer memory now (if null then ReceiveFromNull else t) ≡ ask.Hub r → Waits (if null then x else y)
+receives_wait : (null : Bool) (memory : Memory) (now : Bool) (t : Transfer) (r : Request) (x y : Row) → Waits y
+    → asked_transfer memory now (if null then ReceiveFromNull else t) ≡ ask.Hub r → Waits (if null then x else y)
 receives_wait true memory now t r x y waits hub = cc
 receives_wait false memory now t r x y waits hub = waits
 
-begins_waits : (memory : Memory) (now : Bool) (why : Purpose) (t : Transfer) (r : Request) → asked_transfer memory now t ≡ ask.Hub r → Waits (begins why t)
+begins_waits : (memory : Memory) (now : Bool) (why : Purpose) (t : Transfer) (r : Request)
+    → asked_transfer memory now t ≡ ask.Hub r → Waits (begins why t)
 begins_waits memory now why (Send sync buffer count dest tag comm) r hub = tt
 begins_waits memory now why (Receive buffer capacity source tag comm) r hub = tt
 begins_waits memory now why _ r hub = cc
 
-claimed_waits : (null : Bool) (buffer capacity : ℕ) (a : Ask) (r : Request) → (if null then ask.Local else a) ≡ ask.Hub r → Waits (begins purpose.Open (if null then ReceiveFromNull else ReceiveClaimed buffer capacity))
+claimed_waits : (null : Bool) (buffer capacity : ℕ) (a : Ask) (r : Request)
+    → (if null then ask.Local else a) ≡ ask.Hub r
+    → Waits (begins purpose.Open (if null then ReceiveFromNull else ReceiveClaimed buffer capacity))
 claimed_waits true buffer capacity a r hub = cc
 claimed_waits false buffer capacity a r hub = tt
 
-starts_waits : (memory : Memory) (handle : ℕ) (o : Option OpenRequest) (r : Request) → asked_start memory o ≡ ask.Hub r → Waits (starts handle o)
+starts_waits : (memory : Memory) (handle : ℕ) (o : Option OpenRequest) (r : Request) → asked_start memory o ≡ ask.Hub r
+    → Waits (starts handle o)
 starts_waits memory handle None r hub = cc
 starts_waits memory handle (Some o) r hub = begins_waits memory false (purpose.Start handle) o.transfer r hub
 
-completes_waits : (m : Manner) (c : Completing) (p : Pending) (r : Request) → asked_pending p ≡ ask.Hub r → Waits (completes m c p)
+completes_waits : (m : Manner) (c : Completing) (p : Pending) (r : Request) → asked_pending p ≡ ask.Hub r
+    → Waits (completes m c p)
 completes_waits m c (Awaited post buffer capacity) r hub = tt
 completes_waits m c (Word post) r hub = tt
 completes_waits m c _ r hub = cc
 
-gathers_waits : (m : Manner) (s : Several) (posts : List ℕ) (r : Request) → asked_all posts ≡ ask.Hub r → Waits (gathers m s posts)
+gathers_waits : (m : Manner) (s : Several) (posts : List ℕ) (r : Request) → asked_all posts ≡ ask.Hub r
+    → Waits (gathers m s posts)
 gathers_waits m s [] r hub = cc
 gathers_waits m s (post ∷ posts) r hub = tt
 
-call_waits : (site : Site) (hart : ℕ) (memory : Memory) (table : Table) (c : Call) (r : Request) → asked_by site memory table c ≡ ask.Hub r → Waits (row_of site hart memory table c)
-call_waits site hart memory table (call.Send s) r hub = begins_waits memory true purpose.Send (send_of site false s) r hub
-call_waits site hart memory table (call.Ssend s) r hub = begins_waits memory true purpose.Send (send_of site true s) r hub
-call_waits site hart memory table (call.Recv v status) r hub = receives_wait (v.source == no_rank) memory true _ r _ _ tt hub
-call_waits site hart memory table (call.Isend s) r hub = begins_waits memory false purpose.Open (send_of site false s) r hub
-call_waits site hart memory table (call.Issend s) r hub = begins_waits memory false purpose.Open (send_of site true s) r hub
-call_waits site hart memory table (call.Irecv v) r hub = begins_waits memory false purpose.Open (receive_of site v) r hub
+call_waits : (site : Site) (hart : ℕ) (memory : Memory) (table : Table) (c : Call) (r : Request)
+    → asked_by site memory table c ≡ ask.Hub r → Waits (row_of site hart memory table c)
+call_waits site hart memory table (call.Send s) r hub =
+    begins_waits memory true purpose.Send (send_of site false s) r hub
+call_waits site hart memory table (call.Ssend s) r hub =
+    begins_waits memory true purpose.Send (send_of site true s) r hub
+call_waits site hart memory table (call.Recv v status) r hub =
+    receives_wait (v.source == no_rank) memory true _ r _ _ tt hub
+call_waits site hart memory table (call.Isend s) r hub =
+    begins_waits memory false purpose.Open (send_of site false s) r hub
+call_waits site hart memory table (call.Issend s) r hub =
+    begins_waits memory false purpose.Open (send_of site true s) r hub
+call_waits site hart memory table (call.Irecv v) r hub =
+    begins_waits memory false purpose.Open (receive_of site v) r hub
 call_waits site hart memory table (call.Test c) r hub = completes_waits Immediate c _ r hub
 call_waits site hart memory table (call.Wait c) r hub = completes_waits Blocking c _ r hub
 call_waits site hart memory table (call.Iprobe p) r hub = either_waits (p.source == no_rank) _ r _ _ tt hub
 call_waits site hart memory table (call.Probe p) r hub = either_waits (p.source == no_rank) _ r _ _ tt hub
 call_waits site hart memory table (call.Improbe p) r hub = either_waits (p.source == no_rank) _ r _ _ tt hub
 call_waits site hart memory table (call.Mprobe p) r hub = either_waits (p.source == no_rank) _ r _ _ tt hub
-call_waits site hart memory table (call.Imrecv m) r hub = claimed_waits (m.message == no_message) m.buffer m.capacity _ r hub
+call_waits site hart memory table (call.Imrecv m) r hub =
+    claimed_waits (m.message == no_message) m.buffer m.capacity _ r hub
 call_waits site hart memory table (call.Mrecv m status) r hub = either_waits (m.message == no_message) _ r _ _ tt hub
 call_waits site hart memory table (call.Start handle) r hub = starts_waits memory handle (request_at table handle) r hub
-call_waits site hart memory table (call.Testall s) r hub = gathers_waits Immediate s (posts_of (pendings table (handles_in memory (array_at s.array s.count)))) r hub
-call_waits site hart memory table (call.Waitall s) r hub = gathers_waits Blocking s (posts_of (pendings table (handles_in memory (array_at s.array s.count)))) r hub
+call_waits site hart memory table (call.Testall s) r hub =
+    gathers_waits Immediate s (posts_of (pendings table (handles_in memory (array_at s.array s.count)))) r hub
+call_waits site hart memory table (call.Waitall s) r hub =
+    gathers_waits Blocking s (posts_of (pendings table (handles_in memory (array_at s.array s.count)))) r hub
 call_waits site hart memory table _ r hub = cc
 
-turn_waits : (site : Site) (hart : ℕ) (memory : Memory) (table : Table) (d : Doing) (r : Request) → asked_in site memory table d ≡ ask.Hub r → Waits (row_in site hart memory table d)
+turn_waits : (site : Site) (hart : ℕ) (memory : Memory) (table : Table) (d : Doing) (r : Request)
+    → asked_in site memory table d ≡ ask.Hub r → Waits (row_in site hart memory table d)
 turn_waits site hart memory table (Go c) r hub = call_waits site hart memory table c r hub
 turn_waits site hart memory table (Poll c post) r hub = tt
 turn_waits site hart memory table _ r hub = cc
 
 -- ---- a refusal by the hub
 
-row_refused : (site : Site) (row : Row) (c : Code) (part : Part) → Waits row → told_row site row (answer.Reply (reply.Code c)) part ≡ ended c 0 part
+row_refused : (site : Site) (row : Row) (c : Code) (part : Part) → Waits row
+    → told_row site row (answer.Reply (reply.Code c)) part ≡ ended c 0 part
 row_refused site (AtOnce o) c part waits = absurd waits
 row_refused site (OnReply m w) c part waits = refl
 
@@ -111,7 +131,8 @@ pub refused_by_hub : HubRefusalLaw
 unfolding told asked
 refused_by_hub rank hart request c stamp hub =
     ap (λ (part : Part). with_part rank hart part stamp)
-    (row_refused rank.site _ c (part_of rank hart) (turn_waits rank.site hart rank.memory rank.requests (doing rank.site (part_of rank hart)) request hub))
+    (row_refused rank.site _ c (part_of rank hart) (turn_waits rank.site hart rank.memory rank.requests
+    (doing rank.site (part_of rank hart)) request hub))
 
 -- ---- NotYet
 
@@ -121,7 +142,8 @@ pub record IsPartKept (old new : Part) : Type 0 where
   pub requests : new.requests ≡ old.requests
   pub out : new.out ≡ old.out
 
-row_kept : (site : Site) (row : Row) (part : Part) → Waits row → IsPartKept part (told_row site row (answer.Reply reply.NotYet) part)
+row_kept : (site : Site) (row : Row) (part : Part) → Waits row
+    → IsPartKept part (told_row site row (answer.Reply reply.NotYet) part)
 row_kept site (AtOnce o) part waits = absurd waits
 row_kept site (OnReply Immediate w) part waits = record { memory = refl; requests = refl; out = refl }
 row_kept site (OnReply Blocking w) part waits = record { memory = refl; requests = refl; out = refl }
@@ -131,5 +153,7 @@ row_kept site (OnReply Posting w) part waits = record { memory = refl; requests 
 pub kept_not_yet_told : NotYetLaw
 unfolding told asked
 kept_not_yet_told rank hart request stamp hub =
-    let kept = row_kept rank.site _ (part_of rank hart) (turn_waits rank.site hart rank.memory rank.requests (doing rank.site (part_of rank hart)) request hub) in
+    let kept =
+    row_kept rank.site _ (part_of rank hart)
+    (turn_waits rank.site hart rank.memory rank.requests (doing rank.site (part_of rank hart)) request hub) in
     record { memory = kept.memory; requests = kept.requests; out = kept.out }

@@ -2,7 +2,8 @@
 use Rattle.std.proofs.Common.{refl}
 use Rattle.cl_state.specs.Asked.{asked, doing}
 use Rattle.cl_state.specs.Told.{found, found_nothing, freed, received, received_message, returned, told, with_status}
-use Rattle.cl_state_laws.specs.RequestRows.{ClaimedRow, FullRow, HandleRows, NullProbeRow, OpenRow, PersistentRow, ProbeRow, ReceiveRow, SsendRow, TestRow, WaitRow}
+use Rattle.cl_state_laws.specs.RequestRows.{ClaimedRow, FullRow, HandleRows, NullProbeRow, OpenRow, PersistentRow}
+use Rattle.cl_state_laws.specs.RequestRows.{ProbeRow, ReceiveRow, SsendRow, TestRow, WaitRow}
 
 pub open_row : OpenRow
 unfolding asked told doing returned

@@ -3,7 +3,8 @@ use Rattle.std.proofs.Common.{refl}
 use Rattle.cl_state.specs.Asked.{asked, doing}
 use Rattle.cl_state.specs.Several.{status_of}
 use Rattle.cl_state.specs.Told.{completed_all, returned, told}
-use Rattle.cl_state_laws.specs.SeveralRows.{DoneAndPendingRow, NoneRow, OverlapRow, SeveralRefusals, StatusesRow, TwoPendingRow, UnfitRow}
+use Rattle.cl_state_laws.specs.SeveralRows.{DoneAndPendingRow, NoneRow, OverlapRow, SeveralRefusals, StatusesRow}
+use Rattle.cl_state_laws.specs.SeveralRows.{TwoPendingRow, UnfitRow}
 
 pub done_and_pending_row : DoneAndPendingRow
 unfolding asked told doing returned completed_all status_of

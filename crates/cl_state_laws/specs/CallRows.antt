@@ -1,5 +1,6 @@
 -- Worked rows: what the calls of a small rank ask and are told.
-use Rattle.std.specs.Prelude.{◌≡◌, ℕ, ◌-◌, ◌^◌, List, [], ◌∷◌, ◌++◌, map, replicate, take, Option, Some, None, true, false}
+use Rattle.std.specs.Prelude.{◌≡◌, ℕ, ◌-◌, ◌^◌, List, [], ◌∷◌, ◌++◌, map, replicate, take, Option, Some, None, true}
+use Rattle.std.specs.Prelude.{false}
 use Rattle.rv_hart.specs.State.{State}
 use Rattle.rv_hart.specs.declared.state.Mode.TheVariants.{Waiting}
 use Rattle.rv_hart.specs.declared.state.Wait.TheVariants.{Post}
@@ -58,7 +59,9 @@ status_bytes source tag count = source ∷ replicate 7 0 ++ tag ∷ replicate 7 
 abbrev pub TruncatedRow : Type 0
 TruncatedRow =
     (asked receive 0 ≡ Ask.Hub (request.Recv true 0 None None))
-    × (told receive 0 (Answer.Reply (reply.Got (message (1 ∷ 2 ∷ 3 ∷ 4 ∷ 5 ∷ 6 ∷ 7 ∷ 8 ∷ 0 ∷ 0 ∷ [])))) 9 ≡ record receive {
+    ×
+    (told receive 0 (Answer.Reply (reply.Got (message (1 ∷ 2 ∷ 3 ∷ 4 ∷ 5 ∷ 6 ∷ 7 ∷ 8 ∷ 0 ∷ 0 ∷ [])))) 9
+    ≡ record receive {
       harts = behind (7 ∷ 0 ∷ any ∷ any ∷ 0 ∷ 32 ∷ []) 18 ∷ [];
       memory = record {
         bytes = take 16 small_memory.bytes ++ 1 ∷ 2 ∷ 3 ∷ 4 ∷ replicate 12 9 ++ status_bytes 1 7 4 ++ replicate 8 9;
@@ -69,7 +72,11 @@ TruncatedRow =
 
 -- nothing sent yet: the hart waits on its post, and each later turn polls it; NotYet leaves all but the clock
 abbrev pub waiting : ℕ → Rank
-waiting clock = record receive { harts = record (calling (16 ∷ 4 ∷ any ∷ any ∷ 0 ∷ 32 ∷ []) 18) { mode = Waiting (Post 1) } ∷ []; clock = clock }
+waiting clock =
+    record receive {
+      harts = record (calling (16 ∷ 4 ∷ any ∷ any ∷ 0 ∷ 32 ∷ []) 18) { mode = Waiting (Post 1) } ∷ [];
+      clock = clock;
+    }
 
 abbrev pub WaitingRow : Type 0
 WaitingRow =
@@ -115,7 +122,8 @@ abbrev pub sending : ℕ → ℕ → ℕ → ℕ → ℕ → Sending
 sending buffer count dest tag comm = record { buffer = buffer; count = count; dest = dest; tag = tag; comm = comm }
 
 abbrev pub receiving : ℕ → ℕ → ℕ → ℕ → ℕ → Receiving
-receiving buffer capacity source tag comm = record { buffer = buffer; capacity = capacity; source = source; tag = tag; comm = comm }
+receiving buffer capacity source tag comm =
+    record { buffer = buffer; capacity = capacity; source = source; tag = tag; comm = comm }
 
 -- the checks of calls whose arguments are wrong in one way or in several
 abbrev pub code_of : Call → Option Code

@@ -59,4 +59,5 @@ NotYetLaw =
 
 -- the hub is asked for as many posts together as a rank has handles, at most
 abbrev pub PostsLaw : Type 0
-PostsLaw = (rank : Rank) (hart : ℕ) (posts : List ℕ) → asked rank hart ≡ Ask.Hub (request.All posts) → length posts ≤ 255
+PostsLaw =
+    (rank : Rank) (hart : ℕ) (posts : List ℕ) → asked rank hart ≡ Ask.Hub (request.All posts) → length posts ≤ 255

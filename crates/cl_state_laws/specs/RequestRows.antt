@@ -1,5 +1,6 @@
 -- Worked rows of calls that open, complete, start and free requests, and of probes.
-use Rattle.std.specs.Prelude.{◌≡◌, ℕ, ◌-◌, ◌^◌, List, [], ◌∷◌, ◌++◌, length, map, replicate, take, Option, Some, None, true, false}
+use Rattle.std.specs.Prelude.{◌≡◌, ℕ, ◌-◌, ◌^◌, List, [], ◌∷◌, ◌++◌, length, map, replicate, take, Option, Some, None}
+use Rattle.std.specs.Prelude.{true, false}
 use Rattle.rv_hart.specs.declared.state.Mode.TheVariants.{Waiting}
 use Rattle.rv_hart.specs.declared.state.Wait.TheVariants.{Post, Again}
 use Rattle.mp_types.specs.declared.codes.Code.{Code}
@@ -13,7 +14,8 @@ use Rattle.mp_request.specs.declared.entries.Progress.{Progress}
 use Rattle.mp_request.specs.declared.entries.Progress.TheVariants.{Finished, OnPost}
 use Rattle.mp_request.specs.declared.entries.State.TheVariants.{Ordinary, Inactive, Active}
 use Rattle.mp_request.specs.declared.entries.Transfer.{Transfer}
-use Rattle.mp_request.specs.declared.entries.Transfer.TheVariants.{SendToNull, ReceiveFromNull, Send, Receive, ReceiveClaimed}
+use Rattle.mp_request.specs.declared.entries.Transfer.TheVariants.{SendToNull, ReceiveFromNull, Send, Receive}
+use Rattle.mp_request.specs.declared.entries.Transfer.TheVariants.{ReceiveClaimed}
 use Rattle.mp_request.specs.Table.{Table, no_requests}
 use Rattle.cl_calls.specs.declared.calls.Call.{Call}
 use Rattle.cl_calls.specs.declared.calls.Completing.{Completing}
@@ -37,7 +39,8 @@ holder table arguments number = record (guest arguments number) { requests = tab
 
 -- the call ended at clock 9 with these in a0 and a1, and changed nothing else
 abbrev pub ended_with : ℕ → ℕ → Table → List ℕ → ℕ → Rank
-ended_with c value table rest number = record (holder table [] number) { harts = behind (c ∷ value ∷ rest) number ∷ []; clock = 9 }
+ended_with c value table rest number =
+    record (holder table [] number) { harts = behind (c ∷ value ∷ rest) number ∷ []; clock = 9 }
 
 -- 4 bytes at 16 from any source with any tag; the 2 bytes at 9 to rank 1, tag 7
 abbrev pub receive : Transfer
@@ -122,7 +125,8 @@ TestRow =
     × (asked (completing (one (ordinary send Finished)) 1 22) 0 ≡ Ask.Local)
     × (told (completing (one (ordinary send Finished)) 1 22) 0 Answer.Alone 9 ≡ complete_empty no_requests)
 
--- a receive is asked for its message: without one flag 0, and nothing is written; with one flag 1, and the handle is free
+-- a receive is asked for its message: without one flag 0, and
+-- nothing is written; with one flag 1, and the handle is free
 abbrev pub on_post : Table
 on_post = one (ordinary receive (OnPost 3))
 
@@ -145,7 +149,8 @@ ReceiveRow =
 
 -- a wait makes its call anew, whatever its registers then hold: another handle, and a status that it may not write
 abbrev pub waits_with : List ℕ → Rank
-waits_with arguments = record (holder on_post arguments 23) { harts = record (calling arguments 23) { mode = Waiting Again } ∷ [] }
+waits_with arguments =
+    record (holder on_post arguments 23) { harts = record (calling arguments 23) { mode = Waiting Again } ∷ [] }
 
 abbrev pub WaitRow : Type 0
 WaitRow =
@@ -158,7 +163,12 @@ WaitRow =
 -- ---- synchronous sends
 
 abbrev pub ssend_waits : Rank
-ssend_waits = record (isend no_requests 17) { harts = record (calling (9 ∷ 2 ∷ 1 ∷ 7 ∷ 0 ∷ []) 17) { mode = Waiting (Post 5) } ∷ []; clock = 9 }
+ssend_waits =
+    record
+    (isend no_requests 17) {
+      harts = record (calling (9 ∷ 2 ∷ 1 ∷ 7 ∷ 0 ∷ []) 17) { mode = Waiting (Post 5) } ∷ [];
+      clock = 9;
+    }
 
 -- SSEND waits on its post until it is paired, and asks whether it is
 abbrev pub SsendRow : Type 0
@@ -218,7 +228,9 @@ ClaimedRow =
     × (replied (guest (16 ∷ 4 ∷ 5 ∷ []) 28) (reply.Posted 5 false)
     ≡ ended_with 0 1 (one (ordinary (ReceiveClaimed 16 4) (OnPost 5))) (5 ∷ []) 28)
     × (asked (completing (one (ordinary (ReceiveClaimed 16 4) (OnPost 5))) 1 22) 0 ≡ Ask.Hub (request.Collect 5))
-    × (replied (completing (one (ordinary (ReceiveClaimed 16 4) (OnPost 5))) 1 22) (reply.Got (message (1 ∷ 2 ∷ 3 ∷ 4 ∷ [])))
+    ×
+    (replied (completing (one (ordinary (ReceiveClaimed 16 4) (OnPost 5))) 1 22) (reply.Got (message
+    (1 ∷ 2 ∷ 3 ∷ 4 ∷ [])))
     ≡ test_received 0 1)
     × (replied (guest (16 ∷ 4 ∷ 5 ∷ []) 28) (reply.Code code.BadMessage) ≡ ended_with 14 0 no_requests (5 ∷ []) 28)
     × (asked (guest (16 ∷ 4 ∷ 0 ∷ 0 ∷ []) 29) 0 ≡ Ask.Hub (request.Claimed true 0))
@@ -236,14 +248,19 @@ PersistentRow =
     × (told (isend no_requests 30) 0 Answer.Alone 9 ≡ ended_with 0 1 (one (inactive send)) (1 ∷ 7 ∷ 0 ∷ []) 30)
     × (asked (starting (inactive send) 32) 0 ≡ Ask.Hub (request.Send false 0 1 7 (105 ∷ 10 ∷ [])))
     × (replied (starting (inactive send) 32) (reply.Posted 5 true) ≡ ended_with 0 0 (one (active send Finished)) [] 32)
-    × (replied (starting (inactive receive) 32) (reply.Posted 5 false) ≡ ended_with 0 0 (one (active receive (OnPost 5))) [] 32)
+    ×
+    (replied (starting (inactive receive) 32) (reply.Posted 5 false)
+    ≡ ended_with 0 0 (one (active receive (OnPost 5))) [] 32)
     × (replied (starting (inactive send) 32) (reply.Code code.Full) ≡ ended_with 8 0 (one (inactive send)) [] 32)
     × (asked (starting (inactive SendToNull) 32) 0 ≡ Ask.Local)
-    × (told (starting (inactive SendToNull) 32) 0 Answer.Alone 9 ≡ ended_with 0 0 (one (active SendToNull Finished)) [] 32)
+    ×
+    (told (starting (inactive SendToNull) 32) 0 Answer.Alone 9
+    ≡ ended_with 0 0 (one (active SendToNull Finished)) [] 32)
     × (told (completing (one (active send Finished)) 1 22) 0 Answer.Alone 9 ≡ complete_empty (one (inactive send)))
     × (told (starting (inactive send) 33) 0 Answer.Alone 9 ≡ ended_with 0 0 no_requests [] 33)
 
--- ---- the first check that fails, of a rank whose handle 1 is an ordinary receive, 2 an inactive one and 3 an active one
+-- ---- the first check that fails, of a rank whose handle 1 is an ordinary receive, 2 an inactive one and 3 an active
+-- one
 
 abbrev pub some_requests : Table
 some_requests = table_of (ordinary receive (OnPost 3) ∷ inactive receive ∷ active receive (OnPost 4) ∷ [])

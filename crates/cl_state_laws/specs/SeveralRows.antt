@@ -23,7 +23,8 @@ use Rattle.cl_state.specs.Asked.{asked}
 use Rattle.cl_state.specs.Told.{told}
 use Rattle.cl_state.specs.Rows.{first_of_two, small_memory, calling}
 use Rattle.cl_state_laws.specs.CallRows.{behind, message, stranger, status_bytes}
-use Rattle.cl_state_laws.specs.RequestRows.{table_of, holder, ordinary, inactive, active, replied, empty_status, null_status, send, receive}
+use Rattle.cl_state_laws.specs.RequestRows.{table_of, holder, ordinary, inactive, active, replied, empty_status}
+use Rattle.cl_state_laws.specs.RequestRows.{null_status, send, receive}
 
 -- the small memory with 16 other bytes at 16
 abbrev pub arrayed : List ℕ → Memory
@@ -63,7 +64,9 @@ two_pending = table_of (active (receive_at 40) (OnPost 3) ∷ ordinary (receive_
 -- both receives wrote their bytes, at 40 and at 44
 abbrev pub two_written : ℕ → ℕ → List ℕ → Memory
 two_written first second fourth = record {
-  bytes = take 16 small_memory.bytes ++ handle first ++ handle second ++ replicate 8 9 ++ 1 ∷ 2 ∷ 3 ∷ 4 ∷ fourth ++ replicate 16 9;
+  bytes =
+      take 16 small_memory.bytes ++ handle first ++ handle second ++ replicate 8 9 ++ 1 ∷ 2 ∷ 3 ∷ 4 ∷ fourth
+      ++ replicate 16 9;
   text = 8;
 }
 
@@ -75,7 +78,9 @@ DoneAndPendingRow =
     ≡ ended_two 0 0 done_and_pending (arrayed (handle 1 ++ handle 2)) 0 34)
     × (replied (completing_two done_and_pending 1 2 0 34) (reply.AllGot (Some (message (1 ∷ 2 ∷ 3 ∷ 4 ∷ [])) ∷ []))
     ≡ ended_two 0 1 no_requests (two_written 1 2 (replicate 4 9)) 0 34)
-    × (replied (completing_two done_and_pending 1 2 0 35) reply.NotYet ≡ record (completing_two done_and_pending 1 2 0 35) {
+    ×
+    (replied (completing_two done_and_pending 1 2 0 35) reply.NotYet
+    ≡ record (completing_two done_and_pending 1 2 0 35) {
       harts = record (calling (16 ∷ 2 ∷ 0 ∷ []) 35) { mode = Waiting Again } ∷ [];
       clock = 9;
     })
@@ -84,9 +89,13 @@ DoneAndPendingRow =
 abbrev pub TwoPendingRow : Type 0
 TwoPendingRow =
     (asked (completing_two two_pending 2 1 0 34) 0 ≡ Ask.Hub (request.All (4 ∷ 3 ∷ [])))
-    × (replied (completing_two two_pending 1 2 0 34) (reply.AllGot (Some (message (1 ∷ 2 ∷ 3 ∷ 4 ∷ 5 ∷ [])) ∷ Some (message (6 ∷ [])) ∷ []))
+    ×
+    (replied (completing_two two_pending 1 2 0 34) (reply.AllGot (Some (message (1 ∷ 2 ∷ 3 ∷ 4 ∷ 5 ∷ [])) ∷ Some
+    (message (6 ∷ [])) ∷ []))
     ≡ ended_two 7 1 (table_of (inactive (receive_at 40) ∷ [])) (two_written 1 2 (6 ∷ replicate 3 9)) 0 34)
-    × (replied (completing_two two_pending 1 2 0 35) (reply.AllGot (Some (message (1 ∷ 2 ∷ 3 ∷ 4 ∷ [])) ∷ Some (message (6 ∷ 7 ∷ 8 ∷ 9 ∷ 10 ∷ [])) ∷ []))
+    ×
+    (replied (completing_two two_pending 1 2 0 35) (reply.AllGot (Some (message (1 ∷ 2 ∷ 3 ∷ 4 ∷ [])) ∷ Some
+    (message (6 ∷ 7 ∷ 8 ∷ 9 ∷ 10 ∷ [])) ∷ []))
     ≡ ended_two 7 0 (table_of (inactive (receive_at 40) ∷ [])) (two_written 1 2 (6 ∷ 7 ∷ 8 ∷ 9 ∷ [])) 0 35)
 
 -- too few, too many, none for a receive, or a message of a stranger: code 6, and nothing changes
@@ -104,8 +113,11 @@ abbrev pub StatusesRow : Type 0
 StatusesRow =
     (asked (completing_two no_requests 0 0 16 34) 0 ≡ Ask.Local)
     × (told (completing_two no_requests 0 0 16 34) 0 Answer.Alone 9
-    ≡ ended_two 0 1 no_requests (record { bytes = take 16 small_memory.bytes ++ empty_status ++ empty_status; text = 8 }) 16 34)
-    × (told (completing_two (table_of (ordinary ReceiveFromNull Finished ∷ inactive receive ∷ [])) 1 2 16 34) 0 Answer.Alone 9
+    ≡ ended_two 0 1 no_requests
+    (record { bytes = take 16 small_memory.bytes ++ empty_status ++ empty_status; text = 8 }) 16 34)
+    ×
+    (told (completing_two (table_of
+    (ordinary ReceiveFromNull Finished ∷ inactive receive ∷ [])) 1 2 16 34) 0 Answer.Alone 9
     ≡ ended_two 0 1 (table_of (None ∷ inactive receive ∷ []))
     (record { bytes = take 16 small_memory.bytes ++ null_status ++ empty_status; text = 8 }) 16 34)
 
@@ -113,7 +125,8 @@ StatusesRow =
 abbrev pub OverlapRow : Type 0
 OverlapRow =
     replied (completing_two done_and_pending 1 2 16 34) (reply.AllGot (Some (message (1 ∷ 2 ∷ 3 ∷ 4 ∷ [])) ∷ []))
-    ≡ ended_two 0 1 no_requests (record { bytes = take 16 small_memory.bytes ++ empty_status ++ status_bytes 1 7 4; text = 8 }) 16 34
+    ≡ ended_two 0 1 no_requests
+    (record { bytes = take 16 small_memory.bytes ++ empty_status ++ status_bytes 1 7 4; text = 8 }) 16 34
 
 -- no handles: complete at once, whatever the addresses
 abbrev pub NoneRow : Type 0
@@ -123,7 +136,9 @@ NoneRow =
 
 -- the first check that fails: too many handles, an array outside the memory, then wrong handles, then the statuses
 abbrev pub code_of_several : ℕ → ℕ → Several → Option Code
-code_of_several first second s = first_fault (checks first_of_two (arrayed (handle first ++ handle second)) two_pending 0 (needs_of (Call.Testall s)))
+code_of_several first second s =
+    first_fault
+    (checks first_of_two (arrayed (handle first ++ handle second)) two_pending 0 (needs_of (Call.Testall s)))
 
 abbrev pub several_refusals : List (ℕ × ℕ × Several × Option Code)
 several_refusals =

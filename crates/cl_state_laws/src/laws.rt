@@ -23,8 +23,8 @@ pub fn hub_refusal_law()
     ensures { HubRefusalLaw }
 {}
 
-/// A call that the hub can't complete yet changes no memory, request or output: flag 0 of TEST and TESTALL, or a hart that
-/// waits.
+/// A call that the hub can't complete yet changes no memory, request
+/// or output: flag 0 of TEST and TESTALL, or a hart that waits.
 pub fn not_yet_law()
     ensures { NotYetLaw }
 {}

@@ -1,8 +1,11 @@
 //! Worked rows, as theorems that compute: what a small guest's calls ask and are told.
 
-ghost use Rattle.cl_state_laws.specs.RequestRows.{ClaimedRow, FullRow, HandleRows, NullProbeRow, OpenRow, PersistentRow, ProbeRow, ReceiveRow, SsendRow, TestRow, WaitRow};
-ghost use Rattle.cl_state_laws.specs.SeveralRows.{DoneAndPendingRow, NoneRow, OverlapRow, SeveralRefusals, StatusesRow, TwoPendingRow, UnfitRow};
-ghost use Rattle.cl_state_laws.specs.CallRows.{MisfitRow, NullRow, PutRow, RefusalRows, SendRow, TruncatedRow, WaitingRow};
+ghost use Rattle.cl_state_laws.specs.RequestRows.{ClaimedRow, FullRow, HandleRows, NullProbeRow, OpenRow};
+ghost use Rattle.cl_state_laws.specs.RequestRows.{PersistentRow, ProbeRow, ReceiveRow, SsendRow, TestRow, WaitRow};
+ghost use Rattle.cl_state_laws.specs.SeveralRows.{DoneAndPendingRow, NoneRow, OverlapRow, SeveralRefusals, StatusesRow};
+ghost use Rattle.cl_state_laws.specs.SeveralRows.{TwoPendingRow, UnfitRow};
+ghost use Rattle.cl_state_laws.specs.CallRows.{MisfitRow, NullRow, PutRow, RefusalRows, SendRow, TruncatedRow};
+ghost use Rattle.cl_state_laws.specs.CallRows.{WaitingRow};
 
 /// PUT writes behind the output, and ends with code 0.
 pub fn puts_bytes()
