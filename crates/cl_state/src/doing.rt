@@ -8,9 +8,9 @@ ghost use Rattle.cl_state.specs.Right.{IsChecked, IsNoStep, IsRight, IsRunning};
 ghost use Rattle.cl_state.specs.declared.asking.Doing.TheVariants.{Go};
 
 use crate::asking::{Ask, Doing};
-use crate::pending::{Manner, Pending};
-use crate::several::ask_several;
-use crate::transfers::{ask, ask_claimed, receive, send, send_synchronously, source, tag};
+use crate::pending::Manner;
+use crate::several::{ask_several, pending};
+use crate::transfers::{ask, ask_claimed, receive, send, source, sync_send, tag};
 use cl_calls::{Call, NO_RANK, Probing, Site, fault};
 use mp_request::{OpenRequest, Requests};
 use mp_types::Request;
@@ -163,12 +163,7 @@ fn ask_by(
 {
     match *call {
         Call::Send(sending) => ask(alloc, memory, Manner::Blocking, &send(site, &sending)),
-        Call::Ssend(sending) => ask(
-            alloc,
-            memory,
-            Manner::Blocking,
-            &send_synchronously(site, &sending),
-        ),
+        Call::Ssend(sending) => ask(alloc, memory, Manner::Blocking, &sync_send(site, &sending)),
         Call::Recv { receiving, .. } => ask(
             alloc,
             memory,
@@ -176,18 +171,13 @@ fn ask_by(
             &receive(site, &receiving),
         ),
         Call::Isend(sending) => ask(alloc, memory, Manner::Immediate, &send(site, &sending)),
-        Call::Issend(sending) => ask(
-            alloc,
-            memory,
-            Manner::Immediate,
-            &send_synchronously(site, &sending),
-        ),
+        Call::Issend(sending) => ask(alloc, memory, Manner::Immediate, &sync_send(site, &sending)),
         Call::Irecv(receiving) => ask(alloc, memory, Manner::Immediate, &receive(site, &receiving)),
         Call::Start { handle } => start(alloc, memory, requests.get(handle)),
         Call::Imrecv(claimed) => Ok(ask_claimed(Manner::Immediate, &claimed)),
         Call::Mrecv { claimed, .. } => Ok(ask_claimed(Manner::Blocking, &claimed)),
         Call::Test(completing) | Call::Wait(completing) => {
-            Ok(Pending::of(requests.get(completing.handle)).ask())
+            Ok(pending(requests, completing.handle).ask())
         }
         Call::Testall(several) | Call::Waitall(several) => {
             ask_several(alloc, memory, requests, &several)

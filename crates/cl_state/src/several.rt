@@ -29,7 +29,7 @@ use std::alloc::{AllocError, Global};
 type Statuses = ArrayVec<u8, 6120>;
 
 /// What the request of a handle needs to complete.
-fn pending(requests: &Requests, handle: u64) -> Pending
+pub(crate) fn pending(requests: &Requests, handle: u64) -> Pending
     ensures { result ≡ pending_of (request_at requests.now handle) }
 {
     Pending::of(requests.get(handle))

@@ -1,9 +1,7 @@
 //! The table of calls: one row a call, with what it does at once, or the reply that it wants of the hub.
 
 ghost use Rattle.std.specs.Prelude.{◌≡◌};
-ghost use Rattle.mp_request.specs.Table.{request_at};
 ghost use Rattle.cl_state.specs.declared.asking.Doing.TheVariants.{Go};
-ghost use Rattle.cl_state.specs.Pending.{pending_of};
 ghost use Rattle.cl_state.specs.Right.{IsChecked};
 ghost use Rattle.cl_state.specs.Table.{begins as begins_of, begun as begun_of, claims as claims_of, comes as comes_of};
 ghost use Rattle.cl_state.specs.Table.{completes as completes_of, completing, gathers as gathers_of, gives as gives_of};
@@ -16,8 +14,8 @@ ghost use Rattle.cl_state.specs.Turn.{HasArray, posts_wanted, row_for};
 use crate::asking::Doing;
 use crate::pending::{Manner, Pending, Target};
 use crate::row::{Outcome, Purpose, Row, Wanted};
-use crate::several::{array, needs_hub};
-use crate::transfers::{receive, receive_claimed, send, send_synchronously};
+use crate::several::{array, needs_hub, pending};
+use crate::transfers::{receive, receive_claimed, send, sync_send};
 use crate::turn::Turn;
 use cl_calls::{
     ANY, Call, Claimed, Completing, NO_MESSAGE, NO_RANK, Probing, Receiving, Several, handles_at,
@@ -240,13 +238,6 @@ impl<'a> Turn<'a> {
         }
     }
 
-    /// What a request of this handle needs to complete.
-    fn pending(&self, handle: u64) -> Pending
-        ensures { result ≡ pending_of (request_at self.now.requests.now handle) }
-    {
-        Pending::of(self.requests.get(handle))
-    }
-
     /// The row of a call that is right.
     fn row_of(&self, call: &Call) -> Row
         requires { IsChecked self.now.site.now self.now.memory.now self.now.requests.now (Go call.now) }
@@ -260,9 +251,9 @@ impl<'a> Turn<'a> {
             Call::Size { comm } => gives(site.members(comm).len() as u64),
             Call::Hart => gives(u64::from(self.number)),
             Call::Send(call) => begins(Purpose::Send, send(site, &call)),
-            Call::Ssend(call) => begins(Purpose::Send, send_synchronously(site, &call)),
+            Call::Ssend(call) => begins(Purpose::Send, sync_send(site, &call)),
             Call::Isend(call) => begins(Purpose::Open, send(site, &call)),
-            Call::Issend(call) => begins(Purpose::Open, send_synchronously(site, &call)),
+            Call::Issend(call) => begins(Purpose::Open, sync_send(site, &call)),
             Call::Irecv(call) => begins(Purpose::Open, receive(site, &call)),
             Call::Imrecv(call) => begins(Purpose::Open, receive_claimed(&call)),
             Call::SendInit(call) => makes(send(site, &call)),
@@ -271,8 +262,16 @@ impl<'a> Turn<'a> {
             Call::Mrecv { claimed, status } => receives_claimed(&claimed, status),
             Call::Start { handle } => starts(handle, self.requests.get(handle)),
             Call::RequestFree { handle } => Row::AtOnce(Outcome::Frees(handle)),
-            Call::Test(call) => completes(Manner::Immediate, &call, self.pending(call.handle)),
-            Call::Wait(call) => completes(Manner::Blocking, &call, self.pending(call.handle)),
+            Call::Test(call) => completes(
+                Manner::Immediate,
+                &call,
+                pending(self.requests, call.handle),
+            ),
+            Call::Wait(call) => completes(
+                Manner::Blocking,
+                &call,
+                pending(self.requests, call.handle),
+            ),
             Call::Testall(call) => self.gathers(Manner::Immediate, call),
             Call::Waitall(call) => self.gathers(Manner::Blocking, call),
             Call::Iprobe(call) => sees(Manner::Immediate, &call),

@@ -59,7 +59,7 @@ pub(crate) fn send(site: &Site, sending: &Sending) -> Transfer
 }
 
 /// The same in synchronous mode.
-pub(crate) fn send_synchronously(site: &Site, sending: &Sending) -> Transfer
+pub(crate) fn sync_send(site: &Site, sending: &Sending) -> Transfer
     requires { IsRight site.now (needs_of_sending false sending.now) }
     ensures { result ≡ send_of site.now true sending.now }
 {

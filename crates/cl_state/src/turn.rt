@@ -4,7 +4,7 @@ ghost use Rattle.std.specs.Prelude.{◌≡◌, ◌≤◌, ◌+◌, ◌++◌, IsT
 ghost use Rattle.rv_hart.specs.declared.state.Mode.TheVariants.{Running};
 ghost use Rattle.rv_memory.specs.Memory.{bytes_of};
 ghost use Rattle.mp_request.specs.Entries.{is_new};
-ghost use Rattle.mp_request.specs.Table.{IsInactive, completed};
+ghost use Rattle.mp_request.specs.Table.{IsInactive};
 ghost use Rattle.cl_state.specs.declared.row.Outcome.TheVariants as outcome;
 ghost use Rattle.cl_state.specs.Told.{done, ended, found as found_by, found_nothing, freed, not_yet as not_yet_of};
 ghost use Rattle.cl_state.specs.Told.{opened, received, received_message, returned, waiting, with_status};
@@ -95,13 +95,6 @@ fn write_status(memory: &mut RankMemory, address: u64, source: u64, tag: u64, co
     }
 }
 
-/// The request of a handle completes, where there is one.
-fn close(requests: &mut Requests, handle: u64)
-    ensures { requests.new ≡ completed requests.old handle }
-{
-    let _ = requests.complete(handle);
-}
-
 impl<'a> Turn<'a> {
     /// Ends the call with a code and a value.
     pub(crate) fn end(&mut self, code: Code, value: u64)
@@ -134,7 +127,7 @@ impl<'a> Turn<'a> {
     pub(crate) fn receive(&mut self, target: Target, source: u64, tag: u64, bytes: &[u8])
         ensures { Becomes self.old self.new (received target source tag bytes.now (part_in self.old)) }
     {
-        close(self.requests, target.handle);
+        let _ = self.requests.complete(target.handle);
         let kept = kept(target.capacity, bytes);
         write_where_right(self.memory, target.buffer, kept);
         write_status(self.memory, target.status, source, tag, kept.len() as u64);
