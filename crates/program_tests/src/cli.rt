@@ -25,9 +25,17 @@ pub fn dis_lists(alloc: Global) -> Result<CommandLine, ParseFault>
 /// `asm` makes an image.
 #[tactic(auto, unfolding(rvmc_cli::specs::Meaning::faults_in, rvmc_cli::specs::Meaning::command_in, rvmc_cli::specs::Meaning::line_in, clap::proofs::OnLiterals::clap_on_literals))]
 pub fn asm_assembles(alloc: Global) -> Result<CommandLine, ParseFault>
-    ensures { IfOk result (λ line. line ≡ Asm) }
+    ensures { IfOk result (λ line. line ≡ Asm false) }
 {
     parse(alloc, &["asm"])
+}
+
+/// `--from` has it take an image.
+#[tactic(auto, unfolding(rvmc_cli::specs::Meaning::faults_in, rvmc_cli::specs::Meaning::command_in, rvmc_cli::specs::Meaning::line_in, clap::proofs::OnLiterals::clap_on_literals))]
+pub fn from_takes_an_image(alloc: Global) -> Result<CommandLine, ParseFault>
+    ensures { IfOk result (λ line. line ≡ Asm true) }
+{
+    parse(alloc, &["asm", "--from"])
 }
 
 /// `one` runs an image, each rank for 1,000,000 turns at most.

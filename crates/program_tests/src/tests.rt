@@ -79,8 +79,17 @@ fn expect<'a, R: Abort + AllocGlobal>(
 fn prints_hi(rt: HostRuntime) {
     expect(&rt, &[], HI, 0, HI_REPORT, b"");
     expect(&rt, &["one", "--source"], HI, 0, HI_REPORT, b"");
-    expect(&rt, &["asm"], HI, 0, &HI_IMAGE, b"");
     expect(&rt, &["one"], &HI_IMAGE, 0, HI_REPORT, b"");
+}
+
+#[test]
+fn images_are_written_in_version_2(rt: HostRuntime) {
+    let mut second = HI_IMAGE;
+    second[4] = 2;
+    expect(&rt, &["asm"], HI, 0, &second, b"");
+    expect(&rt, &["asm", "--from"], &HI_IMAGE, 0, &second, b"");
+    expect(&rt, &["asm", "--from"], &second, 0, &second, b"");
+    expect(&rt, &["one"], &second, 0, HI_REPORT, b"");
 }
 
 #[test]
@@ -144,6 +153,14 @@ fn traps_behind_the_text(rt: HostRuntime) {
 fn faults_of_an_image(rt: HostRuntime) {
     expect(&rt, &["one"], b"", 1, b"", b"rvmc: image: Short 0\n");
     expect(&rt, &["dis"], b"", 1, b"", b"rvmc: image: Short 0\n");
+    expect(
+        &rt,
+        &["asm", "--from"],
+        b"RVMC\x03\x00",
+        1,
+        b"",
+        b"rvmc: image: Version\n",
+    );
     expect(
         &rt,
         &["one"],
@@ -225,6 +242,19 @@ fn lists_words(rt: HostRuntime) {
 }
 
 #[test]
+fn lists_names_before_their_words(rt: HostRuntime) {
+    // Two words, and the names a at the end of the text, b between words, c and d at address 4, go at 0.
+    let image =
+        b"RVMC\x02\x00\x01\x01\x00\x00\x01\x00\x00\x00\x00\x00\x08\x00\x00\x00\x00\x00\x00\x00\x00\x00\x05\x00\x13\x00\x00\x00\x73\x00\x00\x00\x08\x00\x00\x00\x01a\x06\x00\x00\x00\x01b\x04\x00\x00\x00\x01c\x04\x00\x00\x00\x01d\x00\x00\x00\x00\x02go";
+    let listing = b"go:\n00000000: 00000013  addi x0, x0, 0\nc:\nd:\n00000004: 00000073  ecall\n";
+    expect(&rt, &["dis"], image, 0, listing, b"");
+    // The same from its source.
+    let source = b".globl go\n.globl d\n.globl c\n.globl d\n.globl a\ngo: nop\nc: d: ecall\na:";
+    let told = ran(rt.alloc(), &["asm"], source);
+    expect(&rt, &["dis"], &told.out, 0, listing, b"");
+}
+
+#[test]
 fn stops_at_the_budget(rt: HostRuntime) {
     let report = b"rank 0 output 0\n\nrank 0 hart 0 running at 0x4\nrank 0 stop budget turns 1\n";
     expect(
@@ -289,11 +319,13 @@ fn output_is_full(rt: HostRuntime) {
 
 #[test]
 fn command_lines_that_are_refused(rt: HostRuntime) {
-    let refused: [&[&str]; 15] = [
+    let refused: [&[&str]; 17] = [
         &["fly"],
         &["run"],
         &["check"],
         &["asm", "--budget", "1"],
+        &["asm", "--from", "--from"],
+        &["dis", "--from"],
         &["dis", "more"],
         &["one", "--plan", "0,"],
         &["one", "--order", ""],

@@ -58,6 +58,7 @@ told_image bytes (image.Limit at value) f = ap (λ (m : Result ImageParts ImageF
 told_image bytes (image.Text at) f = ap (λ (m : Result ImageParts ImageFault). option_map fault_of_image (result_err m)) f
 told_image bytes (image.Comm number) f = ap (λ (m : Result ImageParts ImageFault). option_map fault_of_image (result_err m)) f
 told_image bytes (image.Link number) f = ap (λ (m : Result ImageParts ImageFault). option_map fault_of_image (result_err m)) f
+told_image bytes (image.Symbol number) f = ap (λ (m : Result ImageParts ImageFault). option_map fault_of_image (result_err m)) f
 
 none_of : {E : Type 0} (read : Result ImageParts E) (tell : E → Fault) (found : ImageParts) → result_ok read ≡ Some found → option_map tell (result_err read) ≡ None
 none_of (Ok x) tell found e = refl

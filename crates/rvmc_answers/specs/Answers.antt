@@ -8,6 +8,7 @@ use Rattle.cl_run.specs.declared.plans.Plan.{Plan}
 use Rattle.cl_run.specs.declared.records.Record.{Record}
 use Rattle.rv_asm.specs.Source.{meaning}
 use Rattle.rv_asm_tokens.specs.declared.fault.AsmFaultKind.TheVariants as kinds
+use Rattle.rv_image.specs.Image.{in_version_two}
 use Rattle.rv_image.specs.Reading.{reading}
 use Rattle.rv_image.specs.Text.{image_text}
 use Rattle.rv_image.specs.declared.images.ImageParts.{ImageParts}
@@ -69,10 +70,12 @@ IsOne image budget harts ranks text status =
 
 -- one case a command, of the bytes that are read
 abbrev pub Says : CommandLine → List ℕ → List ℕ → ℕ → Type 0
-Says Asm bytes text status =
+Says (Asm false) bytes text status =
     MatchOption (source_image bytes) (IsFaulty text status) (λ image. IsDone (image_text image) text status)
+Says (Asm true) bytes text status =
+    MatchOption (spelled_image bytes) (IsFaulty text status) (λ image. IsDone (image_text (in_version_two image)) text status)
 Says Dis bytes text status =
-    MatchOption (spelled_image bytes) (IsFaulty text status) (λ image. IsDone (listing image.text) text status)
+    MatchOption (spelled_image bytes) (IsFaulty text status) (λ image. IsDone (listing image) text status)
 Says (One source budget plan order) bytes text status =
     MatchOption (image_of source bytes) (IsFaulty text status) (λ image. IsOne image budget plan order text status)
 
@@ -104,7 +107,8 @@ IsRunFault meant other = IsFaultIn meant other
 
 -- one case a command
 abbrev pub IsFaultOf : CommandLine → List ℕ → Fault → Type 0
-IsFaultOf Asm bytes fault = IsFaultIn (source_fault bytes) fault
+IsFaultOf (Asm false) bytes fault = IsFaultIn (source_fault bytes) fault
+IsFaultOf (Asm true) bytes fault = IsFaultIn (image_fault bytes) fault
 IsFaultOf Dis bytes fault = IsFaultIn (image_fault bytes) fault
 IsFaultOf (One source budget plan order) bytes fault = IsRunFault (fault_in source bytes) fault
 

@@ -1,6 +1,6 @@
 //! What each command answers to its input.
 
-ghost use Rattle.std.specs.Prelude.{◌≡◌, ◌+◌, ◌==◌, Err, IfErr, None, count_by};
+ghost use Rattle.std.specs.Prelude.{◌≡◌, ◌+◌, ◌==◌, Err, IfErr, None, count_by, false, true};
 ghost use Rattle.std.specs.Str.{IsUtf8};
 ghost use Rattle.rvmc_answers.specs.Answers.{Finds, Gives, IsFaultIn, IsFaultOf, IsOne, IsRunBy, IsRunFault, Says, fault_in, image_fault, image_of, source_fault, source_image, spelled_image, wrong_bytes};
 ghost use Rattle.rvmc_line.specs.declared.line.CommandLine.TheVariants.{Asm, Dis, One};
@@ -77,10 +77,20 @@ fn image_of(alloc: Global, source: bool, bytes: &[u8]) -> Result<Image, Fault>
 
 /// `asm`.
 fn asm(alloc: Global, bytes: &[u8]) -> Result<Answer, Fault>
-    ensures says { Gives (Says Asm bytes.now) result }
+    ensures says { Gives (Says (Asm false) bytes.now) result }
     ensures fault { IfErr result (IsFaultIn (source_fault bytes.now)) }
 {
     let image = source_image(alloc, bytes)?;
+    let text = write_image(alloc, &image)?;
+    Ok(Answer { text, status: 0 })
+}
+
+/// `asm --from`.
+fn asm_from(alloc: Global, bytes: &[u8]) -> Result<Answer, Fault>
+    ensures says { Gives (Says (Asm true) bytes.now) result }
+    ensures fault { IfErr result (IsFaultIn (image_fault bytes.now)) }
+{
+    let image = spelled_image(alloc, bytes)?.into_version_two();
     let text = write_image(alloc, &image)?;
     Ok(Answer { text, status: 0 })
 }
@@ -91,7 +101,7 @@ fn dis(alloc: Global, bytes: &[u8]) -> Result<Answer, Fault>
     ensures fault { IfErr result (IsFaultIn (image_fault bytes.now)) }
 {
     let image = spelled_image(alloc, bytes)?;
-    let text = listing(alloc, image.parts().text.as_slice())?;
+    let text = listing(alloc, &image)?;
     Ok(Answer { text, status: 0 })
 }
 
@@ -147,7 +157,8 @@ pub fn answer_to(alloc: Global, line: CommandLine, bytes: &[u8]) -> Result<Answe
     ensures fault { IfErr result (IsFaultOf line bytes.now) }
 {
     match line {
-        CommandLine::Asm => asm(alloc, bytes),
+        CommandLine::Asm { from: false } => asm(alloc, bytes),
+        CommandLine::Asm { from: true } => asm_from(alloc, bytes),
         CommandLine::Dis => dis(alloc, bytes),
         CommandLine::One {
             source,

@@ -24,9 +24,9 @@ abbrev pub with_commands : App → List App → App
 with_commands app [] = app
 with_commands app (below ∷ others) = with_commands (with_subcommand app below.top) others
 
--- `asm`
+-- `asm [--from]`
 abbrev pub asm_app : App
-asm_app = new_app (codes "asm")
+asm_app = with_rules (new_app (codes "asm")) (flag (codes "from") ∷ [])
 
 -- `dis`
 abbrev pub dis_app : App

@@ -45,7 +45,7 @@ one_in rows =
 -- the command of this name, with what was found for it
 unfoldable pub line_in : Text → List Row → Option CommandLine
 line_in name rows =
-    if bytes_eq name (codes "asm") then Some Asm
+    if bytes_eq name (codes "asm") then Some (Asm (flag_in (codes "from") rows))
     else (if bytes_eq name (codes "dis") then Some Dis
     else (if bytes_eq name (codes "one") then one_in rows
     else None))

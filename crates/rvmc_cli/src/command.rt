@@ -22,12 +22,20 @@ Status:
   5 out of memory, 6 a read or write failed";
 
 const ASM_EXAMPLES: &str = "\
-Example:
-  rvmc asm <hi.s >hi.image";
+The image is written in version 2 of the format. Each label that the source
+names by .globl is a symbol of it: a name that `rvmc dis` shows.
+
+With --from an image of version 1 or 2 is taken in place of a source. It is
+written in version 2, with the symbols that it has, and is otherwise the same.
+
+Examples:
+  rvmc asm <hi.s >hi.image
+  rvmc asm --from <old.image >new.image";
 
 const DIS_EXAMPLES: &str = "\
 A line is an address, the word there and its instruction. A word that is no
-instruction is shown as `.word`.
+instruction is shown as `.word`. Before a word stand the names of the symbols
+at its address, as `go:`, a line each.
 
 Example:
   rvmc asm <hi.s | rvmc dis";
@@ -76,8 +84,8 @@ fn command<'a>(alloc: Global, name: &'a str, about: &'a str, examples: &'a str) 
     Command::new(alloc, name).about(about).after_help(examples)
 }
 
-fn asm<'a>(alloc: Global) -> Command<'a>
-    ensures { StandsFor asm_app result }
+fn asm<'a>(alloc: Global) -> Result<Command<'a>, AllocError>
+    ensures { IfOk result (StandsFor asm_app) }
 {
     command(
         alloc,
@@ -85,6 +93,11 @@ fn asm<'a>(alloc: Global) -> Command<'a>
         "Assembles the source on standard input into an image",
         ASM_EXAMPLES,
     )
+    .arg(flag(
+        alloc,
+        "from",
+        "Takes an image of either version in place of a source",
+    ))
 }
 
 fn dis<'a>(alloc: Global) -> Command<'a>
@@ -145,7 +158,7 @@ pub fn rvmc<'a>(alloc: Global) -> Result<Command<'a>, AllocError>
     ensures { IfOk result (StandsFor rvmc_app) }
 {
     top(alloc)?
-        .subcommand(asm(alloc))?
+        .subcommand(asm(alloc)?)?
         .subcommand(dis(alloc))?
         .subcommand(one(alloc)?)
 }

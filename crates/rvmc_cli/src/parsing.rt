@@ -149,7 +149,9 @@ fn line<'a>(alloc: Global, name: &str, matches: &ArgMatches<'a>) -> Result<Comma
     ensures { Finds (line_in name.now (rows_of (found_of matches.now))) result }
 {
     if name == "asm" {
-        return Ok(CommandLine::Asm);
+        return Ok(CommandLine::Asm {
+            from: flag(matches, "from"),
+        });
     }
     if name == "dis" {
         return Ok(CommandLine::Dis);

@@ -9,8 +9,11 @@ use std::alloc::AllocError;
 /// What rvmc is asked to do.
 #[derive(Debug, Drop, PartialEq, Eq)]
 pub enum CommandLine {
-    /// A source is read, and its image is written.
-    Asm,
+    /// A source is read, and its image is written; or with `from` an image of either version is read
+    /// and written in version 2.
+    Asm {
+        from: bool,
+    },
     /// An image is read, and its listing is written.
     Dis,
     /// An image, or with `source` a source, is read and run on one thread, each rank for at most

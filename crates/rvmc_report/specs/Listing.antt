@@ -1,10 +1,14 @@
--- What the listing of a text tells: a line for each of its words.
-use Rattle.std.specs.Prelude.{ℕ, ◌-◌, ◌*◌, ◌/◌, List, [], ◌∷◌, ◌++◌, length, replicate, codes, Option, Some, None, false}
+-- What the listing of an image tells: a line for each word of its text, behind the names of the word's address.
+use Rattle.std.specs.Prelude.{◌≡◌, ℕ, ◌-◌, ◌*◌, ◌/◌, ◌==◌, List, [], ◌∷◌, ◌++◌, length, replicate, codes, Option, Some, None, false}
 use Rattle.std.specs.Fmt.{digits}
-use Rattle.std.specs.List.{flat_map, range_with_len}
+use Rattle.std.specs.List.{filter, flat_map, range_with_len}
 use Rattle.rv_decode.specs.Decoded.{decoded}
 use Rattle.rv_decode.specs.Text.{instr_text}
 use Rattle.rv_decode.specs.declared.instruction.Instr.{Instr}
+use Rattle.rv_image.specs.declared.images.ImageParts.{ImageParts}
+use Rattle.rv_image.specs.declared.images.Symbol.{Symbol}
+use Rattle.rv_image.specs.Image.{IsImage, symbol_names}
+use Rattle.rv_image.specs.Names.{RisingNames}
 use Rattle.rv_memory.specs.Memory.{value_at}
 
 -- a number below 2^32 as eight hex digits in lower case
@@ -25,6 +29,28 @@ listing_line address word =
 abbrev pub word_line : List ℕ → ℕ → List ℕ
 word_line text number = listing_line (4 * number) (value_at text (4 * number) 4)
 
+-- the line of a symbol, as `go:`
+abbrev pub name_line : Symbol → List ℕ
+name_line symbol = symbol.name ++ (58 ∷ 10 ∷ [])
+
+-- the symbols at an address, in the order in which they stand
+abbrev pub symbols_at : List Symbol → ℕ → List Symbol
+symbols_at symbols address = filter (λ symbol. symbol.address == address) symbols
+
+-- the word of this number, and before it the names at its address
+abbrev pub word_lines : ImageParts → ℕ → List ℕ
+word_lines image number = flat_map name_line (symbols_at image.symbols (4 * number)) ++ word_line image.text number
+
 -- all words in order, of four bytes each
-abbrev pub listing : List ℕ → List ℕ
-listing text = flat_map (word_line text) (range_with_len 0 (length text / 4))
+abbrev pub listing : ImageParts → List ℕ
+listing image = flat_map (word_lines image) (range_with_len 0 (length image.text / 4))
+
+-- ---- laws
+
+-- an image without symbols is listed word by word, a line each
+abbrev pub WordsAloneLaw : Type 0
+WordsAloneLaw = (image : ImageParts) → image.symbols ≡ [] → listing image ≡ flat_map (word_line image.text) (range_with_len 0 (length image.text / 4))
+
+-- the names that stand before a word rise in the order of their bytes
+abbrev pub NamesRiseLaw : Type 0
+NamesRiseLaw = (image : ImageParts) (address : ℕ) → IsImage image → RisingNames (symbol_names (symbols_at image.symbols address))

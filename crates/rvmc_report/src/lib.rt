@@ -3,5 +3,6 @@
 
 pub mod faults;
 pub mod input;
+pub mod laws;
 pub mod listing;
 pub mod report;

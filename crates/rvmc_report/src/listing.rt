@@ -1,11 +1,13 @@
-//! The listing of a text.
+//! The listing of an image's text.
 
-ghost use Rattle.std.specs.Prelude.{◌≡◌, ◌+◌, ◌≤◌, ◌^◌, IfOk, length, string_bytes};
+ghost use Rattle.std.specs.Prelude.{◌≡◌, ◌+◌, ◌*◌, ◌<◌, ◌/◌, ◌++◌, ◌≤◌, ◌^◌, IfOk, OnOk, length, string_bytes};
+ghost use Rattle.std.specs.List.{flat_map};
 ghost use Rattle.rv_decode.specs.Decoded.{decoded};
 ghost use Rattle.rv_memory.specs.Memory.{value_at};
-ghost use Rattle.rvmc_report.specs.Listing.{hex_8, listing, listing_line, statement_of};
+ghost use Rattle.rvmc_report.specs.Listing.{hex_8, listing, listing_line, name_line, statement_of, symbols_at, word_lines};
 
 use rv_decode::{decode, print_instr};
+use rv_image::{Image, ImageParts, Symbol};
 use std::alloc::{AllocError, Global};
 
 /// Eight hex digits in lower case.
@@ -49,16 +51,47 @@ fn word_at(text: &[u8], at: usize) -> u32
         + u32::from(text[at + 3]) * 0x100_0000
 }
 
-/// The listing of a text, one line a word: its address, its digits, and its instruction.
-pub fn listing(alloc: Global, text: &[u8]) -> Result<Vec<u8>, AllocError>
-    requires { length text.now ≤ 2 ^ 20 }
-    ensures { IfOk result (λ lines. lines.items ≡ listing text.now) }
+/// Adds the names at an address, a line each.
+fn put_names(lines: &mut Vec<u8>, symbols: &[Symbol], address: u32) -> Result<(), AllocError>
+    ensures { OnOk result (lines.new.items ≡ lines.old.items ++ flat_map name_line (symbols_at symbols.now address)) }
 {
+    for symbol in symbols {
+        if symbol.address == address {
+            lines.extend_from_slice(symbol.name.as_slice())?;
+            lines.extend_from_slice(b":\n")?;
+        }
+    }
+    Ok(())
+}
+
+/// Adds the word of this number, behind the names of its address.
+fn put_word(
+    alloc: Global,
+    lines: &mut Vec<u8>,
+    parts: &ImageParts,
+    number: usize,
+) -> Result<(), AllocError>
+    requires length { length parts.now.text ≤ 2 ^ 20 }
+    requires there { number < length parts.now.text / 4 }
+    ensures { OnOk result (lines.new.items ≡ lines.old.items ++ word_lines parts.now number) }
+{
+    let text = parts.text.as_slice();
+    let at = 4 * number;
+    put_names(lines, parts.symbols.as_slice(), at as u32)?;
+    let line = line(alloc, at as u32, word_at(text, at))?;
+    lines.extend_from_slice(line.as_bytes())
+}
+
+/// The listing of an image, one line a word of its text: its address, its digits, and its instruction. Before it stand
+/// the names of the symbols at its address, a line each. Symbols at other addresses aren't shown.
+pub fn listing(alloc: Global, image: &Image) -> Result<Vec<u8>, AllocError>
+    ensures { IfOk result (λ lines. lines.items ≡ listing image.now) }
+{
+    let parts = image.parts();
+    let text = parts.text.as_slice();
     let mut lines = Vec::new(alloc);
     for number in 0..text.len() / 4 {
-        let at = 4 * number;
-        let line = line(alloc, at as u32, word_at(text, at))?;
-        lines.extend_from_slice(line.as_bytes())?;
+        put_word(alloc, &mut lines, parts, number)?;
     }
     Ok(lines)
 }

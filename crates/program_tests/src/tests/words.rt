@@ -59,7 +59,12 @@ fn is_one(parsed: &Result<CommandLine, ParseFault>, wanted: &Options<'_>) -> boo
 
 #[test]
 fn commands_without_options(rt: HostRuntime) {
-    assert!(rt; matches!(parse(rt.alloc(), &["asm"]), Ok(CommandLine::Asm)));
+    assert!(rt;
+        matches!(
+            parse(rt.alloc(), &["asm"]),
+            Ok(CommandLine::Asm { from: false })
+        )
+    );
     assert!(rt; matches!(parse(rt.alloc(), &["dis"]), Ok(CommandLine::Dis)));
 }
 
