@@ -52,7 +52,8 @@ pub fn vain_test_of_all(
     requires few { length (entries_by rank hub.old.entries) < 1048576 }
     requires low { max clock (clock_of hub.old) + 1 < 2 ^ 62 }
     requires all { request ≡ Request.All (1 ∷ 2 ∷ 3 ∷ []) }
-    requires vain { reply_of hub.old.links (calls_of hub.old.entries) rank (Request.All (1 ∷ 2 ∷ 3 ∷ [])) ≡ Reply.NotYet }
+    requires vain { reply_of hub.old.links (calls_of hub.old.entries) rank (Request.All (1 ∷ 2 ∷ 3 ∷ []))
+        ≡ Reply.NotYet }
     ensures { result ≡ Ok (Reply.NotYet, max clock (clock_of hub.old) + 1) }
 {
     hub.call(rank, 0, clock, request)

@@ -276,10 +276,11 @@ impl Queues {
         self.collect_from(partner)
     }
 
-    /// Takes out the message of a receive or a claim as `collect` does, and gives it twice: as it lay here, and in memory
-    /// of its own.
+    /// Takes out the message of a receive or a claim as `collect` does, and gives it twice: as it lay here, and in
+    /// memory of its own.
     ///
-    /// Refused for memory alone, and never where there is no message or one of no bytes; after a refusal all is as it was.
+    /// Refused for memory alone, and never where there is no message or one of no bytes; after a refusal all is as it
+    /// was.
     pub fn collect_twice(
         &mut self,
         alloc: Global,
@@ -305,16 +306,18 @@ impl Queues {
         self.copy_from(alloc, self.partner(post))
     }
 
-    /// Posts a receive and takes out its message at once, where there is one, and gives it twice as `collect_twice` does.
-    /// After a refusal for memory all is as it was, and nothing was posted.
+    /// Posts a receive and takes out its message at once, where there is one, and gives it twice as `collect_twice`
+    /// does. After a refusal for memory all is as it was, and nothing was posted.
     pub fn receive_twice(
         &mut self,
         alloc: Global,
         selection: Selection,
     ) -> Result<(Option<Message>, Option<Message>), AllocError>
         requires { length self.old.lines < 2 ^ 64 - 1 }
-        ensures messages { let got = (collect (receive_posted self.old selection) (length self.old.lines + 1)).0 in IfOk result (λ told. told ≡ (got, got)) }
-        ensures after { OnOk result (self.new ≡ (collect (receive_posted self.old selection) (length self.old.lines + 1)).1) }
+        ensures messages { let got = (collect (receive_posted self.old selection) (length self.old.lines + 1)).0 in
+            IfOk result (λ told. told ≡ (got, got)) }
+        ensures after { OnOk result
+            (self.new ≡ (collect (receive_posted self.old selection) (length self.old.lines + 1)).1) }
         ensures err { OnErr result (self.new ≡ self.old) }
     {
         let partner = self.partner_of_new(Post::Receive(selection));
