@@ -2,6 +2,8 @@
 #
 # run: one --source; status 0
 # run: one --source --plan 0,0,0,1,1,1,2,2,2,3,3,3; status 0
+# run: one --source --plan 3,2,1,0; status 0
+# run: one --source --plan 0,1,1,2,3,3,3; status 0
 #
 # Each hart adds 1 ten times to each counter; an addition is a load, an add and a store. By default the harts take turns one
 # instruction each: all four load the same number before one of them stores, so of four additions three are lost, and the unguarded

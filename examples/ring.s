@@ -1,6 +1,8 @@
 # Eight ranks in a ring: a token goes round once, and each rank adds its own number to it.
 #
 # run: one --source; status 0
+# run: one --source --order 7,6,5,4,3,2,1,0; status 0
+# run: one --source --order 0,1,2,3,3,3,4,5,6,7,0; status 0
 #
 # Rank 0 sends first and receives last; each other rank receives from its left neighbour and then sends to its right one. So no
 # rank needs to know when the token comes: RECV waits. Look at the numbers: rank 1 sees 0, rank 2 sees 0 + 1, .., rank 7 sees

@@ -2,6 +2,7 @@
 
 ghost use Rattle.std.specs.Prelude.{◌≡◌, ◌≢◌, [], ◌∷◌, Err, IfOk, length};
 ghost use Rattle.cl_run.specs.declared.plans.Plan.{Plan as Held};
+ghost use Rattle.rv_asm_tokens.specs.declared.fault.AsmFault.{AsmFault};
 ghost use Rattle.rvmc_report.specs.declared.faults.Fault.TheVariants as faults;
 
 use cl_run::Plan;
@@ -23,6 +24,24 @@ pub fn nothing_is_written(alloc: Global, line: CommandLine, bytes: &[u8]) -> Res
     ensures { result ≢ Err faults.Write }
 {
     answer_to(alloc, line, bytes)
+}
+
+/// An image isn't taken for a source: no bytes are no fault of a source.
+#[tactic(auto, unfolding(rv_image::specs::Reading::reading))]
+pub fn images_are_no_sources(
+    alloc: Global,
+    plan: Option<Numbers>,
+    order: Option<Numbers>,
+) -> Result<Answer, Fault>
+    ensures { (fault : AsmFault) → result ≢ Err (faults.Source fault) }
+{
+    let line = CommandLine::One {
+        source: false,
+        budget: 1,
+        plan,
+        order,
+    };
+    answer_to(alloc, line, &[])
 }
 
 /// Without a list all take turns, the last too.

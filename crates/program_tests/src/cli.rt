@@ -1,7 +1,10 @@
 //! What words are a command line, and what they ask for.
 
-ghost use Rattle.std.specs.Prelude.{◌≡◌, [], ◌∷◌, IfOk, IsErr, None, Ok, Some, false, true};
+ghost use Rattle.std.specs.Prelude.{◌≡◌, [], ◌∷◌, IfErr, IfOk, IsErr, None, Ok, Some, false, true};
+ghost use Rattle.clap.specs.declared.error.kind.ErrorKind.TheVariants.{DisplayVersion};
+ghost use Rattle.rvmc_cli.specs.Meaning.{IsRefusal};
 ghost use Rattle.rvmc_line.specs.declared.line.CommandLine.TheVariants.{Asm, Dis, One};
+ghost use Rattle.rvmc_line.specs.declared.line.ParseFault.TheVariants as faults;
 
 use rvmc_cli::parse;
 use rvmc_line::{CommandLine, ParseFault};
@@ -68,6 +71,38 @@ pub fn budget_of_0_is_refused(alloc: Global) -> Result<CommandLine, ParseFault>
     ensures { IsErr result }
 {
     parse(alloc, &["one", "--budget", "0"])
+}
+
+/// The greatest budget is taken.
+#[tactic(auto, unfolding(rvmc_cli::specs::Meaning::faults_in, rvmc_cli::specs::Meaning::command_in, rvmc_cli::specs::Meaning::line_in, clap::proofs::OnLiterals::clap_on_literals, rvmc_line::specs::Number::number_in))]
+pub fn budget_of_16777216_is_heeded(alloc: Global) -> Result<CommandLine, ParseFault>
+    ensures { IfOk result (λ line. line ≡ One false 16777216 None None) }
+{
+    parse(alloc, &["one", "--budget", "16777216"])
+}
+
+/// One more is refused.
+#[tactic(auto, unfolding(rvmc_cli::specs::Meaning::faults_in, rvmc_cli::specs::Meaning::command_in, rvmc_cli::specs::Meaning::line_in, clap::proofs::OnLiterals::clap_on_literals, rvmc_line::specs::Number::number_in))]
+pub fn budget_of_16777217_is_refused(alloc: Global) -> Result<CommandLine, ParseFault>
+    ensures { IsErr result }
+{
+    parse(alloc, &["one", "--budget", "16777217"])
+}
+
+/// Right words are refused for want of memory alone.
+#[tactic(auto, unfolding(rvmc_cli::specs::Meaning::faults_in, rvmc_cli::specs::Meaning::command_in, rvmc_cli::specs::Meaning::line_in, clap::proofs::OnLiterals::clap_on_literals))]
+pub fn right_words_are_taken(alloc: Global) -> Result<CommandLine, ParseFault>
+    ensures { IfErr result (λ fault. fault ≡ faults.Memory) }
+{
+    parse(alloc, &["one"])
+}
+
+/// Who asks for the version is told it, or that memory is wanting, and isn't refused.
+#[tactic(auto, unfolding(rvmc_cli::specs::Meaning::faults_in, rvmc_cli::specs::Meaning::command_in, rvmc_cli::specs::Meaning::line_in, clap::proofs::OnLiterals::clap_on_literals))]
+pub fn version_is_no_refusal(alloc: Global) -> Result<CommandLine, ParseFault>
+    ensures { IfErr result (IsRefusal DisplayVersion) }
+{
+    parse(alloc, &["--version"])
 }
 
 /// `--plan` lists harts.

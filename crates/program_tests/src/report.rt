@@ -1,8 +1,12 @@
 //! The faults, the status of a run, and the input.
 
-ghost use Rattle.std.specs.Prelude.{◌≡◌, ◌≢◌, ◌<◌, Err, IfOk, IsErr, false, length, true};
+ghost use Rattle.std.specs.Prelude.{◌≡◌, ◌≢◌, ◌<◌, [], ◌∷◌, Err, IfOk, IsErr, false, length, map, true};
 ghost use Rattle.std.specs.List.{list_any};
-ghost use Rattle.rvmc_report.specs.Report.{HasEachRank, has_trapped, is_cut_short, wants_memory};
+ghost use Rattle.cl_rank.specs.declared.stops.Stop.{Stop};
+ghost use Rattle.cl_rank.specs.declared.stops.Stop.TheVariants.{ClockFull};
+ghost use Rattle.cl_state.specs.declared.state.RankState.{RankState};
+ghost use Rattle.cl_trace.specs.Traces.{TraceView};
+ghost use Rattle.rvmc_report.specs.Report.{HasEachRank, ends_of, has_trapped, is_cut_short, wants_memory};
 ghost use Rattle.rvmc_report.specs.declared.faults.Fault.TheVariants as faults;
 ghost use Rattle.rvmc_report.specs.declared.input.InputFault.TheVariants as input;
 
@@ -95,6 +99,27 @@ pub fn all_is_well(left: &Record) -> u8
 {
     status(left)
 }
+
+/// A rank that is cut short, where none wanted memory and no hart trapped, ends with 4.
+#[tactic(auto, using(rvmc_report::proofs::Ends::status_by_lists))]
+pub fn cut_short_ends_with_4(left: &Record) -> u8
+    requires { HasEachRank left.now }
+    ensures { list_any wants_memory left.now.stops.items ≡ false
+        → list_any (λ state. has_trapped state.harts.items) left.now.ranks.items ≡ false
+        → list_any is_cut_short left.now.stops.items ≡ true → result ≡ 4 }
+{
+    status(left)
+}
+
+/// A full clock cuts a rank short, as a budget does.
+pub fn full_clock_cuts_short(clock: u64)
+    ensures { is_cut_short (ClockFull clock) ≡ true }
+{}
+
+/// The turns of a rank are those of its own trace.
+pub fn each_rank_has_its_turns()
+    ensures { (a b : RankState) (s t : TraceView) (p q : Stop) → map (λ end. end.turns) (ends_of (a ∷ b ∷ []) (s ∷ t ∷ []) (p ∷ q ∷ [])) ≡ length s.events ∷ length t.events ∷ [] }
+{}
 
 /// A slice is read whole, or it is too long or memory is refused.
 pub fn slice_is_read_whole(alloc: Global, input: &mut &[u8]) -> Result<Vec<u8>, InputFault>

@@ -1,6 +1,6 @@
 //! The program on slices and vectors.
 
-ghost use Rattle.std.specs.Prelude.{◌≡◌};
+ghost use Rattle.std.specs.Prelude.{◌≡◌, ◌≢◌};
 
 use rvmc_tool::tool_plain;
 use std::alloc::Global;
@@ -14,6 +14,19 @@ pub fn refused_words_read_nothing(
     err: &mut Vec<u8>,
 ) -> u8
     ensures { input.new.now ≡ input.old.now }
+{
+    tool_plain(alloc, &["fly"], input, out, err)
+}
+
+/// Nor is anything put out but on standard error.
+#[tactic(auto, unfolding(rvmc_cli::specs::Meaning::faults_in, rvmc_cli::specs::Meaning::command_in, rvmc_cli::specs::Meaning::line_in, clap::proofs::OnLiterals::clap_on_literals))]
+pub fn refused_words_leave_the_output(
+    alloc: Global,
+    input: &mut &[u8],
+    out: &mut Vec<u8>,
+    err: &mut Vec<u8>,
+) -> u8
+    ensures { result ≢ 6 → out.new.items ≡ out.old.items }
 {
     tool_plain(alloc, &["fly"], input, out, err)
 }
