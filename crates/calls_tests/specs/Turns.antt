@@ -7,6 +7,7 @@ use Rattle.rv_hart.specs.declared.state.Mode.{Mode}
 use Rattle.rv_hart.specs.declared.state.Mode.TheVariants.{Running, Waiting, Ended, Trapped}
 use Rattle.rv_hart.specs.declared.state.Wait.TheVariants.{Again}
 use Rattle.rv_image.specs.declared.images.ImageParts.{ImageParts}
+use Rattle.rv_image.specs.declared.images.ImageVersion.TheVariants.{Two}
 use Rattle.mp_types.specs.declared.messages.Envelope.{Envelope}
 use Rattle.mp_types.specs.declared.messages.Message.{Message}
 use Rattle.mp_types.specs.declared.replies.Reply.TheVariants as reply
@@ -228,6 +229,7 @@ NoStatus =
 -- 3 ranks of 2 harts, that begin at the second instruction; communicator 1 has ranks 2 and 0
 abbrev pub small_image : ImageParts
 small_image = record {
+  version = Two;
   ranks = 3;
   harts = 2;
   memory = 8192;
@@ -236,6 +238,7 @@ small_image = record {
   init = 7 ∷ [];
   comms = (2 ∷ 0 ∷ []) ∷ [];
   links = record { from = 0; to = 2 } ∷ [];
+  symbols = [];
 }
 
 -- x2 is the end of the hart's stack, x10 its number and x11 the rank's
