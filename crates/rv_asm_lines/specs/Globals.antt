@@ -1,5 +1,5 @@
 -- The names of `.globl`: each once, in byte order; and the symbols that they make.
-use Rattle.std.specs.Prelude.{ℕ, List, Option, Some, None, Bool, Result, Ok, Err, nat_lt, length, if◌then◌else◌}
+use Rattle.std.specs.Prelude.{ℕ, List, Option, Some, None, Bool, false, not, Result, Ok, Err, nat_lt, length, if◌then◌else◌}
 use Rattle.std.specs.BTreeSet.{insert_key}
 use Rattle.std.specs.Cmp.Lexicographic.{slice_cmp}
 use Rattle.std.specs.List.{filter_map, list_any}
@@ -36,6 +36,11 @@ most_globals = 1024
 
 abbrev pub is_global : List ℕ → List (List ℕ) → Bool
 is_global w names = list_any (bytes_eq w) names
+
+-- whether a statement gives a name that isn't there, for which memory is taken
+abbrev pub gives_new : Option (List ℕ) → List (List ℕ) → Bool
+gives_new None names = false
+gives_new (Some w) names = not (is_global w names)
 
 -- a name at its place in the byte order, if it isn't there
 abbrev pub with_global : List ℕ → List (List ℕ) → Result (List (List ℕ)) AsmFaultKind

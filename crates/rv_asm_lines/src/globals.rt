@@ -1,10 +1,10 @@
 //! The names of `.globl`.
 
-ghost use Rattle.std.specs.Prelude.{◌≡◌, Ok, Err, MatchResult};
+ghost use Rattle.std.specs.Prelude.{◌≡◌, Ok, Err, Some, true, MatchResult};
 ghost use Rattle.rv_asm_tokens.specs.declared.fault.AsmFaultKind.TheVariants as kinds;
 ghost use Rattle.rv_asm_tokens.specs.Fault.{Fails};
 ghost use Rattle.rv_asm_lines.specs.Refused.{NoFault};
-ghost use Rattle.rv_asm_lines.specs.Globals.{globals_behind, with_global};
+ghost use Rattle.rv_asm_lines.specs.Globals.{gives_new, global_of, globals_behind, with_global};
 ghost use Rattle.rv_asm_lines.specs.LayoutView.{names_view};
 
 use rv_asm_statements::{Directive, Statement};
@@ -22,6 +22,7 @@ fn add_global(
         (λ _. with_global name.now (names_view globals.old) ≡ Ok (names_view globals.new))
         (λ e. Fails e (with_global name.now (names_view globals.old))) }
     ensures memory { result ≡ Err kinds.Memory → NoFault (with_global name.now (names_view globals.old)) }
+    ensures asked { result ≡ Err kinds.Memory → gives_new (Some name.now) (names_view globals.old) ≡ true }
 {
     if globals.contains(name) {
         return Ok(());
@@ -44,6 +45,7 @@ pub fn take_global(
         (λ _. globals_behind statement.now (names_view globals.old) ≡ Ok (names_view globals.new))
         (λ e. Fails e (globals_behind statement.now (names_view globals.old))) }
     ensures memory { result ≡ Err kinds.Memory → NoFault (globals_behind statement.now (names_view globals.old)) }
+    ensures asked { result ≡ Err kinds.Memory → gives_new (global_of statement.now) (names_view globals.old) ≡ true }
 {
     match statement {
         Statement::Directive(Directive::Global(name)) => {

@@ -1,4 +1,5 @@
 use Rattle.std.proofs.Common.{◌≡◌, ◌≤◌, ◌<◌, ◌∙◌, length, map, ap, sym, arith, Ok}
+use Rattle.std.specs.Prelude.{not}
 use Rattle.std.proofs.lemmas.Bool.{le-ltb, lt-ltb}
 use Rattle.std.proofs.lemmas.List.{length-map}
 use Rattle.std.specs.BTreeSet.{insert_key}
@@ -25,3 +26,11 @@ returns-clause-names c =
     let new = new_name c.args.name.now names (sym (found_view c.args.name.now c.args.globals.now.keys) ∙ sym c.contains.ensures ∙ c.if-contains.false) (lt-ltb (length names) most_globals few) in
     let keys : names_view c.insert.new.self ≡ insert_key (slice_cmp nat_cmp) names c.in_ok-key.key.items = ap (map (λ w. w.items)) c.in_ok-insert.ensures.keys ∙ inserted_view c.in_ok-key.key c.args.globals.now.keys in
     new ∙ ap Ok (ap (insert_key (slice_cmp nat_cmp) names) (sym c.in_ok-key.ensures.items) ∙ sym keys)
+
+pub returns-in_err-key-clause-asked : goal.returns-in_err-key-clause-asked
+returns-in_err-key-clause-asked c told =
+    ap not (sym (found_view c.args.name.now c.args.globals.now.keys) ∙ sym c.contains.ensures ∙ c.if-contains.false)
+
+pub returns-in_err-insert-clause-asked : goal.returns-in_err-insert-clause-asked
+returns-in_err-insert-clause-asked c told =
+    ap not (sym (found_view c.args.name.now c.args.globals.now.keys) ∙ sym c.contains.ensures ∙ c.if-contains.false)
