@@ -56,6 +56,7 @@ pub fn print_reply<W: Write>(out: &mut W, reply: &Reply) -> io::Result<()> {
             }
         }
         Reply::Link(link) => write!(out, "link {link}")?,
+        Reply::Cut { parts, size } => write!(out, "cut {parts} of {size}")?,
     }
     writeln!(out)
 }

@@ -21,6 +21,7 @@ plain_count (reply.Seen e) p = refl
 plain_count (reply.Held n e) p = refl
 plain_count (reply.AllGot gots) p = absurd (cc)
 plain_count (reply.Link k) p = refl
+plain_count (reply.Cut parts size) p = refl
 
 one_message : (other : Reply) (o : Option Message) → is_plain other ≡ true → message_count (message_or other o) ≤ 1
 one_message other None p = (let e = plain_count other p in omega (arith, e))
@@ -52,6 +53,7 @@ bare (reply.Seen e) n = refl
 bare (reply.Held number e) n = refl
 bare (reply.AllGot gots) n = n
 bare (reply.Link k) n = refl
+bare (reply.Cut parts size) n = refl
 
 -- the reply to a request that may bring no message carries nothing
 pub carries_nothing : (h : HubView) (rank : ℕ) (q : Request) → most_messages q ≡ 0 → carried_by_reply (outcome h rank q).0 ≡ 0

@@ -9,7 +9,7 @@ use Rattle.mp_types.specs.declared.codes.Code.TheVariants.{BadRequest, BadMessag
 use Rattle.mp_types.specs.declared.replies.Reply.{Reply}
 use Rattle.mp_types.specs.declared.replies.Reply.TheVariants as reply
 use Rattle.mp_types.specs.declared.requests.Request.{Request}
-use Rattle.mp_types.specs.declared.requests.Request.TheVariants.{Send, Recv, Collect, Finished, Probe, Claim, Claimed, All, Init}
+use Rattle.mp_types.specs.declared.requests.Request.TheVariants.{Send, Recv, Collect, Finished, Probe, Claim, Claimed, All, Init, Cut}
 use Rattle.mp_match.specs.declared.posts.Selection.{Selection}
 use Rattle.mp_match.specs.declared.posts.Post.{Post}
 use Rattle.mp_match.specs.declared.posts.Post.TheVariants as post
@@ -17,8 +17,8 @@ use Rattle.mp_match.specs.Board.{Board, collect, posted, receive_posted, send_po
 use Rattle.mp_probe.specs.Claims.{next_number, may_receive, received}
 use Rattle.mp_hub.specs.declared.sides.Setup.{Setup}
 use Rattle.mp_hub.specs.declared.sides.Side.{Side}
-use Rattle.mp_hub.specs.Inits.{peer_of, lowest_link, same_shape}
-use Rattle.mp_hub.specs.Hub.{HubView, outcome, message_or, got_or, claim_found, claimed_now, is_complete, may_collect, init_with, init_first, setup_of, side_added, all_got, all_collected, are_distinct, is_known, is_ready, sending, selecting, with_board, with_claims, is_done, seen}
+use Rattle.mp_hub.specs.Inits.{peer_of, lowest_link, same_total, sender_over, is_receiver}
+use Rattle.mp_hub.specs.Hub.{HubView, outcome, message_or, got_or, claim_found, claimed_now, is_complete, may_collect, init_with, init_first, cut_of, setup_of, side_added, all_got, all_collected, are_distinct, is_known, is_ready, sending, selecting, with_board, with_claims, is_done, seen}
 use Rattle.mp_hub.specs.Laws.{collecting, most_messages}
 use Rattle.mp_hub.specs.Made.{IsFullFor}
 
@@ -112,5 +112,11 @@ comes h rank (Init sends comm peer tag parts size) =
     go : (s : Setup) (o : Option Side) → ComesTo h rank (Init sends comm peer tag parts size) (init_with h s o)
     go s None = first s (lowest_link h.links h.sides s)
     go s (Some t) =
-        either h rank (Init sends comm peer tag parts size) (same_shape s t.setup) (side_added h s t.link) (reply.Code Shape, h)
+        either h rank (Init sends comm peer tag parts size) (same_total s t.setup) (side_added h s t.link) (reply.Code Shape, h)
         (is_nothing refl refl) (is_nothing refl refl)
+comes h rank (Cut link) = go (is_receiver h.links rank link) (sender_over h.sides link)
+  where
+    go : (c : Bool) (o : Option Side) → ComesTo h rank (Cut link) (cond c (cut_of o, h) (reply.Code BadRequest, h))
+    go true None = is_nothing refl refl
+    go true (Some t) = is_nothing refl refl
+    go false o = is_nothing refl refl

@@ -9,7 +9,7 @@ use Rattle.mp_types.specs.declared.requests.Request.{Request}
 use Rattle.mp_types.specs.declared.requests.Request.TheVariants as request
 use Rattle.mp_types.specs.declared.codes.Code.TheVariants.{BadRequest, Full, NoChannel, Shape, BadMessage}
 use Rattle.mp_types.specs.declared.replies.Reply.{Reply}
-use Rattle.mp_types.specs.declared.replies.Reply.TheVariants.{Code, Posted, Got, NotYet, Done, Seen, Held, AllGot, Link as OnLink}
+use Rattle.mp_types.specs.declared.replies.Reply.TheVariants.{Code, Posted, Got, NotYet, Done, Seen, Held, AllGot, Link as OnLink, Cut}
 use Rattle.mp_match.specs.declared.posts.Sent.{Sent}
 use Rattle.mp_match.specs.declared.posts.Selection.{Selection}
 use Rattle.mp_match.specs.declared.posts.Post.TheVariants.{Send, Receive, Claim}
@@ -19,7 +19,7 @@ use Rattle.mp_probe.specs.declared.handles.Waiting.{Waiting}
 use Rattle.mp_probe.specs.Claims.{next_number, may_receive, is_waiting, received, waiting_if, handle_if}
 use Rattle.mp_hub.specs.declared.sides.Setup.{Setup}
 use Rattle.mp_hub.specs.declared.sides.Side.{Side}
-use Rattle.mp_hub.specs.Inits.{peer_of, lowest_link, same_shape}
+use Rattle.mp_hub.specs.Inits.{peer_of, lowest_link, same_total, sender_over, is_receiver}
 
 -- the image's links, the posts, the claimed messages that weren't received, and the initialisations that weren't refused
 pub record HubView : Type 0 where
@@ -173,13 +173,21 @@ abbrev pub init_first : HubView → Setup → Option ℕ → Reply × HubView
 init_first h s None = (Code NoChannel, h)
 init_first h s (Some link) = side_added h s link
 
--- the second of a pair has the first one's link and shape
+-- the second of a pair has the first one's link and total
 abbrev pub init_with : HubView → Setup → Option Side → Reply × HubView
 init_with h s None = init_first h s (lowest_link h.links h.sides s)
-init_with h s (Some peer) = cond (same_shape s peer.setup) (side_added h s peer.link) (Code Shape, h)
+init_with h s (Some peer) = cond (same_total s peer.setup) (side_added h s peer.link) (Code Shape, h)
 
 abbrev pub init_outcome : HubView → Setup → Reply × HubView
 init_outcome h s = init_with h s (peer_of h.sides s)
+
+abbrev pub cut_of : Option Side → Reply
+cut_of None = NotYet
+cut_of (Some t) = Cut t.setup.parts t.setup.size
+
+-- how the sender of a link cut its transfer, which is told to the link's receiver alone
+abbrev pub cut_outcome : HubView → ℕ → ℕ → Reply × HubView
+cut_outcome h rank link = cond (is_receiver h.links rank link) (cut_of (sender_over h.sides link), h) (Code BadRequest, h)
 
 -- ---- one call
 
@@ -193,6 +201,7 @@ outcome h rank (request.Claim comm source tag) = claim_outcome h (selecting rank
 outcome h rank (request.Claimed now message) = claimed_outcome h rank now message
 outcome h rank (request.All posts) = all_outcome h rank posts
 outcome h rank (request.Init sends comm peer tag parts size) = init_outcome h (setup_of rank sends comm peer tag parts size)
+outcome h rank (request.Cut link) = cut_outcome h rank link
 
 -- a call: the rank that makes it, and its request
 abbrev pub Call : Type 0

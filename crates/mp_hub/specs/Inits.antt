@@ -1,5 +1,5 @@
--- Initialisations of partitioned transfers: their pairs, links and shapes (MPI 4.1, chapter 4.2).
-use Rattle.std.specs.Prelude.{ℕ, ◌==◌, ◌&&◌, not, Bool, cond, List, length, filter, find, Option, option_map}
+-- Initialisations of partitioned transfers: their pairs, links and cuts (MPI 4.1, chapter 4.2).
+use Rattle.std.specs.Prelude.{ℕ, ◌*◌, ◌==◌, ◌&&◌, not, Bool, false, cond, List, length, filter, find, Option, Some, None, option_map}
 use Rattle.std.specs.List.{slice_get, list_any, enumerate_from}
 use Rattle.rv_image.specs.declared.images.Link.{Link}
 use Rattle.mp_hub.specs.declared.sides.Setup.{Setup}
@@ -31,5 +31,28 @@ is_for sides s l = (l.1.from == s.from) && (l.1.to == s.to) && not (is_reserved 
 abbrev pub lowest_link : List Link → List Side → Setup → Option ℕ
 lowest_link links sides s = option_map (λ (l : ℕ × Link). l.0) (find (is_for sides s) (enumerate_from 0 links))
 
-abbrev pub same_shape : Setup → Setup → Bool
-same_shape s t = (t.parts == s.parts) && (t.size == s.size)
+-- the bytes of the whole transfer
+abbrev pub total_bytes : Setup → ℕ
+total_bytes s = s.parts * s.size
+
+-- the sides of a pair have one total, which each may cut as it likes
+abbrev pub same_total : Setup → Setup → Bool
+same_total s t = total_bytes t == total_bytes s
+
+-- ---- how a sender cut its transfer
+
+-- a side that sends over the link
+abbrev pub is_sender_over : ℕ → Side → Bool
+is_sender_over link t = (t.link == link) && t.setup.sending
+
+-- the side that sends over the link, where it was initialised: a link has one sender for good
+abbrev pub sender_over : List Side → ℕ → Option Side
+sender_over sides link = find (is_sender_over link) sides
+
+abbrev pub is_to : ℕ → Option Link → Bool
+is_to rank None = false
+is_to rank (Some l) = l.to == rank
+
+-- whether the image has the link, and the rank receives over it
+abbrev pub is_receiver : List Link → ℕ → ℕ → Bool
+is_receiver links rank link = is_to rank (slice_get links link)

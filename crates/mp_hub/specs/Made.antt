@@ -3,7 +3,7 @@ use Rattle.std.specs.Prelude.{◌≡◌, ◌≤◌, Bool, true, false, [], ◌�
 use Rattle.mp_types.specs.declared.requests.Request.{Request}
 use Rattle.mp_types.specs.declared.requests.Request.TheVariants as request
 use Rattle.mp_types.specs.declared.replies.Reply.{Reply}
-use Rattle.mp_types.specs.declared.replies.Reply.TheVariants.{Code, Posted, Got, NotYet, Done, Seen, Held, AllGot, Link as OnLink}
+use Rattle.mp_types.specs.declared.replies.Reply.TheVariants.{Code, Posted, Got, NotYet, Done, Seen, Held, AllGot, Link as OnLink, Cut}
 use Rattle.mp_types.specs.Carried.{carried_by_reply}
 use Rattle.mp_match.specs.Board.{held_count}
 use Rattle.mp_hub.specs.Hub.{HubView}
@@ -20,6 +20,7 @@ brings (Held message envelope) = true
 brings (AllGot []) = false
 brings (AllGot (got ∷ gots)) = true
 brings (OnLink link) = true
+brings (Cut parts size) = false
 
 -- whether a call makes what wasn't there: a post, a claim, a side, or a list of messages
 abbrev pub makes : Request → Reply → Bool
@@ -32,6 +33,7 @@ makes (request.Claim comm source tag) r = brings r
 makes (request.Claimed now message) r = false
 makes (request.All posts) r = brings r
 makes (request.Init sends comm peer tag parts size) r = brings r
+makes (request.Cut link) r = false
 
 -- a call for which no memory is taken though its reply is given twice: it makes nothing, and its reply carries nothing
 abbrev pub TakesNothing : Request → Reply → Type 0

@@ -1,7 +1,7 @@
-//! Initialisations of partitioned transfers: which are a pair, and which link they have.
+//! Initialisations of partitioned transfers: which are a pair, which link they have, and how they cut their bytes.
 
 ghost use Rattle.std.specs.Prelude.{◌≡◌, ◌==◌, ◌≤◌, ◌+◌, length, filter, slice_get};
-ghost use Rattle.mp_hub.specs.Inits.{is_for, is_other_side, is_reserved, is_same_side, lowest_link, peer_of, same_shape, same_transfer};
+ghost use Rattle.mp_hub.specs.Inits.{is_for, is_other_side, is_receiver, is_reserved, is_same_side, lowest_link, peer_of, same_total, same_transfer, sender_over, total_bytes};
 
 use rv_image::Link;
 
@@ -54,10 +54,17 @@ fn is_other(new: Setup, side: Side) -> bool
         }
 }
 
-pub fn has_same_shape(new: Setup, peer: Setup) -> bool
-    ensures { result ≡ same_shape new peer }
+// The bytes of all partitions.
+fn total(setup: Setup) -> u32
+    ensures { result ≡ total_bytes setup }
 {
-    peer.parts == new.parts && peer.size == new.size
+    u32::from(setup.parts) * u32::from(setup.size)
+}
+
+pub fn has_same_total(new: Setup, peer: Setup) -> bool
+    ensures { result ≡ same_total new peer }
+{
+    total(peer) == total(new)
 }
 
 fn count_same(sides: &[Side], new: Setup) -> u64
@@ -119,4 +126,24 @@ pub fn find_link(links: &[Link], sides: &[Side], new: Setup) -> Option<u8>
         number += 1;
     }
     None
+}
+
+/// The side that sends over the link, if it was initialised.
+pub fn find_sender(sides: &[Side], link: u8) -> Option<Side>
+    ensures { result ≡ sender_over sides.now link }
+{
+    sides
+        .iter()
+        .copied()
+        .find(|side| side.link == link && side.setup.sending)
+}
+
+/// Whether the image has the link and the rank receives over it.
+pub fn receives_over(links: &[Link], rank: u8, link: u8) -> bool
+    ensures { result ≡ is_receiver links.now rank link }
+{
+    match links.get(usize::from(link)) {
+        Some(link) => link.to == rank,
+        None => false,
+    }
 }

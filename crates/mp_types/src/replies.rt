@@ -28,6 +28,8 @@ pub enum Reply {
     AllGot(Gots),
     /// The link of a partitioned transfer, by its number in the image.
     Link(u8),
+    /// How the sender of a link cut its transfer: so many partitions of so many bytes each.
+    Cut { parts: u8, size: u8 },
 }
 
 impl Reply {
@@ -56,6 +58,10 @@ impl Reply {
             Reply::Held(message, envelope) => Ok(Reply::Held(*message, *envelope)),
             Reply::AllGot(gots) => Ok(Reply::AllGot(gots.try_copy(alloc)?)),
             Reply::Link(link) => Ok(Reply::Link(*link)),
+            Reply::Cut { parts, size } => Ok(Reply::Cut {
+                parts: *parts,
+                size: *size,
+            }),
         }
     }
 }

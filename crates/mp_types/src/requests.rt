@@ -62,6 +62,11 @@ pub enum Request {
         parts: u8,
         size: u8,
     },
+    /// Asks how the sender of a link cut its transfer (MPI 4.1, chapter 4.2; its receiver may cut the same bytes
+    /// otherwise).
+    Cut {
+        link: u8,
+    },
 }
 
 impl Request {
@@ -136,6 +141,7 @@ impl Request {
                 parts: *parts,
                 size: *size,
             }),
+            Request::Cut { link } => Ok(Request::Cut { link: *link }),
         }
     }
 }
