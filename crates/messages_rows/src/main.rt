@@ -1,9 +1,9 @@
 //! Reads calls of a hub from standard input, and prints what the hub answers.
 //!
-//! `hub N` starts a hub of two ranks, with N links from rank 0 to rank 1. `RANK HART CLOCK REQUEST` is a call of it: the stamp
-//! and the reply are printed, or why it was refused. `times N` before a call makes it so often, and tells the last; a `#` in it
-//! is then how often it was made before. `entries` prints how many calls were entered, and the hart of the last. Behind `!` a
-//! request or a reply stands whose copy isn't the same.
+//! `hub N` starts a hub of two ranks, with N links from rank 0 to rank 1. `RANK HART CLOCK REQUEST` is a call of it: the
+//! stamp and the reply are printed, or why it was refused. `times N` before a call makes it so often, and tells the last;
+//! a `#` in it is then how often it was made before. `entries` prints how many calls were entered, and the hart of the
+//! last. Behind `!` a request or a reply stands whose copy isn't the same.
 //!
 //! The rows of `stdin` and `stdout` were worked out by hand from what the calls are said to answer.
 #![tactic(auto)]
@@ -48,12 +48,8 @@ fn call(
 fn print_answer<W: Write>(
     alloc: Global,
     out: &mut W,
-    copied: bool,
     answer: &Result<(Reply, Stamp), HubFault>,
 ) -> io::Result<()> {
-    if !copied {
-        write!(out, "! ")?;
-    }
     match answer {
         Ok((reply, stamp)) => {
             write!(out, "{stamp}: ")?;
@@ -82,9 +78,13 @@ fn repeat<W: Write>(
             return writeln!(out, "no request");
         };
         let (copied, answer) = call(alloc, hub, row, request)?;
-        if turn + 1 == times {
-            print_answer(alloc, out, copied, &answer)?;
+        if turn + 1 < times {
+            continue;
         }
+        if !copied {
+            write!(out, "! ")?;
+        }
+        print_answer(alloc, out, &answer)?;
     }
     Ok(())
 }

@@ -54,13 +54,13 @@ fn selection(row: &Row<'_>) -> (Option<u8>, Option<u16>) {
 }
 
 /// `send TAG LETTERS` or `ssend TAG LETTERS`, to rank 1.
-fn send(alloc: Global, row: &Row<'_>, sync: bool) -> Result<Option<Request>, AllocError> {
+fn send(alloc: Global, row: &Row<'_>) -> Result<Option<Request>, AllocError> {
     let letters = word(row, 5).as_bytes();
     if letters.len() > 4096 {
         return Ok(None);
     }
     Ok(Some(Request::Send {
-        sync,
+        sync: word(row, 3) == "ssend",
         comm: 0,
         dest: 1,
         tag: tag(row, 4),
@@ -100,7 +100,7 @@ fn selecting(row: &Row<'_>, name: &str) -> Option<Request> {
     None
 }
 
-/// `collect POST`, `finished POST`, `claimed MESSAGE` or `iclaimed MESSAGE`, or one of those with a source.
+/// `collect POST`, `finished POST`, `claimed MESSAGE`, `iclaimed MESSAGE` or `cut LINK`, or one of those with a source.
 fn numbered(row: &Row<'_>, name: &str) -> Option<Request> {
     let number = number(row, 4);
     if name == "collect" {
@@ -115,6 +115,9 @@ fn numbered(row: &Row<'_>, name: &str) -> Option<Request> {
             message: number,
         });
     }
+    if name == "cut" {
+        return Some(Request::Cut { link: byte(row, 4) });
+    }
     selecting(row, name)
 }
 
@@ -122,7 +125,7 @@ fn numbered(row: &Row<'_>, name: &str) -> Option<Request> {
 pub fn request(alloc: Global, row: &Row<'_>) -> Result<Option<Request>, AllocError> {
     let name = word(row, 3);
     if name == "send" || name == "ssend" {
-        return send(alloc, row, name == "ssend");
+        return send(alloc, row);
     }
     if name == "all" {
         return all(alloc, row);
