@@ -5,3 +5,4 @@ pub mod SentKept
 pub mod Counted
 pub mod Refused
 pub mod Copied
+pub mod Transfers

@@ -3,4 +3,5 @@ pub mod Hub
 pub mod Laws
 pub mod Made
 pub mod Twice
+pub mod Transfers
 pub mod Rows

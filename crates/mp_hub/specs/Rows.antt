@@ -6,7 +6,7 @@ use Rattle.mp_types.specs.declared.messages.Message.{Message}
 use Rattle.mp_types.specs.declared.requests.Request.TheVariants as request
 use Rattle.mp_types.specs.declared.codes.Code.TheVariants.{BadRequest, NoChannel, Shape, BadMessage}
 use Rattle.mp_types.specs.declared.replies.Reply.{Reply}
-use Rattle.mp_types.specs.declared.replies.Reply.TheVariants.{Code, Posted, Got, NotYet, Done, Held, AllGot, Link as OnLink}
+use Rattle.mp_types.specs.declared.replies.Reply.TheVariants.{Code, Posted, Got, NotYet, Done, Held, AllGot, Link as OnLink, Cut}
 use Rattle.mp_hub.specs.Hub.{HubView, Call, outcome, started}
 
 -- the replies to some calls, in their order
@@ -90,11 +90,40 @@ receiving_side tag parts size = (1, request.Init false 0 0 tag parts size)
 abbrev pub two_links : List Link
 two_links = record { from = 0; to = 1 } ∷ record { from = 0; to = 1 } ∷ []
 
--- a pair has one link and one shape; a refused side isn't counted; the third transfer finds no link
+-- a pair has one link and one total; a refused side isn't counted; the third transfer finds no link
 abbrev pub LinksAreReserved : Type 0
 LinksAreReserved =
     replies two_links (sending_side 5 4 64 ∷ receiving_side 5 4 32 ∷ receiving_side 5 4 64 ∷ receiving_side 6 1 8 ∷ sending_side 7 1 8 ∷ [])
     ≡ OnLink 0 ∷ Code Shape ∷ OnLink 0 ∷ OnLink 1 ∷ Code NoChannel ∷ []
+
+-- two pairs of one transfer: a refused side between them isn't counted, and each receiver has its own sender's link
+abbrev pub PairsGoByNumber : Type 0
+PairsGoByNumber =
+    replies two_links (sending_side 5 4 64 ∷ sending_side 5 1 8 ∷ receiving_side 5 1 8 ∷ receiving_side 5 4 64
+    ∷ receiving_side 5 1 8 ∷ [])
+    ≡ OnLink 0 ∷ OnLink 1 ∷ Code Shape ∷ OnLink 0 ∷ OnLink 1 ∷ []
+
+-- 3 of 64 bytes are 2 of 96; 256 bytes aren't 512, though the low byte of both totals is 0
+abbrev pub TotalsAreCompared : Type 0
+TotalsAreCompared =
+    replies two_links (sending_side 5 3 64 ∷ receiving_side 5 2 96 ∷ sending_side 6 4 64 ∷ receiving_side 6 8 64 ∷ [])
+    ≡ OnLink 0 ∷ OnLink 0 ∷ OnLink 1 ∷ Code Shape ∷ []
+
+-- rank 0 sends over the second link alone
+abbrev pub LinksJoinTheirRanks : Type 0
+LinksJoinTheirRanks =
+    replies (record { from = 1; to = 0 } ∷ record { from = 0; to = 1 } ∷ []) (sending_side 5 1 8 ∷ sending_side 6 1 8 ∷ [])
+    ≡ OnLink 1 ∷ Code NoChannel ∷ []
+
+abbrev pub asks_cut : ℕ → ℕ → Call
+asks_cut rank link = (rank, request.Cut link)
+
+-- rank 1 is told how rank 0 cut the transfer, once it did; rank 0 isn't told, nor is anyone of a link that isn't there
+abbrev pub TheReceiverIsToldTheCut : Type 0
+TheReceiverIsToldTheCut =
+    replies two_links (asks_cut 1 0 ∷ receiving_side 5 2 96 ∷ asks_cut 1 0 ∷ sending_side 5 3 64 ∷ asks_cut 1 0
+    ∷ asks_cut 0 0 ∷ asks_cut 1 1 ∷ asks_cut 1 2 ∷ [])
+    ≡ NotYet ∷ OnLink 0 ∷ NotYet ∷ OnLink 0 ∷ Cut 3 64 ∷ Code BadRequest ∷ NotYet ∷ Code BadRequest ∷ []
 
 pub record WorkedCalls : Type 0 where
   pub tags : TagsAreKeptApart
@@ -103,3 +132,7 @@ pub record WorkedCalls : Type 0 where
   pub claim_post : AClaimIsItsReceivesPost
   pub all : AllOrNone
   pub links : LinksAreReserved
+  pub pairs : PairsGoByNumber
+  pub totals : TotalsAreCompared
+  pub ranks : LinksJoinTheirRanks
+  pub cut : TheReceiverIsToldTheCut

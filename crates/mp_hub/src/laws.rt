@@ -2,6 +2,7 @@
 
 ghost use Rattle.mp_hub.specs.Laws.{BoardLaw, CountLaw, SentLaw};
 ghost use Rattle.mp_hub.specs.Rows.{WorkedCalls};
+ghost use Rattle.mp_hub.specs.Transfers.{CutLaw, PairsLaw};
 
 /// After any calls the hub's posts stand with the pairs that the list of them has, and are no more than the calls.
 pub fn board_law()
@@ -17,6 +18,19 @@ pub fn sent_law()
 /// A reply brings no more messages than its request may bring: none, one, or one for each post of several.
 pub fn count_law()
     ensures { CountLaw }
+{}
+
+/// The i-th sender and the i-th receiver of a transfer have one link and one total, and no other side has that link.
+/// A transfer is a communicator, a source, a destination and a tag, and an initialisation that was refused isn't
+/// counted. (MPI 4.1, chapter 4.2.)
+pub fn pairs_law()
+    ensures { PairsLaw }
+{}
+
+/// A link's receiver, and no other rank, is told how the sender cut the transfer: as the very initialisation says that
+/// was answered with the link, and not yet where there was none.
+pub fn cut_law()
+    ensures { CutLaw }
 {}
 
 /// Some calls with the replies that the definitions give, computed.
