@@ -41,6 +41,22 @@ pub fn vain_probe(hub: &mut Hub, rank: u8, clock: Stamp) -> Result<(Reply, Stamp
     hub.call(rank, 0, clock, probe)
 }
 
+/// So is a cut, also one that is told: the tenth call of a hub.
+pub fn told_cut(
+    hub: &mut Hub,
+    rank: u8,
+    clock: Stamp,
+    link: u8,
+) -> Result<(Reply, Stamp), HubFault>
+    requires begun { length hub.old.entries ≡ 9 }
+    requires few { length (entries_by rank hub.old.entries) < 1048576 }
+    requires low { max clock (clock_of hub.old) + 1 < 2 ^ 62 }
+    requires told { reply_of hub.old.links (calls_of hub.old.entries) rank (Request.Cut link) ≡ Reply.Cut 3 64 }
+    ensures { result ≡ Ok (Reply.Cut 3 64, max clock (clock_of hub.old) + 1) }
+{
+    hub.call(rank, 0, clock, Request::Cut { link })
+}
+
 /// And several requests of which one isn't complete, however many they are.
 pub fn vain_test_of_all(
     hub: &mut Hub,
