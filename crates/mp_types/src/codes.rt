@@ -28,7 +28,7 @@ pub enum Code {
     BadPartition = 9,
     /// No link between the two ranks is left.
     NoChannel = 10,
-    /// The two sides of a partitioned transfer have unequal shapes.
+    /// The two sides of a partitioned transfer have unequal totals: partitions times their bytes.
     Shape = 11,
     /// The request is active.
     Active = 12,
