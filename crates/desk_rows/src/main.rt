@@ -1,6 +1,6 @@
-//! Makes calls of a hub behind its lock, as ranks on threads of their own do, and prints the journal: each call is entered
-//! with its own rank and hart. What the hub held then can't be seen behind the lock, so no clause says it. `stdout` was
-//! written by hand: a stamp is the greater of the caller's clock and the stamp before, plus 1.
+//! Makes calls of a hub behind its lock, as ranks on threads of their own do, and prints the journal: each call is
+//! entered with its own rank and hart. What the hub held then can't be seen behind the lock, so no clause says it.
+//! `stdout` was written by hand: a stamp is the greater of the caller's clock and the stamp before, plus 1.
 #![tactic(auto)]
 
 use cl_journal::{Entry, Hub};

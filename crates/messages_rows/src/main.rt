@@ -1,9 +1,9 @@
 //! Reads calls of a hub from standard input, and prints what the hub answers.
 //!
-//! `hub N` starts a hub of two ranks, with N links from rank 0 to rank 1. `RANK HART CLOCK REQUEST` is a call of it: the
-//! stamp and the reply are printed, or why it was refused. `times N` before a call makes it so often, and tells the last;
-//! a `#` in it is then how often it was made before. `entries` prints how many calls were entered, and the hart of the
-//! last. Behind `!` a request or a reply stands whose copy isn't the same.
+//! `hub N` starts a hub of two ranks, with N links from rank 0 to rank 1. `RANK HART CLOCK REQUEST` is a call of it:
+//! the stamp and the reply are printed, or why it was refused. `times N` before a call makes it so often, and tells
+//! the last; a `#` in it is then how often it was made before. `entries` prints how many calls were entered, and the
+//! hart of the last. Behind `!` a request or a reply stands whose copy isn't the same.
 //!
 //! The rows of `stdin` and `stdout` were worked out by hand from what the calls are said to answer.
 #![tactic(auto)]

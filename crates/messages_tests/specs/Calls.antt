@@ -25,7 +25,8 @@ elsewhere tag parts size = (1, request.Init false 1 0 tag parts size)
 -- sides in two communicators are no pair, and so have two links
 abbrev pub CommunicatorsAreKeptApart : Type 0
 CommunicatorsAreKeptApart =
-    replies two_links (sending_side 5 4 64 ∷ elsewhere 5 4 64 ∷ receiving_side 5 4 64 ∷ []) ≡ OnLink 0 ∷ OnLink 1 ∷ OnLink 0 ∷ []
+    replies two_links (sending_side 5 4 64 ∷ elsewhere 5 4 64 ∷ receiving_side 5 4 64 ∷ [])
+    ≡ OnLink 0 ∷ OnLink 1 ∷ OnLink 0 ∷ []
 
 -- the second side of a pair has the first one's link, whichever that is
 abbrev pub APairHasOneLink : Type 0

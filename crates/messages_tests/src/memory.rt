@@ -42,12 +42,7 @@ pub fn vain_probe(hub: &mut Hub, rank: u8, clock: Stamp) -> Result<(Reply, Stamp
 }
 
 /// So is a cut, also one that is told: the tenth call of a hub.
-pub fn told_cut(
-    hub: &mut Hub,
-    rank: u8,
-    clock: Stamp,
-    link: u8,
-) -> Result<(Reply, Stamp), HubFault>
+pub fn told_cut(hub: &mut Hub, rank: u8, clock: Stamp, link: u8) -> Result<(Reply, Stamp), HubFault>
     requires begun { length hub.old.entries ≡ 9 }
     requires few { length (entries_by rank hub.old.entries) < 1048576 }
     requires low { max clock (clock_of hub.old) + 1 < 2 ^ 62 }

@@ -36,7 +36,8 @@ all_lines : (rank : ℕ) (ns : List ℕ) (b : Board) → (all_got rank b ns).1.l
 all_lines rank [] b = refl
 all_lines rank (n ∷ ns) b = all_lines rank ns (one_got rank b n).1 ∙ one_lines rank b n
 
-grows : (h : HubView) (rank : ℕ) (q : Request) (r : Reply) (b : Board) → Comes h rank q r b → Grows h.board.lines b.lines
+grows : (h : HubView) (rank : ℕ) (q : Request) (r : Reply) (b : Board) → Comes h rank q r b
+    → Grows h.board.lines b.lines
 grows h rank q r b (is_nothing p e) = inl (ap (λ (c : Board). c.lines) e)
 grows h rank q r b (is_full f there e) = inl (ap (λ (c : Board). c.lines) e)
 grows h rank q r b (is_sent sync comm dest tag bytes done asked f e) =
@@ -56,17 +57,21 @@ pairs_snoc : (ps : List Post) (p : Post) → pairs (ps ++ p ∷ []) ≡ add (pai
 pairs_snoc ps p = pairs_more ps (p ∷ []) []
 
 fair_more : (n : ℕ) (old new : List Line) → Grows old new → Fair n old → Fair (n + 1) new
-fair_more n old new (inl e) f = (subst (λ ms. ms ≡ pairs (posts_of ms)) (sym e) f.0, (let g = ap length e in let l = f.1 in omega (arith, g, l)))
+fair_more n old new (inl e) f =
+    (subst (λ ms. ms ≡ pairs (posts_of ms)) (sym e) f.0, (let g = ap length e in let l = f.1 in omega (arith, g, l)))
 fair_more n old new (inr g) f =
     let p = g.0 in
     let made : add old p ≡ pairs (posts_of (add old p)) =
-    ap (λ ms. add ms p) f.0 ∙ sym (pairs_snoc (posts_of old) p) ∙ ap pairs (sym (posts_add old p)) in
-    (subst (λ ms. ms ≡ pairs (posts_of ms)) (sym g.1) made, (let e = ap length g.1 in let l = add_length old p in let b = f.1 in omega (arith, e, l, b)))
+    ap (λ ms. add ms p) f.0 ∙ sym (pairs_snoc (posts_of old) p) ∙ ap pairs (sym (posts_add old p)) in (
+      subst (λ ms. ms ≡ pairs (posts_of ms)) (sym g.1) made,
+      (let e = ap length g.1 in let l = add_length old p in let b = f.1 in omega (arith, e, l, b)),
+    )
 
 fair_on : (cs : List Call) (h : HubView) (n : ℕ) → Fair n h.board.lines → Fair (n + length cs) (hub_on h cs).board.lines
 fair_on [] h n f = (f.0, (let b = f.1 in omega (arith, b)))
 fair_on (c ∷ cs) h n f =
-    let r = fair_on cs (outcome h c.0 c.1).1 (n + 1) (fair_more n h.board.lines _ (grows h c.0 c.1 _ _ (comes h c.0 c.1)) f) in
+    let r = fair_on cs (outcome h c.0 c.1).1 (n + 1)
+    (fair_more n h.board.lines _ (grows h c.0 c.1 _ _ (comes h c.0 c.1)) f) in
     (r.0, (let b = r.1 in omega (arith, b)))
 
 pub board_law : (links : List Link) (calls : List Call) → IsBoardOf calls (hub_after links calls).board

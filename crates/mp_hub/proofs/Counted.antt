@@ -27,10 +27,12 @@ one_message : (other : Reply) (o : Option Message) → is_plain other ≡ true �
 one_message other None p = (let e = plain_count other p in omega (arith, e))
 one_message other (Some m) p = omega arith
 
-counted : (h : HubView) (rank : ℕ) (q : Request) (r : Reply) (b : Board) → Comes h rank q r b → message_count r ≤ most_messages q
+counted : (h : HubView) (rank : ℕ) (q : Request) (r : Reply) (b : Board) → Comes h rank q r b
+    → message_count r ≤ most_messages q
 counted h rank q r b (is_nothing p e) = (let n = plain_count r p in omega (arith, n))
 counted h rank q r b (is_full f there e) = (let n = ap message_count f in omega (arith, n))
-counted h rank q r b (is_sent sync comm dest tag bytes done asked f e) = (let n = ap message_count f in omega (arith, n))
+counted h rank q r b (is_sent sync comm dest tag bytes done asked f e) =
+    (let n = ap message_count f in omega (arith, n))
 counted h rank q r b (is_posted p none f e) = (let n = plain_count r f in omega (arith, n))
 counted h rank q r b (is_got c number other ready asked one p f e) =
     let n = ap message_count f in
@@ -56,8 +58,10 @@ bare (reply.Link k) n = refl
 bare (reply.Cut parts size) n = refl
 
 -- the reply to a request that may bring no message carries nothing
-pub carries_nothing : (h : HubView) (rank : ℕ) (q : Request) → most_messages q ≡ 0 → carried_by_reply (outcome h rank q).0 ≡ 0
-carries_nothing h rank q none = bare (outcome h rank q).0 (let few = counted h rank q _ _ (comes h rank q) in omega (arith, few, none))
+pub carries_nothing : (h : HubView) (rank : ℕ) (q : Request) → most_messages q ≡ 0
+    → carried_by_reply (outcome h rank q).0 ≡ 0
+carries_nothing h rank q none =
+    bare (outcome h rank q).0 (let few = counted h rank q _ _ (comes h rank q) in omega (arith, few, none))
 
 pub count_law : CountLaw
 count_law links calls rank q = counted (hub_after links calls) rank q _ _ (comes (hub_after links calls) rank q)

@@ -21,7 +21,7 @@ use Rattle.mp_hub.specs.declared.sides.Setup.{Setup}
 use Rattle.mp_hub.specs.declared.sides.Side.{Side}
 use Rattle.mp_hub.specs.Inits.{peer_of, lowest_link, same_total, sender_over, is_receiver}
 
--- the image's links, the posts, the claimed messages that weren't received, and the initialisations that weren't refused
+-- the image's links, the posts, the claimed messages that weren't received, the initialisations that weren't refused
 pub record HubView : Type 0 where
   pub links : List Link
   pub board : Board
@@ -45,7 +45,11 @@ selecting rank comm source tag = record { rank = rank; comm = comm; source = sou
 
 abbrev pub sending : ℕ → Bool → ℕ → ℕ → ℕ → List ℕ → Sent
 sending rank sync comm dest tag bytes =
-    record { sync = sync; dest = dest; envelope = record { comm = comm; source = rank; tag = tag; count = length bytes } }
+    record {
+      sync = sync;
+      dest = dest;
+      envelope = record { comm = comm; source = rank; tag = tag; count = length bytes };
+    }
 
 -- ---- sends and receives (chapters 3.2, 3.4 and 3.7)
 
@@ -163,7 +167,15 @@ all_outcome h rank numbers =
 
 abbrev pub setup_of : ℕ → Bool → ℕ → ℕ → ℕ → ℕ → ℕ → Setup
 setup_of rank sends comm peer tag parts size =
-    record { sending = sends; comm = comm; from = cond sends rank peer; to = cond sends peer rank; tag = tag; parts = parts; size = size }
+    record {
+      sending = sends;
+      comm = comm;
+      from = cond sends rank peer;
+      to = cond sends peer rank;
+      tag = tag;
+      parts = parts;
+      size = size;
+    }
 
 abbrev pub side_added : HubView → Setup → ℕ → Reply × HubView
 side_added h s link = (OnLink link, with_sides h (h.sides ++ record { setup = s; link = link } ∷ []))
@@ -187,7 +199,8 @@ cut_of (Some t) = Cut t.setup.parts t.setup.size
 
 -- how the sender of a link cut its transfer, which is told to the link's receiver alone
 abbrev pub cut_outcome : HubView → ℕ → ℕ → Reply × HubView
-cut_outcome h rank link = cond (is_receiver h.links rank link) (cut_of (sender_over h.sides link), h) (Code BadRequest, h)
+cut_outcome h rank link =
+    cond (is_receiver h.links rank link) (cut_of (sender_over h.sides link), h) (Code BadRequest, h)
 
 -- ---- one call
 
@@ -200,7 +213,8 @@ outcome h rank (request.Probe comm source tag) = probe_outcome h (selecting rank
 outcome h rank (request.Claim comm source tag) = claim_outcome h (selecting rank comm source tag)
 outcome h rank (request.Claimed now message) = claimed_outcome h rank now message
 outcome h rank (request.All posts) = all_outcome h rank posts
-outcome h rank (request.Init sends comm peer tag parts size) = init_outcome h (setup_of rank sends comm peer tag parts size)
+outcome h rank (request.Init sends comm peer tag parts size) =
+    init_outcome h (setup_of rank sends comm peer tag parts size)
 outcome h rank (request.Cut link) = cut_outcome h rank link
 
 -- a call: the rank that makes it, and its request

@@ -30,7 +30,8 @@ pub record SentAt (links : List Link) (calls : List Call) (place : ℕ) (m : Mes
   pub dest : ℕ
   pub done : Bool
   pub made : calls ≡ before ++ (sender, request.Send sync m.envelope.comm dest m.envelope.tag m.bytes) ∷ after
-  pub answered : reply_of links before sender (request.Send sync m.envelope.comm dest m.envelope.tag m.bytes) ≡ Posted (place + 1) done
+  pub answered : reply_of links before sender (request.Send sync m.envelope.comm dest m.envelope.tag m.bytes)
+      ≡ Posted (place + 1) done
   pub source : m.envelope.source ≡ sender
   pub count : m.envelope.count ≡ length m.bytes
 
@@ -53,7 +54,8 @@ GotIsSent links calls rank q = (m : Message) → reply_of links calls rank q ≡
 
 -- what is seen is the envelope of the very send that a receive posted now would be paired with
 abbrev pub SeenIsSent : List Link → List Call → ℕ → ℕ → Option ℕ → Option ℕ → Type 0
-SeenIsSent links calls rank comm source tag = (e : Envelope) → reply_of links calls rank (request.Probe comm source tag) ≡ Seen e
+SeenIsSent links calls rank comm source tag = (e : Envelope)
+    → reply_of links calls rank (request.Probe comm source tag) ≡ Seen e
     → (place : ℕ) × (m : Message)
     × (partner_for (hub_after links calls).board.lines (post.Receive (selecting rank comm source tag)) ≡ Some place)
     × SentAt links calls place m × (m.envelope ≡ e)
@@ -66,16 +68,20 @@ HeldIsSent links calls rank q = (number : ℕ) (e : Envelope) → reply_of links
 
 -- of several posts each message is that of the very send that is paired with the post in its place
 abbrev pub AllGotIsSent : List Link → List Call → ℕ → List ℕ → Type 0
-AllGotIsSent links calls rank numbers = (gots : List (Option Message)) → reply_of links calls rank (request.All numbers) ≡ AllGot gots
+AllGotIsSent links calls rank numbers = (gots : List (Option Message))
+    → reply_of links calls rank (request.All numbers) ≡ AllGot gots
     → (length gots ≡ length numbers)
     × ((i number : ℕ) (m : Message) → slice_get numbers i ≡ Some number → slice_get gots i ≡ Some (Some m)
     → PairedWith links calls (hub_after links calls).board number m)
 
 pub record SentLaw : Type 0 where
   pub got : (links : List Link) (calls : List Call) (rank : ℕ) (q : Request) → GotIsSent links calls rank q
-  pub seen : (links : List Link) (calls : List Call) (rank comm : ℕ) (source tag : Option ℕ) → SeenIsSent links calls rank comm source tag
-  pub held : (links : List Link) (calls : List Call) (rank comm : ℕ) (source tag : Option ℕ) → HeldIsSent links calls rank (request.Claim comm source tag)
-  pub all : (links : List Link) (calls : List Call) (rank : ℕ) (numbers : List ℕ) → AllGotIsSent links calls rank numbers
+  pub seen : (links : List Link) (calls : List Call) (rank comm : ℕ) (source tag : Option ℕ)
+      → SeenIsSent links calls rank comm source tag
+  pub held : (links : List Link) (calls : List Call) (rank comm : ℕ) (source tag : Option ℕ)
+      → HeldIsSent links calls rank (request.Claim comm source tag)
+  pub all : (links : List Link) (calls : List Call) (rank : ℕ) (numbers : List ℕ)
+      → AllGotIsSent links calls rank numbers
 
 -- how many messages a request may bring
 abbrev pub most_messages : Request → ℕ
@@ -93,4 +99,5 @@ message_count _ = 0
 
 -- a reply brings no more messages than its request may bring
 abbrev pub CountLaw : Type 0
-CountLaw = (links : List Link) (calls : List Call) (rank : ℕ) (q : Request) → message_count (reply_of links calls rank q) ≤ most_messages q
+CountLaw = (links : List Link) (calls : List Call) (rank : ℕ) (q : Request)
+    → message_count (reply_of links calls rank q) ≤ most_messages q

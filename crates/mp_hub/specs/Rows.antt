@@ -48,20 +48,22 @@ TagsAreKeptApart =
     replies [] (sends 7 97 ∷ sends 9 98 ∷ receives_now (Some 9) ∷ receives_now None ∷ [])
     ≡ Posted 1 true ∷ Posted 2 true ∷ got 9 98 ∷ got 7 97 ∷ []
 
--- receive 1 takes any message, receive 2 just tag 7 of rank 0: the first message of tag 7 is receive 1's, the second receive 2's
+-- receive 1 takes any message, receive 2 just tag 7 of rank 0: of two with tag 7 the first is receive 1's
 abbrev pub TheEarlierReceiveIsFirst : Type 0
 TheEarlierReceiveIsFirst =
     replies [] (posts_receive None None ∷ posts_receive (Some 0) (Some 7) ∷ sends 7 120 ∷ (1, request.Collect 2)
     ∷ sends 7 121 ∷ (1, request.Collect 2) ∷ (1, request.Collect 1) ∷ (1, request.Collect 1) ∷ [])
-    ≡ Posted 1 false ∷ Posted 2 false ∷ Posted 3 true ∷ NotYet ∷ Posted 4 true ∷ got 7 121 ∷ got 7 120 ∷ Code BadRequest ∷ []
+    ≡ Posted 1 false ∷ Posted 2 false ∷ Posted 3 true ∷ NotYet
+    ∷ Posted 4 true ∷ got 7 121 ∷ got 7 120 ∷ Code BadRequest ∷ []
 
--- a synchronous send is finished once its message, which was claimed, is received; only the rank that claimed it may, once
+-- a synchronous send is finished once its message, which was claimed, is received: by the rank that claimed it, once
 abbrev pub AClaimedMessageIsReceivedOnce : Type 0
 AClaimedMessageIsReceivedOnce =
     replies [] (sends_sync 3 122 ∷ (0, request.Finished 1) ∷ (1, request.Claim 0 None None) ∷ (0, request.Finished 1)
-    ∷ (1, request.Probe 0 None None) ∷ (0, request.Claimed true 2) ∷ (1, request.Claimed true 2) ∷ (0, request.Finished 1)
-    ∷ (1, request.Claimed true 2) ∷ [])
-    ≡ Posted 1 false ∷ NotYet ∷ Held 2 (envelope 3) ∷ NotYet ∷ NotYet ∷ Code BadMessage ∷ got 3 122 ∷ Done ∷ Code BadMessage ∷ []
+    ∷ (1, request.Probe 0 None None) ∷ (0, request.Claimed true 2) ∷ (1, request.Claimed true 2)
+    ∷ (0, request.Finished 1) ∷ (1, request.Claimed true 2) ∷ [])
+    ≡ Posted 1 false ∷ NotYet ∷ Held 2 (envelope 3) ∷ NotYet
+    ∷ NotYet ∷ Code BadMessage ∷ got 3 122 ∷ Done ∷ Code BadMessage ∷ []
 
 -- a claimed message may be received by a post, which is the claim's own, and collected later
 abbrev pub AClaimIsItsReceivesPost : Type 0
@@ -93,7 +95,8 @@ two_links = record { from = 0; to = 1 } ∷ record { from = 0; to = 1 } ∷ []
 -- a pair has one link and one total; a refused side isn't counted; the third transfer finds no link
 abbrev pub LinksAreReserved : Type 0
 LinksAreReserved =
-    replies two_links (sending_side 5 4 64 ∷ receiving_side 5 4 32 ∷ receiving_side 5 4 64 ∷ receiving_side 6 1 8 ∷ sending_side 7 1 8 ∷ [])
+    replies two_links (sending_side 5 4 64 ∷ receiving_side 5 4 32 ∷ receiving_side 5 4 64
+    ∷ receiving_side 6 1 8 ∷ sending_side 7 1 8 ∷ [])
     ≡ OnLink 0 ∷ Code Shape ∷ OnLink 0 ∷ OnLink 1 ∷ Code NoChannel ∷ []
 
 -- two pairs of one transfer: a refused side between them isn't counted, and each receiver has its own sender's link
@@ -112,7 +115,8 @@ TotalsAreCompared =
 -- rank 0 sends over the second link alone
 abbrev pub LinksJoinTheirRanks : Type 0
 LinksJoinTheirRanks =
-    replies (record { from = 1; to = 0 } ∷ record { from = 0; to = 1 } ∷ []) (sending_side 5 1 8 ∷ sending_side 6 1 8 ∷ [])
+    replies (record { from = 1; to = 0 } ∷ record { from = 0; to = 1 } ∷ [])
+    (sending_side 5 1 8 ∷ sending_side 6 1 8 ∷ [])
     ≡ OnLink 1 ∷ Code NoChannel ∷ []
 
 abbrev pub asks_cut : ℕ → ℕ → Call

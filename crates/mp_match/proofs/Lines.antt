@@ -21,7 +21,8 @@ pub told_length : (ms : List Line) (o : Option ℕ) → length (partners_told ms
 told_length ms None = refl
 told_length ms (Some q) = set_length ms q (length ms)
 
-pub set_same : (ms : List Line) (q k : ℕ) (m : Line) → slice_get ms q ≡ Some m → slice_get (partner_set ms q k) q ≡ Some (given m k)
+pub set_same : (ms : List Line) (q k : ℕ) (m : Line) → slice_get ms q ≡ Some m
+    → slice_get (partner_set ms q k) q ≡ Some (given m k)
 set_same [] q k m h = absurd (cc)
 set_same (x ∷ ms) zero k m h = (let e : x ≡ m = (cc) in ap (λ (y : Line). Some (given y k)) e)
 set_same (x ∷ ms) (suc q) k m h = set_same ms q k m h
@@ -48,9 +49,11 @@ pub data Look (ms : List Line) (p : Post) (i : ℕ) (m : Line) : Type 0 where
 pub look : (ms : List Line) (p : Post) (i : ℕ) (m : Line) → slice_get (add ms p) i ≡ Some m → Look ms p i m
 look ms p i m h = go (partner_for ms p) refl h
   where
-    go : (o : Option ℕ) → partner_for ms p ≡ o → slice_get (partners_told ms o ++ record { post = p; partner = o } ∷ []) i ≡ Some m → Look ms p i m
+    go : (o : Option ℕ) → partner_for ms p ≡ o
+        → slice_get (partners_told ms o ++ record { post = p; partner = o } ∷ []) i ≡ Some m → Look ms p i m
     go o e h = elim (get_snoc (partners_told ms o) (record { post = p; partner = o }) i m h) [
-      | inl c ↦ is_new (c.0 ∙ told_length ms o) (c.1 ∙ ap (λ (x : Option ℕ). (let y : Line = record { post = p; partner = x } in y)) (sym e))
+      | inl c ↦ is_new (c.0 ∙ told_length ms o)
+          (c.1 ∙ ap (λ (x : Option ℕ). (let y : Line = record { post = p; partner = x } in y)) (sym e))
       | inr c ↦ old o e c
     ]
       where
@@ -58,32 +61,41 @@ look ms p i m h = go (partner_for ms p) refl h
         old None e c = is_old c
         old (Some q) e c = elim (cases_eq q i) [
           | inl same ↦
-              let b = set_back ms i (length ms) m (subst (λ j. slice_get (partner_set ms j (length ms)) i ≡ Some m) same c) in
+              let b = set_back ms i (length ms) m
+              (subst (λ j. slice_get (partner_set ms j (length ms)) i ≡ Some m) same c) in
               is_given b.0 b.1 (e ∙ ap (λ j. Some j) same) b.2
           | inr other ↦ is_old (sym (set_other ms q (length ms) i other) ∙ c)
         ]
 
-pub add_new : (ms : List Line) (p : Post) → slice_get (add ms p) (length ms) ≡ Some (record { post = p; partner = partner_for ms p })
+pub add_new : (ms : List Line) (p : Post)
+    → slice_get (add ms p) (length ms) ≡ Some (record { post = p; partner = partner_for ms p })
 add_new ms p =
-    subst (λ n. slice_get (add ms p) n ≡ Some (record { post = p; partner = partner_for ms p })) (told_length ms (partner_for ms p))
+    subst (λ n. slice_get (add ms p) n ≡ Some (record { post = p; partner = partner_for ms p }))
+    (told_length ms (partner_for ms p))
     (get_last (partners_told ms (partner_for ms p)) (record { post = p; partner = partner_for ms p }))
 
-pub add_old : (ms : List Line) (p : Post) (i : ℕ) (m : Line) → slice_get ms i ≡ Some m → (partner_for ms p ≡ Some i → ⊥) → slice_get (add ms p) i ≡ Some m
+pub add_old : (ms : List Line) (p : Post) (i : ℕ) (m : Line) → slice_get ms i ≡ Some m → (partner_for ms p ≡ Some i → ⊥)
+    → slice_get (add ms p) i ≡ Some m
 add_old ms p i m h other = get_front (partners_told ms (partner_for ms p)) _ i m (go (partner_for ms p) other)
   where
     go : (o : Option ℕ) → (o ≡ Some i → ⊥) → slice_get (partners_told ms o) i ≡ Some m
     go None other = h
     go (Some q) other = set_other ms q (length ms) i (λ e. other (ap (λ j. Some j) e)) ∙ h
 
-pub add_given : (ms : List Line) (p : Post) (i : ℕ) (m : Line) → slice_get ms i ≡ Some m → partner_for ms p ≡ Some i → slice_get (add ms p) i ≡ Some (given m (length ms))
-add_given ms p i m h e = get_front (partners_told ms (partner_for ms p)) _ i (given m (length ms)) (go (partner_for ms p) e)
+pub add_given : (ms : List Line) (p : Post) (i : ℕ) (m : Line) → slice_get ms i ≡ Some m → partner_for ms p ≡ Some i
+    → slice_get (add ms p) i ≡ Some (given m (length ms))
+add_given ms p i m h e =
+    get_front (partners_told ms (partner_for ms p)) _ i (given m (length ms)) (go (partner_for ms p) e)
   where
     go : (o : Option ℕ) → o ≡ Some i → slice_get (partners_told ms o) i ≡ Some (given m (length ms))
     go None e = absurd (cc)
-    go (Some q) e = let same : q ≡ i = (cc) in subst (λ j. slice_get (partner_set ms j (length ms)) i ≡ Some (given m (length ms))) (sym same) (set_same ms i (length ms) m h)
+    go (Some q) e = let same : q ≡ i = (cc) in
+        subst (λ j. slice_get (partner_set ms j (length ms)) i ≡ Some (given m (length ms))) (sym same)
+        (set_same ms i (length ms) m h)
 
 pub add_length : (ms : List Line) (p : Post) → length (add ms p) ≡ length ms + 1
-add_length ms p = snoc_length (partners_told ms (partner_for ms p)) _ ∙ ap (λ n. n + 1) (told_length ms (partner_for ms p))
+add_length ms p =
+    snoc_length (partners_told ms (partner_for ms p)) _ ∙ ap (λ n. n + 1) (told_length ms (partner_for ms p))
   where
     snoc_length : {A : Type 0} (xs : List A) (x : A) → length (xs ++ x ∷ []) ≡ length xs + 1
     snoc_length [] x = refl

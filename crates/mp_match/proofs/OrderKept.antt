@@ -19,7 +19,8 @@ abbrev pub Takes : Post → Selection → Type 0
 Takes p a = (p ≡ Receive a) ⊎ (p ≡ Claim a)
 
 abbrev pub Together : Post → Post → Type 0
-Together p q = (a : Selection) × (s : Sent) × (accepts a s ≡ true) × ((Takes p a × (q ≡ Send s)) ⊎ ((p ≡ Send s) × Takes q a))
+Together p q = (a : Selection) × (s : Sent) × (accepts a s ≡ true)
+    × ((Takes p a × (q ≡ Send s)) ⊎ ((p ≡ Send s) × Takes q a))
 
 -- what holds of the lines of posts
 pub record Good (ms : List Line) : Type 0 where
@@ -72,7 +73,8 @@ takes_pair : (p q : Post) (a : Selection) (s : Sent) → Takes p a → q ≡ Sen
 takes_pair p q a s (inl e) g h = rw (e, g) h
 takes_pair p q a s (inr e) g h = rw (e, g) h
 
-send_pair : (p q : Post) (a : Selection) (s : Sent) → p ≡ Send s → q ≡ Receive a → accepts a s ≡ true → may_pair p q ≡ true
+send_pair : (p q : Post) (a : Selection) (s : Sent) → p ≡ Send s → q ≡ Receive a → accepts a s ≡ true
+    → may_pair p q ≡ true
 send_pair p q a s e g h = rw (e, g) h
 
 -- a send has a receive, and no claim, of the posts before
@@ -102,13 +104,15 @@ chosen ms p i h =
       least = λ l y m g e pair. no_fit p y (f.3 l y m g) e pair;
     }
 
-unchosen : (ms : List Line) (p : Post) → partner_for ms p ≡ None → (l : ℕ) (y : Line) → slice_get ms l ≡ Some y → y.partner ≡ None → may_pair p y.post ≡ true → ⊥
+unchosen : (ms : List Line) (p : Post) → partner_for ms p ≡ None → (l : ℕ) (y : Line) → slice_get ms l ≡ Some y
+    → y.partner ≡ None → may_pair p y.post ≡ true → ⊥
 unchosen ms p h l y g e pair = no_fit p y (found_none (fits p) 0 ms h l y g) e pair
 
 module _ (ms : List Line) (p : Post) (good : Good ms) where
   idle_more : (i j : ℕ) (m n : Line) (a : Selection) (s : Sent) → Look ms p i m → Look ms p j n
       → m.partner ≡ None → n.partner ≡ None → m.post ≡ Receive a → n.post ≡ Send s → accepts a s ≡ true → ⊥
-  idle_more i j m n a s (is_new u e) (is_new v f) mn nn mp np h = (let pm : p ≡ Receive a = (cc) in let pn : p ≡ Send s = (cc) in absurd (cc))
+  idle_more i j m n a s (is_new u e) (is_new v f) mn nn mp np h =
+      (let pm : p ≡ Receive a = (cc) in let pn : p ≡ Send s = (cc) in absurd (cc))
   idle_more i j m n a s (is_new u e) (is_old f) mn nn mp np h =
       let none : partner_for ms p ≡ None = (cc) in
       let pm : p ≡ Receive a = (cc) in
@@ -118,9 +122,12 @@ module _ (ms : List Line) (p : Post) (good : Good ms) where
       let pn : p ≡ Send s = (cc) in
       unchosen ms p none i m e mn (send_pair p m.post a s pn mp h)
   idle_more i j m n a s (is_old e) (is_old f) mn nn mp np h = good.idle i j m n a s e f mn nn mp np h
-  idle_more i j m n a s (is_given x e c g) other mn nn mp np h = (let o : m.partner ≡ Some (length ms) = ap (λ (z : Line). z.partner) g in absurd (cc))
-  idle_more i j m n a s (is_new u e) (is_given x f c g) mn nn mp np h = (let o : n.partner ≡ Some (length ms) = ap (λ (z : Line). z.partner) g in absurd (cc))
-  idle_more i j m n a s (is_old e) (is_given x f c g) mn nn mp np h = (let o : n.partner ≡ Some (length ms) = ap (λ (z : Line). z.partner) g in absurd (cc))
+  idle_more i j m n a s (is_given x e c g) other mn nn mp np h =
+      (let o : m.partner ≡ Some (length ms) = ap (λ (z : Line). z.partner) g in absurd (cc))
+  idle_more i j m n a s (is_new u e) (is_given x f c g) mn nn mp np h =
+      (let o : n.partner ≡ Some (length ms) = ap (λ (z : Line). z.partner) g in absurd (cc))
+  idle_more i j m n a s (is_old e) (is_given x f c g) mn nn mp np h =
+      (let o : n.partner ≡ Some (length ms) = ap (λ (z : Line). z.partner) g in absurd (cc))
 
   -- no line has a partner past the end
   none_past : (i : ℕ) (m : Line) → slice_get ms i ≡ Some m → m.partner ≡ Some (length ms) → ⊥
@@ -138,11 +145,13 @@ module _ (ms : List Line) (p : Post) (good : Good ms) where
   below_old : (i j : ℕ) (m : Line) → i < j → i ≡ length ms → Look ms p j m → ⊥
   below_old i j m h e l = (let b = old_below j m l in absurd (omega (arith, b, h, e)))
 
-  sends_more : (i j k : ℕ) (l m n : Line) (s t : Sent) (a : Selection) → i < j → Look ms p i l → Look ms p j m → Look ms p k n
+  sends_more : (i j k : ℕ) (l m n : Line) (s t : Sent) (a : Selection) → i < j → Look ms p i l → Look ms p j m
+      → Look ms p k n
       → l.post ≡ Send s → m.post ≡ Send t → Takes n.post a → accepts a s ≡ true
       → n.partner ≡ Some j → l.partner ≡ None → ⊥
   sends_more i j k l m n s t a below (is_new u e) lm ln lp mp np h nj li = below_old i j m below u lm
-  sends_more i j k l m n s t a below (is_given x f c g) lm ln lp mp np h nj li = (let o : l.partner ≡ Some (length ms) = ap (λ (z : Line). z.partner) g in absurd (cc))
+  sends_more i j k l m n s t a below (is_given x f c g) lm ln lp mp np h nj li =
+      (let o : l.partner ≡ Some (length ms) = ap (λ (z : Line). z.partner) g in absurd (cc))
   sends_more i j k l m n s t a below (is_old e) lm (is_new u f) lp mp np h nj li =
       let c = chosen ms p j (sym (ap (λ (z : Line). z.partner) f) ∙ nj) in
       c.least i l below e li (takes_pair p l.post a s (subst (λ q. Takes q a) (ap (λ (z : Line). z.post) f) np) lp h)
@@ -169,11 +178,13 @@ module _ (ms : List Line) (p : Post) (good : Good ms) where
       let same : j ≡ length ms = (cc) in
       let b = get_within ms j y g in absurd (omega (arith, b, same))
 
-  receives_more : (i j k : ℕ) (l m n : Line) (a b : Selection) (s : Sent) → i < j → Look ms p i l → Look ms p j m → Look ms p k n
+  receives_more : (i j k : ℕ) (l m n : Line) (a b : Selection) (s : Sent) → i < j → Look ms p i l → Look ms p j m
+      → Look ms p k n
       → l.post ≡ Receive a → Takes m.post b → n.post ≡ Send s → accepts a s ≡ true
       → m.partner ≡ Some k → l.partner ≡ None → ⊥
   receives_more i j k l m n a b s below (is_new u e) lm ln lp mp np h mk li = below_old i j m below u lm
-  receives_more i j k l m n a b s below (is_given x f c g) lm ln lp mp np h mk li = (let o : l.partner ≡ Some (length ms) = ap (λ (z : Line). z.partner) g in absurd (cc))
+  receives_more i j k l m n a b s below (is_given x f c g) lm ln lp mp np h mk li =
+      (let o : l.partner ≡ Some (length ms) = ap (λ (z : Line). z.partner) g in absurd (cc))
   receives_more i j k l m n a b s below (is_old e) (is_new u f) ln lp mp np h mk li =
       let c = chosen ms p k (sym (ap (λ (z : Line). z.partner) f) ∙ mk) in
       good.idle i k l c.line a s e c.here li c.free lp (old_post k n ln c np) h
@@ -181,9 +192,12 @@ module _ (ms : List Line) (p : Post) (good : Good ms) where
       old_post : (k : ℕ) (n : Line) → Look ms p k n → (c : Chosen ms p k) → n.post ≡ Send s → (c.line).post ≡ Send s
       old_post k n (is_new u e) c g = (let w = get_within ms k c.line c.here in absurd (omega (arith, w, u)))
       old_post k n (is_old e) c g = ap (λ (z : Line). z.post) (at_place ms k c.line n c.here e) ∙ g
-      old_post k n (is_given x e d q) c g = ap (λ (z : Line). z.post) (at_place ms k c.line x c.here e) ∙ sym (ap (λ (z : Line). z.post) q) ∙ g
-  receives_more i j k l m n a b s below (is_old e) (is_old f) (is_new u g) lp mp np h mk li = none_past j m f (mk ∙ ap (λ q. Some q) u)
-  receives_more i j k l m n a b s below (is_old e) (is_old f) (is_old g) lp mp np h mk li = good.receives i j k l m n a b s below e f g lp mp np h mk li
+      old_post k n (is_given x e d q) c g =
+          ap (λ (z : Line). z.post) (at_place ms k c.line x c.here e) ∙ sym (ap (λ (z : Line). z.post) q) ∙ g
+  receives_more i j k l m n a b s below (is_old e) (is_old f) (is_new u g) lp mp np h mk li =
+      none_past j m f (mk ∙ ap (λ q. Some q) u)
+  receives_more i j k l m n a b s below (is_old e) (is_old f) (is_old g) lp mp np h mk li =
+      good.receives i j k l m n a b s below e f g lp mp np h mk li
   receives_more i j k l m n a b s below (is_old e) (is_old f) (is_given x g c q) lp mp np h mk li =
       good.receives i j k l m x a b s below e f g lp mp (sym (ap (λ (z : Line). z.post) q) ∙ np) h mk li
   receives_more i j k l m n a b s below (is_old e) (is_given x f c q) ln lp mp np h mk li =
@@ -234,8 +248,10 @@ module _ (ms : List Line) (p : Post) (good : Good ms) where
   good_more = record {
     paired = λ i j m h e. paired_more i j m (look ms p i m h) e;
     idle = λ i j m n a s h g. idle_more i j m n a s (look ms p i m h) (look ms p j n g);
-    sends = λ i j k l m n s t a below h g f. sends_more i j k l m n s t a below (look ms p i l h) (look ms p j m g) (look ms p k n f);
-    receives = λ i j k l m n a b s below h g f. receives_more i j k l m n a b s below (look ms p i l h) (look ms p j m g) (look ms p k n f);
+    sends = λ i j k l m n s t a below h g f.
+        sends_more i j k l m n s t a below (look ms p i l h) (look ms p j m g) (look ms p k n f);
+    receives = λ i j k l m n a b s below h g f.
+        receives_more i j k l m n a b s below (look ms p i l h) (look ms p j m g) (look ms p k n f);
   }
 
 pub good_on : (ps : List Post) (ms : List Line) → Good ms → Good (pairs_on ms ps)
@@ -264,11 +280,13 @@ posts_snoc [] m = refl
 posts_snoc (x ∷ ms) m = ap (λ l. x.post ∷ l) (posts_snoc ms m)
 
 pub posts_add : (ms : List Line) (p : Post) → posts_of (add ms p) ≡ posts_of ms ++ p ∷ []
-posts_add ms p = posts_snoc (partners_told ms (partner_for ms p)) _ ∙ ap (λ l. l ++ p ∷ []) (posts_told ms (partner_for ms p))
+posts_add ms p =
+    posts_snoc (partners_told ms (partner_for ms p)) _ ∙ ap (λ l. l ++ p ∷ []) (posts_told ms (partner_for ms p))
 
 posts_on : (ps : List Post) (ms : List Line) → posts_of (pairs_on ms ps) ≡ posts_of ms ++ ps
 posts_on [] ms = sym (append-nil (posts_of ms))
-posts_on (p ∷ ps) ms = posts_on ps (add ms p) ∙ ap (λ l. l ++ ps) (posts_add ms p) ∙ append_assoc (posts_of ms) (p ∷ []) ps
+posts_on (p ∷ ps) ms =
+    posts_on ps (add ms p) ∙ ap (λ l. l ++ ps) (posts_add ms p) ∙ append_assoc (posts_of ms) (p ∷ []) ps
 
 pub posts_pairs : (ps : List Post) → posts_of (pairs ps) ≡ ps
 posts_pairs ps = posts_on ps []
@@ -277,7 +295,8 @@ pub pairs_more : (ps qs : List Post) (ms : List Line) → pairs_on ms (ps ++ qs)
 pairs_more [] qs ms = refl
 pairs_more (p ∷ ps) qs ms = pairs_more ps qs (add ms p)
 
-line_in : (ms : List Line) (i : ℕ) (p : Post) → slice_get (posts_of ms) i ≡ Some p → (m : Line) × (slice_get ms i ≡ Some m) × (m.post ≡ p)
+line_in : (ms : List Line) (i : ℕ) (p : Post) → slice_get (posts_of ms) i ≡ Some p
+    → (m : Line) × (slice_get ms i ≡ Some m) × (m.post ≡ p)
 line_in [] i p h = absurd (cc)
 line_in (m ∷ ms) zero p h = (m, refl, (cc))
 line_in (m ∷ ms) (suc i) p h = line_in ms i p h
@@ -287,10 +306,12 @@ line_out [] i m h = absurd (cc)
 line_out (x ∷ ms) zero m h = (let e : x ≡ m = (cc) in ap (λ (y : Line). Some y.post) e)
 line_out (x ∷ ms) (suc i) m h = line_out ms i m h
 
-partner_line : (ms : List Line) (i j : ℕ) → partner_at ms i ≡ Some j → (m : Line) × (slice_get ms i ≡ Some m) × (m.partner ≡ Some j)
+partner_line : (ms : List Line) (i j : ℕ) → partner_at ms i ≡ Some j
+    → (m : Line) × (slice_get ms i ≡ Some m) × (m.partner ≡ Some j)
 partner_line ms i j h = go (slice_get ms i) refl h
   where
-    go : (o : Option Line) → slice_get ms i ≡ o → partner_of_line o ≡ Some j → (m : Line) × (slice_get ms i ≡ Some m) × (m.partner ≡ Some j)
+    go : (o : Option Line) → slice_get ms i ≡ o → partner_of_line o ≡ Some j
+        → (m : Line) × (slice_get ms i ≡ Some m) × (m.partner ≡ Some j)
     go None e h = absurd (cc)
     go (Some m) e h = (m, e, h)
 
@@ -299,13 +320,15 @@ some_or_none None h = absurd (h refl)
 some_or_none (Some r) h = (r, refl)
 
 module _ (ms : List Line) (good : Good ms) where
-  line_of : (i : ℕ) (p : Post) → slice_get (posts_of ms) i ≡ Some p → (m : Line) × (slice_get ms i ≡ Some m) × (m.post ≡ p)
+  line_of : (i : ℕ) (p : Post) → slice_get (posts_of ms) i ≡ Some p
+      → (m : Line) × (slice_get ms i ≡ Some m) × (m.post ≡ p)
   line_of i p h = line_in ms i p h
 
   partner_is : (i : ℕ) (m : Line) → slice_get ms i ≡ Some m → partner_at ms i ≡ m.partner
   partner_is i m h = ap partner_of_line h
 
-  takes_line : (i : ℕ) (a : Selection) → TakesAt (posts_of ms) i a → (m : Line) × (slice_get ms i ≡ Some m) × Takes m.post a
+  takes_line : (i : ℕ) (a : Selection) → TakesAt (posts_of ms) i a
+      → (m : Line) × (slice_get ms i ≡ Some m) × Takes m.post a
   takes_line i a (inl h) = (let l = line_in ms i (Receive a) h in (l.0, l.1, inl l.2))
   takes_line i a (inr h) = (let l = line_in ms i (Claim a) h in (l.0, l.1, inr l.2))
 
@@ -334,7 +357,9 @@ module _ (ms : List Line) (good : Good ms) where
       let l = line_in ms i (Send s) hi in
       let m = line_in ms j (Send t) hj in
       let n = takes_line k a hk in
-      let r = some_or_none (l.0).partner (λ none. good.sends i j k l.0 m.0 n.0 s t a below l.1 m.1 n.1 l.2 m.2 n.2 acc (sym (partner_is k n.0 n.1) ∙ h) none) in
+      let r = some_or_none (l.0).partner
+      (λ none. good.sends i j k l.0 m.0 n.0 s t a below l.1 m.1 n.1 l.2 m.2 n.2 acc
+      (sym (partner_is k n.0 n.1) ∙ h) none) in
       (r.0, partner_is i l.0 l.1 ∙ r.1)
 
   pub receives_of : NoReceiveOvertakes (posts_of ms) (partner_at ms)
@@ -342,7 +367,9 @@ module _ (ms : List Line) (good : Good ms) where
       let l = line_in ms i (Receive a) hi in
       let m = takes_line j b hj in
       let n = line_in ms k (Send s) hk in
-      let r = some_or_none (l.0).partner (λ none. good.receives i j k l.0 m.0 n.0 a b s below l.1 m.1 n.1 l.2 m.2 n.2 acc (sym (partner_is j m.0 m.1) ∙ h) none) in
+      let r = some_or_none (l.0).partner
+      (λ none. good.receives i j k l.0 m.0 n.0 a b s below l.1 m.1 n.1 l.2 m.2 n.2 acc
+      (sym (partner_is j m.0 m.1) ∙ h) none) in
       (r.0, partner_is i l.0 l.1 ∙ r.1)
 
 stays_add : (ms : List Line) (p : Post) (i j : ℕ) → partner_at ms i ≡ Some j → partner_at (add ms p) i ≡ Some j
@@ -354,14 +381,19 @@ stays_add ms p i j h =
     let free : (m.0).partner ≡ None = subst (λ (z : Line). z.partner ≡ None) same c.free in
     let has = m.2 in absurd (cc))) ∙ m.2
 
-stays_on : (ps : List Post) (ms : List Line) (i j : ℕ) → partner_at ms i ≡ Some j → partner_at (pairs_on ms ps) i ≡ Some j
+stays_on : (ps : List Post) (ms : List Line) (i j : ℕ) → partner_at ms i ≡ Some j
+    → partner_at (pairs_on ms ps) i ≡ Some j
 stays_on [] ms i j h = h
 stays_on (p ∷ ps) ms i j h = stays_on ps (add ms p) i j (stays_add ms p i j h)
 
 pub order_laws : OrderLaws
 order_laws = record {
-  pairing = λ ps. subst (λ qs. IsPairing qs (partner_at (pairs ps))) (posts_pairs ps) (pairing_of (pairs ps) (good_on ps [] good_none));
-  sends = λ ps. subst (λ qs. NoSendOvertakes qs (partner_at (pairs ps))) (posts_pairs ps) (sends_of (pairs ps) (good_on ps [] good_none));
-  receives = λ ps. subst (λ qs. NoReceiveOvertakes qs (partner_at (pairs ps))) (posts_pairs ps) (receives_of (pairs ps) (good_on ps [] good_none));
-  stays = λ ps qs i j h. subst (λ ms. partner_at ms i ≡ Some j) (sym (pairs_more ps qs [])) (stays_on qs (pairs ps) i j h);
+  pairing = λ ps. subst (λ qs. IsPairing qs (partner_at (pairs ps))) (posts_pairs ps)
+      (pairing_of (pairs ps) (good_on ps [] good_none));
+  sends = λ ps. subst (λ qs. NoSendOvertakes qs (partner_at (pairs ps))) (posts_pairs ps)
+      (sends_of (pairs ps) (good_on ps [] good_none));
+  receives = λ ps. subst (λ qs. NoReceiveOvertakes qs (partner_at (pairs ps))) (posts_pairs ps)
+      (receives_of (pairs ps) (good_on ps [] good_none));
+  stays = λ ps qs i j h. subst (λ ms. partner_at ms i ≡ Some j) (sym (pairs_more ps qs []))
+      (stays_on qs (pairs ps) i j h);
 }

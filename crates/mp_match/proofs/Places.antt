@@ -38,11 +38,13 @@ module _ {A : Type 0} (t : A → Bool) where
             before = before f;
           }
         where
-          before : (f : Found t (k + 1) xs i) → (l : ℕ) (y : A) → l < suc f.at → slice_get (x ∷ xs) l ≡ Some y → t y ≡ false
+          before : (f : Found t (k + 1) xs i) → (l : ℕ) (y : A) → l < suc f.at → slice_get (x ∷ xs) l ≡ Some y
+              → t y ≡ false
           before f zero y m g = let q : x ≡ y = (cc) in subst (λ z. t z ≡ false) q e
           before f (suc l) y m g = f.before l y (omega arith) g
 
-  pub found_none : (k : ℕ) (xs : List A) → position_from t k xs ≡ None → (l : ℕ) (y : A) → slice_get xs l ≡ Some y → t y ≡ false
+  pub found_none : (k : ℕ) (xs : List A) → position_from t k xs ≡ None → (l : ℕ) (y : A) → slice_get xs l ≡ Some y
+      → t y ≡ false
   found_none k [] h l y g = absurd (cc)
   found_none k (x ∷ xs) h l y g = go (t x) refl (λ r m g. found_none (k + 1) xs r m y g) h l g
     where
@@ -53,7 +55,8 @@ module _ {A : Type 0} (t : A → Bool) where
       go false e rec h (suc l) g = rec h l g
 
   pub found_first : (xs : List A) (i : ℕ) → position_from t 0 xs ≡ Some i
-      → (x : A) × (slice_get xs i ≡ Some x) × (t x ≡ true) × ((l : ℕ) (y : A) → l < i → slice_get xs l ≡ Some y → t y ≡ false)
+      → (x : A) × (slice_get xs i ≡ Some x) × (t x ≡ true)
+      × ((l : ℕ) (y : A) → l < i → slice_get xs l ≡ Some y → t y ≡ false)
   found_first xs i h =
       let f = found 0 xs i h in
       let q : f.at ≡ i = (let p : i ≡ 0 + f.at = f.place in omega arith) in (
@@ -72,7 +75,8 @@ pub get_last : {A : Type 0} (xs : List A) (y : A) → slice_get (xs ++ y ∷ [])
 get_last [] y = refl
 get_last (x ∷ xs) y = get_last xs y
 
-pub get_front : {A : Type 0} (xs ys : List A) (i : ℕ) (x : A) → slice_get xs i ≡ Some x → slice_get (xs ++ ys) i ≡ Some x
+pub get_front : {A : Type 0} (xs ys : List A) (i : ℕ) (x : A) → slice_get xs i ≡ Some x
+    → slice_get (xs ++ ys) i ≡ Some x
 get_front [] ys i x h = absurd (cc)
 get_front (z ∷ xs) ys zero x h = h
 get_front (z ∷ xs) ys (suc i) x h = get_front xs ys i x h

@@ -15,7 +15,8 @@ pairs_alike a (Send s) = refl
 pairs_alike a (Receive b) = refl
 pairs_alike a (Claim b) = refl
 
-places_alike : (a : Selection) (k : ℕ) (lines : List Line) → position_from (fits (Receive a)) k lines ≡ position_from (fits (Claim a)) k lines
+places_alike : (a : Selection) (k : ℕ) (lines : List Line)
+    → position_from (fits (Receive a)) k lines ≡ position_from (fits (Claim a)) k lines
 places_alike a k [] = refl
 places_alike a k (line ∷ lines) = (
     λ i. cond (is_free line.partner && pairs_alike a line.post i) (Some k) (places_alike a (k + 1) lines i)

@@ -39,9 +39,11 @@ copied b a None found = refl
 copied b a (Some place) found = message_kept b a place (sym found)
 
 -- a receive that was just posted is collected by the partner that was found for it
-pub new_collected : (b : Board) (a : Selection) (c : Board) (o : Option ℕ) → c ≡ receive_posted b a → o ≡ partner_for b.lines (Receive a)
+pub new_collected : (b : Board) (a : Selection) (c : Board) (o : Option ℕ) → c ≡ receive_posted b a
+    → o ≡ partner_for b.lines (Receive a)
     → collect_from c o ≡ collect (receive_posted b a) (length b.lines + 1)
 new_collected b a c o after found =
     ap (λ (x : Board). collect_from x o) after
     ∙ ap (collect_from (receive_posted b a))
-    (found ∙ sym (ap partner_of_line (add_new b.lines (Receive a))) ∙ sym (ap (partner_of (receive_posted b a)) (add-one (length b.lines))))
+    (found ∙ sym (ap partner_of_line (add_new b.lines (Receive a)))
+    ∙ sym (ap (partner_of (receive_posted b a)) (add-one (length b.lines))))

@@ -56,11 +56,13 @@ partner_of b (suc place) = partner_at b.lines place
 
 abbrev pub is_send_of : ℕ → Option Line → Bool
 is_send_of rank None = false
-is_send_of rank (Some line) = elim line.post [ Send s ↦ s.envelope.source == rank | Receive a ↦ false | Claim a ↦ false ]
+is_send_of rank (Some line) =
+    elim line.post [ Send s ↦ s.envelope.source == rank | Receive a ↦ false | Claim a ↦ false ]
 
 abbrev pub is_receive_of : ℕ → Option Line → Bool
 is_receive_of rank None = false
-is_receive_of rank (Some line) = elim line.post [ Send s ↦ false | Receive a ↦ a.rank == rank | Claim a ↦ a.rank == rank ]
+is_receive_of rank (Some line) =
+    elim line.post [ Send s ↦ false | Receive a ↦ a.rank == rank | Claim a ↦ a.rank == rank ]
 
 -- a standard send
 abbrev pub is_standard : Option Line → Bool
@@ -76,7 +78,7 @@ abbrev pub is_receive_at : Board → Option ℕ → Bool
 is_receive_at b None = false
 is_receive_at b (Some place) = is_receive (slice_get b.lines place)
 
--- a send is finished where it is standard or paired with a receive; one that was claimed is so where its claim was received (3.4)
+-- a send is finished where it is standard or paired with a receive; a claimed one where its claim was received (3.4)
 abbrev pub is_finished : Board → ℕ → Bool
 is_finished b number = is_standard (line_of b number) || is_receive_at b (partner_of b number)
 

@@ -16,7 +16,7 @@ ReceivesAt ps i a = slice_get ps i ≡ Some (Receive a)
 abbrev pub TakesAt : List Post → ℕ → Selection → Type 0
 TakesAt ps i a = (slice_get ps i ≡ Some (Receive a)) ⊎ (slice_get ps i ≡ Some (Claim a))
 
--- what a receive or a claim is paired with is a send that it accepts, and a send's partner is the receive or claim paired with it
+-- a receive or a claim is paired with a send that it accepts, and that send's partner is the receive or the claim
 abbrev pub IsPairing : List Post → (ℕ → Option ℕ) → Type 0
 IsPairing ps partner = (i j : ℕ) → partner i ≡ Some j → (partner j ≡ Some i)
     × ((a : Selection) × (s : Sent) × (accepts a s ≡ true)
@@ -24,13 +24,15 @@ IsPairing ps partner = (i j : ℕ) → partner i ≡ Some j → (partner j ≡ S
 
 -- of two sends by one rank to one rank, both accepted by the receive that has the second, the first has a receive too
 abbrev pub NoSendOvertakes : List Post → (ℕ → Option ℕ) → Type 0
-NoSendOvertakes ps partner = (i j k : ℕ) (s t : Sent) (a : Selection) → i < j → SendsAt ps i s → SendsAt ps j t → TakesAt ps k a
+NoSendOvertakes ps partner = (i j k : ℕ) (s t : Sent) (a : Selection) → i < j → SendsAt ps i s → SendsAt ps j t
+    → TakesAt ps k a
     → s.envelope.source ≡ t.envelope.source → s.dest ≡ t.dest → accepts a s ≡ true → accepts a t ≡ true
     → partner k ≡ Some j → (r : ℕ) × (partner i ≡ Some r)
 
 -- of two receives that accept the send which the second has, the first has a send too
 abbrev pub NoReceiveOvertakes : List Post → (ℕ → Option ℕ) → Type 0
-NoReceiveOvertakes ps partner = (i j k : ℕ) (a b : Selection) (s : Sent) → i < j → ReceivesAt ps i a → TakesAt ps j b → SendsAt ps k s
+NoReceiveOvertakes ps partner = (i j k : ℕ) (a b : Selection) (s : Sent) → i < j → ReceivesAt ps i a → TakesAt ps j b
+    → SendsAt ps k s
     → accepts a s ≡ true → accepts b s ≡ true
     → partner j ≡ Some k → (r : ℕ) × (partner i ≡ Some r)
 
@@ -39,4 +41,5 @@ pub record OrderLaws : Type 0 where
   pub pairing : (ps : List Post) → IsPairing ps (partner_at (pairs ps))
   pub sends : (ps : List Post) → NoSendOvertakes ps (partner_at (pairs ps))
   pub receives : (ps : List Post) → NoReceiveOvertakes ps (partner_at (pairs ps))
-  pub stays : (ps qs : List Post) (i j : ℕ) → partner_at (pairs ps) i ≡ Some j → partner_at (pairs (ps ++ qs)) i ≡ Some j
+  pub stays : (ps qs : List Post) (i j : ℕ) → partner_at (pairs ps) i ≡ Some j
+      → partner_at (pairs (ps ++ qs)) i ≡ Some j

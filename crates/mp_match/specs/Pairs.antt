@@ -15,7 +15,8 @@ admits (Some y) x = x == y
 -- a receive accepts a message to its rank, in its communicator, of its source and its tag (3.2.4)
 abbrev pub accepts : Selection → Sent → Bool
 accepts a s =
-    (s.dest == a.rank) && (s.envelope.comm == a.comm) && admits a.source s.envelope.source && admits a.tag s.envelope.tag
+    (s.dest == a.rank) && (s.envelope.comm == a.comm) && admits a.source s.envelope.source
+    && admits a.tag s.envelope.tag
 
 -- whether a new post may have this earlier one as its partner: a claim takes a message that is there, and no later one
 abbrev pub may_pair : Post → Post → Bool
@@ -52,7 +53,8 @@ partners_told lines o = partners_set lines o (length lines)
 
 -- a new post, and its partner where there is one
 abbrev pub add : List Line → Post → List Line
-add lines new = partners_told lines (partner_for lines new) ++ record { post = new; partner = partner_for lines new } ∷ []
+add lines new =
+    partners_told lines (partner_for lines new) ++ record { post = new; partner = partner_for lines new } ∷ []
 
 abbrev pub pairs_on : List Line → List Post → List Line
 pairs_on lines [] = lines

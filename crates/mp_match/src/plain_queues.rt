@@ -159,7 +159,8 @@ impl Queues {
     // One post more, with its partner where there is one.
     fn add(&mut self, new: Post, body: Option<Bytes>) -> Result<Option<u64>, AllocError>
         requires { length self.old.lines < 2 ^ 64 - 1 }
-        ensures ok { IfOk result (λ partner. (partner ≡ partner_for self.old.lines new) × (self.new ≡ posted self.old new body)) }
+        ensures ok { IfOk result (λ partner.
+            (partner ≡ partner_for self.old.lines new) × (self.new ≡ posted self.old new body)) }
         ensures err { OnErr result (self.new ≡ self.old) }
     {
         let partner = self.partner_of_new(new);
@@ -209,7 +210,8 @@ impl Queues {
     /// Full where 65,536 messages are held, Memory where a list can't grow. Both leave all as it was.
     pub fn post_send(&mut self, sent: Sent, bytes: Bytes) -> Result<bool, PostFault>
         requires { length self.old.lines < 2 ^ 64 - 1 }
-        ensures done { IfOk result (λ done. done ≡ (not sent.sync || is_some (partner_for self.old.lines (Post.Send sent)))) }
+        ensures done { IfOk result (λ done.
+            done ≡ (not sent.sync || is_some (partner_for self.old.lines (Post.Send sent)))) }
         ensures posted { IfOk result (λ _. self.new ≡ send_posted self.old sent bytes) }
         ensures full { (result ≡ Err PostFault.Full) ↔ (65536 ≤ held_count self.old.bodies) }
         ensures err { OnErr result (self.new ≡ self.old) }

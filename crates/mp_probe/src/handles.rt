@@ -61,9 +61,13 @@ impl Claims {
         selection: Selection,
     ) -> Result<Option<(u64, Envelope)>, ClaimFault>
         requires { length queues.old.lines < 2 ^ 64 - 1 }
-        ensures held { IfOk result (λ held. held ≡ handle_if (next_number queues.old) (probed queues.old (post.Claim selection))) }
-        ensures posted { OnOk result (queues.new ≡ claimed_if queues.old selection (probed queues.old (post.Claim selection))) }
-        ensures waiting { OnOk result (self.new ≡ waiting_if self.old selection.rank (next_number queues.old) (probed queues.old (post.Claim selection))) }
+        ensures held { IfOk result (λ held.
+            held ≡ handle_if (next_number queues.old) (probed queues.old (post.Claim selection))) }
+        ensures posted { OnOk result
+            (queues.new ≡ claimed_if queues.old selection (probed queues.old (post.Claim selection))) }
+        ensures waiting { OnOk result
+            (self.new ≡ waiting_if self.old selection.rank (next_number queues.old)
+            (probed queues.old (post.Claim selection))) }
         ensures free { probed queues.old (post.Claim selection) ≡ None → IsOk result }
         ensures refusal { IfErr result (λ fault. fault ≡ ClaimFault.Memory) }
         ensures err { OnErr result (self.new ≡ self.old) }

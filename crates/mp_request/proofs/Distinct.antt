@@ -7,11 +7,13 @@ use Rattle.std.proofs.lemmas.Map.Views.{any-filter_same}
 use Rattle.mp_request.specs.Table.{is_distinct}
 
 -- what equals x passes the filter as x does
-found_alike : (p : ℕ → Bool) (x : ℕ) (xs : List ℕ) → p x ≡ true → list_any (λ y. y == x) (filter p xs) ≡ list_any (λ y. y == x) xs
+found_alike : (p : ℕ → Bool) (x : ℕ) (xs : List ℕ) → p x ≡ true
+    → list_any (λ y. y == x) (filter p xs) ≡ list_any (λ y. y == x) xs
 found_alike p x xs passes = any-filter_same (λ y. y == x) p true (λ k e. ap p (eqb-true k x e) ∙ passes) xs
 
 -- the first is left out, or stands nowhere behind: the rest decides
-distinct_behind : (p : ℕ → Bool) (x : ℕ) (xs : List ℕ) → (p x ≡ true → list_any (λ y. y == x) xs ≡ false) → is_distinct (filter p (x ∷ xs)) ≡ is_distinct (filter p xs)
+distinct_behind : (p : ℕ → Bool) (x : ℕ) (xs : List ℕ) → (p x ≡ true → list_any (λ y. y == x) xs ≡ false)
+    → is_distinct (filter p (x ∷ xs)) ≡ is_distinct (filter p xs)
 distinct_behind p x xs once = go (p x) refl
   where
     go : (b : Bool) → p x ≡ b → is_distinct (cond b (x ∷ filter p xs) (filter p xs)) ≡ is_distinct (filter p xs)
@@ -19,7 +21,8 @@ distinct_behind p x xs once = go (p x) refl
     go false is = refl
 
 -- the first passes and stands behind once more
-distinct_not : (p : ℕ → Bool) (x : ℕ) (xs : List ℕ) → p x ≡ true → list_any (λ y. y == x) xs ≡ true → is_distinct (filter p (x ∷ xs)) ≡ false
+distinct_not : (p : ℕ → Bool) (x : ℕ) (xs : List ℕ) → p x ≡ true → list_any (λ y. y == x) xs ≡ true
+    → is_distinct (filter p (x ∷ xs)) ≡ false
 distinct_not p x xs passes twice =
     ap (λ b. is_distinct (cond b (x ∷ filter p xs) (filter p xs))) passes
     ∙ ap (λ b. not b && is_distinct (filter p xs)) (found_alike p x xs passes ∙ twice)
@@ -28,10 +31,14 @@ distinct_not p x xs passes twice =
 drop_at : (xs : List ℕ) (i : ℕ) → i < length xs → drop i xs ≡ get_or xs i 0 ∷ drop (i + 1) xs
 drop_at xs i low = drop-cons xs i 0 low ∙ ap (λ k. get_or xs i 0 ∷ drop k xs) (sym (add-one i))
 
-pub distinct_behind_at : (p : ℕ → Bool) (xs : List ℕ) (i : ℕ) → i < length xs → (p (get_or xs i 0) ≡ true → list_any (λ y. y == get_or xs i 0) (drop (i + 1) xs) ≡ false) → is_distinct (filter p (drop i xs)) ≡ is_distinct (filter p (drop (i + 1) xs))
+pub distinct_behind_at : (p : ℕ → Bool) (xs : List ℕ) (i : ℕ) → i < length xs
+    → (p (get_or xs i 0) ≡ true → list_any (λ y. y == get_or xs i 0) (drop (i + 1) xs) ≡ false)
+    → is_distinct (filter p (drop i xs)) ≡ is_distinct (filter p (drop (i + 1) xs))
 distinct_behind_at p xs i low once =
     ap (λ l. is_distinct (filter p l)) (drop_at xs i low) ∙ distinct_behind p (get_or xs i 0) (drop (i + 1) xs) once
 
-pub distinct_not_at : (p : ℕ → Bool) (xs : List ℕ) (i : ℕ) → i < length xs → p (get_or xs i 0) ≡ true → list_any (λ y. y == get_or xs i 0) (drop (i + 1) xs) ≡ true → is_distinct (filter p (drop i xs)) ≡ false
+pub distinct_not_at : (p : ℕ → Bool) (xs : List ℕ) (i : ℕ) → i < length xs → p (get_or xs i 0) ≡ true
+    → list_any (λ y. y == get_or xs i 0) (drop (i + 1) xs) ≡ true → is_distinct (filter p (drop i xs)) ≡ false
 distinct_not_at p xs i low passes twice =
-    ap (λ l. is_distinct (filter p l)) (drop_at xs i low) ∙ distinct_not p (get_or xs i 0) (drop (i + 1) xs) passes twice
+    ap (λ l. is_distinct (filter p l)) (drop_at xs i low)
+    ∙ distinct_not p (get_or xs i 0) (drop (i + 1) xs) passes twice

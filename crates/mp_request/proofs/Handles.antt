@@ -22,12 +22,14 @@ IsSome-not_none None e = cc
 IsSome-not_none (Some x) e = refl
 
 -- handle slot + 1 names what stands at the slot
-pub request_at_slot : (table : Table) (handle slot : ℕ) → handle ≡ slot + 1 → request_at table handle ≡ get_or table slot None
+pub request_at_slot : (table : Table) (handle slot : ℕ) → handle ≡ slot + 1
+    → request_at table handle ≡ get_or table slot None
 request_at_slot table zero slot e = let wrong : ⊥ = omega arith in absurd wrong
 request_at_slot table (suc n) slot e = let same : n ≡ slot = omega arith in ap (λ k. get_or table k None) same
 
 -- what isn't a handle names nothing
-pub request_at_no_handle : (table : Table) (handle : ℕ) → length table ≡ 255 → (IsHandle handle → ⊥) → request_at table handle ≡ None
+pub request_at_no_handle : (table : Table) (handle : ℕ) → length table ≡ 255 → (IsHandle handle → ⊥)
+    → request_at table handle ≡ None
 request_at_no_handle table zero long never = refl
 request_at_no_handle table (suc n) long never =
     elim (cases_lt n 255) [
@@ -46,7 +48,8 @@ is_handle_open table (suc n) long some =
     ]
 
 -- the first slot with nothing is the lowest free handle's
-pub first_is_lowest : (table : Table) (slot : ℕ) → length table ≡ 255 → position is_none table ≡ Some slot → IsLowestFree table (slot + 1)
+pub first_is_lowest : (table : Table) (slot : ℕ) → length table ≡ 255 → position is_none table ≡ Some slot
+    → IsLowestFree table (slot + 1)
 first_is_lowest table slot long e =
     let found = position-Some is_none table slot None e in
     let free : IsNone (request_at table (slot + 1)) =
@@ -56,17 +59,21 @@ first_is_lowest table slot long e =
       lowest = above table slot found.2;
     }
   where
-    above : (table : Table) (slot : ℕ) → ((k : ℕ) → k < slot → is_none (get_or table k None) ≡ false) → (other : ℕ) → IsFree table other → slot + 1 ≤ other
+    above : (table : Table) (slot : ℕ) → ((k : ℕ) → k < slot → is_none (get_or table k None) ≡ false) → (other : ℕ)
+        → IsFree table other → slot + 1 ≤ other
     above table slot before zero free = let wrong : ⊥ = omega (arith, free.0.0) in absurd wrong
     above table slot before (suc n) free =
         elim (cases_lt n slot) [
-          | inl low ↦ let some = before n low in let none = IsNone-is_none _ free.1 in let wrong : ⊥ = cc in absurd wrong
+          | inl low ↦ let some = before n low in let none = IsNone-is_none _ free.1 in let wrong : ⊥ = cc in
+              absurd wrong
           | inr high ↦ omega arith
         ]
 
-pub position-None : {A : Type 0} (p : A → Bool) (xs : List A) (k : ℕ) (d : A) → position p xs ≡ None → k < length xs → p (get_or xs k d) ≡ false
+pub position-None : {A : Type 0} (p : A → Bool) (xs : List A) (k : ℕ) (d : A) → position p xs ≡ None → k < length xs
+    → p (get_or xs k d) ≡ false
 position-None p xs k d e low =
-    fails_before_first p xs k d (beyond (position_or_len p xs) (length xs) (nat_lt (position_or_len p xs) (length xs)) refl e low)
+    fails_before_first p xs k d
+    (beyond (position_or_len p xs) (length xs) (nat_lt (position_or_len p xs) (length xs)) refl e low)
   where
     beyond : (first n : ℕ) (b : Bool) → nat_lt first n ≡ b → cond b (Some first) None ≡ None → k < n → k < first
     beyond first n true is none low = cc
@@ -85,7 +92,8 @@ not_full table slot long e full =
     let none = lowest.free.1 in
     cc
 
-pub with_request_at : (table : Table) (handle : ℕ) (request : Option OpenRequest) → 1 ≤ handle → with_request table handle request ≡ set table (handle - 1) request
+pub with_request_at : (table : Table) (handle : ℕ) (request : Option OpenRequest) → 1 ≤ handle
+    → with_request table handle request ≡ set table (handle - 1) request
 with_request_at table zero request low = let wrong : ⊥ = omega arith in absurd wrong
 with_request_at table (suc n) request low =
     let same : n ≡ suc n - 1 = omega arith in ap (λ k. set table k request) same

@@ -10,9 +10,11 @@ use Rattle.mp_request.specs.Laws.{CompletionLaw, MapLaw}
 use Rattle.mp_request.specs.Table.{Table, completed, request_at, with_request}
 
 -- another number names what it did
-other_stays : (table : Table) (place : ℕ) (request : Option OpenRequest) (other : ℕ) → other ≢ suc place → request_at (with_request table (suc place) request) other ≡ request_at table other
+other_stays : (table : Table) (place : ℕ) (request : Option OpenRequest) (other : ℕ) → other ≢ suc place
+    → request_at (with_request table (suc place) request) other ≡ request_at table other
 other_stays table place request zero differs = refl
-other_stays table place request (suc k) differs = get_or-set_other table place k request None (λ same. differs (ap suc same))
+other_stays table place request (suc k) differs =
+    get_or-set_other table place k request None (λ same. differs (ap suc same))
 
 pub is_map : MapLaw
 is_map table zero request long handle = let wrong : ⊥ = omega (arith, handle.0) in absurd wrong
@@ -38,7 +40,8 @@ inactive r persistent = rw persistent
 pub completes : CompletionLaw
 completes table handle request long is_handle named =
     let changes = is_map table handle (option_and_then remainder (request_at table handle)) long is_handle in
-    let left : request_at (completed table handle) handle ≡ remainder request = changes.changed ∙ ap (option_and_then remainder) named in
+    let left : request_at (completed table handle) handle ≡ remainder request =
+    changes.changed ∙ ap (option_and_then remainder) named in
     record {
       ordinary = λ ordinary. (is_handle, ap is_some (left ∙ gone request ordinary));
       persistent = λ persistent. left ∙ inactive request persistent;

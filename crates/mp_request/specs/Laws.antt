@@ -20,7 +20,8 @@ MapLaw =
 -- handle names anything else
 pub record IsCompleted (old new : Table) (handle : ℕ) (request : OpenRequest) : Type 0 where
   pub ordinary : is_persistent request.state ≡ false → IsFree new handle
-  pub persistent : is_persistent request.state ≡ true → request_at new handle ≡ Some (record request { state = Inactive })
+  pub persistent : is_persistent request.state ≡ true
+      → request_at new handle ≡ Some (record request { state = Inactive })
   pub others : (other : ℕ) → other ≢ handle → request_at new other ≡ request_at old other
 
 abbrev pub CompletionLaw : Type 0

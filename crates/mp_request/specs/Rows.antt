@@ -78,7 +78,7 @@ CompletionRows =
     × (completed (started six 3 (OnPost 10)) 3 ≡ six)
     × (request_at (started six 6 InPhase) 6 ≡ Some (record { transfer = partitions; state = Active InPhase }))
 
--- one active request twice, a free handle, one above 255, and a partitioned request may not be tested together with others
+-- one active request twice, a free handle, one above 255, and a partitioned request may not be tested with others
 abbrev pub testable : List (List ℕ × Bool)
 testable =
     ([], true) ∷

@@ -14,4 +14,5 @@ returns c =
     let unmade : makes c.args.request.now (reply_of [] [] c.args.rank c.args.request.now) ≡ false =
     ap (λ (q : Request). makes q (reply_of [] [] c.args.rank q)) c.requires.all in
     exact c.answer.result (reply.Code BadRequest) (c.answer.ensures.spared [] [] c.requires.new unmade)
-    (subst (λ (q : Request). IfOk c.answer.result (λ (r : Reply). r ≡ reply_of [] [] c.args.rank q)) c.requires.all (c.answer.ensures.reply [] [] c.requires.new))
+    (subst (λ (q : Request). IfOk c.answer.result (λ (r : Reply). r ≡ reply_of [] [] c.args.rank q)) c.requires.all
+    (c.answer.ensures.reply [] [] c.requires.new))

@@ -5,4 +5,5 @@ use Rattle.messages_tests.proofs.Exact.{exact}
 use Rattle.messages_tests.proofs.hub.unknown_post_collected.Goals as goal
 
 pub returns : goal.returns
-returns c = exact c.answer.result (reply.Code BadRequest) (c.answer.ensures.spared [] [] c.requires refl) (c.answer.ensures.reply [] [] c.requires)
+returns c = exact c.answer.result (reply.Code BadRequest) (c.answer.ensures.spared [] [] c.requires refl)
+    (c.answer.ensures.reply [] [] c.requires)

@@ -5,7 +5,8 @@ use Rattle.mp_types.specs.declared.replies.Reply.TheVariants as reply
 use Rattle.mp_hub.specs.declared.state.CallFault.{CallFault}
 use Rattle.messages_tests.proofs.memory.unknown_post_told_twice.Goals as goal
 
-exact_twice : (told : Result (Reply × Reply) CallFault) (both : Reply × Reply) → IsOk told → IfOk told (λ r. r ≡ both) → told ≡ Ok both
+exact_twice : (told : Result (Reply × Reply) CallFault) (both : Reply × Reply) → IsOk told → IfOk told (λ r. r ≡ both)
+    → told ≡ Ok both
 exact_twice (Ok r) both answered same = ap (λ (x : Reply × Reply). Ok x) same
 exact_twice (Err fault) both answered same = absurd (cc)
 

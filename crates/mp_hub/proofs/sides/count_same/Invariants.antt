@@ -5,7 +5,8 @@ use Rattle.mp_hub.proofs.sides.count_same.Given as goal
 
 abbrev pub invariant-loop-side : goal.invariant-loop-side
 invariant-loop-side l =
-    (l.count + length (filter (is_same_side l.new) l.rest) ≡ length (filter (is_same_side l.new) l.sides)) × (l.count + length l.rest ≤ length l.sides)
+    (l.count + length (filter (is_same_side l.new) l.rest) ≡ length (filter (is_same_side l.new) l.sides))
+    × (l.count + length l.rest ≤ length l.sides)
 
 abbrev pub decreases-loop-side : goal.decreases-loop-side
 decreases-loop-side l = length l.rest

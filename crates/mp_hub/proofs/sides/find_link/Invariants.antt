@@ -7,7 +7,8 @@ use Rattle.mp_hub.proofs.sides.find_link.Given as goal
 -- the first fitting link is that of the links from this number on
 abbrev pub invariant-loop-link : goal.invariant-loop-link
 invariant-loop-link l = record {
-  same : find (is_for l.sides l.new) (enumerate_from 0 l.links) ≡ find (is_for l.sides l.new) (enumerate_from l.number l.rest);
+  same : find (is_for l.sides l.new) (enumerate_from 0 l.links)
+      ≡ find (is_for l.sides l.new) (enumerate_from l.number l.rest);
   place : l.number + length l.rest ≡ length l.links;
 }
 

@@ -5,7 +5,8 @@ use Rattle.mp_hub.proofs.state.gather.Given as goal
 
 abbrev pub invariant-loop-post : goal.invariant-loop-post
 invariant-loop-post l = record {
-  gots : l.initial.gots.items ++ (all_got l.rank l.initial.queues l.posts).0 ≡ l.gots.items ++ (all_got l.rank l.queues l.rest).0;
+  gots : l.initial.gots.items ++ (all_got l.rank l.initial.queues l.posts).0 ≡ l.gots.items
+      ++ (all_got l.rank l.queues l.rest).0;
   after : (all_got l.rank l.initial.queues l.posts).1 ≡ (all_got l.rank l.queues l.rest).1;
   room : vec_len l.gots + length l.rest ≤ vec_capacity l.gots;
 }

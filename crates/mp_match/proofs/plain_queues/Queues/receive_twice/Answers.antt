@@ -9,13 +9,16 @@ pub returns-clause-messages : goal.returns-clause-messages
 returns-clause-messages c =
     let b = c.args.self.now in
     let found = c.partner_of_new-partner.ensures in
-    let g = new_collected b c.args.selection c.add_to.new.self c.partner_of_new-partner.result c.in_ok-add_to.ensures.ok found in
+    let g = new_collected b c.args.selection c.add_to.new.self c.partner_of_new-partner.result c.in_ok-add_to.ensures.ok
+    found in
     let message = c.collect_from.ensures.message ∙ ap (λ (x : Option Message × Board). x.0) g in
     let copy = c.in_ok-copy.ensures.copy ∙ copied b c.args.selection c.partner_of_new-partner.result found
-    ∙ ap (λ (x : Option Message × Board). x.0) (new_collected b c.args.selection _ c.partner_of_new-partner.result refl found) in
+    ∙ ap (λ (x : Option Message × Board). x.0)
+    (new_collected b c.args.selection _ c.partner_of_new-partner.result refl found) in
     λ i. (message i, copy i)
 
 pub returns-clause-after : goal.returns-clause-after
 returns-clause-after c =
-    let g = new_collected c.args.self.now c.args.selection c.add_to.new.self c.partner_of_new-partner.result c.in_ok-add_to.ensures.ok c.partner_of_new-partner.ensures in
+    let g = new_collected c.args.self.now c.args.selection c.add_to.new.self c.partner_of_new-partner.result
+    c.in_ok-add_to.ensures.ok c.partner_of_new-partner.ensures in
     c.collect_from.ensures.after ∙ ap (λ (x : Option Message × Board). x.1) g

@@ -5,5 +5,6 @@ use Rattle.mp_probe.proofs.handles.Claims.receive_claimed.Goals as goal
 
 pub returns-clause-ok : goal.returns-clause-ok
 returns-clause-ok c =
-    filter_same _ (λ w. not (is_claim c.args.rank c.args.message w)) _ (λ x b f r. search rules) _ _ c.retain.ensures.filtered
+    filter_same _ (λ w. not (is_claim c.args.rank c.args.message w)) _
+    (λ x b f r. search rules) _ _ c.retain.ensures.filtered
     ∙ ap (λ ws. received ws c.args.rank c.args.message) c.self.view_is

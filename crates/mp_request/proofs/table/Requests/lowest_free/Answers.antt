@@ -10,5 +10,7 @@ pub returns-clause-lowest : goal.returns-clause-lowest
 returns-clause-lowest c = first_is_lowest _ _ c.free_slot.ensures.length (sym c.in_ok-slot.ensures.first)
 
 pub returns-clause-full : goal.returns-clause-full
-returns-clause-full c =
-    (λ none. absurd (cc), λ full. absurd (not_full _ _ c.free_slot.ensures.length (sym c.in_ok-slot.ensures.first) full))
+returns-clause-full c = (
+  λ none. absurd (cc),
+  λ full. absurd (not_full _ _ c.free_slot.ensures.length (sym c.in_ok-slot.ensures.first) full),
+)

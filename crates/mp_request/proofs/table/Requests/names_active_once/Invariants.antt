@@ -7,4 +7,5 @@ use Rattle.mp_request.proofs.table.Requests.names_active_once.Given as goal
 -- the handles up to here don't matter
 abbrev pub invariant-loop-place : goal.invariant-loop-place
 invariant-loop-place l =
-    is_distinct (filter (has is_active l.self) l.handles) ≡ is_distinct (filter (has is_active l.self) (drop l.place l.handles))
+    is_distinct (filter (has is_active l.self) l.handles)
+    ≡ is_distinct (filter (has is_active l.self) (drop l.place l.handles))
