@@ -15,9 +15,9 @@ use Rattle.mp_match.specs.declared.posts.Post.{Post}
 use Rattle.mp_match.specs.declared.posts.Post.TheVariants as post
 use Rattle.mp_match.specs.Board.{Board, collect, posted, receive_posted, send_posted, held_count, probed, is_send_of, line_of, envelope_in}
 use Rattle.mp_probe.specs.Claims.{next_number, may_receive, received}
-use Rattle.mp_hub.specs.declared.sides.Setup.{Setup}
-use Rattle.mp_hub.specs.declared.sides.Side.{Side}
-use Rattle.mp_hub.specs.Inits.{peer_of, lowest_link, same_total, sender_over, is_receiver}
+use Rattle.mp_transfers.specs.declared.sides.Setup.{Setup}
+use Rattle.mp_transfers.specs.declared.sides.Side.{Side}
+use Rattle.mp_transfers.specs.Inits.{peer_of, lowest_link, same_total, sender_over, is_receiver}
 use Rattle.mp_hub.specs.Hub.{HubView, outcome, message_or, got_or, claim_found, claimed_now, is_complete, may_collect, init_with, init_first, cut_of, setup_of, side_added, all_got, all_collected, are_distinct, is_known, is_ready, sending, selecting, with_board, with_claims, is_done, seen}
 use Rattle.mp_hub.specs.Laws.{collecting, most_messages}
 use Rattle.mp_hub.specs.Made.{IsFullFor}

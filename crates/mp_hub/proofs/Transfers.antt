@@ -14,9 +14,9 @@ use Rattle.mp_types.specs.declared.requests.Request.TheVariants.{Send, Recv, Col
 use Rattle.mp_match.specs.Board.{collect, send_posted, held_count, is_send_of, line_of}
 use Rattle.mp_match.proofs.Places.{get_snoc}
 use Rattle.mp_probe.specs.Claims.{next_number, may_receive, received}
-use Rattle.mp_hub.specs.declared.sides.Setup.{Setup}
-use Rattle.mp_hub.specs.declared.sides.Side.{Side}
-use Rattle.mp_hub.specs.Inits.{peer_of, is_same_side, is_other_side, is_reserved, is_for, lowest_link, same_total, is_sender_over, sender_over, is_to, is_receiver}
+use Rattle.mp_transfers.specs.declared.sides.Setup.{Setup}
+use Rattle.mp_transfers.specs.declared.sides.Side.{Side}
+use Rattle.mp_transfers.specs.Inits.{peer_of, is_same_side, is_other_side, is_reserved, is_for, lowest_link, same_total, is_sender_over, sender_over, is_to, is_receiver}
 use Rattle.mp_hub.specs.Hub.{HubView, Call, outcome, got_or, claimed_now, is_complete, may_collect, init_with, init_first, cut_of, setup_of, side_added, all_got, all_collected, are_distinct, is_known, is_ready, sending, with_board, with_claims, is_done, hub_on, hub_after, reply_of, started}
 use Rattle.mp_hub.specs.Transfers.{begun, begun_behind, begun_after, Transfer, is_of, sides_of, ArePairs, HaveOwnLinks, PairsLaw, ReceivesOver, SenderBegan, NoSenderBegan, CutLaw}
 use Rattle.mp_hub.proofs.CallsSoFar.{hub_on-snoc}

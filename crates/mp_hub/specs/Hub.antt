@@ -17,9 +17,9 @@ use Rattle.mp_match.specs.Pairs.{partner_for}
 use Rattle.mp_match.specs.Board.{Board, no_posts, held_count, send_posted, receive_posted, claimed_if, line_of, partner_of, claim_of, is_send_of, is_receive_of, is_finished, is_collected, probed, collect}
 use Rattle.mp_probe.specs.declared.handles.Waiting.{Waiting}
 use Rattle.mp_probe.specs.Claims.{next_number, may_receive, is_waiting, received, waiting_if, handle_if}
-use Rattle.mp_hub.specs.declared.sides.Setup.{Setup}
-use Rattle.mp_hub.specs.declared.sides.Side.{Side}
-use Rattle.mp_hub.specs.Inits.{peer_of, lowest_link, same_total, sender_over, is_receiver}
+use Rattle.mp_transfers.specs.declared.sides.Setup.{Setup}
+use Rattle.mp_transfers.specs.declared.sides.Side.{Side}
+use Rattle.mp_transfers.specs.Inits.{peer_of, lowest_link, same_total, sender_over, is_receiver}
 
 -- the image's links, the posts, the claimed messages that weren't received, the initialisations that weren't refused
 pub record HubView : Type 0 where

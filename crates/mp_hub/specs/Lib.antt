@@ -1,4 +1,3 @@
-pub mod Inits
 pub mod Hub
 pub mod Laws
 pub mod Made

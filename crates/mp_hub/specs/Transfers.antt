@@ -6,7 +6,7 @@ use Rattle.mp_types.specs.declared.requests.Request.{Request}
 use Rattle.mp_types.specs.declared.requests.Request.TheVariants as request
 use Rattle.mp_types.specs.declared.replies.Reply.{Reply}
 use Rattle.mp_types.specs.declared.replies.Reply.TheVariants.{Code, NotYet, Link as OnLink, Cut}
-use Rattle.mp_hub.specs.declared.sides.Side.{Side}
+use Rattle.mp_transfers.specs.declared.sides.Side.{Side}
 use Rattle.mp_hub.specs.Hub.{Call, reply_of, setup_of}
 
 -- the side that a call began: an initialisation that was answered with a link

@@ -2,8 +2,6 @@
 #![tactic(auto)]
 
 pub mod laws;
-mod sides;
 mod state;
 
-pub use sides::{Setup, Side};
 pub use state::{CallFault, HubState};

@@ -2,8 +2,8 @@
 use Rattle.std.specs.Prelude.{ℕ, ◌*◌, ◌==◌, ◌&&◌, not, Bool, false, cond, List, length, filter, find, Option, Some, None, option_map}
 use Rattle.std.specs.List.{slice_get, list_any, enumerate_from}
 use Rattle.rv_image.specs.declared.images.Link.{Link}
-use Rattle.mp_hub.specs.declared.sides.Setup.{Setup}
-use Rattle.mp_hub.specs.declared.sides.Side.{Side}
+use Rattle.mp_transfers.specs.declared.sides.Setup.{Setup}
+use Rattle.mp_transfers.specs.declared.sides.Side.{Side}
 
 -- the same communicator, source, destination and tag
 abbrev pub same_transfer : Setup → Setup → Bool

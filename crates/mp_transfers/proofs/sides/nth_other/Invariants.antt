@@ -1,7 +1,7 @@
 use Rattle.std.proofs.Common.{◌≡◌, length, slice_get}
 use Rattle.std.specs.List.{filter}
-use Rattle.mp_hub.specs.Inits.{is_other_side}
-use Rattle.mp_hub.proofs.sides.nth_other.Given as goal
+use Rattle.mp_transfers.specs.Inits.{is_other_side}
+use Rattle.mp_transfers.proofs.sides.nth_other.Given as goal
 
 abbrev pub invariant-loop-side : goal.invariant-loop-side
 invariant-loop-side l =

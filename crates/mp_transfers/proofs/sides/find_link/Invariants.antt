@@ -1,8 +1,8 @@
 use Rattle.std.proofs.Common.{◌≡◌, ◌+◌, length}
 use Rattle.std.specs.Prelude.{find}
 use Rattle.std.specs.List.{enumerate_from}
-use Rattle.mp_hub.specs.Inits.{is_for}
-use Rattle.mp_hub.proofs.sides.find_link.Given as goal
+use Rattle.mp_transfers.specs.Inits.{is_for}
+use Rattle.mp_transfers.proofs.sides.find_link.Given as goal
 
 -- the first fitting link is that of the links from this number on
 abbrev pub invariant-loop-link : goal.invariant-loop-link

@@ -1,7 +1,7 @@
-//! Initialisations of partitioned transfers: which are a pair, which link they have, and how they cut their bytes.
+//! The sides of partitioned transfers, as ranks initialise them.
 
 ghost use Rattle.std.specs.Prelude.{◌≡◌, ◌==◌, ◌≤◌, ◌+◌, length, filter, slice_get};
-ghost use Rattle.mp_hub.specs.Inits.{is_for, is_other_side, is_receiver, is_reserved, is_same_side, lowest_link, peer_of, same_total, same_transfer, sender_over, total_bytes};
+ghost use Rattle.mp_transfers.specs.Inits.{is_for, is_other_side, is_receiver, is_reserved, is_same_side, lowest_link, peer_of, same_total, same_transfer, sender_over, total_bytes};
 
 use rv_image::Link;
 
@@ -10,19 +10,23 @@ use rv_image::Link;
 pub struct Setup {
     /// Whether it is the sender's side.
     pub sending: bool,
+    /// The communicator's number, from 0 to 7.
     pub comm: u8,
+    /// The sender's and the receiver's rank in the cluster.
     pub from: u8,
     pub to: u8,
+    /// From 0 to 32,767.
     pub tag: u16,
     /// The number of partitions, and the bytes of each.
     pub parts: u8,
     pub size: u8,
 }
 
-/// A side that was initialised, with the number of its link.
+/// A side that was initialised.
 #[derive(Clone, Copy, PartialEq, Eq, Debug)]
 pub struct Side {
     pub setup: Setup,
+    /// The number of its link in the image.
     pub link: u8,
 }
 
@@ -61,6 +65,7 @@ fn total(setup: Setup) -> u32
     u32::from(setup.parts) * u32::from(setup.size)
 }
 
+/// Whether the two sides have as many bytes in all, however each cuts them.
 pub fn has_same_total(new: Setup, peer: Setup) -> bool
     ensures { result ≡ same_total new peer }
 {
