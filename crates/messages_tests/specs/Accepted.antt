@@ -1,5 +1,5 @@
 -- Which messages a receive, a probe or a claim accepts (MPI 4.1, chapter 3.2.4).
-use Rattle.std.specs.Prelude.{ℕ, ◌≡◌, ◌≢◌, true, false, Some}
+use Rattle.std.specs.Prelude.{ℕ, ◌≡◌, ◌≢◌, false, Some}
 use Rattle.mp_match.specs.declared.posts.Sent.{Sent}
 use Rattle.mp_match.specs.declared.posts.Selection.{Selection}
 use Rattle.mp_match.specs.Pairs.{accepts}

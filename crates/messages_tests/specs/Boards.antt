@@ -1,5 +1,5 @@
 -- Boards of one message: rank 0 sends rank 1 the byte 120 in communicator 0, with tag 7, and waits for its receive.
-use Rattle.std.specs.Prelude.{ℕ, true, [], ◌∷◌, Option, None}
+use Rattle.std.specs.Prelude.{true, [], ◌∷◌, None}
 use Rattle.mp_types.specs.declared.messages.Envelope.{Envelope}
 use Rattle.mp_types.specs.declared.messages.Message.{Message}
 use Rattle.mp_match.specs.declared.posts.Sent.{Sent}

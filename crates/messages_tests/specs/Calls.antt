@@ -1,9 +1,6 @@
 -- Worked calls beside those of the hub's own laws, and journals with given clocks.
-use Rattle.std.specs.Prelude.{ℕ, ◌≡◌, ◌<◌, ◌≤◌, ◌^◌, true, false, List, [], ◌∷◌, Option, Some, None}
-use Rattle.rv_image.specs.declared.images.Link.{Link}
-use Rattle.mp_types.specs.declared.messages.Envelope.{Envelope}
+use Rattle.std.specs.Prelude.{ℕ, ◌≡◌, true, false, [], ◌∷◌, Option, Some, None}
 use Rattle.mp_types.specs.declared.requests.Request.TheVariants as request
-use Rattle.mp_types.specs.declared.replies.Reply.{Reply}
 use Rattle.mp_types.specs.declared.replies.Reply.TheVariants.{Posted, NotYet, Seen, Link as OnLink}
 use Rattle.mp_hub.specs.Hub.{Call}
 use Rattle.mp_hub.specs.Rows.{replies, sends, sending_side, receiving_side, two_links, envelope}
