@@ -158,3 +158,18 @@ pub settles : (width : ℕ) (t : State Unit View) (id : ℕ) (v w : View) → Is
 settles width t id v w h at is sends receives =
     let both = h.seated id w (at ∙ ap some is) in
     subst (λ (x : Sending × Receiving). GateRule width t.words x.0 x.1) (λ i. (sym (both.sends sends).1 i, sym (both.receives receives).1 i)) h.rule
+
+-- Both keys in one seat may load the last data word, whose number is the width: the gate rule is of what they know, and nothing is new
+pub agrees : (width slots id : ℕ) (me : Me Unit View) (i : ℕ) → me.0.sends ≡ true → me.0.receives ≡ true → width ≡ i
+    → Allows (IsGated width) slots id me i (λ n. n)
+    (λ _ after. (after ≡ me) × (words : List ℕ) × GateRule i words me.0.sending me.0.receiving)
+agrees width slots id me i sends receives last t h long here fits =
+    let v = me.0 in
+    let words = set t.words i (slice_index t.words i) in
+    let rule = settles width t id v v h here refl sends receives in (
+      v,
+      keeps,
+      tt,
+      sender_keeps width t h id v here sends words v.sending (same width t.words i v.sending h.receiving),
+      (refl, t.words, subst (λ n. GateRule n t.words v.sending v.receiving) last rule),
+    )

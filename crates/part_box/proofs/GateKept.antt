@@ -23,14 +23,14 @@ contents_full words odd = ap (λ (b : Bool). if b then thing_in words ∷ [] els
 
 module _ (width : ℕ) (words : List ℕ) (s : Sending) (r : Receiving) (g : GateRule width words s r) where
   -- at an even gate all that was made was got
-  all_got : IsEmptyGate (gate_of words) → s.made ≡ things_of r.got
+  pub all_got : IsEmptyGate (gate_of words) → s.made ≡ things_of r.got
   all_got even = g.made ∙ (ap (λ l. things_of r.got ++ l) (contents_empty words even) ∙ append-nil (things_of r.got))
 
   -- at an odd gate one thing was made that wasn't got
-  one_more : IsFullGate (gate_of words) → s.made ≡ things_of r.got ++ thing_in words ∷ []
+  pub one_more : IsFullGate (gate_of words) → s.made ≡ things_of r.got ++ thing_in words ∷ []
   one_more odd = g.made ∙ ap (λ l. things_of r.got ++ l) (contents_full words odd)
 
-  count_same : IsEmptyGate (gate_of words) → length s.made ≡ length r.got
+  pub count_same : IsEmptyGate (gate_of words) → length s.made ≡ length r.got
   count_same even = ap length (all_got even) ∙ length-map r.got thing_of
 
 -- a gate is even or odd
@@ -54,11 +54,18 @@ some_same : (a b : ℕ) → Some a ≡ Some b → a ≡ b
 some_same a b e = cc
 
 -- what a look shows is the gate's stamp, and the gate is odd
-ready_shown : (n k : ℕ) → ready_stamp n ≡ Some k → IsFullGate n × (k ≡ stamp_of n)
+pub ready_shown : (n k : ℕ) → ready_stamp n ≡ Some k → IsFullGate n × (k ≡ stamp_of n)
 ready_shown n k e = ⊎_elim
     (λ (none : ready_stamp n ≡ None). absurd (cc))
     (λ (some : IsFullGate n × (ready_stamp n ≡ Some (stamp_of n))). (some.0, some_same k (stamp_of n) (sym e ∙ some.1)))
     (ready_cases n)
+
+-- the same of a take: the gate is even
+pub taken_shown : (n k : ℕ) → taken_stamp n ≡ Some k → IsEmptyGate n × (k ≡ stamp_of n)
+taken_shown n k e = ⊎_elim
+    (λ (none : taken_stamp n ≡ None). absurd (cc))
+    (λ (some : IsEmptyGate n × (taken_stamp n ≡ Some (stamp_of n))). (some.0, some_same k (stamp_of n) (sym e ∙ some.1)))
+    (taken_cases n)
 
 -- The steps
 

@@ -4,3 +4,4 @@ pub mod GateKept
 pub mod Allowed
 pub mod Leaves
 pub mod Owned
+pub mod Agreed

@@ -1,14 +1,17 @@
 //! The box, its six calls, and what it is left with.
-ghost use Rattle.std.specs.Prelude.{◌≡◌, ◌⊎◌, ℕ, ◌+◌, ◌-◌, ◌*◌, ◌^◌, ◌<◌, ◌≤◌, true, length, slice_index, IfOk, IfSome, IsSome, IsTrue, Some, None};
+ghost use Rattle.std.specs.Prelude.{◌≡◌, ◌⊎◌, ℕ, ◌+◌, ◌-◌, ◌*◌, ◌^◌, ◌<◌, ◌≤◌, List, length, IfOk, IfSome, IsSome};
+ghost use Rattle.std.specs.Prelude.{IsTrue, Some, None};
 ghost use Rattle.std.specs.Slots.{slots_items, slots_len, IsFull};
 ghost use Rattle.part_box.specs.Fields.{IsBox};
 ghost use Rattle.part_box.specs.Gate.{ready_stamp, taken_stamp};
-ghost use Rattle.part_box.specs.Keys.{Place, new_sender, new_receiver, after_fill, after_ready, after_freed, after_look, after_copy, after_empty};
+ghost use Rattle.part_box.specs.Keys.{Place, new_sender, new_receiver, after_fill, after_ready, after_freed};
+ghost use Rattle.part_box.specs.Keys.{after_look, after_copy, after_empty};
+ghost use Rattle.part_box.specs.Rule.{GateRule};
 ghost use Rattle.part_box.specs.Settling.{IsSettled, IsDataOf, Spells};
 
 use crate::gate::{ready_in, taken_in};
 use crate::keys::{RecvKey, SendKey};
-use crate::rule::{BothKeys, Copy, Empty, Fill, Freed, Gated, Look, Ready};
+use crate::rule::{Agree, BothKeys, Copy, Empty, Fill, Freed, Gated, Look, Ready};
 use crate::settled::Settled;
 use crate::view::View;
 use atomic_table::{Closed, Table};
@@ -159,6 +162,27 @@ impl PartBox {
             .shared
             .store::<Empty>(&mut key.seat, 0, 2 * stamp);
         key.copied = 0;
+    }
+
+    /// What both keys know of each other: the gate rule holds of them, and of the words that are there.
+    ///
+    /// It is for who holds both keys, as the driver of all ranks on one thread does between two turns: `look` and
+    /// `freed` tell what a gate word showed, and this tells what that means. Nothing is changed; it costs four loads.
+    ///
+    /// Both keys are this box's.
+    pub fn agree(&self, send: &mut SendKey, recv: &mut RecvKey)
+        requires sender { send.old.at ≡ self.now.at }
+        requires receiver { recv.old.at ≡ self.now.at }
+        ensures sender { send.new ≡ send.old }
+        ensures receiver { recv.new ≡ recv.old }
+        ensures agreed { (words : List ℕ) × GateRule self.now.width words send.old.view recv.old.view }
+    {
+        // The receiver's part is cut off its seat, joins the sender's seat for one load, and is cut off that again.
+        let shared = &self.table.shared;
+        let part = shared.split_seat::<BothKeys>(&mut recv.seat);
+        shared.join_seat::<BothKeys>(&mut send.seat, part);
+        shared.load::<Agree>(&mut send.seat, self.width);
+        recv.seat = shared.split_seat::<BothKeys>(&mut send.seat);
     }
 
     /// What lies in the box at the end.

@@ -1,8 +1,10 @@
 //! The gate rule over the words of a box, and what each kind of step on them tells its key.
-ghost use Rattle.std.specs.Prelude.{◌≡◌};
+ghost use Rattle.std.specs.Prelude.{◌≡◌, ℕ, List};
 ghost use Rattle.part_box.specs.Gate.{stamp_of};
-ghost use Rattle.part_box.specs.Rule.{IsGated};
-ghost use Rattle.part_box.specs.Steps.{first_view, sender_part, receiver_part, joined_view, spent_view, with_sending, with_receiving, with_word, with_made, with_freed, with_look, with_copy, with_got};
+ghost use Rattle.part_box.specs.Rule.{GateRule, IsGated};
+ghost use Rattle.part_box.specs.Steps.{first_view, sender_part, receiver_part, joined_view, spent_view};
+ghost use Rattle.part_box.specs.Steps.{with_sending, with_receiving, with_word, with_made, with_freed, with_look};
+ghost use Rattle.part_box.specs.Steps.{with_copy, with_got};
 
 use crate::view::View;
 use atomic_table::{Join, Play, Split, TableRule};
@@ -16,7 +18,7 @@ impl TableRule<(), View, usize> for Gated {
     ghost first = { λ _. first_view };
 }
 
-/// Both keys in one seat: at first, and again once the box is settled.
+/// Both keys in one seat: at first, while they agree, and again once the box is settled.
 pub(crate) struct BothKeys;
 
 impl Split<View> for BothKeys {
@@ -71,4 +73,12 @@ pub(crate) struct Empty;
 
 impl Play<(), View> for Empty {
     ghost then = { λ _ was word is. is ≡ (with_receiving was.0 (with_got was.0.receiving (stamp_of word)), was.1) };
+}
+
+/// Both keys load the last data word, whose number is the width: the gate rule holds of what they know.
+pub(crate) struct Agree;
+
+impl Play<(), View> for Agree {
+    ghost then = { λ step was _ is. (is ≡ was)
+        × (words : List ℕ) × GateRule step.word words was.0.sending was.0.receiving };
 }
