@@ -13,17 +13,11 @@ use Rattle.part_box.specs.declared.view.Loaded.{Loaded}
 use Rattle.part_box.specs.declared.view.Sending.{Sending}
 use Rattle.part_box.specs.declared.view.Receiving.{Receiving}
 use Rattle.part_box.specs.Gate.{stamp_of, IsEmptyGate, IsFullGate, ready_stamp, taken_stamp, thing_of, things_of}
-use Rattle.part_box.specs.Gate.{last_take, ShowsTake, ShowsMade}
+use Rattle.part_box.specs.Gate.{last_ready, last_take, ShowsTake, ShowsMade}
 use Rattle.part_box.specs.Steps.{with_freed, with_look}
 use Rattle.part_box.specs.Rule.{gate_of, thing_in, contents_of, GateRule}
 use Rattle.part_box.proofs.Lists.{get_front, last_take-at}
 use Rattle.part_box.proofs.GateKept.{parity, all_got, one_more, count_same, ready_shown, taken_shown}
-
--- the stamp of the last thing that was made ready, 0 at first
-abbrev pub last_ready : List Made → ℕ
-last_ready [] = 0
-last_ready (m ∷ []) = m.stamp
-last_ready (m ∷ n ∷ made) = last_ready (n ∷ made)
 
 last_ready-push : (made : List Made) (m : Made) → last_ready (made ++ m ∷ []) ≡ m.stamp
 last_ready-push [] m = refl
@@ -46,7 +40,8 @@ module _ (width : ℕ) (words : List ℕ) (s : Sending) (r : Receiving) (g : Gat
 
   -- as many were made as were got, or one more
   pub made_is : (length s.made ≡ length r.got) ⊎ (length s.made ≡ length r.got + 1)
-  made_is = ⊎_elim (λ even. inl (count_same width words s r g even)) (λ odd. inr (count_more odd)) (parity (gate_of words))
+  made_is =
+      ⊎_elim (λ even. inl (count_same width words s r g even)) (λ odd. inr (count_more odd)) (parity (gate_of words))
 
   -- what was got is the beginning of what was made
   pub got_is_first : take (length r.got) s.made ≡ things_of r.got
@@ -59,16 +54,19 @@ module _ (width : ℕ) (words : List ℕ) (s : Sending) (r : Receiving) (g : Gat
   pub got_is_made : (k : ℕ) (x : Got) → slice_get r.got k ≡ Some x → slice_get s.made k ≡ Some (thing_of x)
   got_is_made k x at =
       ap (λ l. slice_get l k) g.made
-      ∙ get_front (things_of r.got) (contents_of words) k (thing_of x) (slice_get-map thing_of r.got k ∙ ap (option_map thing_of) at)
+      ∙ get_front (things_of r.got) (contents_of words) k (thing_of x)
+      (slice_get-map thing_of r.got k ∙ ap (option_map thing_of) at)
 
   -- The gate, by the two counts
 
   pub gate_is_empty : length s.made ≡ length r.got → IsEmptyGate (gate_of words)
-  gate_is_empty same = ⊎_elim (λ even. even) (λ odd. let more = count_more odd in absurd (omega arith)) (parity (gate_of words))
+  gate_is_empty same =
+      ⊎_elim (λ even. even) (λ odd. let more = count_more odd in absurd (omega arith)) (parity (gate_of words))
 
   pub gate_is_full : length s.made ≡ length r.got + 1 → IsFullGate (gate_of words)
   gate_is_full more =
-      ⊎_elim (λ even. let same = count_same width words s r g even in absurd (omega arith)) (λ odd. odd) (parity (gate_of words))
+      ⊎_elim (λ even. let same = count_same width words s r g even in absurd (omega arith)) (λ odd. odd)
+      (parity (gate_of words))
 
   -- where all was got
   pub all_is_got : length s.made ≡ length r.got → s.made ≡ things_of r.got
@@ -79,11 +77,13 @@ module _ (width : ℕ) (words : List ℕ) (s : Sending) (r : Receiving) (g : Gat
   one_is_left more = one_more width words s r g (gate_is_full more)
 
   -- the gate's stamp is that of the last take, and while a thing lies in the box that thing's
-  pub stamp_is : stamp_of (gate_of words) ≡ (if length s.made == length r.got then last_take r.got else last_ready s.made)
+  pub stamp_is : stamp_of (gate_of words)
+      ≡ (if length s.made == length r.got then last_take r.got else last_ready s.made)
   stamp_is =
       let chosen = λ (b : Bool). if b then last_take r.got else last_ready s.made in
       ⊎_elim
-      (λ (same : length s.made ≡ length r.got). g.empty (gate_is_empty same) ∙ ap chosen (sym (eq-eqb (length s.made) (length r.got) same)))
+      (λ (same : length s.made ≡ length r.got). g.empty (gate_is_empty same)
+      ∙ ap chosen (sym (eq-eqb (length s.made) (length r.got) same)))
       (λ (more : length s.made ≡ length r.got + 1).
       sym (ap last_ready (one_is_left more) ∙ last_ready-push (things_of r.got) (thing_in words))
       ∙ ap chosen (sym (ne_eqb (length s.made) (length r.got) (λ e. omega arith))))
@@ -100,13 +100,15 @@ module _ (width : ℕ) (words : List ℕ) (s : Sending) (r : Receiving) (g : Gat
   pub seen_is_full : (t : ℕ) → r.seen ≡ Some t → (length s.made ≡ length r.got + 1) × (t ≡ last_ready s.made)
   seen_is_full t seen =
       let receiver = g.seeing_receiver t seen in
-      let stamp = ap last_ready (one_more width words s r g receiver.0) ∙ last_ready-push (things_of r.got) (thing_in words) in
+      let stamp =
+      ap last_ready (one_more width words s r g receiver.0) ∙ last_ready-push (things_of r.got) (thing_in words) in
       (count_more receiver.0, receiver.1 ∙ sym stamp)
 
   -- What a load showed
 
   -- a take that the sender saw with k + 1 things made is take k
-  pub take_shown : (i k t : ℕ) (l : Loaded) → slice_get s.loads i ≡ Some l → l.count ≡ k + 1 → taken_stamp l.word ≡ Some t
+  pub take_shown : (i k t : ℕ) (l : Loaded) → slice_get s.loads i ≡ Some l → l.count ≡ k + 1
+      → taken_stamp l.word ≡ Some t
       → (x : Got) × (slice_get r.got k ≡ Some x) × (t ≡ x.taken)
   take_shown i k t l at count shows =
       let gate = taken_shown l.word t shows in
@@ -147,7 +149,8 @@ module _ (width : ℕ) (words : List ℕ) (s : Sending) (r : Receiving) (g : Gat
       thing.2 ∙ ap (λ m. m.stamp) same
 
 -- right after `freed` has answered a stamp
-pub freed_now : (width : ℕ) (words : List ℕ) (s : Sending) (r : Receiving) (gate t : ℕ) → GateRule width words (with_freed s gate) r
+pub freed_now : (width : ℕ) (words : List ℕ) (s : Sending) (r : Receiving) (gate t : ℕ)
+    → GateRule width words (with_freed s gate) r
     → taken_stamp gate ≡ Some t → (length s.made ≡ length r.got) × (t ≡ last_take r.got)
 freed_now width words s r gate t g shows =
     let is_open : (with_freed s gate).is_open ≡ true = ap (λ o. if is_some o then true else s.is_open) shows in
@@ -156,6 +159,7 @@ freed_now width words s r gate t g shows =
     (empty.0, sym front ∙ empty.1)
 
 -- right after `look` has answered a stamp
-pub look_now : (width : ℕ) (words : List ℕ) (s : Sending) (r : Receiving) (gate t : ℕ) → GateRule width words s (with_look r gate)
+pub look_now : (width : ℕ) (words : List ℕ) (s : Sending) (r : Receiving) (gate t : ℕ)
+    → GateRule width words s (with_look r gate)
     → ready_stamp gate ≡ Some t → (length s.made ≡ length r.got + 1) × (t ≡ last_ready s.made)
 look_now width words s r gate t g shows = seen_is_full width words s (with_look r gate) g t shows

@@ -1,5 +1,6 @@
 -- Gate words, and the two lists of a box: what was made ready, and what was got.
-use Rattle.std.specs.Prelude.{◌≡◌, ℕ, ◌+◌, ◌-◌, ◌*◌, ◌/◌, ◌%◌, ◌^◌, ◌<◌, ◌==◌, ◌&&◌, nat_lt, if◌then◌else◌, List, [], ◌∷◌, All, map, slice_get, Option, Some, None}
+use Rattle.std.specs.Prelude.{◌≡◌, ℕ, ◌+◌, ◌-◌, ◌*◌, ◌/◌, ◌%◌, ◌^◌, ◌<◌, ◌==◌, ◌&&◌, nat_lt, if◌then◌else◌, List, []}
+use Rattle.std.specs.Prelude.{◌∷◌, All, map, slice_get, Option, Some, None}
 use Rattle.part_box.specs.declared.view.Made.{Made}
 use Rattle.part_box.specs.declared.view.Got.{Got}
 use Rattle.part_box.specs.declared.view.Loaded.{Loaded}
@@ -33,6 +34,12 @@ thing_of g = record { stamp = g.stamp; words = g.words }
 abbrev pub things_of : List Got → List Made
 things_of got = map thing_of got
 
+-- the stamp of the last thing that was made ready, 0 at first
+abbrev pub last_ready : List Made → ℕ
+last_ready [] = 0
+last_ready (m ∷ []) = m.stamp
+last_ready (m ∷ n ∷ made) = last_ready (n ∷ made)
+
 -- the stamp of the last take, 0 at first
 abbrev pub last_take : List Got → ℕ
 last_take [] = 0
@@ -42,7 +49,8 @@ last_take (g ∷ h ∷ got) = last_take (h ∷ got)
 -- made stamp k < take stamp k < made stamp k + 1
 pub record IsInTurn (made : List Made) (got : List Got) : Type 0 where
   pub taken_later : (k : ℕ) (g : Got) → slice_get got k ≡ Some g → g.stamp < g.taken
-  pub made_later : (k : ℕ) (g : Got) (m : Made) → slice_get got k ≡ Some g → slice_get made (k + 1) ≡ Some m → g.taken < m.stamp
+  pub made_later : (k : ℕ) (g : Got) (m : Made) → slice_get got k ≡ Some g → slice_get made (k + 1) ≡ Some m
+      → g.taken < m.stamp
 
 -- each stamp is below 2^62
 pub record IsLimited (made : List Made) (got : List Got) : Type 0 where
@@ -51,7 +59,8 @@ pub record IsLimited (made : List Made) (got : List Got) : Type 0 where
 
 -- an even gate word that the sender loaded with k + 1 things made is twice take stamp k
 abbrev pub ShowsTake : List Got → Loaded → Type 0
-ShowsTake got l = (k : ℕ) → l.count ≡ k + 1 → IsEmptyGate l.word → (g : Got) × (slice_get got k ≡ Some g) × (l.word ≡ 2 * g.taken)
+ShowsTake got l = (k : ℕ) → l.count ≡ k + 1 → IsEmptyGate l.word
+    → (g : Got) × (slice_get got k ≡ Some g) × (l.word ≡ 2 * g.taken)
 
 -- an odd gate word that the receiver loaded with k things got is twice made stamp k, and one more
 abbrev pub ShowsMade : List Made → Loaded → Type 0

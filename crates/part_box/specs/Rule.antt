@@ -1,5 +1,6 @@
 -- The gate rule: what the words of a box say of what its two keys know.
-use Rattle.std.specs.Prelude.{◌≡◌, ℕ, ◌+◌, ◌^◌, ◌<◌, ◌%◌, ◌==◌, if◌then◌else◌, List, [], ◌∷◌, ◌++◌, drop, length, slice_index, Some, None, true, false, All}
+use Rattle.std.specs.Prelude.{◌≡◌, ℕ, ◌+◌, ◌^◌, ◌<◌, ◌%◌, ◌==◌, if◌then◌else◌, List, [], ◌∷◌, ◌++◌, drop, length}
+use Rattle.std.specs.Prelude.{slice_index, Some, None, true, false, All}
 use mathlib.Core.Option.{some}
 use lib.ListN.{get_elem?}
 use Rattle.atomic_table.specs.Table.{State}
@@ -7,7 +8,8 @@ use Rattle.part_box.specs.declared.view.Made.{Made}
 use Rattle.part_box.specs.declared.view.Sending.{Sending}
 use Rattle.part_box.specs.declared.view.Receiving.{Receiving}
 use Rattle.part_box.specs.declared.view.View.{View}
-use Rattle.part_box.specs.Gate.{stamp_of, IsEmptyGate, IsFullGate, things_of, last_take, IsInTurn, IsLimited, ShowsTake, ShowsMade}
+use Rattle.part_box.specs.Gate.{stamp_of, IsEmptyGate, IsFullGate, things_of, last_take, IsInTurn, IsLimited, ShowsTake}
+use Rattle.part_box.specs.Gate.{ShowsMade}
 
 -- word 0
 abbrev pub gate_of : List ℕ → ℕ
@@ -29,7 +31,8 @@ thing_in words = record { stamp = stamp_of (gate_of words); words = drop 1 words
 abbrev pub contents_of : List ℕ → List Made
 contents_of words = if gate_of words % 2 == 1 then thing_in words ∷ [] else []
 
--- The gate rule, clause by clause: of the words of a box of some width, of what its sender knows, and of what its receiver knows
+-- The gate rule, clause by clause: of the words of a box of some width, of what its sender knows, and of what its
+-- receiver knows
 pub record GateRule (width : ℕ) (words : List ℕ) (s : Sending) (r : Receiving) : Type 0 where
   -- the words are the gate and the data words
   pub counted : length words ≡ width + 1
@@ -43,12 +46,15 @@ pub record GateRule (width : ℕ) (words : List ℕ) (s : Sending) (r : Receivin
   pub in_turn : IsInTurn s.made r.got
   -- and each of them is below 2^62
   pub limited : IsLimited s.made r.got
-  -- where the sender is open the gate is even, its stamp is the sender's front, and what is filled stands in the first data words
-  pub open_sender : s.is_open ≡ true → IsEmptyGate (gate_of words) × (s.front ≡ stamp_of (gate_of words)) × DataStartsWith words s.filled
+  -- where the sender is open the gate is even, its stamp is the sender's front, and what is filled stands in the first
+  -- data words
+  pub open_sender : s.is_open ≡ true
+      → IsEmptyGate (gate_of words) × (s.front ≡ stamp_of (gate_of words)) × DataStartsWith words s.filled
   -- where it isn't, nothing is filled
   pub closed_sender : s.is_open ≡ false → s.filled ≡ []
   -- where the receiver has seen a stamp the gate is odd with that stamp, and what is copied are the first data words
-  pub seeing_receiver : (n : ℕ) → r.seen ≡ Some n → IsFullGate (gate_of words) × (n ≡ stamp_of (gate_of words)) × DataStartsWith words r.copied
+  pub seeing_receiver : (n : ℕ) → r.seen ≡ Some n
+      → IsFullGate (gate_of words) × (n ≡ stamp_of (gate_of words)) × DataStartsWith words r.copied
   -- where it hasn't, nothing is copied
   pub waiting_receiver : r.seen ≡ None → r.copied ≡ []
   -- for good: an even gate word that the sender loaded shows the take that it must

@@ -19,7 +19,12 @@ with_word s word = record s { filled = s.filled ++ word ∷ [] }
 
 -- the filled words are ready under this stamp
 abbrev pub with_made : Sending → ℕ → Sending
-with_made s stamp = record s { made = s.made ++ record { stamp = stamp; words = s.filled } ∷ []; filled = []; is_open = false; front = stamp }
+with_made s stamp = record s {
+  made = s.made ++ record { stamp = stamp; words = s.filled } ∷ [];
+  filled = [];
+  is_open = false;
+  front = stamp;
+}
 
 -- this gate word was loaded: it shows a take, or nothing
 abbrev pub with_freed : Sending → ℕ → Sending
@@ -33,7 +38,10 @@ with_freed s gate = record s {
 
 -- this gate word was loaded: it shows a thing, or nothing
 abbrev pub with_look : Receiving → ℕ → Receiving
-with_look r gate = record r { seen = ready_stamp gate; loads = r.loads ++ record { word = gate; count = length r.got } ∷ [] }
+with_look r gate = record r {
+  seen = ready_stamp gate;
+  loads = r.loads ++ record { word = gate; count = length r.got } ∷ [];
+}
 
 -- one more data word
 abbrev pub with_copy : Receiving → ℕ → Receiving
@@ -41,7 +49,11 @@ with_copy r word = record r { copied = r.copied ++ word ∷ [] }
 
 -- the copied words are taken under this stamp
 abbrev pub with_got : Receiving → ℕ → Receiving
-with_got r stamp = record r { got = r.got ++ record { stamp = unwrap_or r.seen 0; words = r.copied; taken = stamp } ∷ []; seen = None; copied = [] }
+with_got r stamp = record r {
+  got = r.got ++ record { stamp = unwrap_or r.seen 0; words = r.copied; taken = stamp } ∷ [];
+  seen = None;
+  copied = [];
+}
 
 -- The views of seats
 

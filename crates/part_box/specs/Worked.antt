@@ -1,7 +1,8 @@
 -- Worked values: what gates show, and what the six calls make of a key, computed.
 use Rattle.std.specs.Prelude.{◌≡◌, ◌-◌, ◌^◌, [], ◌∷◌, Some, None, true, false, refl}
 use Rattle.part_box.specs.Gate.{ready_stamp, taken_stamp}
-use Rattle.part_box.specs.Keys.{BoxId, Sender, Receiver, new_sender, new_receiver, after_fill, after_ready, after_freed, after_look, after_copy, after_empty}
+use Rattle.part_box.specs.Keys.{BoxId, Sender, Receiver, new_sender, new_receiver, after_fill, after_ready, after_freed}
+use Rattle.part_box.specs.Keys.{after_look, after_copy, after_empty}
 
 -- 11 is twice 5, and one more
 pub full_with_5 : ready_stamp 11 ≡ Some 5

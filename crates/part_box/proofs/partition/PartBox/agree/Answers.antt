@@ -5,8 +5,11 @@ use Rattle.part_box.proofs.Owned.{sender_owned, receiver_owned}
 use Rattle.part_box.proofs.partition.PartBox.agree.Goals as goal
 
 pub split_seat-part-requires : goal.split_seat-part-requires
-split_seat-part-requires c =
-    (receiver_owned c.self.view_is c.recv.view_is c.requires.receiver, omega arith, splits _ _ _ c.recv.invariant.receives)
+split_seat-part-requires c = (
+  receiver_owned c.self.view_is c.recv.view_is c.requires.receiver,
+  omega arith,
+  splits _ _ _ c.recv.invariant.receives,
+)
 
 pub join_seat-requires : goal.join_seat-requires
 join_seat-requires c =
@@ -26,7 +29,8 @@ load-requires c =
       both.0 ∙ sender_owned c.self.view_is c.send.view_is c.requires.sender,
       omega arith,
       agrees _ _ _ _ _ (ap (λ m. m.0.sends) both.2 ∙ c.send.invariant.sends)
-          (ap (λ m. m.0.receives) both.2 ∙ (ap (λ m. m.0.receives) part.4 ∙ c.recv.invariant.receives)) c.self.invariant.keyed,
+          (ap (λ m. m.0.receives) both.2 ∙ (ap (λ m. m.0.receives) part.4 ∙ c.recv.invariant.receives))
+          c.self.invariant.keyed,
     )
 
 pub split_seat-requires : goal.split_seat-requires
@@ -36,5 +40,7 @@ split_seat-requires c =
     let read = c.load.ensures in (
       read.0 ∙ (both.0 ∙ sender_owned c.self.view_is c.send.view_is c.requires.sender),
       omega arith,
-      splits _ _ _ (ap (λ m. m.0.receives) read.2.0 ∙ (ap (λ m. m.0.receives) both.2 ∙ (ap (λ m. m.0.receives) part.4 ∙ c.recv.invariant.receives))),
+      splits _ _ _
+          (ap (λ m. m.0.receives) read.2.0
+          ∙ (ap (λ m. m.0.receives) both.2 ∙ (ap (λ m. m.0.receives) part.4 ∙ c.recv.invariant.receives))),
     )

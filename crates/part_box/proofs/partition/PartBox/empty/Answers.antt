@@ -13,10 +13,16 @@ pub store-requires : goal.store-requires
 store-requires c =
     let key = c.key.inside in
     let wide : c.self.inside.width ≡ c.args.self.now.width = ap (λ (p : Place). p.width) c.self.view_is in
-    let seen : key.seat.me.0.receiving.seen ≡ c.args.key.now.view.seen = ap (λ (k : Receiver). k.view.seen) c.key.view_is in
-    let count : length key.seat.me.0.receiving.copied ≡ length c.args.key.now.view.copied = ap (λ (k : Receiver). length k.view.copied) c.key.view_is in
+    let seen : key.seat.me.0.receiving.seen ≡ c.args.key.now.view.seen =
+    ap (λ (k : Receiver). k.view.seen) c.key.view_is in
+    let count : length key.seat.me.0.receiving.copied ≡ length c.args.key.now.view.copied =
+    ap (λ (k : Receiver). length k.view.copied) c.key.view_is in
     let saw = c.requires.above in
     let above = saw.2 in
     let gate = empty_gate c.args.stamp in
-    let half = gate.1 in
-    (receiver_owned c.self.view_is c.key.view_is c.requires.own, omega arith, empties _ _ _ _ _ saw.0 c.key.invariant.receives (seen ∙ saw.1) (omega arith) gate.0 (omega arith) (omega arith))
+    let half = gate.1 in (
+      receiver_owned c.self.view_is c.key.view_is c.requires.own,
+      omega arith,
+      empties _ _ _ _ _ saw.0 c.key.invariant.receives (seen ∙ saw.1) (omega arith) gate.0 (omega arith)
+          (omega arith),
+    )

@@ -29,10 +29,18 @@ returns c =
     let met = ap (λ m. m.0) c.join_seat.ensures.2 in
     -- the rule of the last state, which has both views
     let last = settles _ end.0 _ _ both end.1.0 end.1.1 met c.send.invariant.sends c.recv.invariant.receives in
-    let rule : GateRule width words both.sending both.receiving = subst (λ l. GateRule width l both.sending both.receiving) end.2 (subst (λ n. GateRule n end.0.words both.sending both.receiving) c.self.invariant.keyed last) in
-    let told : IsSettled width both.sending both.receiving c.left_over-left.result = settled width words both.sending both.receiving c.left_over-left.result c.self.invariant.most rule c.left_over-left.ensures in
+    let rule : GateRule width words both.sending both.receiving =
+    subst (λ l. GateRule width l both.sending both.receiving) end.2
+    (subst (λ n. GateRule n end.0.words both.sending both.receiving) c.self.invariant.keyed last) in
+    let told : IsSettled width both.sending both.receiving c.left_over-left.result =
+    settled width words both.sending both.receiving c.left_over-left.result c.self.invariant.most rule
+    c.left_over-left.ensures in
     record {
-      settled = subst (λ (k : Sender). IsSettled c.args.self.width k.view c.args.recv.view c.left_over-left.result) c.send.view_is
-          (subst (λ (k : Receiver). IsSettled c.args.self.width both.sending k.view c.left_over-left.result) c.recv.view_is
-          (subst (λ (p : Place). IsSettled p.width both.sending both.receiving c.left_over-left.result) c.self.view_is told));
+      settled =
+          subst (λ (k : Sender). IsSettled c.args.self.width k.view c.args.recv.view c.left_over-left.result)
+          c.send.view_is
+          (subst (λ (k : Receiver). IsSettled c.args.self.width both.sending k.view c.left_over-left.result)
+          c.recv.view_is
+          (subst (λ (p : Place). IsSettled p.width both.sending both.receiving c.left_over-left.result) c.self.view_is
+          told));
     }
