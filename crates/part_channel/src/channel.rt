@@ -1,5 +1,7 @@
 //! The boxes of a channel.
-ghost use Rattle.std.specs.Prelude.{◌≡◌, ◌⊎◌, ℕ, ◌-◌, IfOk, map, length};
+ghost use Rattle.std.specs.Prelude.{◌≡◌, ◌⊎◌, ℕ, ◌-◌, ◌<◌, List, IfOk, map, length, slice_get, Some};
+ghost use Rattle.part_box.specs.Keys.{Sender, Receiver};
+ghost use Rattle.part_box.specs.Rule.{GateRule};
 ghost use Rattle.part_channel.specs.Channels.{sender_box, receiver_box};
 ghost use Rattle.part_channel.specs.Settling.{IsLeft};
 ghost use Rattle.part_channel.specs.Sending.{new_send_side, IsPast};
@@ -62,6 +64,26 @@ impl Channel {
         }
         let channel = Channel { boxes, width };
         Ok((channel, SendSide::over(sends), RecvSide::over(recvs)))
+    }
+
+    /// What the two keys of one box know of each other: the gate rule of that box holds of them.
+    ///
+    /// It is for who holds both sides, as the driver of all ranks on one thread does between two turns: `take` and
+    /// `test` tell what a gate word showed, and this tells what that means. Nothing is changed; it costs four loads.
+    ///
+    /// Both sides are this channel's, and there is such a box.
+    pub fn agree(&self, send: &mut SendSide, recv: &mut RecvSide, part: u8)
+        requires sender { map sender_box send.old.keys ≡ self.now.boxes }
+        requires receiver { map receiver_box recv.old.keys ≡ self.now.boxes }
+        requires there { part < 16 }
+        ensures sender { send.new ≡ send.old }
+        ensures receiver { recv.new ≡ recv.old }
+        ensures agreed { (s : Sender) (r : Receiver)
+            → slice_get send.old.keys part ≡ Some s → slice_get recv.old.keys part ≡ Some r
+            → (words : List ℕ) × GateRule self.now.width words s.view r.view }
+    {
+        let at = part as usize;
+        self.boxes[at].agree(&mut send.keys[at], &mut recv.keys[at]);
     }
 
     /// What is left in each box at the end, by its number.

@@ -1,5 +1,6 @@
 //! One partition through one box: its bytes as data words, the calls of the box in their order, and the stamps.
-ghost use Rattle.std.specs.Prelude.{◌≡◌, ℕ, ◌+◌, ◌*◌, ◌%◌, ◌^◌, ◌<◌, ◌≤◌, ◌++◌, [], length, take, drop, replicate, IsTrue, Some, None, List, max, ◌-◌};
+ghost use Rattle.std.specs.Prelude.{◌≡◌, ℕ, ◌+◌, ◌*◌, ◌%◌, ◌^◌, ◌<◌, ◌≤◌, ◌++◌, [], length, take, drop, replicate};
+ghost use Rattle.std.specs.Prelude.{IsTrue, Some, None, List, max, ◌-◌};
 ghost use Rattle.std.specs.Int.{w64, to_le_bytes};
 ghost use Rattle.part_channel.specs.Words.{word_at, words_of, bytes_of};
 ghost use Rattle.part_channel.specs.Sending.{made_of};
@@ -55,7 +56,8 @@ pub(crate) fn take_out(place: &PartBox, key: &mut RecvKey, width: usize, stamp: 
     requires seen { (n : ℕ) × (key.old.view.seen ≡ Some n) × (n < stamp) }
     requires fresh { key.old.view.copied ≡ [] }
     requires low { stamp < 2 ^ 62 }
-    ensures { (words : List ℕ) × (length words ≡ width) × (key.new ≡ got_of words stamp key.old) × (result ≡ bytes_of words) }
+    ensures { (words : List ℕ) × (length words ≡ width) × (key.new ≡ got_of words stamp key.old)
+        × (result ≡ bytes_of words) }
 {
     let mut out = [0; 128];
     for i in 0..width {
@@ -72,7 +74,8 @@ pub(crate) fn try_take(place: &PartBox, key: &mut RecvKey, width: usize, clock: 
     requires wide { (width ≡ place.now.width) × (width ≤ 16) }
     requires fresh { (key.old.view.seen ≡ None) × (key.old.view.copied ≡ []) }
     requires clock { clock < 2 ^ 62 - 1 }
-    ensures { (gate : ℕ) × (words : List ℕ) × (length words ≡ width) × (key.new ≡ lane_took gate words clock key.old) × (result ≡ shown_take clock words (ready_stamp gate)) }
+    ensures { (gate : ℕ) × (words : List ℕ) × (length words ≡ width)
+        × (key.new ≡ lane_took gate words clock key.old) × (result ≡ shown_take clock words (ready_stamp gate)) }
 {
     match place.look(key) {
         None => Take::Missed(clock + 1),

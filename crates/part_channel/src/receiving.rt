@@ -1,11 +1,15 @@
 //! The receiving side.
-ghost use Rattle.std.specs.Prelude.{◌≡◌, ℕ, ◌+◌, ◌-◌, ◌*◌, ◌%◌, ◌^◌, ◌<◌, ◌≤◌, List, length, map, IfOk, IfNone, OnOk, OnErr, IfErr, Some, None, true, false, Bool, not, ◌==◌, ◌&&◌, nat_lt, get_or, if◌then◌else◌, replicate};
+ghost use Rattle.std.specs.Prelude.{◌≡◌, ℕ, ◌+◌, ◌-◌, ◌*◌, ◌%◌, ◌^◌, ◌<◌, ◌≤◌, List, length, map, IfOk, IfNone, OnOk};
+ghost use Rattle.std.specs.Prelude.{OnErr, IfErr, Some, None, true, false, Bool, not, ◌==◌, ◌&&◌, nat_lt, get_or};
+ghost use Rattle.std.specs.Prelude.{if◌then◌else◌, replicate};
 ghost use Rattle.mp_types.specs.declared.codes.Code.TheVariants.{Active};
 ghost use Rattle.part_box.specs.Keys.{BoxId, new_receiver};
 ghost use Rattle.part_box.specs.Gate.{ready_stamp};
 ghost use Rattle.part_channel.specs.Channels.{receiver_box};
 ghost use Rattle.part_channel.specs.Sending.{none_marked};
-ghost use Rattle.part_channel.specs.Receiving.{new_recv_side, awaited, lowest_from, is_left, next_box, overlaps, next_box_of, HasArrived, take_refusal, took, shown_take, take_stamp, HasGot};
+ghost use Rattle.part_channel.specs.Receiving.{new_recv_side, awaited, lowest_from, is_left, next_box, overlaps};
+ghost use Rattle.part_channel.specs.Receiving.{next_box_of, HasArrived, take_refusal, took, shown_take, take_stamp};
+ghost use Rattle.part_channel.specs.Receiving.{HasGot};
 
 use crate::channel::Channel;
 use crate::lanes::try_take;
@@ -17,7 +21,7 @@ use std::marker::Model;
 /// The right to take partitions, one out of each box. Contracts see it as a `RecvView`: what it knows.
 #[derive(Drop)]
 pub struct RecvSide {
-    keys: Vec<RecvKey>,
+    pub(crate) keys: Vec<RecvKey>,
     parts: u8,
     size: u8,
     // The sender's cut: so many boxes in use, of so many bytes each. Both are 0 until it is known.
@@ -32,7 +36,16 @@ impl Model for RecvSide {
 
     ghost Value = { RecvView };
 
-    ghost view = { λ s. record { keys = s.keys.items; parts = s.parts; size = s.size; boxes = s.boxes; bytes = s.bytes; phase = round_of s.keys.items s.taken; active = s.active; taken = s.taken } };
+    ghost view = { λ s. record {
+      keys = s.keys.items;
+      parts = s.parts;
+      size = s.size;
+      boxes = s.boxes;
+      bytes = s.bytes;
+      phase = round_of s.keys.items s.taken;
+      active = s.active;
+      taken = s.taken;
+    } };
 
     ghost invariant = { λ s. IsRecvSide s.keys.items s.parts s.size s.boxes s.bytes s.active s.taken };
 }
@@ -102,6 +115,8 @@ impl RecvSide {
         ensures refused { IfErr result (λ code. (code ≡ Active) × (self.old.active ≡ true)) }
         ensures unchanged { OnErr result (self.new ≡ self.old) }
         ensures begun { OnOk result ((self.old.active ≡ false) × (self.new ≡ awaited self.old)) }
+        // So it is still of the same boxes.
+        ensures keys { self.new.keys ≡ self.old.keys }
     {
         if self.active {
             return Err(Code::Active);
@@ -126,7 +141,8 @@ impl RecvSide {
     pub fn next_of(&self, part: u8) -> Option<u8>
         ensures lowest { result ≡ next_box_of self.now part }
         // So where there is none in a phase, all bytes of the partition have come.
-        ensures arrived { IfNone result (self.now.active ≡ true → 0 < self.now.boxes → part < self.now.parts → HasArrived self.now part) }
+        ensures arrived { IfNone result
+            (self.now.active ≡ true → 0 < self.now.boxes → part < self.now.parts → HasArrived self.now part) }
     {
         if !self.active {
             return None;

@@ -1,10 +1,12 @@
 //! The sending side.
-ghost use Rattle.std.specs.Prelude.{◌≡◌, ℕ, ◌+◌, ◌-◌, ◌*◌, ◌%◌, ◌^◌, ◌<◌, ◌≤◌, List, length, map, IfOk, OnOk, OnErr, IfErr, Some, None, replicate, false, if◌then◌else◌};
+ghost use Rattle.std.specs.Prelude.{◌≡◌, ℕ, ◌+◌, ◌-◌, ◌*◌, ◌%◌, ◌^◌, ◌<◌, ◌≤◌, List, length, map, IfOk, OnOk, OnErr};
+ghost use Rattle.std.specs.Prelude.{IfErr, Some, None, replicate, false, if◌then◌else◌};
 ghost use Rattle.mp_types.specs.declared.codes.Code.TheVariants.{Active};
 ghost use Rattle.part_box.specs.Keys.{BoxId, new_sender};
 ghost use Rattle.part_channel.specs.Channels.{sender_box};
 ghost use Rattle.part_channel.specs.Words.{words_of};
-ghost use Rattle.part_channel.specs.Sending.{new_send_side, shaped, begun, next_to_free, ready_refusal, readied, HasMade, tested, test_progress, none_marked, IsPast, IsTold};
+ghost use Rattle.part_channel.specs.Sending.{new_send_side, shaped, begun, next_to_free, ready_refusal, readied};
+ghost use Rattle.part_channel.specs.Sending.{HasMade, tested, test_progress, none_marked, IsPast, IsTold};
 
 use crate::channel::Channel;
 use crate::lanes::{above, put};
@@ -16,7 +18,7 @@ use std::marker::Model;
 /// The right to make partitions ready, one in each box. Contracts see it as a `SendView`: what it knows.
 #[derive(Drop)]
 pub struct SendSide {
-    keys: Vec<SendKey>,
+    pub(crate) keys: Vec<SendKey>,
     parts: u8,
     size: u8,
     ready: [bool; 16],
@@ -29,7 +31,14 @@ impl Model for SendSide {
 
     ghost Value = { SendView };
 
-    ghost view = { λ s. record { keys = s.keys.items; parts = s.parts; size = s.size; phase = phase_of s.keys.items s.ready; ready = s.ready; freed = s.freed } };
+    ghost view = { λ s. record {
+      keys = s.keys.items;
+      parts = s.parts;
+      size = s.size;
+      phase = phase_of s.keys.items s.ready;
+      ready = s.ready;
+      freed = s.freed;
+    } };
 
     ghost invariant = { λ s. IsSendSide s.keys.items s.parts s.size s.freed s.ready };
 }
@@ -77,6 +86,8 @@ impl SendSide {
         ensures refused { IfErr result (λ code. (code ≡ Active) × (self.old.freed < self.old.parts)) }
         ensures unchanged { OnErr result (self.new ≡ self.old) }
         ensures begun { OnOk result ((self.old.freed ≡ self.old.parts) × (self.new ≡ begun self.old)) }
+        // So it is still of the same boxes.
+        ensures keys { self.new.keys ≡ self.old.keys }
     {
         if self.freed < self.parts {
             return Err(Code::Active);
