@@ -1,5 +1,6 @@
 -- Lists of keys, of marks and of boxes.
-use Rattle.std.proofs.Common.{◌≡◌, ◌≢◌, ◌⊎◌, ℕ, zero, suc, ◌<◌, List, [], ◌∷◌, ◌++◌, length, set, get_or, replicate, Bool, false, Some, refl, sym, ap, subst, ⊎_elim, inl, inr, arith}
+use Rattle.std.proofs.Common.{◌≡◌, ◌≢◌, ◌⊎◌, ℕ, zero, suc, ◌<◌, List, [], ◌∷◌, ◌++◌, length, set, get_or, replicate}
+use Rattle.std.proofs.Common.{Bool, false, Some, refl, sym, ap, subst, ⊎_elim, inl, inr, arith}
 use Rattle.std.specs.Prelude.{slice_get, nat_le}
 use Rattle.std.proofs.lemmas.Option.{slice_get_read}
 use Rattle.part_channel.specs.Sending.{modified, none_marked}
@@ -9,7 +10,8 @@ module _ {A : Type 0} where
   some_same x y e = cc
 
   -- an element that was changed, or another
-  pub get_set : (xs : List A) (i j : ℕ) (x y : A) → slice_get (set xs i x) j ≡ Some y → ((j ≡ i) × (x ≡ y)) ⊎ ((j ≢ i) × (slice_get xs j ≡ Some y))
+  pub get_set : (xs : List A) (i j : ℕ) (x y : A) → slice_get (set xs i x) j ≡ Some y
+      → ((j ≡ i) × (x ≡ y)) ⊎ ((j ≢ i) × (slice_get xs j ≡ Some y))
   get_set [] i j x y e = absurd (cc)
   get_set (z ∷ zs) zero zero x y e = inl (refl, some_same x y e)
   get_set (z ∷ zs) zero (suc j) x y e = inr ((λ h. omega (arith, h)), e)
@@ -20,7 +22,8 @@ module _ {A : Type 0} where
       (get_set zs i j x y e)
 
   -- an element is changed by a function of it
-  pub set_modified : (xs : List A) (i : ℕ) (f : A → A) (x : A) → slice_get xs i ≡ Some x → set xs i (f x) ≡ modified xs i f
+  pub set_modified : (xs : List A) (i : ℕ) (f : A → A) (x : A) → slice_get xs i ≡ Some x
+      → set xs i (f x) ≡ modified xs i f
   set_modified [] i f x e = absurd (cc)
   set_modified (z ∷ zs) zero f x e = ap (λ w. f w ∷ zs) (sym (some_same z x e))
   set_modified (z ∷ zs) (suc i) f x e = ap (λ l. z ∷ l) (set_modified zs i f x e)
@@ -51,11 +54,14 @@ pub unmarked : (i : ℕ) → get_or none_marked i false ≡ false
 unmarked i = none_at 16 i
 
 -- marks of which none is set
-pub all_unmarked : (marks : List Bool) (n : ℕ) → length marks ≡ n → ((i : ℕ) → i < n → get_or marks i false ≡ false) → marks ≡ replicate n false
+pub all_unmarked : (marks : List Bool) (n : ℕ) → length marks ≡ n → ((i : ℕ) → i < n → get_or marks i false ≡ false)
+    → marks ≡ replicate n false
 all_unmarked [] zero long none = refl
 all_unmarked [] (suc n) long none = absurd (omega (arith, long))
 all_unmarked (m ∷ marks) zero long none = absurd (omega (arith, long))
-all_unmarked (m ∷ marks) (suc n) long none = λ k. none 0 (omega arith) k ∷ all_unmarked marks n (omega (arith, long)) (λ i low. none (suc i) (omega (arith, low))) k
+all_unmarked (m ∷ marks) (suc n) long none =
+    λ k. none 0 (omega arith) k ∷ all_unmarked marks n (omega (arith, long))
+    (λ i low. none (suc i) (omega (arith, low))) k
 
 pub not_le : (a b : ℕ) → b < a → nat_le a b ≡ false
 not_le a b low = grind arith

@@ -1,5 +1,7 @@
 -- What the receiving side of a channel knows, and what each call makes of it.
-use Rattle.std.specs.Prelude.{◌≡◌, ℕ, zero, suc, ◌+◌, ◌-◌, ◌*◌, ◌<◌, ◌≤◌, nat_le, nat_lt, max, ◌&&◌, List, [], ◌∷◌, length, map, set, get_or, slice_get, Bool, true, false, not, is_some, Option, Some, None, if◌then◌else◌}
+use Rattle.std.specs.Prelude.{◌≡◌, ℕ, zero, suc, ◌+◌, ◌-◌, ◌*◌, ◌<◌, ◌≤◌, nat_le, nat_lt, max, ◌&&◌, List, [], ◌∷◌}
+use Rattle.std.specs.Prelude.{length, map, set, get_or, slice_get, Bool, true, false, not, is_some, Option, Some, None}
+use Rattle.std.specs.Prelude.{if◌then◌else◌}
 use Rattle.mp_types.specs.declared.codes.Code.{Code}
 use Rattle.mp_types.specs.declared.codes.Code.TheVariants.{BadPartition, AlreadyReady, NotActive}
 use Rattle.part_box.specs.declared.view.Got.{Got}
@@ -12,8 +14,8 @@ use Rattle.part_channel.specs.Shapes.{IsShape, IsCut}
 use Rattle.part_channel.specs.Words.{bytes_of}
 use Rattle.part_channel.specs.Sending.{one_if, modified, none_marked}
 
--- The key of each box; this side's shape; the sender's cut, of 0 boxes until it is known; the number of this phase, from 0; whether one
--- is going on; and which boxes were taken in it. Between phases none is.
+-- The key of each box; this side's shape; the sender's cut, of 0 boxes until it is known; the number of this phase,
+-- from 0; whether one is going on; and which boxes were taken in it. Between phases none is.
 pub record RecvView : Type 0 where
   pub keys : List Receiver
   pub parts : ℕ
@@ -43,16 +45,27 @@ pub record AreRecvLanes (keys : List Receiver) (boxes : ℕ) (active : Bool) (ta
   pub long : length keys ≡ 16
   pub flags : length taken ≡ 16
   pub most : boxes ≤ 16
-  pub lanes : (i : ℕ) (key : Receiver) → slice_get keys i ≡ Some key → IsRecvLane (round_of keys taken) boxes active i key.view (get_or taken i false)
+  pub lanes : (i : ℕ) (key : Receiver) → slice_get keys i ≡ Some key
+      → IsRecvLane (round_of keys taken) boxes active i key.view (get_or taken i false)
 
 -- What the fields of a receiving side keep
-pub record IsRecvSide (keys : List Receiver) (parts size boxes bytes : ℕ) (active : Bool) (taken : List Bool) : Type 0 where
+pub record IsRecvSide (keys : List Receiver) (parts size boxes bytes : ℕ) (active : Bool) (taken : List Bool)
+    : Type 0 where
   pub shape : IsShape parts size
   pub cut : IsCut parts size boxes bytes
   pub kept : AreRecvLanes keys boxes active taken
 
 abbrev pub new_recv_side : List BoxId → RecvView
-new_recv_side ids = record { keys = map new_receiver ids; parts = 0; size = 0; boxes = 0; bytes = 0; phase = 0; active = false; taken = none_marked }
+new_recv_side ids = record {
+  keys = map new_receiver ids;
+  parts = 0;
+  size = 0;
+  boxes = 0;
+  bytes = 0;
+  phase = 0;
+  active = false;
+  taken = none_marked;
+}
 
 -- a phase begins, in which no box is taken
 abbrev pub awaited : RecvView → RecvView
@@ -70,17 +83,21 @@ is_left taken box = not (get_or taken box false)
 abbrev pub next_box : RecvView → Option ℕ
 next_box side = if side.active then lowest_from (is_left side.taken) 0 side.boxes else None
 
--- Box i has bytes i * bytes up to (i + 1) * bytes of the whole, partition p has p * size up to (p + 1) * size: some byte is in both
+-- Box i has bytes i * bytes up to (i + 1) * bytes of the whole, partition p has p * size up to (p + 1) * size: some
+-- byte is in both
 abbrev pub overlaps : RecvView → ℕ → ℕ → Bool
-overlaps side part box = nat_lt (box * side.bytes) ((part + 1) * side.size) && nat_lt (part * side.size) ((box + 1) * side.bytes)
+overlaps side part box =
+    nat_lt (box * side.bytes) ((part + 1) * side.size) && nat_lt (part * side.size) ((box + 1) * side.bytes)
 
 abbrev pub next_box_of : RecvView → ℕ → Option ℕ
-next_box_of side part = if side.active then lowest_from (λ box. is_left side.taken box && overlaps side part box) 0 side.boxes else None
+next_box_of side part =
+    if side.active then lowest_from (λ box. is_left side.taken box && overlaps side part box) 0 side.boxes else None
 
 -- each byte of a partition lies in a box that was taken in this phase
 abbrev pub HasArrived : RecvView → ℕ → Type 0
 HasArrived side part =
-    (byte : ℕ) → part * side.size ≤ byte → byte < (part + 1) * side.size → (box : ℕ) × (box * side.bytes ≤ byte) × (byte < (box + 1) * side.bytes) × (get_or side.taken box false ≡ true)
+    (byte : ℕ) → part * side.size ≤ byte → byte < (part + 1) * side.size
+    → (box : ℕ) × (box * side.bytes ≤ byte) × (byte < (box + 1) * side.bytes) × (get_or side.taken box false ≡ true)
 
 -- why a box can't be taken
 abbrev pub take_refusal : RecvView → ℕ → Option Code
@@ -122,9 +139,11 @@ abbrev pub marked : RecvView → ℕ → Option ℕ → RecvView
 marked side box None = side
 marked side box (Some stamp) = one_taken side box
 
--- A take looks at the gate of its box, finds this word, and where that shows a thing copies these words. No other box is touched.
+-- A take looks at the gate of its box, finds this word, and where that shows a thing copies these words. No other box
+-- is touched.
 abbrev pub took : RecvView → ℕ → ℕ → List ℕ → ℕ → RecvView
-took side box gate words clock = marked (record side { keys = modified side.keys box (lane_took gate words clock) }) box (ready_stamp gate)
+took side box gate words clock =
+    marked (record side { keys = modified side.keys box (lane_took gate words clock) }) box (ready_stamp gate)
 
 -- the stamp that a take tells
 abbrev pub take_stamp : Take → ℕ
@@ -135,4 +154,5 @@ take_stamp (take.Taken bytes stamp) = stamp
 abbrev pub HasGot : RecvView → RecvView → ℕ → Take → Type 0
 HasGot old new box (take.Missed stamp) = Unit
 HasGot old new box (take.Taken bytes stamp) =
-    (key : Receiver) × (got : Got) × (slice_get new.keys box ≡ Some key) × (slice_get key.view.got old.phase ≡ Some got) × (bytes ≡ bytes_of got.words) × (stamp ≡ got.taken)
+    (key : Receiver) × (got : Got) × (slice_get new.keys box ≡ Some key) × (slice_get key.view.got old.phase ≡ Some got)
+    × (bytes ≡ bytes_of got.words) × (stamp ≡ got.taken)

@@ -1,5 +1,7 @@
 -- What the sending side of a channel knows, and what each call makes of it.
-use Rattle.std.specs.Prelude.{◌≡◌, ◌^◌, ℕ, zero, suc, ◌+◌, ◌-◌, ◌<◌, ◌≤◌, ◌==◌, nat_le, max, List, [], ◌∷◌, length, map, replicate, set, get_or, slice_get, All, Bool, true, false, Option, Some, None, if◌then◌else◌}
+use Rattle.std.specs.Prelude.{◌≡◌, ◌^◌, ℕ, zero, suc, ◌+◌, ◌-◌, ◌<◌, ◌≤◌, ◌==◌, nat_le, max, List, [], ◌∷◌, length, map}
+use Rattle.std.specs.Prelude.{replicate, set, get_or, slice_get, All, Bool, true, false, Option, Some, None}
+use Rattle.std.specs.Prelude.{if◌then◌else◌}
 use Rattle.mp_types.specs.declared.codes.Code.{Code}
 use Rattle.mp_types.specs.declared.codes.Code.TheVariants.{BadPartition, AlreadyReady, NotActive}
 use Rattle.part_box.specs.declared.view.Sending.{Sending}
@@ -9,8 +11,8 @@ use Rattle.part_channel.specs.declared.progress.Progress.{Progress}
 use Rattle.part_channel.specs.declared.progress.Progress.TheVariants.{AllFreed, NotReady, Missed, Freed}
 use Rattle.part_channel.specs.Shapes.{IsShape}
 
--- The key of each box; the shape; the number of this phase, from 0; which partitions are ready in it; and how many of them, from the
--- lowest on, were freed. Between phases this number is that of the partitions, and none is ready.
+-- The key of each box; the shape; the number of this phase, from 0; which partitions are ready in it; and how many of
+-- them, from the lowest on, were freed. Between phases this number is that of the partitions, and none is ready.
 pub record SendView : Type 0 where
   pub keys : List Sender
   pub parts : ℕ
@@ -62,7 +64,8 @@ pub record AreSendLanes (keys : List Sender) (parts freed : ℕ) (ready : List B
   pub flags : length ready ≡ 16
   pub most : parts ≤ 16
   pub within : freed ≤ parts
-  pub lanes : (i : ℕ) (key : Sender) → slice_get keys i ≡ Some key → IsSendLane (phase_of keys ready) parts freed i key.view (get_or ready i false)
+  pub lanes : (i : ℕ) (key : Sender) → slice_get keys i ≡ Some key
+      → IsSendLane (phase_of keys ready) parts freed i key.view (get_or ready i false)
 
 -- What the fields of a sending side keep
 pub record IsSendSide (keys : List Sender) (parts size freed : ℕ) (ready : List Bool) : Type 0 where
@@ -71,7 +74,8 @@ pub record IsSendSide (keys : List Sender) (parts size freed : ℕ) (ready : Lis
 
 -- a new side over these boxes
 abbrev pub new_send_side : List BoxId → SendView
-new_send_side boxes = record { keys = map new_sender boxes; parts = 0; size = 0; phase = 0; ready = none_marked; freed = 0 }
+new_send_side boxes =
+    record { keys = map new_sender boxes; parts = 0; size = 0; phase = 0; ready = none_marked; freed = 0 }
 
 abbrev pub shaped : SendView → ℕ → ℕ → SendView
 shaped side parts size = record side { parts = parts; size = size; freed = parts }
@@ -102,7 +106,8 @@ made_of words stamp key = after_ready (record key { view = record key.view { fil
 
 -- a partition is made ready: of all boxes its own is touched, and of all marks its own
 abbrev pub readied : SendView → ℕ → List ℕ → ℕ → SendView
-readied side part words stamp = record side { keys = modified side.keys part (made_of words stamp); ready = set side.ready part true }
+readied side part words stamp =
+    record side { keys = modified side.keys part (made_of words stamp); ready = set side.ready part true }
 
 -- the lowest partition that isn't freed is freed; with the last one the phase ends
 abbrev pub is_last : SendView → Bool
@@ -154,4 +159,5 @@ IsTold side (Freed stamp) = (stamp < 2 ^ 62) × IsPast side stamp
 -- in phase k the key of a partition made these words, under this stamp, as its thing k
 abbrev pub HasMade : SendView → SendView → ℕ → List ℕ → ℕ → Type 0
 HasMade old new part words stamp =
-    (key : Sender) × (slice_get new.keys part ≡ Some key) × (slice_get key.view.made old.phase ≡ Some (record { stamp = stamp; words = words }))
+    (key : Sender) × (slice_get new.keys part ≡ Some key)
+    × (slice_get key.view.made old.phase ≡ Some (record { stamp = stamp; words = words }))

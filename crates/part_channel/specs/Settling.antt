@@ -10,7 +10,8 @@ use Rattle.part_box.specs.Keys.{Sender, Receiver}
 -- from one box on, each box of this width is left with what its two keys made and got
 abbrev pub AreSettled : ℕ → ℕ → List Sender → List Receiver → List Settled → Type 0
 AreSettled width first sends recvs left =
-    (i : ℕ) (s : Sender) (r : Receiver) (b : Settled) → first ≤ i → slice_get sends i ≡ Some s → slice_get recvs i ≡ Some r → slice_get left i ≡ Some b → IsSettled width s.view r.view b
+    (i : ℕ) (s : Sender) (r : Receiver) (b : Settled) → first ≤ i → slice_get sends i ≡ Some s
+    → slice_get recvs i ≡ Some r → slice_get left i ≡ Some b → IsSettled width s.view r.view b
 
 -- what was made in each box, and what was got from each
 abbrev pub made_in : Sender → List Made
@@ -29,7 +30,9 @@ joined (x ∷ xs) (y ∷ ys) = (x ++ y) ∷ joined xs ys
 pub record IsLeft (width : ℕ) (sends : List Sender) (recvs : List Receiver) (left : List Settled) : Type 0 where
   -- each box has what its own two keys say
   pub each : AreSettled width 0 sends recvs left
-  -- in all boxes: what was made is what was got, stamps included, and then what is left, which is one thing exactly where the box is full
+  -- in all boxes: what was made is what was got, stamps included, and then what is left, which is one thing exactly
+  -- where the box is full
   pub made : map made_in sends ≡ joined (map got_from recvs) (map (leftover width) left)
   -- what was got in phase k from a box is what was made there in phase k
-  pub phases : (i k : ℕ) (s : Sender) (r : Receiver) (g : Got) → slice_get sends i ≡ Some s → slice_get recvs i ≡ Some r → slice_get r.view.got k ≡ Some g → slice_get s.view.made k ≡ Some (thing_of g)
+  pub phases : (i k : ℕ) (s : Sender) (r : Receiver) (g : Got) → slice_get sends i ≡ Some s → slice_get recvs i ≡ Some r
+      → slice_get r.view.got k ≡ Some g → slice_get s.view.made k ≡ Some (thing_of g)

@@ -7,7 +7,8 @@ use Rattle.part_channel.specs.Sending.{SendView, one_freed, shown_progress, next
 use Rattle.part_channel.specs.Receiving.{RecvView, one_taken, shown_take, next_box, next_box_of}
 
 -- the lowest byte comes first, and behind the bytes come words 0
-pub two_words_and_none : words_of (1 ∷ 2 ∷ 3 ∷ 4 ∷ 5 ∷ 6 ∷ 7 ∷ 8 ∷ 0 ∷ 0 ∷ 0 ∷ 0 ∷ 0 ∷ 0 ∷ 0 ∷ 128 ∷ []) 3 ≡ 578437695752307201 ∷ 9223372036854775808 ∷ 0 ∷ []
+pub two_words_and_none : words_of (1 ∷ 2 ∷ 3 ∷ 4 ∷ 5 ∷ 6 ∷ 7 ∷ 8 ∷ 0 ∷ 0 ∷ 0 ∷ 0 ∷ 0 ∷ 0 ∷ 0 ∷ 128 ∷ []) 3
+    ≡ 578437695752307201 ∷ 9223372036854775808 ∷ 0 ∷ []
 two_words_and_none = refl
 
 -- The stamp is above the clock and above the stamp in the gate
@@ -33,7 +34,8 @@ unfreed_is_next = refl
 -- Phase 4 of two partitions, of which the first is freed
 
 abbrev last_to_free : SendView
-last_to_free = record { keys = []; parts = 2; size = 8; phase = 4; ready = set (set none_marked 0 true) 1 true; freed = 1 }
+last_to_free =
+    record { keys = []; parts = 2; size = 8; phase = 4; ready = set (set none_marked 0 true) 1 true; freed = 1 }
 
 pub last_is_next : next_to_free last_to_free ≡ Some 1
 last_is_next = refl
@@ -48,7 +50,8 @@ none_is_next = refl
 -- The sender cut 192 bytes into 3 of 64, this side into 2 of 96; these boxes are taken
 
 abbrev cut_apart : RecvView
-cut_apart = record { keys = []; parts = 2; size = 96; boxes = 3; bytes = 64; phase = 0; active = true; taken = none_marked }
+cut_apart =
+    record { keys = []; parts = 2; size = 96; boxes = 3; bytes = 64; phase = 0; active = true; taken = none_marked }
 
 abbrev with_box_0 : RecvView
 with_box_0 = one_taken cut_apart 0

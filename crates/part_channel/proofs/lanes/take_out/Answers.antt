@@ -1,5 +1,6 @@
 -- One more word is copied and spelled out.
-use Rattle.std.proofs.Common.{◌≡◌, ℕ, ◌+◌, ◌-◌, ◌*◌, ◌<◌, ◌++◌, [], ◌∷◌, List, length, replicate, sym, ap, ◌∙◌, arith, length-append}
+use Rattle.std.proofs.Common.{◌≡◌, ℕ, ◌+◌, ◌-◌, ◌*◌, ◌<◌, ◌++◌, [], ◌∷◌, List, length, replicate, sym, ap, ◌∙◌, arith}
+use Rattle.std.proofs.Common.{length-append}
 use Rattle.std.specs.List.{flat_map}
 use Rattle.part_box.specs.Keys.{Receiver}
 use Rattle.part_channel.specs.Words.{bytes_of_word}
@@ -18,5 +19,6 @@ loop-i-preserved c =
     record {
       key = copy_kept c.args.key.now c.loop-i.key c.copy-word.new.key word was.key is;
       count = ap length copied ∙ (length-append words (word ∷ []) ∙ ap (λ n. n + 1) was.count);
-      out = more_bytes c.loop-i.out c.put_word.new.out words c.loop-i.i word was.count low was.out c.put_word.ensures ∙ ap (λ (l : List ℕ). flat_map bytes_of_word l ++ replicate (128 - 8 * (c.loop-i.i + 1)) 0) (sym copied);
+      out = more_bytes c.loop-i.out c.put_word.new.out words c.loop-i.i word was.count low was.out c.put_word.ensures
+          ∙ ap (λ (l : List ℕ). flat_map bytes_of_word l ++ replicate (128 - 8 * (c.loop-i.i + 1)) 0) (sym copied);
     }

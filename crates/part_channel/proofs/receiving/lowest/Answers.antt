@@ -6,4 +6,6 @@ use Rattle.part_channel.proofs.Received.{skips}
 use Rattle.part_channel.proofs.receiving.lowest.Goals as goal
 
 pub loop-i-preserved : goal.loop-i-preserved
-loop-i-preserved c = c.loop-i.invariant ∙ skips (is_left c.args.taken.now) c.loop-i.i c.args.boxes c.loop-i-test.true (ap not c.if-not-taken-i.false)
+loop-i-preserved c =
+    c.loop-i.invariant
+    ∙ skips (is_left c.args.taken.now) c.loop-i.i c.args.boxes c.loop-i-test.true (ap not c.if-not-taken-i.false)

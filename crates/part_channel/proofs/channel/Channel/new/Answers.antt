@@ -16,4 +16,5 @@ returns-clause-own c =
 
 pub returns-clause-past : goal.returns-clause-past
 returns-clause-past c clock =
-    subst (λ (l : List Sender). All (λ key. key.view.front ≤ clock) l) (sym (c.over.ensures.over.0 ∙ c.loop-i.invariant.sends)) (sent.new_past (map box_of c.loop-i.boxes.items) clock)
+    subst (λ (l : List Sender). All (λ key. key.view.front ≤ clock) l)
+    (sym (c.over.ensures.over.0 ∙ c.loop-i.invariant.sends)) (sent.new_past (map box_of c.loop-i.boxes.items) clock)

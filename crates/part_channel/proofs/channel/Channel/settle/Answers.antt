@@ -1,5 +1,6 @@
 -- The last box that is left is settled with its two keys.
-use Rattle.std.proofs.Common.{◌≡◌, ℕ, suc, ◌+◌, ◌-◌, ◌<◌, List, ◌++◌, length, map, set, take, replicate, false, Option, Some, refl, sym, ap, ◌∙◌, subst, arith}
+use Rattle.std.proofs.Common.{◌≡◌, ℕ, suc, ◌+◌, ◌-◌, ◌<◌, List, ◌++◌, length, map, set, take, replicate, false, Option}
+use Rattle.std.proofs.Common.{Some, refl, sym, ap, ◌∙◌, subst, arith}
 use Rattle.std.specs.Prelude.{slice_get, option_to_list}
 use Rattle.std.proofs.lemmas.List.{length-map, length-set}
 use Rattle.part_box.specs.declared.settled.Settled.{Settled}
@@ -16,32 +17,49 @@ abbrev nothing : Settled
 nothing = record { full = false; stamp = 0; words = replicate 16 0 }
 
 -- an element that was popped off the first so many
-popped_at : {A : Type 0} (from xs rest : List A) (o : Option A) (x : A) (i : ℕ) → length from ≡ 16 → i < 16 → xs ≡ take (16 - i) from → xs ≡ rest ++ option_to_list o → o ≡ Some x → (slice_get from (15 - i) ≡ Some x) × (rest ≡ take (15 - i) from)
+popped_at : {A : Type 0} (from xs rest : List A) (o : Option A) (x : A) (i : ℕ) → length from ≡ 16 → i < 16
+    → xs ≡ take (16 - i) from → xs ≡ rest ++ option_to_list o → o ≡ Some x
+    → (slice_get from (15 - i) ≡ Some x) × (rest ≡ take (15 - i) from)
 popped_at from xs rest o x i long low is split some =
     let n : 16 - i ≡ suc (15 - i) = omega (arith, low) in
-    popped from rest x (15 - i) (omega (arith, low, long)) (ap (λ p. rest ++ option_to_list p) (sym some) ∙ (sym split ∙ (is ∙ ap (λ m. take m from) n)))
+    popped from rest x (15 - i) (omega (arith, low, long))
+    (ap (λ p. rest ++ option_to_list p) (sym some) ∙ (sym split ∙ (is ∙ ap (λ m. take m from) n)))
 
 pub settle-requires-clause-sender : goal.settle-requires-clause-sender
 settle-requires-clause-sender c =
     let boxes = c.self.inside.boxes.items in
     let sends = c.into_keys-sends.result.items in
     let places : map box_of boxes ≡ c.args.self.boxes = ap (λ (v : ChannelView). v.boxes) c.self.view_is in
-    let own : map sender_box sends ≡ c.args.self.boxes = ap (map sender_box) c.into_keys-sends.ensures ∙ c.requires.sender in
-    let long : length sends ≡ 16 = sym (length-map sends sender_box) ∙ (ap length (own ∙ sym places) ∙ (length-map boxes box_of ∙ c.self.invariant.long)) in
-    let b = popped_at boxes c.loop-i.boxes.items c.pop.new.self.items c.pop.result c.unwrap-place.result c.loop-i.i c.self.invariant.long c.loop-i-test.true c.loop-i.invariant.boxes c.pop.ensures.items c.unwrap-place.ensures in
-    let s = popped_at sends c.loop-i.sends.items c.pop-in-loop-i.new.self.items c.pop-in-loop-i.result c.unwrap-send.result c.loop-i.i long c.loop-i-test.true c.loop-i.invariant.sends c.pop-in-loop-i.ensures.items c.unwrap-send.ensures in
-    sent.own_at sends boxes c.args.self.boxes (15 - c.loop-i.i) c.unwrap-send.result c.unwrap-place.result places own s.0 b.0
+    let own : map sender_box sends ≡ c.args.self.boxes =
+    ap (map sender_box) c.into_keys-sends.ensures ∙ c.requires.sender in
+    let long : length sends ≡ 16 =
+    sym (length-map sends sender_box)
+    ∙ (ap length (own ∙ sym places) ∙ (length-map boxes box_of ∙ c.self.invariant.long)) in
+    let b = popped_at boxes c.loop-i.boxes.items c.pop.new.self.items c.pop.result c.unwrap-place.result c.loop-i.i
+    c.self.invariant.long c.loop-i-test.true c.loop-i.invariant.boxes c.pop.ensures.items c.unwrap-place.ensures in
+    let s = popped_at sends c.loop-i.sends.items c.pop-in-loop-i.new.self.items c.pop-in-loop-i.result
+    c.unwrap-send.result c.loop-i.i long c.loop-i-test.true c.loop-i.invariant.sends c.pop-in-loop-i.ensures.items
+    c.unwrap-send.ensures in
+    sent.own_at sends boxes c.args.self.boxes (15 - c.loop-i.i) c.unwrap-send.result c.unwrap-place.result places own
+    s.0 b.0
 
 pub settle-requires-clause-receiver : goal.settle-requires-clause-receiver
 settle-requires-clause-receiver c =
     let boxes = c.self.inside.boxes.items in
     let recvs = c.into_keys-recvs.result.items in
     let places : map box_of boxes ≡ c.args.self.boxes = ap (λ (v : ChannelView). v.boxes) c.self.view_is in
-    let own : map receiver_box recvs ≡ c.args.self.boxes = ap (map receiver_box) c.into_keys-recvs.ensures ∙ c.requires.receiver in
-    let long : length recvs ≡ 16 = sym (length-map recvs receiver_box) ∙ (ap length (own ∙ sym places) ∙ (length-map boxes box_of ∙ c.self.invariant.long)) in
-    let b = popped_at boxes c.loop-i.boxes.items c.pop.new.self.items c.pop.result c.unwrap-place.result c.loop-i.i c.self.invariant.long c.loop-i-test.true c.loop-i.invariant.boxes c.pop.ensures.items c.unwrap-place.ensures in
-    let r = popped_at recvs c.loop-i.recvs.items c.pop-in-loop-i-2.new.self.items c.pop-in-loop-i-2.result c.unwrap-recv.result c.loop-i.i long c.loop-i-test.true c.loop-i.invariant.recvs c.pop-in-loop-i-2.ensures.items c.unwrap-recv.ensures in
-    received.own_at recvs boxes c.args.self.boxes (15 - c.loop-i.i) c.unwrap-recv.result c.unwrap-place.result places own r.0 b.0
+    let own : map receiver_box recvs ≡ c.args.self.boxes =
+    ap (map receiver_box) c.into_keys-recvs.ensures ∙ c.requires.receiver in
+    let long : length recvs ≡ 16 =
+    sym (length-map recvs receiver_box)
+    ∙ (ap length (own ∙ sym places) ∙ (length-map boxes box_of ∙ c.self.invariant.long)) in
+    let b = popped_at boxes c.loop-i.boxes.items c.pop.new.self.items c.pop.result c.unwrap-place.result c.loop-i.i
+    c.self.invariant.long c.loop-i-test.true c.loop-i.invariant.boxes c.pop.ensures.items c.unwrap-place.ensures in
+    let r = popped_at recvs c.loop-i.recvs.items c.pop-in-loop-i-2.new.self.items c.pop-in-loop-i-2.result
+    c.unwrap-recv.result c.loop-i.i long c.loop-i-test.true c.loop-i.invariant.recvs c.pop-in-loop-i-2.ensures.items
+    c.unwrap-recv.ensures in
+    received.own_at recvs boxes c.args.self.boxes (15 - c.loop-i.i) c.unwrap-recv.result c.unwrap-place.result places
+    own r.0 b.0
 
 pub loop-i-preserved : goal.loop-i-preserved
 loop-i-preserved c =
@@ -50,22 +68,39 @@ loop-i-preserved c =
     let recvs = c.into_keys-recvs.result.items in
     let i = c.loop-i.i in
     let places : map box_of boxes ≡ c.args.self.boxes = ap (λ (v : ChannelView). v.boxes) c.self.view_is in
-    let count : length c.args.self.boxes ≡ 16 = ap length (sym places) ∙ (length-map boxes box_of ∙ c.self.invariant.long) in
-    let long_s : length sends ≡ 16 = sym (length-map sends sender_box) ∙ (ap length (ap (map sender_box) c.into_keys-sends.ensures ∙ c.requires.sender) ∙ count) in
-    let long_r : length recvs ≡ 16 = sym (length-map recvs receiver_box) ∙ (ap length (ap (map receiver_box) c.into_keys-recvs.ensures ∙ c.requires.receiver) ∙ count) in
-    let b = popped_at boxes c.loop-i.boxes.items c.pop.new.self.items c.pop.result c.unwrap-place.result i c.self.invariant.long c.loop-i-test.true c.loop-i.invariant.boxes c.pop.ensures.items c.unwrap-place.ensures in
-    let s = popped_at sends c.loop-i.sends.items c.pop-in-loop-i.new.self.items c.pop-in-loop-i.result c.unwrap-send.result i long_s c.loop-i-test.true c.loop-i.invariant.sends c.pop-in-loop-i.ensures.items c.unwrap-send.ensures in
-    let r = popped_at recvs c.loop-i.recvs.items c.pop-in-loop-i-2.new.self.items c.pop-in-loop-i-2.result c.unwrap-recv.result i long_r c.loop-i-test.true c.loop-i.invariant.recvs c.pop-in-loop-i-2.ensures.items c.unwrap-recv.ensures in
+    let count : length c.args.self.boxes ≡ 16 =
+    ap length (sym places) ∙ (length-map boxes box_of ∙ c.self.invariant.long) in
+    let long_s : length sends ≡ 16 =
+    sym (length-map sends sender_box)
+    ∙ (ap length (ap (map sender_box) c.into_keys-sends.ensures ∙ c.requires.sender) ∙ count) in
+    let long_r : length recvs ≡ 16 =
+    sym (length-map recvs receiver_box)
+    ∙ (ap length (ap (map receiver_box) c.into_keys-recvs.ensures ∙ c.requires.receiver) ∙ count) in
+    let b = popped_at boxes c.loop-i.boxes.items c.pop.new.self.items c.pop.result c.unwrap-place.result i
+    c.self.invariant.long c.loop-i-test.true c.loop-i.invariant.boxes c.pop.ensures.items c.unwrap-place.ensures in
+    let s = popped_at sends c.loop-i.sends.items c.pop-in-loop-i.new.self.items c.pop-in-loop-i.result
+    c.unwrap-send.result i long_s c.loop-i-test.true c.loop-i.invariant.sends c.pop-in-loop-i.ensures.items
+    c.unwrap-send.ensures in
+    let r = popped_at recvs c.loop-i.recvs.items c.pop-in-loop-i-2.new.self.items c.pop-in-loop-i-2.result
+    c.unwrap-recv.result i long_r c.loop-i-test.true c.loop-i.invariant.recvs c.pop-in-loop-i-2.ensures.items
+    c.unwrap-recv.ensures in
     let less : 15 - i ≡ 16 - (i + 1) = omega arith in
-    let wide : c.unwrap-place.result.width ≡ c.args.self.width = wide_at (λ (p : Place). p.width ≡ c.self.inside.width) boxes (15 - i) c.unwrap-place.result c.self.invariant.wide b.0 ∙ ap (λ (v : ChannelView). v.width) c.self.view_is in
-    let mine = subst (λ n. IsSettled n c.unwrap-send.result.view c.unwrap-recv.result.view c.settle.result) wide c.settle.ensures.settled in
+    let wide : c.unwrap-place.result.width ≡ c.args.self.width =
+    wide_at (λ (p : Place). p.width ≡ c.self.inside.width) boxes (15 - i) c.unwrap-place.result
+    c.self.invariant.wide b.0 ∙ ap (λ (v : ChannelView). v.width) c.self.view_is in
+    let mine =
+    subst (λ n. IsSettled n c.unwrap-send.result.view c.unwrap-recv.result.view c.settle.result) wide
+    c.settle.ensures.settled in
     record {
       long = length-set c.loop-i.left (15 - i) c.settle.result ∙ c.loop-i.invariant.long;
       boxes = b.1 ∙ ap (λ n. take n boxes) less;
       sends = s.1 ∙ ap (λ n. take n sends) less;
       recvs = r.1 ∙ ap (λ n. take n recvs) less;
-      settled = subst (λ n. AreSettled c.args.self.width n sends recvs (set c.loop-i.left (15 - i) c.settle.result)) less
-          (settled_more c.args.self.width sends recvs c.loop-i.left (15 - i) (16 - i) c.unwrap-send.result c.unwrap-recv.result c.settle.result (omega (arith, c.loop-i-test.true)) s.0 r.0 mine c.loop-i.invariant.settled);
+      settled =
+          subst (λ n. AreSettled c.args.self.width n sends recvs (set c.loop-i.left (15 - i) c.settle.result)) less
+          (settled_more c.args.self.width sends recvs c.loop-i.left (15 - i) (16 - i) c.unwrap-send.result
+          c.unwrap-recv.result c.settle.result (omega (arith, c.loop-i-test.true)) s.0 r.0 mine
+          c.loop-i.invariant.settled);
     }
 
 pub loop-i-init : goal.loop-i-init
@@ -74,9 +109,14 @@ loop-i-init c =
     let sends = c.into_keys-sends.result.items in
     let recvs = c.into_keys-recvs.result.items in
     let places : map box_of boxes ≡ c.args.self.boxes = ap (λ (v : ChannelView). v.boxes) c.self.view_is in
-    let count : length c.args.self.boxes ≡ 16 = ap length (sym places) ∙ (length-map boxes box_of ∙ c.self.invariant.long) in
-    let long_s : length sends ≡ 16 = sym (length-map sends sender_box) ∙ (ap length (ap (map sender_box) c.into_keys-sends.ensures ∙ c.requires.sender) ∙ count) in
-    let long_r : length recvs ≡ 16 = sym (length-map recvs receiver_box) ∙ (ap length (ap (map receiver_box) c.into_keys-recvs.ensures ∙ c.requires.receiver) ∙ count) in
+    let count : length c.args.self.boxes ≡ 16 =
+    ap length (sym places) ∙ (length-map boxes box_of ∙ c.self.invariant.long) in
+    let long_s : length sends ≡ 16 =
+    sym (length-map sends sender_box)
+    ∙ (ap length (ap (map sender_box) c.into_keys-sends.ensures ∙ c.requires.sender) ∙ count) in
+    let long_r : length recvs ≡ 16 =
+    sym (length-map recvs receiver_box)
+    ∙ (ap length (ap (map receiver_box) c.into_keys-recvs.ensures ∙ c.requires.receiver) ∙ count) in
     record {
       long = refl;
       boxes = whole boxes 16 c.self.invariant.long;
@@ -90,10 +130,17 @@ returns c =
     let none : 16 - c.loop-i.i ≡ 0 = omega arith in
     let boxes = c.self.inside.boxes.items in
     let places : map box_of boxes ≡ c.args.self.boxes = ap (λ (v : ChannelView). v.boxes) c.self.view_is in
-    let count : length c.args.self.boxes ≡ 16 = ap length (sym places) ∙ (length-map boxes box_of ∙ c.self.invariant.long) in
-    let long_s : length c.args.send.keys ≡ 16 = sym (length-map c.args.send.keys sender_box) ∙ (ap length c.requires.sender ∙ count) in
-    let long_r : length c.args.recv.keys ≡ 16 = sym (length-map c.args.recv.keys receiver_box) ∙ (ap length c.requires.receiver ∙ count) in
+    let count : length c.args.self.boxes ≡ 16 =
+    ap length (sym places) ∙ (length-map boxes box_of ∙ c.self.invariant.long) in
+    let long_s : length c.args.send.keys ≡ 16 =
+    sym (length-map c.args.send.keys sender_box) ∙ (ap length c.requires.sender ∙ count) in
+    let long_r : length c.args.recv.keys ≡ 16 =
+    sym (length-map c.args.recv.keys receiver_box) ∙ (ap length c.requires.receiver ∙ count) in
     record {
-      settled = all_left c.args.self.width c.args.send.keys c.args.recv.keys c.loop-i.left long_s long_r c.loop-i.invariant.long
-          (all_settled c.args.self.width (16 - c.loop-i.i) c.into_keys-sends.result.items c.args.send.keys c.into_keys-recvs.result.items c.args.recv.keys c.loop-i.left none c.into_keys-sends.ensures c.into_keys-recvs.ensures c.loop-i.invariant.settled);
+      settled =
+          all_left c.args.self.width c.args.send.keys c.args.recv.keys c.loop-i.left long_s long_r
+          c.loop-i.invariant.long
+          (all_settled c.args.self.width (16 - c.loop-i.i) c.into_keys-sends.result.items c.args.send.keys
+          c.into_keys-recvs.result.items c.args.recv.keys c.loop-i.left none c.into_keys-sends.ensures
+          c.into_keys-recvs.ensures c.loop-i.invariant.settled);
     }

@@ -14,5 +14,7 @@ invariant_of-self c =
         shape = record { most = c.requires.parts.1; largest = c.requires.size.1; whole = c.requires.size.2 };
         total = λ _. c.requires.total ∙ ap (λ (s : RecvView). s.parts * s.size) (sym c.self.view_is);
       };
-      kept = keeps_cut side.keys.items c.args.parts side.active side.taken (subst (λ n. AreRecvLanes side.keys.items n side.active side.taken) unknown c.self.invariant.kept) c.requires.parts.1;
+      kept = keeps_cut side.keys.items c.args.parts side.active side.taken
+          (subst (λ n. AreRecvLanes side.keys.items n side.active side.taken) unknown c.self.invariant.kept)
+          c.requires.parts.1;
     }

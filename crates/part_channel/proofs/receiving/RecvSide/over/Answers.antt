@@ -21,6 +21,24 @@ invariant_of-result c = record {
 pub returns : goal.returns
 returns c =
     let new = c.requires.new in
-    let back : c.args.keys.items ≡ map new_receiver (map receiver_box c.args.keys.items) = sym (ap (λ l. map new_receiver (map receiver_box l)) new.2 ∙ (ap (map new_receiver) (boxes_back new.0) ∙ sym new.2)) in
-    let round : round_of c.args.keys.items none_marked ≡ 0 = ap (λ (l : List Receiver). round_of l none_marked) new.2 ∙ new_round new.0 in
-    record { over = (refl, λ i. record { keys = back i; parts = 0; size = 0; boxes = 0; bytes = 0; phase = round i; active = false; taken = none_marked }) }
+    let back : c.args.keys.items ≡ map new_receiver (map receiver_box c.args.keys.items) =
+    sym (ap (λ l. map new_receiver (map receiver_box l)) new.2
+    ∙ (ap (map new_receiver) (boxes_back new.0) ∙ sym new.2)) in
+    let round : round_of c.args.keys.items none_marked ≡ 0 =
+    ap (λ (l : List Receiver). round_of l none_marked) new.2 ∙ new_round new.0 in
+    record {
+      over = (
+        refl,
+        λ i.
+            record {
+              keys = back i;
+              parts = 0;
+              size = 0;
+              boxes = 0;
+              bytes = 0;
+              phase = round i;
+              active = false;
+              taken = none_marked;
+            },
+      );
+    }

@@ -18,7 +18,19 @@ pub returns-clause-begun : goal.returns-clause-begun
 returns-clause-begun c =
     let side = c.self.inside in
     let idle : side.active ≡ false = c.if-self.false in
-    let none : side.taken ≡ none_marked = idle_unmarked side.keys.items side.boxes side.taken (subst (λ (b : Bool). AreRecvLanes side.keys.items side.boxes b side.taken) idle c.self.invariant.kept) in (
+    let none : side.taken ≡ none_marked =
+    idle_unmarked side.keys.items side.boxes side.taken
+    (subst (λ (b : Bool). AreRecvLanes side.keys.items side.boxes b side.taken) idle c.self.invariant.kept) in (
       sym (ap (λ (s : RecvView). s.active) c.self.view_is) ∙ idle,
-      (λ i. record { keys = side.keys.items; parts = side.parts; size = side.size; boxes = side.boxes; bytes = side.bytes; phase = round_of side.keys.items side.taken; active = true; taken = none i }) ∙ ap awaited c.self.view_is,
+      (λ i. record {
+        keys = side.keys.items;
+        parts = side.parts;
+        size = side.size;
+        boxes = side.boxes;
+        bytes = side.bytes;
+        phase = round_of side.keys.items side.taken;
+        active = true;
+        taken = none i;
+      })
+          ∙ ap awaited c.self.view_is,
     )

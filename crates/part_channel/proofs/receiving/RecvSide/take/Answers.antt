@@ -1,5 +1,6 @@
 -- The key is the box's own and fresh, and what was loaded decides the answer.
-use Rattle.std.proofs.Common.{◌≡◌, ℕ, ◌+◌, ◌≤◌, List, length, map, set, Bool, true, refl, sym, ap, ◌∙◌, subst, arith, length-append}
+use Rattle.std.proofs.Common.{◌≡◌, ℕ, ◌+◌, ◌≤◌, List, length, map, set, Bool, true, refl, sym, ap, ◌∙◌, subst, arith}
+use Rattle.std.proofs.Common.{length-append}
 use Rattle.std.specs.Prelude.{slice_get, is_some, unwrap_or, max, if◌then◌else◌}
 use Rattle.part_box.specs.Gate.{ready_stamp}
 use Rattle.part_box.specs.Keys.{Receiver, after_look}
@@ -7,9 +8,11 @@ use Rattle.part_channel.specs.Channels.{ChannelView, receiver_box}
 use Rattle.part_channel.specs.Sending.{modified, one_if, none_marked}
 use Rattle.part_channel.specs.declared.progress.Take.{Take}
 use Rattle.part_box.specs.declared.view.Got.{Got}
-use Rattle.part_channel.specs.Receiving.{HasGot, round_of, shown_take, RecvView, AreRecvLanes, are_left, marked, took, lane_shown, lane_took, got_of}
+use Rattle.part_channel.specs.Receiving.{HasGot, round_of, shown_take, RecvView, AreRecvLanes, are_left, marked, took}
+use Rattle.part_channel.specs.Receiving.{lane_shown, lane_took, got_of}
 use Rattle.part_channel.proofs.Lists.{read_at, set_modified, at_set, at_end}
-use Rattle.part_channel.proofs.Received.{own_at, missed, taken, round_missed, round_taken, keeps_missed, keeps_taken, boxes_set, at_took}
+use Rattle.part_channel.proofs.Received.{own_at, missed, taken, round_missed, round_taken, keeps_missed, keeps_taken}
+use Rattle.part_channel.proofs.Received.{boxes_set, at_took}
 use Rattle.part_channel.proofs.receiving.RecvSide.take.Goals as goal
 
 pub try_take-take-requires-clause-own : goal.try_take-take-requires-clause-own
@@ -22,7 +25,8 @@ try_take-take-requires-clause-own c =
     let key = read_at side.keys.items c.args.part c.index_mut.result.now (omega arith) c.index_mut.ensures.value in
     let place = read_at boxes c.args.part c.index.result.now (omega arith) c.index.ensures in
     own_at side.keys.items boxes c.args.channel.now.boxes c.args.part c.index_mut.result.now c.index.result.now
-    (ap (λ (v : ChannelView). v.boxes) c.channel.view_is) (ap (λ (s : RecvView). map receiver_box s.keys) c.self.view_is ∙ c.requires.own) key place
+    (ap (λ (v : ChannelView). v.boxes) c.channel.view_is)
+    (ap (λ (s : RecvView). map receiver_box s.keys) c.self.view_is ∙ c.requires.own) key place
 
 pub try_take-take-requires-clause-fresh : goal.try_take-take-requires-clause-fresh
 try_take-take-requires-clause-fresh c =
@@ -46,8 +50,11 @@ invariant_of-self c =
     record {
       shape = c.self.invariant.shape;
       cut = c.self.invariant.cut;
-      kept = keeps_missed side.keys.items side.boxes side.active side.taken c.args.part old c.try_take-take.new.key c.self.invariant.kept key
-          (ap (λ (k : Receiver). k.view.seen) is ∙ none) (ap (λ (k : Receiver). k.view.copied) is ∙ (c.self.invariant.kept.lanes c.args.part old key).copied) (ap (λ (k : Receiver). k.view.got) is);
+      kept = keeps_missed side.keys.items side.boxes side.active side.taken c.args.part old c.try_take-take.new.key
+          c.self.invariant.kept key
+          (ap (λ (k : Receiver). k.view.seen) is ∙ none)
+          (ap (λ (k : Receiver). k.view.copied) is ∙ (c.self.invariant.kept.lanes c.args.part old key).copied)
+          (ap (λ (k : Receiver). k.view.got) is);
     }
 
 pub invariant_of-self-in-Taken : goal.invariant_of-self-in-Taken
@@ -58,17 +65,26 @@ invariant_of-self-in-Taken c =
     let old = c.index_mut.result.now in
     let key = read_at side.keys.items c.args.part old (omega arith) c.index_mut.ensures.value in
     let t = c.try_take-take.ensures in
-    let some = taken c.args.clock t.1 (ready_stamp t.0) c.in-Taken.field-0 c.in-Taken.field-1 (sym c.in-Taken.is ∙ t.4) in
+    let some =
+    taken c.args.clock t.1 (ready_stamp t.0) c.in-Taken.field-0 c.in-Taken.field-1 (sym c.in-Taken.is ∙ t.4) in
     let is = t.3 ∙ ap (lane_shown t.0 t.1 c.args.clock old) some.1 in
     let now : List Bool = set side.taken c.args.part true in
-    let active_is : c.is_some-self-inside.result ≡ are_left now side.boxes = c.is_some-self-inside.ensures ∙ ap is_some c.lowest.ensures in
-    let taken_is : c.kept-self-inside.result ≡ (if are_left now side.boxes then now else none_marked) = c.kept-self-inside.ensures ∙ ap (λ (b : Bool). if b then now else none_marked) active_is in
+    let active_is : c.is_some-self-inside.result ≡ are_left now side.boxes =
+    c.is_some-self-inside.ensures ∙ ap is_some c.lowest.ensures in
+    let taken_is : c.kept-self-inside.result ≡ (if are_left now side.boxes then now else none_marked) =
+    c.kept-self-inside.ensures ∙ ap (λ (b : Bool). if b then now else none_marked) active_is in
     record {
       shape = c.self.invariant.shape;
       cut = c.self.invariant.cut;
-      kept = subst (λ (x : Bool × List Bool). AreRecvLanes (set side.keys.items c.args.part c.try_take-take.new.key) side.boxes x.0 x.1) (λ i. (sym active_is i, sym taken_is i))
-          (keeps_taken side.keys.items side.boxes side.taken c.args.part old c.try_take-take.new.key (subst (λ (b : Bool). AreRecvLanes side.keys.items side.boxes b side.taken) c.if-not-self.false c.self.invariant.kept) key (omega arith) c.if-self-at.false
-          (ap (λ (k : Receiver). k.view.seen) is) (ap (λ (k : Receiver). k.view.copied) is) (ap (λ (k : Receiver). length k.view.got) is ∙ length-append old.view.got _));
+      kept = subst
+          (λ (x : Bool × List Bool).
+          AreRecvLanes (set side.keys.items c.args.part c.try_take-take.new.key) side.boxes x.0 x.1)
+          (λ i. (sym active_is i, sym taken_is i))
+          (keeps_taken side.keys.items side.boxes side.taken c.args.part old c.try_take-take.new.key
+          (subst (λ (b : Bool). AreRecvLanes side.keys.items side.boxes b side.taken) c.if-not-self.false
+          c.self.invariant.kept) key (omega arith) c.if-self-at.false
+          (ap (λ (k : Receiver). k.view.seen) is) (ap (λ (k : Receiver). k.view.copied) is)
+          (ap (λ (k : Receiver). length k.view.got) is ∙ length-append old.view.got _));
     }
 
 pub returns-in-Missed-clause-took : goal.returns-in-Missed-clause-took
@@ -84,13 +100,35 @@ returns-in-Missed-clause-took c =
     let step = lane_took t.0 t.1 c.args.clock in
     let keys = ap (set side.keys.items c.args.part) t.3 ∙ set_modified side.keys.items c.args.part step old key in
     let round : ℕ = round_of side.keys.items side.taken in
-    let next : RecvView = record { keys = modified side.keys.items c.args.part step; parts = side.parts; size = side.size; boxes = side.boxes; bytes = side.bytes; phase = round; active = side.active; taken = side.taken } in
-    let same = round_missed side.keys.items side.taken c.args.part old c.try_take-take.new.key key (ap (λ (k : Receiver). k.view.got) is) in (
+    let next : RecvView =
+    record {
+      keys = modified side.keys.items c.args.part step;
+      parts = side.parts;
+      size = side.size;
+      boxes = side.boxes;
+      bytes = side.bytes;
+      phase = round;
+      active = side.active;
+      taken = side.taken;
+    } in
+    let same =
+    round_missed side.keys.items side.taken c.args.part old c.try_take-take.new.key key
+    (ap (λ (k : Receiver). k.view.got) is) in (
       t.0,
       t.1,
       t.2 ∙ ap (λ (v : ChannelView). v.width) c.channel.view_is,
-      (λ i. record { keys = keys i; parts = side.parts; size = side.size; boxes = side.boxes; bytes = side.bytes; phase = same i; active = side.active; taken = side.taken })
-          ∙ (sym (ap (marked next c.args.part) none) ∙ ap (λ (s : RecvView). took s c.args.part t.0 t.1 c.args.clock) c.self.view_is),
+      (λ i. record {
+        keys = keys i;
+        parts = side.parts;
+        size = side.size;
+        boxes = side.boxes;
+        bytes = side.bytes;
+        phase = same i;
+        active = side.active;
+        taken = side.taken;
+      })
+          ∙ (sym (ap (marked next c.args.part) none)
+          ∙ ap (λ (s : RecvView). took s c.args.part t.0 t.1 c.args.clock) c.self.view_is),
       t.4,
     )
 
@@ -102,23 +140,51 @@ returns-in-Taken-clause-took c =
     let old = c.index_mut.result.now in
     let key = read_at side.keys.items c.args.part old (omega arith) c.index_mut.ensures.value in
     let t = c.try_take-take.ensures in
-    let some = taken c.args.clock t.1 (ready_stamp t.0) c.in-Taken.field-0 c.in-Taken.field-1 (sym c.in-Taken.is ∙ t.4) in
+    let some =
+    taken c.args.clock t.1 (ready_stamp t.0) c.in-Taken.field-0 c.in-Taken.field-1 (sym c.in-Taken.is ∙ t.4) in
     let is = t.3 ∙ ap (lane_shown t.0 t.1 c.args.clock old) some.1 in
     let step = lane_took t.0 t.1 c.args.clock in
     let keys = ap (set side.keys.items c.args.part) t.3 ∙ set_modified side.keys.items c.args.part step old key in
     let round : ℕ = round_of side.keys.items side.taken in
-    let next : RecvView = record { keys = modified side.keys.items c.args.part step; parts = side.parts; size = side.size; boxes = side.boxes; bytes = side.bytes; phase = round; active = side.active; taken = side.taken } in
+    let next : RecvView =
+    record {
+      keys = modified side.keys.items c.args.part step;
+      parts = side.parts;
+      size = side.size;
+      boxes = side.boxes;
+      bytes = side.bytes;
+      phase = round;
+      active = side.active;
+      taken = side.taken;
+    } in
     let now : List Bool = set side.taken c.args.part true in
-    let active_is : c.is_some-self-inside.result ≡ are_left now side.boxes = c.is_some-self-inside.ensures ∙ ap is_some c.lowest.ensures in
-    let taken_is : c.kept-self-inside.result ≡ (if are_left now side.boxes then now else none_marked) = c.kept-self-inside.ensures ∙ ap (λ (b : Bool). if b then now else none_marked) active_is in
-    let phase : round_of (set side.keys.items c.args.part c.try_take-take.new.key) c.kept-self-inside.result ≡ (if are_left now side.boxes then round else round + 1) = ap (round_of (set side.keys.items c.args.part c.try_take-take.new.key)) taken_is
-    ∙ round_taken side.keys.items side.boxes side.taken c.args.part old c.try_take-take.new.key (subst (λ (b : Bool). AreRecvLanes side.keys.items side.boxes b side.taken) c.if-not-self.false c.self.invariant.kept) key (omega arith) c.if-self-at.false
-    (ap (λ (k : Receiver). k.view.seen) is) (ap (λ (k : Receiver). k.view.copied) is) (ap (λ (k : Receiver). length k.view.got) is ∙ length-append old.view.got _) in (
+    let active_is : c.is_some-self-inside.result ≡ are_left now side.boxes =
+    c.is_some-self-inside.ensures ∙ ap is_some c.lowest.ensures in
+    let taken_is : c.kept-self-inside.result ≡ (if are_left now side.boxes then now else none_marked) =
+    c.kept-self-inside.ensures ∙ ap (λ (b : Bool). if b then now else none_marked) active_is in
+    let phase : round_of (set side.keys.items c.args.part c.try_take-take.new.key) c.kept-self-inside.result
+    ≡ (if are_left now side.boxes then round else round + 1) =
+    ap (round_of (set side.keys.items c.args.part c.try_take-take.new.key)) taken_is
+    ∙ round_taken side.keys.items side.boxes side.taken c.args.part old c.try_take-take.new.key
+    (subst (λ (b : Bool). AreRecvLanes side.keys.items side.boxes b side.taken) c.if-not-self.false
+    c.self.invariant.kept) key (omega arith) c.if-self-at.false
+    (ap (λ (k : Receiver). k.view.seen) is) (ap (λ (k : Receiver). k.view.copied) is)
+    (ap (λ (k : Receiver). length k.view.got) is ∙ length-append old.view.got _) in (
       t.0,
       t.1,
       t.2 ∙ ap (λ (v : ChannelView). v.width) c.channel.view_is,
-      (λ i. record { keys = keys i; parts = side.parts; size = side.size; boxes = side.boxes; bytes = side.bytes; phase = phase i; active = active_is i; taken = taken_is i })
-          ∙ (sym (ap (marked next c.args.part) some.1) ∙ ap (λ (s : RecvView). took s c.args.part t.0 t.1 c.args.clock) c.self.view_is),
+      (λ i. record {
+        keys = keys i;
+        parts = side.parts;
+        size = side.size;
+        boxes = side.boxes;
+        bytes = side.bytes;
+        phase = phase i;
+        active = active_is i;
+        taken = taken_is i;
+      })
+          ∙ (sym (ap (marked next c.args.part) some.1)
+          ∙ ap (λ (s : RecvView). took s c.args.part t.0 t.1 c.args.clock) c.self.view_is),
       t.4,
     )
 
@@ -130,13 +196,17 @@ returns-in-Taken-clause-phase c =
     let old = c.index_mut.result.now in
     let key = read_at side.keys.items c.args.part old (omega arith) c.index_mut.ensures.value in
     let t = c.try_take-take.ensures in
-    let some = taken c.args.clock t.1 (ready_stamp t.0) c.in-Taken.field-0 c.in-Taken.field-1 (sym c.in-Taken.is ∙ t.4) in
+    let some =
+    taken c.args.clock t.1 (ready_stamp t.0) c.in-Taken.field-0 c.in-Taken.field-1 (sym c.in-Taken.is ∙ t.4) in
     let stamp : ℕ = max c.args.clock some.0 + 1 in
-    let is : c.try_take-take.new.key ≡ got_of t.1 stamp (after_look old t.0) = t.3 ∙ ap (lane_shown t.0 t.1 c.args.clock old) some.1 in
+    let is : c.try_take-take.new.key ≡ got_of t.1 stamp (after_look old t.0) =
+    t.3 ∙ ap (lane_shown t.0 t.1 c.args.clock old) some.1 in
     let less : round_of side.keys.items side.taken + 0 ≡ round_of side.keys.items side.taken = omega arith in
     let phase = c.args.self.now.phase in
     let count : length old.view.got ≡ phase =
-    (c.self.invariant.kept.lanes c.args.part old key).got (omega arith) ∙ (ap (λ (b : Bool). round_of side.keys.items side.taken + one_if b) c.if-self-at.false ∙ (less ∙ ap (λ (s : RecvView). s.phase) c.self.view_is)) in
+    (c.self.invariant.kept.lanes c.args.part old key).got (omega arith)
+    ∙ (ap (λ (b : Bool). round_of side.keys.items side.taken + one_if b) c.if-self-at.false
+    ∙ (less ∙ ap (λ (s : RecvView). s.phase) c.self.view_is)) in
     let got : Got = record { stamp = unwrap_or (ready_stamp t.0) 0; words = t.1; taken = stamp } in
     let next : RecvView = record {
       keys = set side.keys.items c.args.part c.try_take-take.new.key;
@@ -148,7 +218,8 @@ returns-in-Taken-clause-phase c =
       active = c.is_some-self-inside.result;
       taken = c.kept-self-inside.result;
     } in
-    subst (λ (x : Take). HasGot c.args.self.now next c.args.part x) (sym (t.4 ∙ ap (shown_take c.args.clock t.1) some.1)) (
+    subst (λ (x : Take). HasGot c.args.self.now next c.args.part x)
+    (sym (t.4 ∙ ap (shown_take c.args.clock t.1) some.1)) (
       c.try_take-take.new.key,
       got,
       at_set side.keys.items c.args.part old c.try_take-take.new.key key,
@@ -165,7 +236,9 @@ returns-in-Missed-clause-own c =
     let old = c.index_mut.result.now in
     let key = read_at side.keys.items c.args.part old (omega arith) c.index_mut.ensures.value in
     let t = c.try_take-take.ensures in
-    boxes_set side.keys.items c.args.channel.now.boxes c.args.part old c.try_take-take.new.key key (ap (λ (k : Receiver). k.at) t.3 ∙ at_took t.0 t.1 c.args.clock old) (ap (λ (s : RecvView). map receiver_box s.keys) c.self.view_is ∙ c.requires.own)
+    boxes_set side.keys.items c.args.channel.now.boxes c.args.part old c.try_take-take.new.key key
+    (ap (λ (k : Receiver). k.at) t.3 ∙ at_took t.0 t.1 c.args.clock old)
+    (ap (λ (s : RecvView). map receiver_box s.keys) c.self.view_is ∙ c.requires.own)
 
 pub returns-in-Taken-clause-own : goal.returns-in-Taken-clause-own
 returns-in-Taken-clause-own c =
@@ -175,4 +248,6 @@ returns-in-Taken-clause-own c =
     let old = c.index_mut.result.now in
     let key = read_at side.keys.items c.args.part old (omega arith) c.index_mut.ensures.value in
     let t = c.try_take-take.ensures in
-    boxes_set side.keys.items c.args.channel.now.boxes c.args.part old c.try_take-take.new.key key (ap (λ (k : Receiver). k.at) t.3 ∙ at_took t.0 t.1 c.args.clock old) (ap (λ (s : RecvView). map receiver_box s.keys) c.self.view_is ∙ c.requires.own)
+    boxes_set side.keys.items c.args.channel.now.boxes c.args.part old c.try_take-take.new.key key
+    (ap (λ (k : Receiver). k.at) t.3 ∙ at_took t.0 t.1 c.args.clock old)
+    (ap (λ (s : RecvView). map receiver_box s.keys) c.self.view_is ∙ c.requires.own)

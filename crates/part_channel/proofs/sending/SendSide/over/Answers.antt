@@ -15,6 +15,15 @@ invariant_of-result c = record {
 pub returns : goal.returns
 returns c =
     let new = c.requires.new in
-    let back : c.args.keys.items ≡ map new_sender (map sender_box c.args.keys.items) = sym (ap (λ l. map new_sender (map sender_box l)) new.2 ∙ (ap (map new_sender) (boxes_back new.0) ∙ sym new.2)) in
-    let phase : phase_of c.args.keys.items none_marked ≡ 0 = ap (λ (l : List Sender). phase_of l none_marked) new.2 ∙ new_phase new.0 in
-    record { over = (refl, λ i. record { keys = back i; parts = 0; size = 0; phase = phase i; ready = none_marked; freed = 0 }) }
+    let back : c.args.keys.items ≡ map new_sender (map sender_box c.args.keys.items) =
+    sym (ap (λ l. map new_sender (map sender_box l)) new.2
+    ∙ (ap (map new_sender) (boxes_back new.0) ∙ sym new.2)) in
+    let phase : phase_of c.args.keys.items none_marked ≡ 0 =
+    ap (λ (l : List Sender). phase_of l none_marked) new.2 ∙ new_phase new.0 in
+    record {
+      over = (
+        refl,
+        λ i.
+            record { keys = back i; parts = 0; size = 0; phase = phase i; ready = none_marked; freed = 0 },
+      );
+    }

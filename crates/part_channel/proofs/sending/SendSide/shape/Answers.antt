@@ -10,5 +10,7 @@ invariant_of-self c =
     let unshaped : side.parts ≡ 0 = ap (λ (s : SendView). s.parts) c.self.view_is ∙ c.requires.once in
     record {
       shape = record { most = c.requires.parts.1; largest = c.requires.size.1; whole = c.requires.size.2 };
-      kept = keeps_shape side.keys.items c.args.parts side.freed side.ready (subst (λ n. AreSendLanes side.keys.items n side.freed side.ready) unshaped c.self.invariant.kept) c.requires.parts.1;
+      kept = keeps_shape side.keys.items c.args.parts side.freed side.ready
+          (subst (λ n. AreSendLanes side.keys.items n side.freed side.ready) unshaped c.self.invariant.kept)
+          c.requires.parts.1;
     }

@@ -18,7 +18,15 @@ returns-clause-begun c =
     let side = c.self.inside in
     let within : side.freed ≤ side.parts = c.self.invariant.kept.within in
     let ended : side.freed ≡ side.parts = omega arith in
-    let none : side.ready ≡ none_marked = idle_unmarked side.keys.items side.parts side.freed side.ready c.self.invariant.kept ended in (
+    let none : side.ready ≡ none_marked =
+    idle_unmarked side.keys.items side.parts side.freed side.ready c.self.invariant.kept ended in (
       sym (ap (λ (s : SendView). s.freed) c.self.view_is) ∙ (ended ∙ ap (λ (s : SendView). s.parts) c.self.view_is),
-      (λ i. record { keys = side.keys.items; parts = side.parts; size = side.size; phase = phase_of side.keys.items side.ready; ready = none i; freed = 0 }) ∙ ap begun c.self.view_is,
+      (λ i. record {
+        keys = side.keys.items;
+        parts = side.parts;
+        size = side.size;
+        phase = phase_of side.keys.items side.ready;
+        ready = none i;
+        freed = 0;
+      }) ∙ ap begun c.self.view_is,
     )
