@@ -1,5 +1,5 @@
 -- What the gate rule tells who holds both keys of a box, in what the keys know and in no words.
-use Rattle.std.proofs.Common.{◌≡◌, ◌⊎◌, ℕ, ◌+◌, ◌<◌, List, [], ◌∷◌, ◌++◌, length, take, refl, sym, ap, ◌∙◌}
+use Rattle.std.proofs.Common.{◌≡◌, ◌⊎◌, ℕ, ◌+◌, ◌<◌, ◌≤◌, List, [], ◌∷◌, ◌++◌, length, take, refl, sym, ap, ◌∙◌}
 use Rattle.std.proofs.Common.{zero, suc, subst, inl, inr, ⊎_elim, arith, Some, Bool, true, length-append}
 use Rattle.std.proofs.Common.{is_some, unwrap_or}
 use Rattle.std.specs.Prelude.{slice_get, All, option_map, ◌==◌, if◌then◌else◌}
@@ -14,9 +14,9 @@ use Rattle.part_box.specs.declared.view.Sending.{Sending}
 use Rattle.part_box.specs.declared.view.Receiving.{Receiving}
 use Rattle.part_box.specs.Gate.{stamp_of, IsEmptyGate, IsFullGate, ready_stamp, taken_stamp, thing_of, things_of}
 use Rattle.part_box.specs.Gate.{last_ready, last_take, ShowsTake, ShowsMade}
-use Rattle.part_box.specs.Steps.{with_freed, with_look}
+use Rattle.part_box.specs.Steps.{with_made, with_freed, with_look, with_got}
 use Rattle.part_box.specs.Rule.{gate_of, thing_in, contents_of, GateRule}
-use Rattle.part_box.proofs.Lists.{get_front, last_take-at}
+use Rattle.part_box.proofs.Lists.{get_front, get_last, last_take-at}
 use Rattle.part_box.proofs.GateKept.{parity, all_got, one_more, count_same, ready_shown, taken_shown}
 
 last_ready-push : (made : List Made) (m : Made) → last_ready (made ++ m ∷ []) ≡ m.stamp
@@ -163,3 +163,23 @@ pub look_now : (width : ℕ) (words : List ℕ) (s : Sending) (r : Receiving) (g
     → GateRule width words s (with_look r gate)
     → ready_stamp gate ≡ Some t → (length s.made ≡ length r.got + 1) × (t ≡ last_ready s.made)
 look_now width words s r gate t g shows = seen_is_full width words s (with_look r gate) g t shows
+
+-- right after `ready`: until then all that was made was got
+pub ready_now : (width : ℕ) (words : List ℕ) (s : Sending) (r : Receiving) (stamp : ℕ)
+    → GateRule width words (with_made s stamp) r → length r.got ≤ length s.made → length s.made ≡ length r.got
+ready_now width words s r stamp g before =
+    let more : length (with_made s stamp).made ≡ length s.made + 1 =
+    length-append s.made (record { stamp = stamp; words = s.filled } ∷ []) in
+    ⊎_elim (λ same. absurd (omega arith)) (λ one. omega arith) (made_is width words (with_made s stamp) r g)
+
+-- right after `empty`: until then one thing was left, and it is the one that was got
+pub empty_now : (width : ℕ) (words : List ℕ) (s : Sending) (r : Receiving) (stamp : ℕ)
+    → GateRule width words s (with_got r stamp) → length s.made ≤ length r.got + 1
+    → (length s.made ≡ length r.got + 1)
+    × (slice_get s.made (length r.got) ≡ Some (record { stamp = unwrap_or r.seen 0; words = r.copied }))
+empty_now width words s r stamp g before =
+    let x : Got = record { stamp = unwrap_or r.seen 0; words = r.copied; taken = stamp } in
+    let more : length (r.got ++ x ∷ []) ≡ length r.got + 1 = length-append r.got (x ∷ []) in
+    let count : length s.made ≡ length r.got + 1 =
+    ⊎_elim (λ same. omega arith) (λ one. absurd (omega arith)) (made_is width words s (with_got r stamp) g) in
+    (count, got_is_made width words s (with_got r stamp) g (length r.got) x (get_last r.got x (length r.got) refl))

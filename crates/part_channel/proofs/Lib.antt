@@ -4,3 +4,4 @@ pub mod Lists
 pub mod Sent
 pub mod Received
 pub mod Leaves
+pub mod Agreed

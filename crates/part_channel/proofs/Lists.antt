@@ -1,6 +1,6 @@
 -- Lists of keys, of marks and of boxes.
 use Rattle.std.proofs.Common.{◌≡◌, ◌≢◌, ◌⊎◌, ℕ, zero, suc, ◌<◌, List, [], ◌∷◌, ◌++◌, length, set, get_or, replicate}
-use Rattle.std.proofs.Common.{Bool, false, Some, refl, sym, ap, subst, ⊎_elim, inl, inr, arith}
+use Rattle.std.proofs.Common.{Bool, false, Some, refl, sym, ap, ◌∙◌, subst, ⊎_elim, inl, inr, arith}
 use Rattle.std.specs.Prelude.{slice_get, nat_le}
 use Rattle.std.proofs.lemmas.Option.{slice_get_read}
 use Rattle.part_channel.specs.Sending.{modified, none_marked}
@@ -27,6 +27,20 @@ module _ {A : Type 0} where
   set_modified [] i f x e = absurd (cc)
   set_modified (z ∷ zs) zero f x e = ap (λ w. f w ∷ zs) (sym (some_same z x e))
   set_modified (z ∷ zs) (suc i) f x e = ap (λ l. z ∷ l) (set_modified zs i f x e)
+
+  -- which element that is, and that the others stay
+  pub modified_at : (xs : List A) (i : ℕ) (f : A → A) (x y : A) → slice_get xs i ≡ Some x
+      → slice_get (modified xs i f) i ≡ Some y → f x ≡ y
+  modified_at [] i f x y e new = absurd (cc)
+  modified_at (z ∷ zs) zero f x y e new = ap f (sym (some_same z x e)) ∙ some_same (f z) y new
+  modified_at (z ∷ zs) (suc i) f x y e new = modified_at zs i f x y e new
+
+  pub modified_other : (xs : List A) (i j : ℕ) (f : A → A) → j ≢ i → slice_get (modified xs i f) j ≡ slice_get xs j
+  modified_other [] i j f ne = refl
+  modified_other (z ∷ zs) zero zero f ne = absurd (ne refl)
+  modified_other (z ∷ zs) zero (suc j) f ne = refl
+  modified_other (z ∷ zs) (suc i) zero f ne = refl
+  modified_other (z ∷ zs) (suc i) (suc j) f ne = modified_other zs i j f (λ e. ne (ap suc e))
 
   pub read_at : (xs : List A) (i : ℕ) (x : A) → i < length xs → x ≡ get_or xs i x → slice_get xs i ≡ Some x
   read_at xs i x low is = slice_get_read xs (length xs) i x refl low is
