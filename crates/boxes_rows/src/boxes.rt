@@ -39,7 +39,8 @@ fn make(place: &PartBox, key: &mut SendKey, width: usize, words: &[u64; 16], sta
     requires own { (key.old.at ≡ place.now.at) × (place.now.width ≡ width) × (width ≤ 16) }
     requires open { IsTrue key.old.view.is_open × (key.old.view.filled ≡ []) }
     requires stamp { (key.old.view.front < stamp) × (stamp < 2 ^ 62) }
-    ensures { key.new ≡ after_ready (record key.old { view = record key.old.view { filled = take width words.now } }) stamp }
+    ensures { key.new
+        ≡ after_ready (record key.old { view = record key.old.view { filled = take width words.now } }) stamp }
 {
     for i in 0..width {
         place.fill(key, words[i]);
@@ -52,7 +53,8 @@ fn take(place: &PartBox, key: &mut RecvKey, width: usize, stamp: u64) -> [u64; 1
     requires own { (key.old.at ≡ place.now.at) × (place.now.width ≡ width) × (width ≤ 16) }
     requires seen { (n : ℕ) × (key.old.view.seen ≡ Some n) × (n < stamp) × (stamp < 2 ^ 62) }
     requires fresh { key.old.view.copied ≡ [] }
-    ensures { key.new ≡ after_empty (record key.old { view = record key.old.view { copied = take width result } }) stamp }
+    ensures { key.new
+        ≡ after_empty (record key.old { view = record key.old.view { copied = take width result } }) stamp }
 {
     let mut words = [0; 16];
     for i in 0..width {
@@ -99,6 +101,7 @@ struct Showed {
     left: Settled,
 }
 
+// Whenever the two keys agree nothing changes.
 fn way(alloc: Global, width: usize) -> Result<Showed, AllocError>
     requires { (width ≡ 8) ⊎ (width ≡ 16) }
 {
@@ -114,13 +117,17 @@ fn way(alloc: Global, width: usize) -> Result<Showed, AllocError>
             left: empty_at(0),
         });
     }
+    place.agree(&mut send, &mut recv);
     make(&place, &mut send, width, &WORDS, 5);
+    place.agree(&mut send, &mut recv);
     let early_freed = place.freed(&mut send);
     let look = place.look(&mut recv);
+    place.agree(&mut send, &mut recv);
     let words = match look {
         Some(seen) if seen < 9 => take(&place, &mut recv, width, 9),
         _ => [0; 16],
     };
+    place.agree(&mut send, &mut recv);
     let freed = place.freed(&mut send);
     Ok(Showed {
         early_look,
@@ -165,8 +172,8 @@ fn print_stamp<W: Write>(out: &mut W, what: &str, stamp: Option<u64>) -> io::Res
     }
 }
 
-/// Prints what one thing showed. A look that loaded another word than the gate would be found out here: it would miss the
-/// thing, or show another stamp.
+/// Prints what one thing showed. A look that loaded another word than the gate would be found out here: it would miss
+/// the thing, or show another stamp.
 fn print_way<W: Write>(out: &mut W, showed: &Showed) -> io::Result<()> {
     print_stamp(out, "early look", showed.early_look)?;
     print_stamp(out, "early freed", showed.early_freed)?;

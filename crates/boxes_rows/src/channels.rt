@@ -184,7 +184,8 @@ fn second_of_eight(
     recv: &mut RecvSide,
     clock: Stamp,
 ) -> bool
-    requires own { (map sender_box send.old.keys ≡ channel.now.boxes) × (map receiver_box recv.old.keys ≡ channel.now.boxes) }
+    requires own { (map sender_box send.old.keys ≡ channel.now.boxes)
+        × (map receiver_box recv.old.keys ≡ channel.now.boxes) }
     requires bytes { (send.old.size ≡ 8) × (8 ≤ 8 * channel.now.width) }
     requires past { IsPast send.old clock }
 {
@@ -215,8 +216,8 @@ fn second_of_eight(
 }
 
 // A sender of 3 partitions of 64 bytes, and a receiver that cuts the same 192 bytes into 2 of 96: which box each of the
-// receiver's partitions waits for. The sender makes partition 2 ready, then 0, and at last 1. Bytes 0 to 95 are in boxes
-// 0 and 1, and bytes 96 to 191 in boxes 1 and 2.
+// receiver's partitions waits for. The sender makes partition 2 ready, then 0, and at last 1. Bytes 0 to 95 are in
+// boxes 0 and 1, and bytes 96 to 191 in boxes 1 and 2.
 fn three_against_two(alloc: Global, width: usize) -> Result<bool, AllocError>
     requires { (width ≡ 8) ⊎ (width ≡ 16) }
 {

@@ -1,5 +1,5 @@
-//! Prints what partition boxes and channels over them show, of 8 and of 16 words: one thing from look to freed, phases with
-//! their stamps, cuts and refusals, and what is left of each.
+//! Prints what partition boxes and channels over them show, of 8 and of 16 words: one thing from look to freed, phases
+//! with their stamps, cuts and refusals, and what is left of each.
 //!
 //! `stdout` was worked out by hand from what the calls are said to answer.
 #![tactic(auto)]

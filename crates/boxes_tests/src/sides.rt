@@ -1,8 +1,10 @@
 //! Sides: where each call refuses, what it answers, and what it leaves alone.
-ghost use Rattle.std.specs.Prelude.{◌≡◌, ◌≢◌, ◌⊎◌, ℕ, ◌+◌, ◌-◌, ◌*◌, ◌^◌, ◌<◌, ◌≤◌, List, [], map, get_or, set, IfOk, OnOk, Ok, Err, Some, None, true, false};
+ghost use Rattle.std.specs.Prelude.{◌≡◌, ◌≢◌, ◌⊎◌, ℕ, ◌+◌, ◌-◌, ◌*◌, ◌^◌, ◌<◌, ◌≤◌, List, [], map, length, get_or};
+ghost use Rattle.std.specs.Prelude.{slice_get, set, IfOk, OnOk, Ok, Err, Some, None, true, false};
 ghost use Rattle.mp_types.specs.declared.codes.Code.TheVariants.{AlreadyReady, NotActive, BadPartition, Active};
 ghost use Rattle.part_channel.specs.declared.progress.Progress.TheVariants.{AllFreed, NotReady, Freed};
 ghost use Rattle.part_channel.specs.declared.progress.Take.TheVariants.{Taken};
+ghost use Rattle.part_box.specs.Keys.{Sender, Receiver};
 ghost use Rattle.part_channel.specs.Channels.{sender_box, receiver_box};
 ghost use Rattle.part_channel.specs.Sending.{IsPast, none_marked};
 
@@ -139,7 +141,8 @@ pub fn the_last_freed_ends_the_phase(
     requires own { map sender_box side.old.keys ≡ channel.now.boxes }
     requires clock { IsPast side.old clock × (clock < 2 ^ 62 - 1) }
     requires last { (side.old.parts ≡ 2) × (side.old.freed ≡ 1) × (get_or side.old.ready 1 false ≡ true) }
-    ensures { (stamp : ℕ) → result ≡ Freed stamp → (side.new.freed ≡ 2) × (side.new.phase ≡ side.old.phase + 1) × (side.new.ready ≡ none_marked) }
+    ensures { (stamp : ℕ) → result ≡ Freed stamp
+        → (side.new.freed ≡ 2) × (side.new.phase ≡ side.old.phase + 1) × (side.new.ready ≡ none_marked) }
 {
     side.test(channel, clock)
 }
@@ -153,7 +156,50 @@ pub fn the_last_take_ends_the_phase(
     requires own { map receiver_box side.old.keys ≡ channel.now.boxes }
     requires clock { clock < 2 ^ 62 - 1 }
     requires last { (side.old.boxes ≡ 2) × (side.old.active ≡ true) × (side.old.taken ≡ set none_marked 0 true) }
-    ensures { (bytes : List ℕ) (stamp : ℕ) → result ≡ Ok (Taken bytes stamp) → (side.new.active ≡ false) × (side.new.phase ≡ side.old.phase + 1) × (side.new.taken ≡ none_marked) }
+    ensures { (bytes : List ℕ) (stamp : ℕ) → result ≡ Ok (Taken bytes stamp)
+        → (side.new.active ≡ false) × (side.new.phase ≡ side.old.phase + 1) × (side.new.taken ≡ none_marked) }
 {
     side.take(channel, 1, clock)
+}
+
+/// A side of a channel is still the channel's once it has a shape and a phase was begun, or refused.
+pub fn a_sending_side_keeps_its_boxes(side: &mut SendSide, channel: &Channel) -> Result<(), Code>
+    requires own { map sender_box side.old.keys ≡ channel.now.boxes }
+    requires new { side.old.parts ≡ 0 }
+    ensures own { map sender_box side.new.keys ≡ channel.now.boxes }
+{
+    side.shape(2, 8);
+    side.start()
+}
+
+/// And so is the other side, once it has the sender's cut too.
+pub fn a_receiving_side_keeps_its_boxes(side: &mut RecvSide, channel: &Channel) -> Result<(), Code>
+    requires own { map receiver_box side.old.keys ≡ channel.now.boxes }
+    requires new { (side.old.parts ≡ 0) × (side.old.boxes ≡ 0) }
+    ensures own { map receiver_box side.new.keys ≡ channel.now.boxes }
+{
+    side.shape(2, 96);
+    side.cut(3, 64);
+    side.start()
+}
+
+/// Who holds both sides knows of a partition that was told as freed: all that was made in its box was got.
+pub fn a_freed_partition_was_taken(
+    send: &mut SendSide,
+    recv: &mut RecvSide,
+    channel: &Channel,
+    clock: Stamp,
+) -> Progress
+    requires own { (map sender_box send.old.keys ≡ channel.now.boxes)
+        × (map receiver_box recv.old.keys ≡ channel.now.boxes) }
+    requires clock { IsPast send.old clock × (clock < 2 ^ 62 - 1) }
+    requires next { send.old.freed ≡ 1 }
+    ensures taken { (stamp : ℕ) (was is : Sender) (r : Receiver) → result ≡ Freed stamp
+        → slice_get send.old.keys 1 ≡ Some was → slice_get send.new.keys 1 ≡ Some is
+        → slice_get recv.new.keys 1 ≡ Some r → length is.view.made ≡ length r.view.got }
+    ensures unchanged { recv.new ≡ recv.old }
+{
+    let told = send.test(channel, clock);
+    channel.agree(send, recv, 1);
+    told
 }
