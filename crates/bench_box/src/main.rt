@@ -1,5 +1,5 @@
-//! Passes things through a partition box, or partitions through a channel, between two threads, and prints how many went
-//! through whole.
+//! Passes things through a partition box, or partitions through a channel, between two threads, and prints how many
+//! went through whole.
 #![tactic(auto)]
 
 mod phases;

@@ -18,8 +18,8 @@ const LOOKS_AT_ONCE: u32 = 64;
 /// The greatest clock with which a call is made.
 const LAST_CLOCK: Stamp = (1 << 62) - 2;
 
-/// How many phases of 16 partitions went through a channel with the bytes that they were made with: all, unless a thread
-/// gave up. A box has so many data words, and a partition as many bytes.
+/// How many phases of 16 partitions went through a channel with the bytes that they were made with: all, unless a
+/// thread gave up. A box has so many data words, and a partition as many bytes.
 pub fn phases_passed<R: Threads + Sync>(
     rt: &R,
     alloc: Global,

@@ -1,5 +1,6 @@
 //! A thread that makes things and one that takes them.
-ghost use Rattle.std.specs.Prelude.{◌≡◌, ℕ, ◌+◌, ◌-◌, ◌^◌, ◌<◌, ◌≤◌, [], ◌++◌, length, Some, None, IfOk, IfSome, IsTrue};
+ghost use Rattle.std.specs.Prelude.{◌≡◌, ℕ, ◌+◌, ◌-◌, ◌^◌, ◌<◌, ◌≤◌, [], ◌++◌, length, Some, None, IfOk, IfSome};
+ghost use Rattle.std.specs.Prelude.{IsTrue};
 ghost use Rattle.part_box.specs.Keys.{new_sender, new_receiver};
 ghost use Rattle.bench_box.specs.Relay.{after_make, after_take, IsSameSender, IsSameReceiver};
 

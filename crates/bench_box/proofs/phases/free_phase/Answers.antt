@@ -11,11 +11,13 @@ loop-looks-preserved c =
       | in-Freed w ↦ record {
         own = c.test.ensures.own;
         size = size;
-        past = subst (IsPast c.test.new.self) (sym w.clock-is) (subst (IsTold c.test.new.self) w.in-Freed.is c.test.ensures.told).1;
+        past = subst (IsPast c.test.new.self) (sym w.clock-is)
+            (subst (IsTold c.test.new.self) w.in-Freed.is c.test.ensures.told).1;
       }
       | in-Missed w ↦ record {
         own = c.test.ensures.own;
         size = size;
-        past = subst (IsPast c.test.new.self) (sym w.clock-is) (subst (IsTold c.test.new.self) w.in-Missed.is c.test.ensures.told).1;
+        past = subst (IsPast c.test.new.self) (sym w.clock-is)
+            (subst (IsTold c.test.new.self) w.in-Missed.is c.test.ensures.told).1;
       }
     ]
