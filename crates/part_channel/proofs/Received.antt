@@ -22,7 +22,7 @@ off e = cc
 
 -- A new side, its cut, and the beginning of a phase
 
-all_new : (boxes : List BoxId) (i : ℕ) (key : Receiver) → slice_get (map new_receiver boxes) i ≡ Some key
+pub all_new : (boxes : List BoxId) (i : ℕ) (key : Receiver) → slice_get (map new_receiver boxes) i ≡ Some key
     → (box : BoxId) × (new_receiver box ≡ key)
 all_new [] i key e = absurd (cc)
 all_new (b ∷ bs) zero key e = (b, some_same (new_receiver b) key e)

@@ -325,7 +325,7 @@ module _ (side : SendView) (gate : ℕ) (active : side.freed < side.parts)
 -- A new side, its shape, and the beginning of a phase
 
 -- each key of a new side is new
-all_new : (boxes : List BoxId) (i : ℕ) (key : Sender) → slice_get (map new_sender boxes) i ≡ Some key
+pub all_new : (boxes : List BoxId) (i : ℕ) (key : Sender) → slice_get (map new_sender boxes) i ≡ Some key
     → (box : BoxId) × (new_sender box ≡ key)
 all_new [] i key e = absurd (cc)
 all_new (b ∷ bs) zero key e = (b, some_same (new_sender b) key e)
