@@ -5,6 +5,7 @@ use Rattle.cl_calls.specs.declared.calls.Call.{Call}
 use Rattle.cl_calls.specs.declared.calls.Call.TheVariants as call
 use Rattle.cl_calls.specs.declared.calls.Claimed.{Claimed}
 use Rattle.cl_calls.specs.declared.calls.Completing.{Completing}
+use Rattle.cl_calls.specs.declared.calls.Partitioning.{Partitioning}
 use Rattle.cl_calls.specs.declared.calls.Probing.{Probing}
 use Rattle.cl_calls.specs.declared.calls.Receiving.{Receiving}
 use Rattle.cl_calls.specs.declared.calls.Sending.{Sending}
@@ -46,6 +47,10 @@ completing_by a = record { handle = a 0; status = a 1 }
 abbrev pub several_by : (ℕ → ℕ) → Several
 several_by a = record { array = a 0; count = a 1; statuses = a 2 }
 
+-- and of the calls that begin a partitioned transfer (chapter 4.2): the buffer, its partitions, and the other side
+abbrev pub partitioning_by : (ℕ → ℕ) → Partitioning
+partitioning_by a = record { buffer = a 0; parts = a 1; size = a 2; peer = a 3; tag = a 4; comm = a 5 }
+
 -- the call of each number, with its arguments
 abbrev pub call_rows : (ℕ → ℕ) → List (ℕ × Call)
 call_rows a =
@@ -74,6 +79,10 @@ call_rows a =
     (33, call.RequestFree (a 0)) ∷
     (34, call.Testall (several_by a)) ∷
     (35, call.Waitall (several_by a)) ∷
+    (40, call.PsendInit (partitioning_by a)) ∷
+    (41, call.PrecvInit (partitioning_by a)) ∷
+    (42, call.Pready (a 0) (a 1)) ∷
+    (43, call.Parrived (a 0) (a 1)) ∷
     []
 
 -- the row of a number; where there is none, no call

@@ -1,7 +1,7 @@
 //! The calls of a guest, as its registers spell them.
 
 ghost use Rattle.std.specs.Prelude.{◌≡◌, ◌<◌};
-ghost use Rattle.cl_calls.specs.Calls.{argument as argument_of, call_of, claimed_by, completing_by, probing_by, receiving_by, sending_by, several_by};
+ghost use Rattle.cl_calls.specs.Calls.{argument as argument_of, call_of, claimed_by, completing_by, partitioning_by, probing_by, receiving_by, sending_by, several_by};
 
 use rv_decode::Reg;
 use rv_hart::Hart;
@@ -68,6 +68,18 @@ pub struct Several {
     pub statuses: u64,
 }
 
+/// The arguments of a call that begins one side of a partitioned transfer: where its partitions stand, how many there are,
+/// the bytes of each, and the other side.
+#[derive(Clone, Copy, PartialEq, Eq, Drop, Debug)]
+pub struct Partitioning {
+    pub buffer: u64,
+    pub parts: u64,
+    pub size: u64,
+    pub peer: u64,
+    pub tag: u64,
+    pub comm: u64,
+}
+
 /// A call, with its arguments as the registers spell them. The sections are those of MPI 4.1.
 #[derive(Clone, Copy, PartialEq, Eq, Drop, Debug)]
 pub enum Call {
@@ -121,6 +133,14 @@ pub enum Call {
     Testall(Several),
     /// Completes all of several requests as soon as all can be (3.7.5, MPI_WAITALL).
     Waitall(Several),
+    /// Makes the sender's side of a partitioned transfer (4.2.1, MPI_PSEND_INIT).
+    PsendInit(Partitioning),
+    /// Makes the receiver's side of a partitioned transfer (4.2.1, MPI_PRECV_INIT).
+    PrecvInit(Partitioning),
+    /// Makes a partition ready (4.2.2, MPI_PREADY).
+    Pready { handle: u64, part: u64 },
+    /// Asks whether a partition has arrived (4.2.3, MPI_PARRIVED).
+    Parrived { handle: u64, part: u64 },
     /// A number that is no call's.
     Unknown,
 }
@@ -208,6 +228,21 @@ impl Several {
     }
 }
 
+impl Partitioning {
+    fn of(hart: &Hart) -> Partitioning
+        ensures { result ≡ partitioning_by (argument_of hart.now) }
+    {
+        Partitioning {
+            buffer: argument(hart, 0),
+            parts: argument(hart, 1),
+            size: argument(hart, 2),
+            peer: argument(hart, 3),
+            tag: argument(hart, 4),
+            comm: argument(hart, 5),
+        }
+    }
+}
+
 impl Call {
     /// The call that a hart's registers spell.
     pub fn of(hart: &Hart) -> Call
@@ -249,6 +284,16 @@ impl Call {
             33 => Call::RequestFree { handle: a0 },
             34 => Call::Testall(Several::of(hart)),
             35 => Call::Waitall(Several::of(hart)),
+            40 => Call::PsendInit(Partitioning::of(hart)),
+            41 => Call::PrecvInit(Partitioning::of(hart)),
+            42 => Call::Pready {
+                handle: a0,
+                part: argument(hart, 1),
+            },
+            43 => Call::Parrived {
+                handle: a0,
+                part: argument(hart, 1),
+            },
             _ => Call::Unknown,
         }
     }

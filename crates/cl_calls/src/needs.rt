@@ -53,6 +53,19 @@ pub enum Named {
     Persistent(u64),
     /// An open request, which isn't active.
     Open(u64),
+    /// A partitioned send that is started, and one of its partitions, which isn't ready.
+    SendPart { handle: u64, part: u64 },
+    /// A partitioned receive, and one of its partitions.
+    ReceivePart { handle: u64, part: u64 },
+}
+
+/// The partitions of a transfer: so many of so many bytes, from an address on, which the transfer reads or writes.
+#[derive(Clone, Copy, PartialEq, Eq, Drop, Debug)]
+pub struct Region {
+    pub address: u64,
+    pub parts: u64,
+    pub size: u64,
+    pub writing: bool,
 }
 
 /// What a call needs to be right. Where it needs nothing of a kind, that field is None, 0 or false.
@@ -69,6 +82,8 @@ pub struct Needs {
     /// A member of that communicator.
     pub peer: Option<Peer>,
     pub tag: Tag,
+    /// The partitions of a transfer, whose shape is inside the limits.
+    pub region: Option<Region>,
     pub buffer: Range,
     pub statuses: Statuses,
     /// How many bytes the output grows by.
@@ -88,6 +103,7 @@ const NOTHING: Needs = Needs {
     comm: None,
     peer: None,
     tag: Tag { tag: 0, any: false },
+    region: None,
     buffer: Range {
         address: 0,
         count: 0,

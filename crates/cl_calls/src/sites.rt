@@ -6,7 +6,7 @@ ghost use Rattle.cl_calls.specs.Checks.{is_comm as is_comm_of, is_peer as is_pee
 
 use crate::calls::{ANY, NO_RANK};
 use crate::needs::Peer;
-use rv_image::{Links, Members};
+use rv_image::{ImageVersion, Links, Members};
 use std::marker::Model;
 
 /// All communicators of a rank's image, at most 8 of them; number 0 is all ranks in order.
@@ -36,6 +36,8 @@ pub struct Site {
     /// The members of each communicator, as ranks of the cluster.
     pub comms: Communicators,
     pub links: Links,
+    /// The image's version, which decides the width of boxes.
+    pub version: ImageVersion,
 }
 
 impl Communicators {

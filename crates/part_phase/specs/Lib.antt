@@ -1,0 +1,4 @@
+pub mod Limits
+pub mod Sending
+pub mod Receiving
+pub mod Phases
