@@ -11,6 +11,7 @@ use Rattle.mp_types.specs.declared.codes.Code.{Code}
 use Rattle.mp_types.specs.declared.requests.Request.TheVariants as request
 use Rattle.mp_request.specs.declared.entries.OpenRequest.{OpenRequest}
 use Rattle.mp_request.specs.Table.{Table, request_at}
+use Rattle.part_phase.specs.declared.phases.Phase.{Phase}
 use Rattle.cl_calls.specs.declared.calls.Call.{Call}
 use Rattle.cl_calls.specs.declared.calls.Call.TheVariants as call
 use Rattle.cl_calls.specs.declared.calls.Probing.{Probing}
@@ -19,14 +20,19 @@ use Rattle.cl_calls.specs.declared.sites.Site.{Site}
 use Rattle.cl_calls.specs.Calls.{no_rank, call_of}
 use Rattle.cl_calls.specs.Handles.{handles_in}
 use Rattle.cl_calls.specs.Needs.{array_at, needs_of}
-use Rattle.cl_calls.specs.Checks.{checks, first_fault}
+use Rattle.cl_calls.specs.Checks.{checks, first_fault, sending_side, receiving_side}
 use Rattle.cl_state.specs.declared.asking.Ask.{Ask}
 use Rattle.cl_state.specs.declared.asking.Ask.TheVariants as ask
 use Rattle.cl_state.specs.declared.asking.Doing.{Doing}
 use Rattle.cl_state.specs.declared.asking.Doing.TheVariants.{Step, Refused, Go, Poll, Stopped}
+use Rattle.cl_state.specs.declared.partitions.Awaited.{Awaited}
+use Rattle.cl_state.specs.declared.pending.Manner.{Manner}
+use Rattle.cl_state.specs.declared.pending.Manner.TheVariants.{Immediate, Blocking}
+use Rattle.cl_state.specs.declared.pending.Pending.{Pending}
 use Rattle.cl_state.specs.Rank.{Rank}
 use Rattle.cl_state.specs.Transfers.{source_of, tag_of, send_of, receive_of, asked_transfer, asked_claimed}
 use Rattle.cl_state.specs.Pending.{pending_of, asked_pending}
+use Rattle.cl_state.specs.Partitions.{awaited, asked_awaited, asked_ready, asked_arrived, asked_sending, asked_receiving}
 use Rattle.cl_state.specs.Several.{pendings, posts_of, asked_all}
 
 -- what one hart's turn may change of its rank, but for the clock
@@ -34,6 +40,7 @@ pub record Part : Type 0 where
   pub hart : State
   pub memory : Memory
   pub requests : Table
+  pub phases : List Phase
   pub out : List ℕ
 
 -- a hart that isn't there is a stopped one
@@ -41,8 +48,13 @@ abbrev pub no_hart : State
 no_hart = record { regs = []; pc = 0; mode = Ended 0 }
 
 abbrev pub part_of : Rank → ℕ → Part
-part_of rank hart =
-    record { hart = get_or rank.harts hart no_hart; memory = rank.memory; requests = rank.requests; out = rank.out }
+part_of rank hart = record {
+  hart = get_or rank.harts hart no_hart;
+  memory = rank.memory;
+  requests = rank.requests;
+  phases = rank.phases;
+  out = rank.out;
+}
 
 abbrev pub go_or_refuse : Option Code → Call → Doing
 go_or_refuse None c = Go c
@@ -52,7 +64,7 @@ go_or_refuse (Some code) c = Refused code
 abbrev pub checked : Site → Part → Doing
 checked site part =
     go_or_refuse
-    (first_fault (checks site part.memory part.requests (length part.out) (needs_of (call_of part.hart))))
+    (first_fault (checks site part.memory part.requests part.phases (length part.out) (needs_of (call_of part.hart))))
     (call_of part.hart)
 
 -- the word is ECALL's (RISC-V Unprivileged ISA, 2.8)
@@ -92,53 +104,65 @@ asked_start memory (Some r) = asked_transfer memory false r.transfer
 abbrev pub asked_several : Memory → Table → Several → Ask
 asked_several memory table s = asked_all (posts_of (pendings table (handles_in memory (array_at s.array s.count))))
 
--- what a right call asks: nothing, or a request to the hub
-abbrev pub asked_by : Site → Memory → Table → Call → Ask
-asked_by site memory table (call.Exit value) = ask.Local
-asked_by site memory table (call.Put buffer count) = ask.Local
-asked_by site memory table (call.Rank comm) = ask.Local
-asked_by site memory table (call.Size comm) = ask.Local
-asked_by site memory table call.Hart = ask.Local
-asked_by site memory table (call.Send s) = asked_transfer memory true (send_of site false s)
-asked_by site memory table (call.Ssend s) = asked_transfer memory true (send_of site true s)
-asked_by site memory table (call.Recv r status) = asked_transfer memory true (receive_of site r)
-asked_by site memory table (call.Isend s) = asked_transfer memory false (send_of site false s)
-asked_by site memory table (call.Issend s) = asked_transfer memory false (send_of site true s)
-asked_by site memory table (call.Irecv r) = asked_transfer memory false (receive_of site r)
-asked_by site memory table (call.Test c) = asked_pending (pending_of (request_at table c.handle))
-asked_by site memory table (call.Wait c) = asked_pending (pending_of (request_at table c.handle))
-asked_by site memory table (call.Iprobe p) = asked_probe site p
-asked_by site memory table (call.Probe p) = asked_probe site p
-asked_by site memory table (call.Improbe p) = asked_claim site p
-asked_by site memory table (call.Mprobe p) = asked_claim site p
-asked_by site memory table (call.Imrecv m) = asked_claimed false m
-asked_by site memory table (call.Mrecv m status) = asked_claimed true m
-asked_by site memory table (call.SendInit s) = ask.Local
-asked_by site memory table (call.RecvInit r) = ask.Local
-asked_by site memory table (call.Start handle) = asked_start memory (request_at table handle)
-asked_by site memory table (call.RequestFree handle) = ask.Local
-asked_by site memory table (call.Testall s) = asked_several memory table s
-asked_by site memory table (call.Waitall s) = asked_several memory table s
-asked_by site memory table call.Unknown = ask.Local
+-- a partitioned request asks for what it awaits in its phase (4.2), any other for what it needs
+abbrev pub asked_completing : Manner → Option Awaited → Pending → Ask
+asked_completing m (Some a) pending = asked_awaited m a
+asked_completing m None pending = asked_pending pending
+
+-- what a right call asks: nothing, a request to the hub, or a question to one box
+abbrev pub asked_by : Site → Memory → Table → List Phase → Call → Ask
+asked_by site memory table phases (call.Exit value) = ask.Local
+asked_by site memory table phases (call.Put buffer count) = ask.Local
+asked_by site memory table phases (call.Rank comm) = ask.Local
+asked_by site memory table phases (call.Size comm) = ask.Local
+asked_by site memory table phases call.Hart = ask.Local
+asked_by site memory table phases (call.Send s) = asked_transfer memory true (send_of site false s)
+asked_by site memory table phases (call.Ssend s) = asked_transfer memory true (send_of site true s)
+asked_by site memory table phases (call.Recv r status) = asked_transfer memory true (receive_of site r)
+asked_by site memory table phases (call.Isend s) = asked_transfer memory false (send_of site false s)
+asked_by site memory table phases (call.Issend s) = asked_transfer memory false (send_of site true s)
+asked_by site memory table phases (call.Irecv r) = asked_transfer memory false (receive_of site r)
+asked_by site memory table phases (call.Test c) =
+    asked_completing Immediate (awaited phases (request_at table c.handle)) (pending_of (request_at table c.handle))
+asked_by site memory table phases (call.Wait c) =
+    asked_completing Blocking (awaited phases (request_at table c.handle)) (pending_of (request_at table c.handle))
+asked_by site memory table phases (call.Iprobe p) = asked_probe site p
+asked_by site memory table phases (call.Probe p) = asked_probe site p
+asked_by site memory table phases (call.Improbe p) = asked_claim site p
+asked_by site memory table phases (call.Mprobe p) = asked_claim site p
+asked_by site memory table phases (call.Imrecv m) = asked_claimed false m
+asked_by site memory table phases (call.Mrecv m status) = asked_claimed true m
+asked_by site memory table phases (call.SendInit s) = ask.Local
+asked_by site memory table phases (call.RecvInit r) = ask.Local
+asked_by site memory table phases (call.Start handle) = asked_start memory (request_at table handle)
+asked_by site memory table phases (call.RequestFree handle) = ask.Local
+asked_by site memory table phases (call.Testall s) = asked_several memory table s
+asked_by site memory table phases (call.Waitall s) = asked_several memory table s
+asked_by site memory table phases (call.PsendInit t) = asked_sending site t
+asked_by site memory table phases (call.PrecvInit t) = asked_receiving site t
+asked_by site memory table phases (call.Pready handle part) =
+    asked_ready site memory part (sending_side (request_at table handle))
+asked_by site memory table phases (call.Parrived handle part) =
+    asked_arrived phases part (receiving_side (request_at table handle))
+asked_by site memory table phases call.Unknown = ask.Local
 
 -- a poll asks whether a synchronous send is complete, or for the message of a receive
 abbrev pub asked_poll : Call → ℕ → Ask
 asked_poll (call.Ssend s) post = ask.Hub (request.Finished post)
 asked_poll _ post = ask.Hub (request.Collect post)
 
-abbrev pub asked_in : Site → Memory → Table → Doing → Ask
-asked_in site memory table Step = ask.Plain
-asked_in site memory table (Refused code) = ask.Local
-asked_in site memory table (Go c) = asked_by site memory table c
-asked_in site memory table (Poll c post) = asked_poll c post
-asked_in site memory table Stopped = ask.Idle
+abbrev pub asked_in : Site → Memory → Table → List Phase → Doing → Ask
+asked_in site memory table phases Step = ask.Plain
+asked_in site memory table phases (Refused code) = ask.Local
+asked_in site memory table phases (Go c) = asked_by site memory table phases c
+asked_in site memory table phases (Poll c post) = asked_poll c post
+asked_in site memory table phases Stopped = ask.Idle
 
 -- how many elements the list has that a question carries. The list takes memory for them, and for nothing else
 abbrev pub carried : Ask → ℕ
 carried (ask.Hub r) = carried_by_request r
-carried (ask.Ready link part bytes) = length bytes
 carried _ = 0
 
 -- what the hart's registers, mode and memory spell for its next turn
 unfoldable pub asked : Rank → ℕ → Ask
-asked rank hart = asked_in rank.site rank.memory rank.requests (doing rank.site (part_of rank hart))
+asked rank hart = asked_in rank.site rank.memory rank.requests rank.phases (doing rank.site (part_of rank hart))

@@ -1,7 +1,7 @@
-pub mod Phases
 pub mod Rank
 pub mod Transfers
 pub mod Pending
+pub mod Partitions
 pub mod Written
 pub mod Several
 pub mod Asked

@@ -5,7 +5,8 @@ use Rattle.rv_hart.specs.State.{State, start_state}
 use Rattle.rv_image.specs.declared.images.ImageParts.{ImageParts}
 use Rattle.cl_calls.specs.declared.sites.Site.{Site}
 use Rattle.mp_request.specs.Table.{Table, no_requests}
-use Rattle.cl_state.specs.Phases.{Phase}
+use Rattle.part_phase.specs.declared.phases.Phase.{Phase}
+use Rattle.part_phase.specs.Phases.{first_phases}
 
 pub record Rank : Type 0 where
   pub site : Site
@@ -23,8 +24,13 @@ below (suc n) = below n ++ n ∷ []
 
 -- communicator 0 is all ranks in order; the image has the others, from 1
 abbrev pub site_of : ImageParts → ℕ → Site
-site_of image rank =
-    record { number = rank; ranks = image.ranks; comms = below image.ranks ∷ image.comms; links = image.links }
+site_of image rank = record {
+  number = rank;
+  ranks = image.ranks;
+  comms = below image.ranks ∷ image.comms;
+  links = image.links;
+  version = image.version;
+}
 
 -- the first n harts
 abbrev pub start_harts : ImageParts → ℕ → ℕ → List State
@@ -38,7 +44,7 @@ loaded image rank = record {
   memory = loaded_memory image.memory image.text image.init;
   harts = start_harts image rank image.harts;
   requests = no_requests;
-  phases = [];
+  phases = first_phases image.links rank;
   out = [];
   clock = 0;
 }

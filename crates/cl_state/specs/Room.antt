@@ -13,7 +13,7 @@ rank_of s =
       memory = s.memory;
       harts = s.harts.items;
       requests = s.requests;
-      phases = [];
+      phases = s.phases;
       out = s.out.items;
       clock = s.clock;
     }
@@ -28,5 +28,5 @@ HasRoom s hart =
 pub record IsNext (s : RankState) (hart : ℕ) (d : Doing) : Type 0 where
   pub there : hart < vec_len s.harts
   pub spelled : d ≡ doing s.site (part_of (rank_of s) hart)
-  pub right : IsChecked s.site s.memory s.requests d
+  pub right : IsChecked s.site s.memory s.requests s.phases d
   pub running : IsRunning d (get_or s.harts.items hart no_hart)

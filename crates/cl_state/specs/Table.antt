@@ -31,14 +31,23 @@ use Rattle.cl_state.specs.declared.pending.Pending.TheVariants as pending
 use Rattle.cl_state.specs.declared.pending.Target.{Target}
 use Rattle.cl_state.specs.declared.row.Outcome.{Outcome}
 use Rattle.cl_state.specs.declared.row.Outcome.TheVariants.{Steps, Stays, Exits, Ends, Waits, Puts, Opens, Starts}
-use Rattle.cl_state.specs.declared.row.Outcome.TheVariants.{Frees, Completes, FindsNothing, CompletesAll}
+use Rattle.cl_state.specs.declared.row.Outcome.TheVariants.{Frees as FreesHandle, Completes, FindsNothing, CompletesAll}
+use Rattle.cl_state.specs.declared.row.Outcome.TheVariants.{BeginsPhase, Holds, Arrives}
+use Rattle.cl_state.specs.declared.row.Visit.TheVariants.{Readies, Frees, Takes, Sees}
 use Rattle.cl_state.specs.declared.row.Purpose.{Purpose}
 use Rattle.cl_state.specs.declared.row.Purpose.TheVariants as purpose
 use Rattle.cl_state.specs.declared.row.Row.{Row}
-use Rattle.cl_state.specs.declared.row.Row.TheVariants.{AtOnce, OnReply}
+use Rattle.cl_state.specs.declared.row.Row.TheVariants.{AtOnce, OnReply, OnBox}
 use Rattle.cl_state.specs.declared.row.Wanted.{Wanted}
 use Rattle.cl_state.specs.declared.row.Wanted.TheVariants as wanted
 use Rattle.cl_state.specs.Transfers.{send_of, receive_of, claimed_of}
+use Rattle.cl_state.specs.declared.partitions.Awaited.{Awaited}
+use Rattle.cl_state.specs.declared.partitions.Awaited.TheVariants as awaited_word
+use Rattle.mp_request.specs.declared.entries.Partitions.{Partitions}
+use Rattle.part_phase.specs.declared.phases.Phase.{Phase}
+use Rattle.part_phase.specs.Phases.{receiving_at}
+use Rattle.cl_calls.specs.Checks.{sending_side, receiving_side}
+use Rattle.cl_state.specs.Partitions.{awaited, awaited_of_part}
 use Rattle.cl_state.specs.Pending.{flag, pending_of}
 use Rattle.cl_state.specs.Several.{pendings, posts_of, has_posts}
 
@@ -53,12 +62,17 @@ begun purpose.Send t progress.InPhase = Ends code.BadRequest 0
 begun purpose.Open t p = Opens (record { transfer = t; state = state.Ordinary p })
 begun (purpose.Start handle) t p = Starts handle p
 
+-- a partitioned transfer begins a phase, by a start alone (4.2.1)
+abbrev pub begins_phase : Purpose → ℕ → Row
+begins_phase (purpose.Start handle) link = AtOnce (BeginsPhase handle link)
+begins_phase _ link = AtOnce (Ends code.BadRequest 0)
+
 -- a transfer with the null process begins and is finished at once (3.11), any other by a post
 abbrev pub begins : Purpose → Transfer → Row
 begins why transfer.SendToNull = AtOnce (begun why transfer.SendToNull progress.Finished)
 begins why transfer.ReceiveFromNull = AtOnce (begun why transfer.ReceiveFromNull progress.Finished)
-begins why (transfer.SendPartitions side) = AtOnce (Ends code.BadRequest 0)
-begins why (transfer.ReceivePartitions side) = AtOnce (Ends code.BadRequest 0)
+begins why (transfer.SendPartitions side) = begins_phase why side.link
+begins why (transfer.ReceivePartitions side) = begins_phase why side.link
 begins why t = OnReply Posting (wanted.Post why t)
 
 -- a start begins what its request transfers (3.9)
@@ -107,6 +121,50 @@ completes m c pending.FromNull = nothing_comes (completing m c 0 0)
 completes m c (pending.Message post buffer capacity) = OnReply m (wanted.Message (completing m c buffer capacity))
 completes m c (pending.Word post) = OnReply m (wanted.Word (completing m c 0 0))
 
+-- ---- partitions
+
+-- with nothing left a send completes with the empty status, and a receive with its source, its tag and all its bytes
+abbrev pub concludes : Transfer → Target → Outcome
+concludes (transfer.ReceivePartitions side) target = Arrives side target
+concludes _ target = Completes any target
+
+-- a test or a wait that is held up by its own rank
+abbrev pub holds : Manner → Outcome
+holds Immediate = Ends code.Ok 0
+holds _ = Holds
+
+-- a box may be taken for the receiver's side alone
+abbrev pub takes : Manner → Transfer → ℕ → Target → Row
+takes m (transfer.ReceivePartitions side) box target = OnBox (Takes m side box target)
+takes m _ box target = AtOnce (Ends code.BadRequest 0)
+
+-- a test or a wait of a partitioned request that is active, by what it awaits in its phase (4.2)
+abbrev pub row_awaited : Manner → Transfer → Target → Awaited → Row
+row_awaited m t target awaited_word.Nothing = AtOnce (concludes t target)
+row_awaited m t target awaited_word.Unready = AtOnce (holds m)
+row_awaited m t target (awaited_word.Taking link part) = OnBox (Frees m link target)
+row_awaited m t target (awaited_word.Cut link) = OnReply m (wanted.Cut m link)
+row_awaited m t target (awaited_word.Box link box) = takes m t box target
+
+abbrev pub row_completing : Manner → Completing → Option Awaited → Option OpenRequest → Row
+row_completing m c (Some a) (Some r) = row_awaited m r.transfer (completing m c 0 0) a
+row_completing m c _ r = completes m c (pending_of r)
+
+abbrev pub row_ready : ℕ → Option Partitions → Row
+row_ready part None = AtOnce (Ends code.BadRequest 0)
+row_ready part (Some side) = OnBox (Readies side.link part)
+
+-- a partition that awaits nothing has arrived
+abbrev pub row_of_part : Partitions → ℕ → Awaited → Row
+row_of_part side part (awaited_word.Cut link) = OnReply Immediate (wanted.Cut Immediate link)
+row_of_part side part (awaited_word.Box link box) = OnBox (Sees side box part)
+row_of_part side part _ = AtOnce (Ends code.Ok 1)
+
+abbrev pub row_arrived : List Phase → ℕ → Option Partitions → Row
+row_arrived phases part None = AtOnce (Ends code.BadRequest 0)
+row_arrived phases part (Some side) =
+    row_of_part side part (awaited_of_part side.link (receiving_at phases side.link) part)
+
 -- where no post is asked for all complete at once, and else all or none (3.7.5)
 abbrev pub gathers : Manner → Several → List ℕ → Row
 gathers m s posts =
@@ -131,35 +189,42 @@ claims m p = probes m p no_message (wanted.Claim p.status)
 abbrev pub gives : ℕ → Row
 gives value = AtOnce (Ends code.Ok value)
 
-abbrev pub row_of : Site → ℕ → Memory → Table → Call → Row
-row_of site hart memory table (call.Exit value) = AtOnce (Exits value)
-row_of site hart memory table (call.Put buffer count) = AtOnce (Puts buffer count)
-row_of site hart memory table (call.Rank comm) = gives (unwrap_or (place_of site.number (members site comm)) 0)
-row_of site hart memory table (call.Size comm) = gives (length (members site comm))
-row_of site hart memory table call.Hart = gives hart
-row_of site hart memory table (call.Send s) = begins purpose.Send (send_of site false s)
-row_of site hart memory table (call.Ssend s) = begins purpose.Send (send_of site true s)
-row_of site hart memory table (call.Recv r status) = receives r status
-row_of site hart memory table (call.Isend s) = begins purpose.Open (send_of site false s)
-row_of site hart memory table (call.Issend s) = begins purpose.Open (send_of site true s)
-row_of site hart memory table (call.Irecv r) = begins purpose.Open (receive_of site r)
-row_of site hart memory table (call.Test c) = completes Immediate c (pending_of (request_at table c.handle))
-row_of site hart memory table (call.Wait c) = completes Blocking c (pending_of (request_at table c.handle))
-row_of site hart memory table (call.Iprobe p) = sees Immediate p
-row_of site hart memory table (call.Probe p) = sees Blocking p
-row_of site hart memory table (call.Improbe p) = claims Immediate p
-row_of site hart memory table (call.Mprobe p) = claims Blocking p
-row_of site hart memory table (call.Imrecv m) = begins purpose.Open (claimed_of m)
-row_of site hart memory table (call.Mrecv m status) = receives_claimed m status
-row_of site hart memory table (call.SendInit s) = makes (send_of site false s)
-row_of site hart memory table (call.RecvInit r) = makes (receive_of site r)
-row_of site hart memory table (call.Start handle) = starts handle (request_at table handle)
-row_of site hart memory table (call.RequestFree handle) = AtOnce (Frees handle)
-row_of site hart memory table (call.Testall s) =
+abbrev pub row_of : Site → ℕ → Memory → Table → List Phase → Call → Row
+row_of site hart memory table phases (call.Exit value) = AtOnce (Exits value)
+row_of site hart memory table phases (call.Put buffer count) = AtOnce (Puts buffer count)
+row_of site hart memory table phases (call.Rank comm) = gives (unwrap_or (place_of site.number (members site comm)) 0)
+row_of site hart memory table phases (call.Size comm) = gives (length (members site comm))
+row_of site hart memory table phases call.Hart = gives hart
+row_of site hart memory table phases (call.Send s) = begins purpose.Send (send_of site false s)
+row_of site hart memory table phases (call.Ssend s) = begins purpose.Send (send_of site true s)
+row_of site hart memory table phases (call.Recv r status) = receives r status
+row_of site hart memory table phases (call.Isend s) = begins purpose.Open (send_of site false s)
+row_of site hart memory table phases (call.Issend s) = begins purpose.Open (send_of site true s)
+row_of site hart memory table phases (call.Irecv r) = begins purpose.Open (receive_of site r)
+row_of site hart memory table phases (call.Test c) =
+    row_completing Immediate c (awaited phases (request_at table c.handle)) (request_at table c.handle)
+row_of site hart memory table phases (call.Wait c) =
+    row_completing Blocking c (awaited phases (request_at table c.handle)) (request_at table c.handle)
+row_of site hart memory table phases (call.Iprobe p) = sees Immediate p
+row_of site hart memory table phases (call.Probe p) = sees Blocking p
+row_of site hart memory table phases (call.Improbe p) = claims Immediate p
+row_of site hart memory table phases (call.Mprobe p) = claims Blocking p
+row_of site hart memory table phases (call.Imrecv m) = begins purpose.Open (claimed_of m)
+row_of site hart memory table phases (call.Mrecv m status) = receives_claimed m status
+row_of site hart memory table phases (call.SendInit s) = makes (send_of site false s)
+row_of site hart memory table phases (call.RecvInit r) = makes (receive_of site r)
+row_of site hart memory table phases (call.Start handle) = starts handle (request_at table handle)
+row_of site hart memory table phases (call.RequestFree handle) = AtOnce (FreesHandle handle)
+row_of site hart memory table phases (call.Testall s) =
     gathers Immediate s (posts_of (pendings table (handles_in memory (array_at s.array s.count))))
-row_of site hart memory table (call.Waitall s) =
+row_of site hart memory table phases (call.Waitall s) =
     gathers Blocking s (posts_of (pendings table (handles_in memory (array_at s.array s.count))))
-row_of site hart memory table call.Unknown = AtOnce Stays
+row_of site hart memory table phases (call.PsendInit t) = OnReply Posting (wanted.SendingLink t)
+row_of site hart memory table phases (call.PrecvInit t) = OnReply Posting (wanted.ReceivingLink t)
+row_of site hart memory table phases (call.Pready handle part) = row_ready part (sending_side (request_at table handle))
+row_of site hart memory table phases (call.Parrived handle part) =
+    row_arrived phases part (receiving_side (request_at table handle))
+row_of site hart memory table phases call.Unknown = AtOnce Stays
 
 -- a poll wants the message of a receive, or word that a synchronous send is complete
 abbrev pub polled : Call → Wanted
@@ -169,9 +234,9 @@ polled (call.Ssend s) = wanted.Sent
 polled _ = wanted.Nothing
 
 -- and the row of any turn
-abbrev pub row_in : Site → ℕ → Memory → Table → Doing → Row
-row_in site hart memory table Step = AtOnce Steps
-row_in site hart memory table (Refused c) = AtOnce (Ends c 0)
-row_in site hart memory table (Go c) = row_of site hart memory table c
-row_in site hart memory table (Poll c post) = OnReply Polling (polled c)
-row_in site hart memory table Stopped = AtOnce Stays
+abbrev pub row_in : Site → ℕ → Memory → Table → List Phase → Doing → Row
+row_in site hart memory table phases Step = AtOnce Steps
+row_in site hart memory table phases (Refused c) = AtOnce (Ends c 0)
+row_in site hart memory table phases (Go c) = row_of site hart memory table phases c
+row_in site hart memory table phases (Poll c post) = OnReply Polling (polled c)
+row_in site hart memory table phases Stopped = AtOnce Stays

@@ -1,6 +1,6 @@
 -- The rank after the answer. A reply that isn't one for its request is told as the code BadRequest.
-use Rattle.std.specs.Prelude.{ℕ, ◌==◌, if◌then◌else◌, List, [], ◌++◌, length, take, set, Option, Some, None, Bool, true}
-use Rattle.std.specs.Prelude.{false, nat_lt}
+use Rattle.std.specs.Prelude.{ℕ, ◌+◌, ◌*◌, ◌==◌, if◌then◌else◌, List, [], ◌++◌, length, take, set, slice_get, Option, Some, None}
+use Rattle.std.specs.Prelude.{Bool, true, false, nat_lt, is_some}
 use Rattle.rv_memory.specs.Memory.{Memory, bytes_of, bytes_at}
 use Rattle.rv_hart.specs.State.{State, write, at_pc, in_mode}
 use Rattle.rv_hart.specs.Effect.{next}
@@ -15,6 +15,18 @@ use Rattle.mp_types.specs.declared.messages.Message.{Message}
 use Rattle.mp_types.specs.declared.replies.Reply.{Reply}
 use Rattle.mp_types.specs.declared.replies.Reply.TheVariants as reply
 use Rattle.mp_request.specs.declared.entries.OpenRequest.{OpenRequest}
+use Rattle.mp_request.specs.declared.entries.Partitions.{Partitions}
+use Rattle.mp_request.specs.declared.entries.Progress.TheVariants.{InPhase}
+use Rattle.mp_request.specs.declared.entries.State.TheVariants.{Inactive}
+use Rattle.mp_request.specs.declared.entries.Transfer.{Transfer}
+use Rattle.mp_request.specs.declared.entries.Transfer.TheVariants.{SendPartitions, ReceivePartitions}
+use Rattle.part_phase.specs.declared.phases.Phase.{Phase}
+use Rattle.part_phase.specs.Phases.{sending_at, receiving_at, changed_at, on_sending, on_receiving, begun as begun_phase}
+use Rattle.part_phase.specs.Phases.{is_unshaped_sending, is_unshaped_receiving}
+use Rattle.part_phase.specs.Receiving.{shaped_receiving, is_cut, cut_into, next_box_of, one_taken}
+use Rattle.part_phase.specs.Sending.{shaped_sending, all_freed, readied, one_freed}
+use Rattle.cl_calls.specs.declared.calls.Partitioning.{Partitioning}
+use Rattle.cl_state.specs.Partitions.{side_on}
 use Rattle.mp_request.specs.Table.{with_request, lowest_free, started, completed}
 use Rattle.cl_calls.specs.declared.sites.Site.{Site}
 use Rattle.cl_calls.specs.Site.{members, place_of}
@@ -29,9 +41,12 @@ use Rattle.cl_state.specs.declared.pending.Manner.TheVariants.{Immediate, Blocki
 use Rattle.cl_state.specs.declared.pending.Target.{Target}
 use Rattle.cl_state.specs.declared.row.Outcome.{Outcome}
 use Rattle.cl_state.specs.declared.row.Outcome.TheVariants.{Steps, Stays, Exits, Ends, Waits, Puts, Opens, Starts}
-use Rattle.cl_state.specs.declared.row.Outcome.TheVariants.{Frees, Completes, FindsNothing, CompletesAll}
+use Rattle.cl_state.specs.declared.row.Outcome.TheVariants.{Frees as FreesHandle, Completes, FindsNothing, CompletesAll}
+use Rattle.cl_state.specs.declared.row.Outcome.TheVariants.{BeginsPhase, Holds, Arrives}
+use Rattle.cl_state.specs.declared.row.Visit.{Visit}
+use Rattle.cl_state.specs.declared.row.Visit.TheVariants.{Readies, Frees, Takes, Sees}
 use Rattle.cl_state.specs.declared.row.Row.{Row}
-use Rattle.cl_state.specs.declared.row.Row.TheVariants.{AtOnce, OnReply}
+use Rattle.cl_state.specs.declared.row.Row.TheVariants.{AtOnce, OnReply, OnBox}
 use Rattle.cl_state.specs.declared.row.Wanted.{Wanted}
 use Rattle.cl_state.specs.declared.row.Wanted.TheVariants as wanted
 use Rattle.cl_state.specs.Rank.{Rank}
@@ -138,7 +153,7 @@ unfoldable pub found_nothing : ℕ → ℕ → Part → Part
 found_nothing value status part =
     ended code.Ok value (record part { memory = with_status part.memory status no_rank any 0 })
 
--- ---- a turn
+-- ---- what isn't there yet
 
 -- what isn't there yet: an immediate call ends with flag 0, a
 -- blocking one is made anew, a poll waits on; no post is told so
@@ -147,6 +162,93 @@ not_yet Immediate part = ended code.Ok 0 part
 not_yet Blocking part = again part
 not_yet Polling part = part
 not_yet Posting part = ended code.BadRequest 0 part
+
+-- ---- partitions
+
+-- a side of a partitioned transfer is made (4.2.1): an inactive request at the
+-- lowest free handle, and the side that the rank has of the link has its shape
+abbrev pub made_side_at : Option ℕ → Transfer → ℕ → (Phase → Phase) → Part → Part
+made_side_at None transfer link shape part = ended code.Full 0 part
+made_side_at (Some handle) transfer link shape part =
+    ended code.Ok handle (record part {
+      requests = with_request part.requests handle (Some (record { transfer = transfer; state = Inactive }));
+      phases = changed_at link shape part.phases;
+    })
+
+-- a link fits that names a side of the rank, of the asked direction, that no transfer has
+abbrev pub made_sending : Site → Partitioning → ℕ → Part → Part
+made_sending site t link part =
+    if is_unshaped_sending (slice_get part.phases link)
+    then made_side_at (lowest_free part.requests) (SendPartitions (side_on site t link)) link
+        (on_sending (shaped_sending t.parts t.size)) part
+    else ended code.BadRequest 0 part
+
+abbrev pub made_receiving : Site → Partitioning → ℕ → Part → Part
+made_receiving site t link part =
+    if is_unshaped_receiving (slice_get part.phases link)
+    then made_side_at (lowest_free part.requests) (ReceivePartitions (side_on site t link)) link
+        (on_receiving (shaped_receiving t.parts t.size)) part
+    else ended code.BadRequest 0 part
+
+-- a cut fits that leaves the receiver's total, inside the limits. It is kept, and nothing has come yet
+abbrev pub cut_known : Site → Manner → ℕ → ℕ → ℕ → Part → Part
+cut_known site m link boxes bytes part =
+    if is_cut site.version (receiving_at part.phases link) boxes bytes
+    then not_yet m (record part { phases = changed_at link (on_receiving (cut_into boxes bytes)) part.phases })
+    else ended code.BadRequest 0 part
+
+-- a partitioned request is started, and with it a phase (4.2.1)
+unfoldable pub phase_begun : ℕ → ℕ → Part → Part
+phase_begun handle link part =
+    ended code.Ok 0
+    (record part { requests = started part.requests handle InPhase; phases = changed_at link begun_phase part.phases })
+
+-- a partition was made ready
+unfoldable pub part_readied : ℕ → ℕ → Part → Part
+part_readied link ready part =
+    ended code.Ok 0 (record part { phases = changed_at link (on_sending (readied ready)) part.phases })
+
+-- a partitioned receive completes: its status has the source, the tag and all the bytes
+abbrev pub arrived_from : Option ℕ → Partitions → Target → Part → Part
+arrived_from None side target part = ended code.BadRequest 0 part
+arrived_from (Some place) side target part =
+    ended code.Ok target.value (record part {
+      memory = with_status part.memory target.status place side.tag (side.parts * side.size);
+      requests = completed part.requests target.handle;
+    })
+
+unfoldable pub arrived : Site → Partitions → Target → Part → Part
+arrived site side target part =
+    arrived_from (place_of side.peer (members site side.comm)) side target part
+
+-- one more partition was found taken; with the last one the send completes, with the empty status
+unfoldable pub freed_one : Manner → ℕ → Target → Part → Part
+freed_one m link target part =
+    let after = record part { phases = changed_at link (on_sending one_freed) part.phases } in
+    if all_freed (sending_at after.phases link) then received target any any [] after else not_yet m after
+
+-- a box was taken: its bytes stand at its number times the sender's size behind the buffer
+abbrev pub with_box : Partitions → ℕ → List ℕ → Part → Part
+with_box side box bytes part =
+    let size = (receiving_at part.phases side.link).bytes in
+    record part {
+      memory = written part.memory (side.buffer + box * size) (take size bytes);
+      phases = changed_at side.link (on_receiving (one_taken box)) part.phases;
+    }
+
+-- with the last one the receive completes
+unfoldable pub taken_one : Site → Manner → Partitions → ℕ → Target → List ℕ → Part → Part
+taken_one site m side box target bytes part =
+    let after = with_box side box bytes part in
+    if (receiving_at after.phases side.link).active then not_yet m after else arrived site side target after
+
+-- a partition has arrived where none of the boxes that it overlaps is left
+unfoldable pub seen_one : Partitions → ℕ → ℕ → List ℕ → Part → Part
+seen_one side box asked bytes part =
+    let after = with_box side box bytes part in
+    ended code.Ok (if is_some (next_box_of (receiving_at after.phases side.link) asked) then 0 else 1) after
+
+-- ---- a turn
 
 -- what is done at once
 abbrev pub done : Site → Outcome → Part → Part
@@ -161,9 +263,12 @@ done site (Puts buffer count) part =
 done site (Opens request) part = opened request part
 done site (Starts handle progress) part =
     ended code.Ok 0 (record part { requests = started part.requests handle progress })
-done site (Frees handle) part = freed handle part
+done site (FreesHandle handle) part = freed handle part
 done site (Completes source target) part = received target source any [] part
 done site (FindsNothing value status) part = found_nothing value status part
+done site (BeginsPhase handle link) part = phase_begun handle link part
+done site Holds part = again part
+done site (Arrives side target) part = arrived site side target part
 done site (CompletesAll value s) part =
     completed_all site value s.statuses (handles_in part.memory (array_at s.array s.count)) [] part
 
@@ -179,7 +284,21 @@ replied site (wanted.All value s) (reply.AllGot gots) part =
     gathered site value s.statuses (handles_in part.memory (array_at s.array s.count)) gots part
 replied site (wanted.Sight value status) (reply.Seen envelope) part = found site value status envelope part
 replied site (wanted.Claim status) (reply.Held message envelope) part = found site message status envelope part
+replied site (wanted.SendingLink t) (reply.Link link) part = made_sending site t link part
+replied site (wanted.ReceivingLink t) (reply.Link link) part = made_receiving site t link part
+replied site (wanted.Cut m link) (reply.Cut boxes bytes) part = cut_known site m link boxes bytes part
 replied site _ _ part = ended code.BadRequest 0 part
+
+-- what the answer of a box does; any other doesn't fit
+abbrev pub visited : Site → Visit → Answer → Part → Part
+visited site (Readies link ready) answer.Alone part = part_readied link ready part
+visited site (Frees m link target) answer.Freed part = freed_one m link target part
+visited site (Frees m link target) answer.Missed part = not_yet m part
+visited site (Takes m side box target) (answer.Taken bytes) part = taken_one site m side box target bytes part
+visited site (Takes m side box target) answer.Missed part = not_yet m part
+visited site (Sees side box asked) (answer.Taken bytes) part = seen_one side box asked bytes part
+visited site (Sees side box asked) answer.Missed part = not_yet Immediate part
+visited site _ _ part = ended code.BadRequest 0 part
 
 -- where the hub is asked, NotYet is told by the call's manner,
 -- a code ends the call, and the rest is what the reply does
@@ -189,9 +308,10 @@ told_row site (OnReply m w) (answer.Reply reply.NotYet) part = not_yet m part
 told_row site (OnReply m w) (answer.Reply (reply.Code c)) part = ended c 0 part
 told_row site (OnReply m w) (answer.Reply r) part = replied site w r part
 told_row site (OnReply m w) _ part = ended code.BadRequest 0 part
+told_row site (OnBox v) a part = visited site v a part
 
 abbrev pub told_in : Site → ℕ → Doing → Answer → Part → Part
-told_in site hart d a part = told_row site (row_in site hart part.memory part.requests d) a part
+told_in site hart d a part = told_row site (row_in site hart part.memory part.requests part.phases d) a part
 
 -- the rank with this part of the hart's, at this clock
 abbrev pub with_part : Rank → ℕ → Part → ℕ → Rank
@@ -200,6 +320,7 @@ with_part rank hart part clock =
       memory = part.memory;
       harts = set rank.harts hart part.hart;
       requests = part.requests;
+      phases = part.phases;
       out = part.out;
       clock = clock;
     }

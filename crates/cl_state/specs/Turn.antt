@@ -27,7 +27,13 @@ use Rattle.cl_state.specs.Told.{told_in}
 -- what may change, as it is now
 abbrev pub part_in : Turn → Part
 part_in turn =
-    record { hart = turn.hart.now; memory = turn.memory.now; requests = turn.requests.now; out = turn.out.now.items }
+    record {
+      hart = turn.hart.now;
+      memory = turn.memory.now;
+      requests = turn.requests.now;
+      phases = turn.phases.now;
+      out = turn.out.now.items;
+    }
 
 -- this part stands behind the same references now
 pub record Becomes (old new : Turn) (then : Part) : Type 0 where
@@ -37,6 +43,7 @@ pub record Becomes (old new : Turn) (then : Part) : Type 0 where
   pub hart : new.hart.ghost_name ≡ old.hart.ghost_name
   pub memory : new.memory.ghost_name ≡ old.memory.ghost_name
   pub requests : new.requests.ghost_name ≡ old.requests.ghost_name
+  pub phases : new.phases.ghost_name ≡ old.phases.ghost_name
   pub out : new.out.ghost_name ≡ old.out.ghost_name
 
 -- what the checks and `room` made sure of, for what the turn does

@@ -1,7 +1,8 @@
 //! What a hart asks in its next turn, and what it is answered.
 
 use cl_calls::Call;
-use mp_types::{Bytes, Code, Reply, Request};
+use mp_types::{Code, Reply, Request};
+use part_phase::Contents;
 
 /// What the next turn of a hart is.
 #[derive(Clone, Copy, Drop)]
@@ -27,8 +28,8 @@ pub enum Ask {
     Local,
     /// A call of the hub.
     Hub(Request),
-    /// To make a partition ready, with these bytes.
-    Ready { link: u8, part: u8, bytes: Bytes },
+    /// To make a partition ready, with these bytes, as they are to stand in its box.
+    Ready { link: u8, part: u8, bytes: Contents },
     /// Whether a partition was made ready.
     Look { link: u8, part: u8 },
     /// Whether a partition was taken.
@@ -46,8 +47,8 @@ pub enum Answer {
     Alone,
     /// The hub's reply.
     Reply(Reply),
-    /// The partition was ready, and these are its bytes.
-    Taken(Bytes),
+    /// The partition was ready, and these are the bytes of its box.
+    Taken(Contents),
     /// The partition wasn't ready, or wasn't taken.
     Missed,
     /// The partition was taken.

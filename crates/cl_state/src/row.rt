@@ -1,8 +1,8 @@
 //! A row of the table of calls: what a turn does at once, or which reply it wants and what that does.
 
 use crate::pending::{Manner, Target};
-use cl_calls::Several;
-use mp_request::{OpenRequest, Progress, Transfer};
+use cl_calls::{Partitioning, Several};
+use mp_request::{OpenRequest, Partitions, Progress, Transfer};
 use mp_types::Code;
 
 /// What a turn does to its hart, the memory, the requests and the output.
@@ -32,6 +32,12 @@ pub enum Outcome {
     FindsNothing { value: u64, status: u64 },
     /// All requests of an array complete, none of which needs the hub.
     CompletesAll { value: u64, several: Several },
+    /// The inactive partitioned request of this handle is started, and with it a phase of this link.
+    BeginsPhase { handle: u64, link: u8 },
+    /// The call is made anew: its own rank has a partition to make ready first.
+    Holds,
+    /// A partitioned receive completes: the status has its source, its tag and all its bytes.
+    Arrives { side: Partitions, target: Target },
 }
 
 /// Why a call begins a transfer.
@@ -64,8 +70,26 @@ pub enum Wanted {
     Sight { value: u64, status: u64 },
     /// A claimed message, whose handle is the call's value.
     Claim { status: u64 },
+    /// The link of the sender's side of a partitioned transfer, or of the receiver's.
+    SendingLink(Partitioning),
+    ReceivingLink(Partitioning),
+    /// The sender's cut of this link, after which the call isn't yet at its end.
+    Cut { manner: Manner, link: u8 },
     /// None.
     Nothing,
+}
+
+/// The one step of a turn on one partition box, and what its answer does.
+#[derive(Clone, Copy, Drop)]
+pub enum Visit {
+    /// A partition is made ready.
+    Readies { link: u8, part: u8 },
+    /// A partition may be found taken; with the last one the request completes.
+    Frees { manner: Manner, link: u8, target: Target },
+    /// A box may be taken; with the last one the request completes.
+    Takes { manner: Manner, side: Partitions, part: u8, target: Target },
+    /// A box may be taken; the value tells whether that was the last one which this partition overlaps.
+    Sees { side: Partitions, part: u8, asked: u8 },
 }
 
 /// What a turn does.
@@ -75,4 +99,6 @@ pub enum Row {
     AtOnce(Outcome),
     /// The hub is asked for what is wanted. The manner is that of a reply that it isn't there yet.
     OnReply(Manner, Wanted),
+    /// One partition box is asked.
+    OnBox(Visit),
 }
