@@ -1,3 +1,4 @@
 pub mod Deeds
+pub mod Sides
 pub mod Laws
 pub mod Turns

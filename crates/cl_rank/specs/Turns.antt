@@ -10,10 +10,12 @@ use Rattle.cl_journal.specs.declared.journal.HubFault.TheVariants as fault
 use Rattle.cl_journal.specs.Journal.{Journal}
 use Rattle.cl_journal.specs.Calls.{Calls, IsRefusal}
 use Rattle.cl_trace.specs.declared.events.Event.{Event}
+use Rattle.std.specs.Prelude.{Option}
 use Rattle.cl_state.specs.declared.asking.Ask.{Ask}
 use Rattle.cl_state.specs.Rank.{Rank}
 use Rattle.cl_state.specs.Asked.{asked}
 use Rattle.cl_rank.specs.Deeds.{Act, Deed, event_of, RankMoves}
+use Rattle.cl_rank.specs.Sides.{Sides, KeysMove, place_of}
 use Rattle.cl_rank.specs.declared.stops.Stop.{Stop}
 use Rattle.cl_rank.specs.declared.stops.Stop.TheVariants as stop
 
@@ -36,15 +38,25 @@ TellsAct gives rank hart stamp before after _ = after ≡ before
 abbrev pub Tells : {D : Type 0} → Gives D → D → D → Deed → Type 0
 Tells gives before after d = TellsAct gives d.rank d.hart d.stamp before after d.act
 
--- a turn of a hart: a deed by which the rank moves, with its event behind the events before, and what it told the desk
-pub record IsTurn {D : Type 0} (gives : Gives D) (hart : ℕ) (old new : Rank) (before after : List Event)
-    (desk left : D) : Type 0 where
+-- what contracts see of a rank that takes turns: its state, its events so far, its sides, and the box that its last turn
+-- asked, by its link and its number there
+pub record RankView : Type 0 where
+  pub rank : Rank
+  pub events : List Event
+  pub sides : Sides
+  pub asked_box : Option (ℕ × ℕ)
+
+-- a turn of a hart: a deed by which the rank moves, with its event behind the events before, what it told the desk, and
+-- what it made of the keys
+pub record IsTurn {D : Type 0} (gives : Gives D) (hart : ℕ) (old new : RankView) (desk left : D) : Type 0 where
   pub deed : Deed
-  pub rank : deed.rank ≡ old.site.number
+  pub rank : deed.rank ≡ old.rank.site.number
   pub by : deed.hart ≡ hart
-  pub event : after ≡ before ++ event_of deed ∷ []
-  pub moves : RankMoves old deed new
+  pub event : new.events ≡ old.events ++ event_of deed ∷ []
+  pub moves : RankMoves old.rank deed new.rank
   pub tells : Tells gives desk left deed
+  pub keys : KeysMove old.rank.site.version deed.stamp deed.act old.sides new.sides
+  pub box : new.asked_box ≡ place_of deed.act
 
 abbrev pub is_stopped : Mode → Bool
 is_stopped Running = false
@@ -63,13 +75,6 @@ pub record IsActive (rank : Rank) (turns budget : ℕ) : Type 0 where
   pub runs : ¬ (AllStopped rank)
   pub left : turns < budget
   pub low : rank.clock + 1 < 2 ^ 62
-
--- nothing of a box is asked
-abbrev pub AsksNoBox : Ask → Type 0
-AsksNoBox (Ask.Ready link part bytes) = ⊥
-AsksNoBox (Ask.Look link part) = ⊥
-AsksNoBox (Ask.Freed link part) = ⊥
-AsksNoBox _ = Unit {0}
 
 -- what a desk's refusal carries
 abbrev pub IsFault : HubFault → Type 0
