@@ -6,8 +6,14 @@ use Rattle.part_phase.specs.declared.phases.Phase.{Phase}
 use Rattle.part_phase.specs.declared.phases.Phase.TheVariants.{Apart, Sending, Receiving}
 use Rattle.part_phase.specs.declared.receiving.RecvPhase.{RecvPhase}
 use Rattle.part_phase.specs.declared.sending.SendPhase.{SendPhase}
-use Rattle.part_phase.specs.Sending.{unshaped_sending, shaped_sending, begun_sending}
-use Rattle.part_phase.specs.Receiving.{unshaped_receiving, shaped_receiving, begun_receiving}
+use Rattle.part_phase.specs.Sending.{IsSendPhase, unshaped_sending, shaped_sending, begun_sending}
+use Rattle.part_phase.specs.Receiving.{IsRecvPhase, unshaped_receiving, shaped_receiving, begun_receiving}
+
+-- what each of a rank's sides keeps
+abbrev pub IsPhase : Phase → Type 0
+IsPhase Apart = Unit
+IsPhase (Sending p) = IsSendPhase p
+IsPhase (Receiving p) = IsRecvPhase p
 
 -- the side that a rank has of a link, before any transfer has it
 abbrev pub first_phase : ℕ → Link → Phase

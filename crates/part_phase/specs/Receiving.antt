@@ -1,11 +1,18 @@
 -- The receiver's side of a link (MPI 4.1, chapter 4.2): its shape, the sender's cut of the same total, whether a phase is
 -- going on, and which boxes were taken in it. Box i has the bytes of the sender's partition i.
-use Rattle.std.specs.Prelude.{ℕ, zero, suc, ◌+◌, ◌*◌, ◌==◌, nat_lt, ◌&&◌, not, List, set, get_or, Bool, true, false}
+use Rattle.std.specs.Prelude.{ℕ, zero, suc, ◌+◌, ◌*◌, ◌≤◌, ◌==◌, nat_lt, ◌&&◌, not, List, set, get_or, Bool, true, false}
 use Rattle.std.specs.Prelude.{Option, Some, None, is_some, if◌then◌else◌}
 use Rattle.rv_image.specs.declared.images.ImageVersion.{ImageVersion}
 use Rattle.part_phase.specs.declared.receiving.RecvPhase.{RecvPhase}
 use Rattle.part_phase.specs.Limits.{are_parts, is_size}
 use Rattle.part_phase.specs.Sending.{none_marked}
+
+-- what every receiver's side keeps: the limits of its shape and of the sender's cut
+pub record IsRecvPhase (p : RecvPhase) : Type 0 where
+  pub most : p.parts ≤ 16
+  pub largest : p.size ≤ 128
+  pub boxes : p.boxes ≤ 16
+  pub bytes : p.bytes ≤ 128
 
 -- a side that no transfer has: its shape is 0 of 0, and so is the cut until it is known
 abbrev pub unshaped_receiving : RecvPhase

@@ -1,12 +1,18 @@
 -- The sender's side of a link (MPI 4.1, chapter 4.2): its shape, which partitions are ready in this phase, and how many
 -- of them, from the lowest on, were freed: their takes are known.
-use Rattle.std.specs.Prelude.{ℕ, ◌+◌, ◌==◌, nat_le, List, replicate, set, get_or, Bool, true, false, Option, Some, None}
+use Rattle.std.specs.Prelude.{ℕ, ◌+◌, ◌≤◌, ◌==◌, nat_le, List, replicate, set, get_or, Bool, true, false, Option, Some, None}
 use Rattle.std.specs.Prelude.{if◌then◌else◌}
 use Rattle.part_phase.specs.declared.sending.SendPhase.{SendPhase}
 
 -- none of the sixteen
 abbrev pub none_marked : List Bool
 none_marked = replicate 16 false
+
+-- what every sender's side keeps: the limits of a shape, and no more is freed than there is
+pub record IsSendPhase (p : SendPhase) : Type 0 where
+  pub most : p.parts ≤ 16
+  pub largest : p.size ≤ 128
+  pub within : p.freed ≤ p.parts
 
 -- a side that no transfer has: its shape is 0 of 0
 abbrev pub unshaped_sending : SendPhase

@@ -1,5 +1,10 @@
 //! The bytes of a box.
 
+ghost use Rattle.std.specs.Prelude.{◌≡◌, ◌≤◌, length, take};
+ghost use Rattle.part_phase.specs.Limits.{box_bytes, padded};
+
+use crate::limits::box_words;
+use rv_image::ImageVersion;
 use std::marker::Model;
 
 /// The bytes of a box, 0 behind those of its partition: 64 where it has 8 data words, 128 where it has 16. Takes no memory.
@@ -18,4 +23,34 @@ impl Model for Contents {
     ghost view = { λ contents. take contents.count contents.bytes };
 
     ghost invariant = { λ contents. contents.count ≤ 128 };
+}
+
+impl Contents {
+    /// The bytes of a box of a run of an image of this version: these, and 0 behind them up to the box's width.
+    pub fn of(version: ImageVersion, bytes: &[u8]) -> Contents
+        requires { length bytes.now ≤ box_bytes version }
+        ensures { result ≡ padded version bytes.now }
+    {
+        let mut wide = [0; 128];
+        wide[..bytes.len()].copy_from_slice(bytes);
+        Contents {
+            bytes: wide,
+            count: 8 * box_words(version),
+        }
+    }
+
+    /// All bytes of the box.
+    pub fn as_slice(&self) -> &[u8]
+        ensures { result.now ≡ self.now }
+    {
+        &self.bytes[..self.count]
+    }
+
+    /// The first so many of them; all, where there are no more.
+    pub fn first(&self, count: usize) -> &[u8]
+        ensures { result.now ≡ take count self.now }
+    {
+        let all = self.as_slice();
+        if count < all.len() { &all[..count] } else { all }
+    }
 }

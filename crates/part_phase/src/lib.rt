@@ -6,6 +6,7 @@
 
 mod contents;
 mod limits;
+mod marks;
 mod phases;
 mod receiving;
 mod sending;

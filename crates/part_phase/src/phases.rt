@@ -1,7 +1,14 @@
 //! All of a rank's phases.
 
+ghost use Rattle.std.specs.Prelude.{◌≡◌, ◌≤◌, length, slice_get, set, get_or, IfOk, IsTrue, not};
+ghost use Rattle.part_phase.specs.Phases.{IsPhase, begun, changed_at, first_phase, first_phases, is_unshaped_receiving, is_unshaped_sending, on_receiving, on_sending, receiving_at, sending_at};
+ghost use Rattle.part_phase.specs.Receiving.{IsRecvPhase, cut_into, one_taken, shaped_receiving};
+ghost use Rattle.part_phase.specs.Sending.{IsSendPhase, all_freed, one_freed, readied, shaped_sending};
+
 use crate::receiving::RecvPhase;
 use crate::sending::SendPhase;
+use rv_image::{Link, Links};
+use std::alloc::{AllocError, Global};
 use std::marker::Model;
 
 /// The side that a rank has of a link.
@@ -22,12 +29,168 @@ pub struct Phases {
 }
 
 impl Model for Phases {
-    ghost use Rattle.std.specs.Prelude.{List, ◌≤◌, vec_len};
+    ghost use Rattle.std.specs.Prelude.{List, All};
+    ghost use Rattle.part_phase.specs.Phases.{IsPhase};
     ghost use Rattle.part_phase.specs.declared.phases.Phase.{Phase};
 
     ghost Value = { List Phase };
 
     ghost view = { λ phases. phases.list.items };
 
-    ghost invariant = { λ phases. vec_len phases.list ≤ 32 };
+    ghost invariant = { λ phases. All IsPhase phases.list.items };
+}
+
+impl Phase {
+    // The side that a rank has of a link, before any transfer has it.
+    fn first(rank: u8, link: Link) -> Phase
+        ensures first { result ≡ first_phase rank link }
+        ensures kept { IsPhase result }
+    {
+        if link.from == rank {
+            Phase::Sending(SendPhase::unshaped())
+        } else if link.to == rank {
+            Phase::Receiving(RecvPhase::unshaped())
+        } else {
+            Phase::Apart
+        }
+    }
+}
+
+impl Phases {
+    /// A rank's sides of all links, before any transfer has one.
+    pub fn of(alloc: Global, links: &Links, rank: u8) -> Result<Phases, AllocError>
+        ensures { IfOk result (λ phases. phases ≡ first_phases links.now rank) }
+    {
+        let links = links.as_slice();
+        let mut list = Vec::with_capacity(alloc, links.len())?;
+        for link in links {
+            list.push(Phase::first(rank, *link))?;
+        }
+        Ok(Phases { list })
+    }
+
+    /// The sender's side of a link. Where the rank hasn't it, one without a shape.
+    pub fn sending(&self, link: u8) -> SendPhase
+        ensures phase { result ≡ sending_at self.now link }
+        ensures limits { IsSendPhase result }
+    {
+        match self.list.get(link as usize) {
+            Some(Phase::Sending(phase)) => *phase,
+            _ => SendPhase::unshaped(),
+        }
+    }
+
+    /// The receiver's side of a link. Where the rank hasn't it, one without a shape.
+    pub fn receiving(&self, link: u8) -> RecvPhase
+        ensures phase { result ≡ receiving_at self.now link }
+        ensures limits { IsRecvPhase result }
+    {
+        match self.list.get(link as usize) {
+            Some(Phase::Receiving(phase)) => *phase,
+            _ => RecvPhase::unshaped(),
+        }
+    }
+
+    /// Whether the rank has the sender's side of a link, and no transfer has it.
+    pub fn has_unshaped_sending(&self, link: u8) -> bool
+        ensures { result ≡ is_unshaped_sending (slice_get self.now link) }
+    {
+        match self.list.get(link as usize) {
+            Some(Phase::Sending(phase)) => phase.parts == 0,
+            _ => false,
+        }
+    }
+
+    /// Whether the rank has the receiver's side of a link, and no transfer has it.
+    pub fn has_unshaped_receiving(&self, link: u8) -> bool
+        ensures { result ≡ is_unshaped_receiving (slice_get self.now link) }
+    {
+        match self.list.get(link as usize) {
+            Some(Phase::Receiving(phase)) => phase.parts == 0,
+            _ => false,
+        }
+    }
+
+    /// Begins a phase of the rank's side of a link: no partition is ready or freed in it, or no box taken. One that is
+    /// going on goes on.
+    pub fn begin(&mut self, link: u8)
+        ensures { self.new ≡ changed_at link begun self.old }
+    {
+        match self.list.get(link as usize) {
+            Some(Phase::Sending(_)) => self.put_sending(link, self.sending(link).begun()),
+            Some(Phase::Receiving(_)) => self.put_receiving(link, self.receiving(link).begun()),
+            _ => {}
+        }
+    }
+
+    /// Gives the sender's side of a link to a transfer: 1 to 16 partitions of so many bytes.
+    pub fn shape_sending(&mut self, link: u8, parts: u8, size: u8)
+        requires parts { parts ≤ 16 }
+        requires size { size ≤ 128 }
+        ensures { self.new ≡ changed_at link (on_sending (shaped_sending parts size)) self.old }
+    {
+        self.put_sending(link, self.sending(link).shaped(parts, size));
+    }
+
+    /// Gives the receiver's side of a link to a transfer: 1 to 16 partitions of so many bytes.
+    pub fn shape_receiving(&mut self, link: u8, parts: u8, size: u8)
+        requires parts { parts ≤ 16 }
+        requires size { size ≤ 128 }
+        ensures { self.new ≡ changed_at link (on_receiving (shaped_receiving parts size)) self.old }
+    {
+        self.put_receiving(link, self.receiving(link).shaped(parts, size));
+    }
+
+    /// Tells the receiver's side of a link how the sender cut the transfer: so many boxes of so many bytes.
+    pub fn cut(&mut self, link: u8, boxes: u8, bytes: u8)
+        requires boxes { boxes ≤ 16 }
+        requires bytes { bytes ≤ 128 }
+        ensures { self.new ≡ changed_at link (on_receiving (cut_into boxes bytes)) self.old }
+    {
+        self.put_receiving(link, self.receiving(link).cut_into(boxes, bytes));
+    }
+
+    /// Makes a partition of the sender's side of a link ready.
+    pub fn ready(&mut self, link: u8, part: u8)
+        ensures { self.new ≡ changed_at link (on_sending (readied part)) self.old }
+    {
+        self.put_sending(link, self.sending(link).readied(part));
+    }
+
+    /// Frees the lowest partition of the sender's side of a link that isn't freed. The last one ends the phase.
+    pub fn free_one(&mut self, link: u8)
+        requires { IsTrue (not (all_freed (sending_at self.old link))) }
+        ensures { self.new ≡ changed_at link (on_sending one_freed) self.old }
+    {
+        self.put_sending(link, self.sending(link).one_freed());
+    }
+
+    /// Marks a box as taken by the receiver's side of a link. The last one ends the phase.
+    pub fn take_one(&mut self, link: u8, place: u8)
+        ensures { self.new ≡ changed_at link (on_receiving (one_taken place)) self.old }
+    {
+        self.put_receiving(link, self.receiving(link).one_taken(place));
+    }
+
+    // The sender's side of a link is another. Where the rank hasn't it, nothing changes.
+    fn put_sending(&mut self, link: u8, phase: SendPhase)
+        requires { IsSendPhase phase }
+        ensures { self.new ≡ changed_at link (on_sending (λ _. phase)) self.old }
+    {
+        match self.list.get_mut(link as usize) {
+            Some(Phase::Sending(old)) => *old = phase,
+            _ => {}
+        }
+    }
+
+    // The receiver's side of a link is another. Where the rank hasn't it, nothing changes.
+    fn put_receiving(&mut self, link: u8, phase: RecvPhase)
+        requires { IsRecvPhase phase }
+        ensures { self.new ≡ changed_at link (on_receiving (λ _. phase)) self.old }
+    {
+        match self.list.get_mut(link as usize) {
+            Some(Phase::Receiving(old)) => *old = phase,
+            _ => {}
+        }
+    }
 }
