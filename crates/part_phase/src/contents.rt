@@ -1,6 +1,6 @@
 //! The bytes of a box.
 
-ghost use Rattle.std.specs.Prelude.{◌≡◌, ◌≤◌, length, take};
+ghost use Rattle.std.specs.Prelude.{◌≡◌, ◌≤◌, ◌-◌, ◌++◌, length, replicate, take};
 ghost use Rattle.part_phase.specs.Limits.{box_bytes, padded};
 
 use crate::limits::box_words;
@@ -25,16 +25,25 @@ impl Model for Contents {
     ghost invariant = { λ contents. contents.count ≤ 128 };
 }
 
+// Bytes, 128 at most, with zeros behind them.
+fn widened(bytes: &[u8]) -> [u8; 128]
+    requires { length bytes.now ≤ 128 }
+    ensures { result ≡ bytes.now ++ replicate (128 - length bytes.now) 0 }
+{
+    let mut wide = [0; 128];
+    wide[..bytes.len()].copy_from_slice(bytes);
+    wide
+}
+
 impl Contents {
+    #[tactic(auto, using(crate::proofs::Padding::take_padded))]
     /// The bytes of a box of a run of an image of this version: these, and 0 behind them up to the box's width.
     pub fn of(version: ImageVersion, bytes: &[u8]) -> Contents
         requires { length bytes.now ≤ box_bytes version }
         ensures { result ≡ padded version bytes.now }
     {
-        let mut wide = [0; 128];
-        wide[..bytes.len()].copy_from_slice(bytes);
         Contents {
-            bytes: wide,
+            bytes: widened(bytes),
             count: 8 * box_words(version),
         }
     }

@@ -54,6 +54,40 @@ impl Phase {
             Phase::Apart
         }
     }
+
+    // A phase begins, unless one is going on.
+    fn begun(self) -> Phase
+        ensures begun { result ≡ begun self }
+        ensures kept { IsPhase self → IsPhase result }
+    {
+        match self {
+            Phase::Apart => Phase::Apart,
+            Phase::Sending(phase) => Phase::Sending(phase.begun()),
+            Phase::Receiving(phase) => Phase::Receiving(phase.begun()),
+        }
+    }
+
+    // The sender's side is another, where it is the sender's.
+    fn with_sending(self, phase: SendPhase) -> Phase
+        ensures changed { result ≡ on_sending (λ _. phase) self }
+        ensures kept { IsPhase self → IsSendPhase phase → IsPhase result }
+    {
+        match self {
+            Phase::Sending(_) => Phase::Sending(phase),
+            Phase::Apart | Phase::Receiving(_) => self,
+        }
+    }
+
+    // The receiver's side is another, where it is the receiver's.
+    fn with_receiving(self, phase: RecvPhase) -> Phase
+        ensures changed { result ≡ on_receiving (λ _. phase) self }
+        ensures kept { IsPhase self → IsRecvPhase phase → IsPhase result }
+    {
+        match self {
+            Phase::Receiving(_) => Phase::Receiving(phase),
+            Phase::Apart | Phase::Sending(_) => self,
+        }
+    }
 }
 
 impl Phases {
@@ -61,9 +95,9 @@ impl Phases {
     pub fn of(alloc: Global, links: &Links, rank: u8) -> Result<Phases, AllocError>
         ensures { IfOk result (λ phases. phases ≡ first_phases links.now rank) }
     {
-        let links = links.as_slice();
-        let mut list = Vec::with_capacity(alloc, links.len())?;
-        for link in links {
+        let all = links.as_slice();
+        let mut list = Vec::with_capacity(alloc, all.len())?;
+        for link in all {
             list.push(Phase::first(rank, *link))?;
         }
         Ok(Phases { list })
@@ -116,11 +150,7 @@ impl Phases {
     pub fn begin(&mut self, link: u8)
         ensures { self.new ≡ changed_at link begun self.old }
     {
-        match self.list.get(link as usize) {
-            Some(Phase::Sending(_)) => self.put_sending(link, self.sending(link).begun()),
-            Some(Phase::Receiving(_)) => self.put_receiving(link, self.receiving(link).begun()),
-            _ => {}
-        }
+        self.put(link, self.at(link).begun());
     }
 
     /// Gives the sender's side of a link to a transfer: 1 to 16 partitions of so many bytes.
@@ -177,10 +207,7 @@ impl Phases {
         requires { IsSendPhase phase }
         ensures { self.new ≡ changed_at link (on_sending (λ _. phase)) self.old }
     {
-        match self.list.get_mut(link as usize) {
-            Some(Phase::Sending(old)) => *old = phase,
-            _ => {}
-        }
+        self.put(link, self.at(link).with_sending(phase));
     }
 
     // The receiver's side of a link is another. Where the rank hasn't it, nothing changes.
@@ -188,9 +215,28 @@ impl Phases {
         requires { IsRecvPhase phase }
         ensures { self.new ≡ changed_at link (on_receiving (λ _. phase)) self.old }
     {
-        match self.list.get_mut(link as usize) {
-            Some(Phase::Receiving(old)) => *old = phase,
-            _ => {}
+        self.put(link, self.at(link).with_receiving(phase));
+    }
+
+    // The side that the rank has of a link. Of one that isn't there it has none.
+    fn at(&self, link: u8) -> Phase
+        ensures phase { result ≡ get_or self.now link Phase.Apart }
+        ensures kept { IsPhase result }
+    {
+        match self.list.get(link as usize) {
+            Some(phase) => *phase,
+            None => Phase::Apart,
+        }
+    }
+
+    // The side that the rank has of a link is another. Where there is no such link, nothing changes.
+    fn put(&mut self, link: u8, phase: Phase)
+        requires { IsPhase phase }
+        ensures { self.new ≡ set self.old link phase }
+    {
+        let at = link as usize;
+        if at < self.list.len() {
+            self.list[at] = phase;
         }
     }
 }
