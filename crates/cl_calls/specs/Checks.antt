@@ -1,5 +1,5 @@
 -- The checks of a call, in their order. The first that fails gives the code.
-use Rattle.std.specs.Prelude.{ℕ, ◌+◌, ◌*◌, ◌^◌, ◌==◌, if◌then◌else◌, List, [], ◌∷◌, length, Option, Some, None, Bool, true, not, ◌&&◌, ◌||◌, nat_le, nat_lt, is_some}
+use Rattle.std.specs.Prelude.{ℕ, ◌+◌, ◌*◌, ◌^◌, ◌==◌, if◌then◌else◌, List, [], ◌∷◌, ◌++◌, length, Option, Some, None, Bool, true, not, ◌&&◌, ◌||◌, nat_le, nat_lt, is_some}
 use Rattle.rv_memory.specs.Memory.{Memory}
 use Rattle.rv_memory.specs.Access.{is_readable, is_writable}
 use Rattle.mp_types.specs.declared.codes.Code.{Code}
@@ -157,9 +157,10 @@ has_room written growth = (growth == 0) || nat_le (written + growth) (2 ^ 20)
 abbrev pub has_slot : Table → Bool → Bool
 has_slot table slot = not slot || is_some (lowest_free table)
 
--- where an array is too long or isn't in the memory, no handle is read
-abbrev pub checks : Site → Memory → Table → List Phase → ℕ → Needs → List (Bool × Code)
-checks site memory table phases written needs =
+-- what the call names: itself, requests, and whom it concerns. Where an array is too long or isn't in the memory, no
+-- handle is read
+abbrev pub name_checks : Site → Memory → Table → Needs → List (Bool × Code)
+name_checks site memory table needs =
     (needs.known, BadCall) ∷
     (is_few needs.handles, BadCount) ∷
     (is_array memory needs.handles, BadBuffer) ∷
@@ -167,6 +168,11 @@ checks site memory table phases written needs =
     (is_comm site needs.comm, BadComm) ∷
     (is_peer site needs.comm needs.peer, BadRank) ∷
     (is_tag needs.tag, BadTag) ∷
+    []
+
+-- and then its partitions and bytes, and whether they and its requests stand so that the call may be done
+abbrev pub state_checks : Site → Memory → Table → List Phase → ℕ → Needs → List (Bool × Code)
+state_checks site memory table phases written needs =
     (has_parts needs.region && is_part table phases needs.request, BadPartition) ∷
     (has_size site.version needs.region && is_count needs.buffer, BadCount) ∷
     (has_region memory needs.region && is_buffer memory needs.buffer && are_statuses memory needs.statuses,
@@ -176,6 +182,11 @@ checks site memory table phases written needs =
     (is_unready table phases needs.request, AlreadyReady) ∷
     (has_room written needs.growth && has_slot table needs.slot, Full) ∷
     []
+
+-- all checks, in their order
+abbrev pub checks : Site → Memory → Table → List Phase → ℕ → Needs → List (Bool × Code)
+checks site memory table phases written needs =
+    name_checks site memory table needs ++ state_checks site memory table phases written needs
 
 abbrev pub first_fault : List (Bool × Code) → Option Code
 first_fault [] = None

@@ -11,9 +11,10 @@ mod needs;
 mod sites;
 
 pub use calls::{
-    ANY, Call, Claimed, Completing, NO_MESSAGE, NO_RANK, Probing, Receiving, Sending, Several,
+    ANY, Call, Claimed, Completing, NO_MESSAGE, NO_RANK, Partitioning, Probing, Receiving, Sending,
+    Several,
 };
-pub use checking::fault;
+pub use checking::{Standing, fault};
 pub use handles::{Handles, handles_at};
-pub use needs::{Array, Named, Needs, Peer, Range, Statuses, Tag};
+pub use needs::{Array, Named, Needs, Peer, Range, Region, Statuses, Tag};
 pub use sites::{Communicators, Site, place};

@@ -1,9 +1,12 @@
 //! What each call needs to be right.
 
 ghost use Rattle.std.specs.Prelude.{◌≡◌};
-ghost use Rattle.cl_calls.specs.Needs.{destination as destination_of, needs_of, needs_of_claimed, needs_of_completing, needs_of_probing, needs_of_receiving, needs_of_sending, needs_of_several, one_status, one_tag, reads, source as source_of, tag_or_any, writes};
+ghost use Rattle.cl_calls.specs.Needs.{destination as destination_of, needs_of, needs_of_claimed, needs_of_completing, needs_of_partitioning};
+ghost use Rattle.cl_calls.specs.Needs.{needs_of_probing, needs_of_receiving, needs_of_sending, needs_of_several};
+ghost use Rattle.cl_calls.specs.Needs.{one_status, one_tag, opening as opening_of, other_side as other_side_of, reads};
+ghost use Rattle.cl_calls.specs.Needs.{region_read, region_written, source as source_of, tag_or_any, writes};
 
-use crate::calls::{Call, Claimed, Completing, Probing, Receiving, Sending, Several};
+use crate::calls::{Call, Claimed, Completing, Partitioning, Probing, Receiving, Sending, Several};
 
 /// A rank argument, and which of the wildcard and the null process may stand for it.
 #[derive(Clone, Copy, PartialEq, Eq, Drop, Debug)]
@@ -137,6 +140,16 @@ impl Peer {
             null: true,
         }
     }
+
+    fn other_side(rank: u64) -> Peer
+        ensures { result ≡ other_side_of rank }
+    {
+        Peer {
+            rank,
+            any: false,
+            null: false,
+        }
+    }
 }
 
 impl Tag {
@@ -183,24 +196,32 @@ impl Range {
     }
 }
 
+impl Needs {
+    // A handle that isn't open, too.
+    fn opening(self) -> Needs
+        ensures { result ≡ opening_of self }
+    {
+        Needs { slot: true, ..self }
+    }
+}
+
 impl Sending {
-    fn needs(&self, slot: bool) -> Needs
-        ensures { result ≡ needs_of_sending slot self.now }
+    fn needs(&self) -> Needs
+        ensures { result ≡ needs_of_sending self.now }
     {
         Needs {
             comm: Some(self.comm),
             peer: Some(Peer::destination(self.dest)),
             tag: Tag::one(self.tag),
             buffer: Range::reading(self.buffer, self.count),
-            slot,
             ..NOTHING
         }
     }
 }
 
 impl Receiving {
-    fn needs(&self, slot: bool, status: u64) -> Needs
-        ensures { result ≡ needs_of_receiving slot status self.now }
+    fn needs(&self, status: u64) -> Needs
+        ensures { result ≡ needs_of_receiving status self.now }
     {
         Needs {
             comm: Some(self.comm),
@@ -208,20 +229,18 @@ impl Receiving {
             tag: Tag::or_any(self.tag),
             buffer: Range::writing(self.buffer, self.capacity),
             statuses: Statuses::one(status),
-            slot,
             ..NOTHING
         }
     }
 }
 
 impl Claimed {
-    fn needs(&self, slot: bool, status: u64) -> Needs
-        ensures { result ≡ needs_of_claimed slot status self.now }
+    fn needs(&self, status: u64) -> Needs
+        ensures { result ≡ needs_of_claimed status self.now }
     {
         Needs {
             buffer: Range::writing(self.buffer, self.capacity),
             statuses: Statuses::one(status),
-            slot,
             ..NOTHING
         }
     }
@@ -271,6 +290,44 @@ impl Several {
     }
 }
 
+impl Region {
+    // The partitions of a transfer, which its sender reads.
+    fn read(transfer: &Partitioning) -> Region
+        ensures { result ≡ region_read transfer.now }
+    {
+        Region {
+            address: transfer.buffer,
+            parts: transfer.parts,
+            size: transfer.size,
+            writing: false,
+        }
+    }
+
+    // And which its receiver writes.
+    fn written(transfer: &Partitioning) -> Region
+        ensures { result ≡ region_written transfer.now }
+    {
+        Region {
+            writing: true,
+            ..Region::read(transfer)
+        }
+    }
+}
+
+impl Partitioning {
+    fn needs(&self, region: Region) -> Needs
+        ensures { result ≡ needs_of_partitioning region self.now }
+    {
+        Needs {
+            comm: Some(self.comm),
+            peer: Some(Peer::other_side(self.peer)),
+            tag: Tag::one(self.tag),
+            region: Some(region),
+            ..NOTHING
+        }
+    }
+}
+
 impl Call {
     /// What the call needs to be right.
     pub fn needs(&self) -> Needs
@@ -287,19 +344,19 @@ impl Call {
                 comm: Some(comm),
                 ..NOTHING
             },
-            Call::Send(sending) | Call::Ssend(sending) => sending.needs(false),
+            Call::Send(sending) | Call::Ssend(sending) => sending.needs(),
             Call::Isend(sending) | Call::Issend(sending) | Call::SendInit(sending) => {
-                sending.needs(true)
+                sending.needs().opening()
             }
-            Call::Recv { receiving, status } => receiving.needs(false, status),
-            Call::Irecv(receiving) | Call::RecvInit(receiving) => receiving.needs(true, 0),
+            Call::Recv { receiving, status } => receiving.needs(status),
+            Call::Irecv(receiving) | Call::RecvInit(receiving) => receiving.needs(0).opening(),
             Call::Test(completing) | Call::Wait(completing) => completing.needs(),
             Call::Iprobe(probing)
             | Call::Probe(probing)
             | Call::Improbe(probing)
             | Call::Mprobe(probing) => probing.needs(),
-            Call::Imrecv(claimed) => claimed.needs(true, 0),
-            Call::Mrecv { claimed, status } => claimed.needs(false, status),
+            Call::Imrecv(claimed) => claimed.needs(0).opening(),
+            Call::Mrecv { claimed, status } => claimed.needs(status),
             Call::Start { handle } => Needs {
                 request: Named::Persistent(handle),
                 ..NOTHING
@@ -309,6 +366,16 @@ impl Call {
                 ..NOTHING
             },
             Call::Testall(several) | Call::Waitall(several) => several.needs(),
+            Call::PsendInit(transfer) => transfer.needs(Region::read(&transfer)).opening(),
+            Call::PrecvInit(transfer) => transfer.needs(Region::written(&transfer)).opening(),
+            Call::Pready { handle, part } => Needs {
+                request: Named::SendPart { handle, part },
+                ..NOTHING
+            },
+            Call::Parrived { handle, part } => Needs {
+                request: Named::ReceivePart { handle, part },
+                ..NOTHING
+            },
             Call::Unknown => Needs {
                 known: false,
                 ..NOTHING

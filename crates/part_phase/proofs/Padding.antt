@@ -1,5 +1,6 @@
 -- Zeros behind bytes.
-use Rattle.std.proofs.Common.{◌≡◌, ℕ, zero, suc, ◌+◌, ◌-◌, ◌≤◌, List, [], ◌∷◌, ◌++◌, length, take, replicate, refl, sym, ap, ◌∙◌, arith}
+use Rattle.std.proofs.Common.{◌≡◌, ℕ, zero, suc, ◌+◌, ◌-◌, ◌≤◌, List, [], ◌∷◌, ◌++◌, length, take, drop, replicate, refl, sym, ap, ◌∙◌, arith}
+use Rattle.std.proofs.lemmas.List.{drop-replicate}
 
 -- so many of them
 abbrev zeros : ℕ → List ℕ
@@ -24,3 +25,7 @@ take_padded (b ∷ bs) (suc n) (suc m) low most =
     let fewer : suc n - suc (length bs) ≡ n - length bs = omega arith in
     ap (λ k. b ∷ take n (bs ++ zeros k)) all ∙
     (ap (λ l. b ∷ l) (take_padded bs n m (omega (arith, low)) (omega (arith, most))) ∙ ap (λ k. b ∷ bs ++ zeros k) (sym fewer))
+
+-- and to drop zeros is to have put fewer
+pub drop_zeros : (n m : ℕ) → drop n (zeros m) ≡ zeros (m - n)
+drop_zeros n m = drop-replicate n m 0

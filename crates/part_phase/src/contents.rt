@@ -1,6 +1,6 @@
 //! The bytes of a box.
 
-ghost use Rattle.std.specs.Prelude.{◌≡◌, ◌≤◌, ◌-◌, ◌++◌, length, replicate, take};
+ghost use Rattle.std.specs.Prelude.{◌≡◌, ◌≤◌, ◌-◌, ◌++◌, drop, length, replicate, take};
 ghost use Rattle.part_phase.specs.Limits.{box_bytes, padded};
 
 use crate::limits::box_words;
@@ -25,13 +25,21 @@ impl Model for Contents {
     ghost invariant = { λ contents. contents.count ≤ 128 };
 }
 
+// Puts other bytes at the beginning.
+fn put(bytes: &mut [u8], new: &[u8])
+    requires { length new.now ≤ length bytes.old }
+    ensures { bytes.new ≡ new.now ++ drop (length new.now) bytes.old }
+{
+    bytes[..new.len()].copy_from_slice(new);
+}
+
 // Bytes, 128 at most, with zeros behind them.
 fn widened(bytes: &[u8]) -> [u8; 128]
     requires { length bytes.now ≤ 128 }
     ensures { result ≡ bytes.now ++ replicate (128 - length bytes.now) 0 }
 {
     let mut wide = [0; 128];
-    wide[..bytes.len()].copy_from_slice(bytes);
+    put(&mut wide, bytes);
     wide
 }
 
