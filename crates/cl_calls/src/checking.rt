@@ -139,7 +139,10 @@ fn is_unready(requests: &Requests, phases: &Phases, request: Named) -> bool
     };
     match sending_side(requests, handle) {
         None => true,
-        Some(side) => part > 255 || !phases.sending(side.link).is_ready(part as u8),
+        Some(side) => {
+            let phase = phases.sending(side.link);
+            !(part < 16 && phase.is_ready(part as u8))
+        }
     }
 }
 
