@@ -80,7 +80,7 @@ holds_of_receiver holds phases (Some side) = holds (receiving_at phases side.lin
 abbrev pub is_part : Table → List Phase → Named → Bool
 is_part table phases (SendPart handle part) =
     holds_of_sender (λ p. nat_lt part p.parts) phases (sending_side (request_at table handle))
-is_part table phases (ReceivePart handle part) = 
+is_part table phases (ReceivePart handle part) =
     holds_of_receiver (λ p. nat_lt part p.parts) phases (receiving_side (request_at table handle))
 is_part table phases _ = true
 
@@ -174,9 +174,10 @@ name_checks site memory table needs =
 abbrev pub state_checks : Site → Memory → Table → List Phase → ℕ → Needs → List (Bool × Code)
 state_checks site memory table phases written needs =
     (has_parts needs.region && is_part table phases needs.request, BadPartition) ∷
-    (has_size site.version needs.region && is_count needs.buffer, BadCount) ∷
-    (has_region memory needs.region && is_buffer memory needs.buffer && are_statuses memory needs.statuses,
-      BadBuffer) ∷
+    (has_size site.version needs.region && is_count needs.buffer, BadCount) ∷ (
+      has_region memory needs.region && is_buffer memory needs.buffer && are_statuses memory needs.statuses,
+      BadBuffer,
+    ) ∷
     (is_idle table needs.request, Active) ∷
     (is_going table phases needs.request, NotActive) ∷
     (is_unready table phases needs.request, AlreadyReady) ∷

@@ -1,5 +1,5 @@
 -- A rank's phases, of which one is changed.
-use Rattle.std.proofs.Common.{◌≡◌, ℕ, zero, suc, List, [], ◌∷◌, set, get_or, refl, sym, ap, ◌∙◌}
+use Rattle.std.proofs.Common.{◌≡◌, ℕ, zero, suc, List, [], ◌∷◌, set, get_or, refl, ap, ◌∙◌}
 use Rattle.part_phase.specs.declared.phases.Phase.{Phase}
 use Rattle.part_phase.specs.declared.phases.Phase.TheVariants.{Apart, Sending, Receiving}
 use Rattle.part_phase.specs.declared.receiving.RecvPhase.{RecvPhase}

@@ -1,3 +1,5 @@
 pub mod Lowest
 pub mod Changes
 pub mod Padding
+pub mod Arrivals
+pub mod Ends

@@ -1,7 +1,7 @@
 -- The lowest number that passes.
-use Rattle.std.proofs.Common.{◌≡◌, ◌≢◌, ℕ, zero, suc, ◌+◌, ◌-◌, ◌<◌, ◌≤◌, Bool, true, false, Some, None, refl}
+use Rattle.std.proofs.Common.{◌≡◌, ◌≢◌, ℕ, zero, suc, ◌+◌, ◌-◌, ◌<◌, ◌≤◌, Bool, true, false, Option, Some, None, refl}
 use Rattle.std.proofs.Common.{sym, ap, ◌∙◌, ⊎_elim, arith}
-use Rattle.std.specs.Prelude.{if◌then◌else◌}
+use Rattle.std.specs.Prelude.{is_some, if◌then◌else◌}
 use Rattle.std.proofs.lemmas.Bool.{cases_eq}
 use Rattle.part_phase.specs.Receiving.{lowest_from}
 
@@ -28,7 +28,7 @@ pub none_pass : (passes : ℕ → Bool) (first n : ℕ) → lowest_from passes f
 none_pass passes first zero e j low high = absurd (omega (arith, low, high))
 none_pass passes first (suc n) e j low high =
     let rec = λ (rest : lowest_from passes (first + 1) n ≡ None) (apart : j ≢ first).
-        none_pass passes (first + 1) n rest j (omega (arith, low, apart)) (omega (arith, high)) in
+    none_pass passes (first + 1) n rest j (omega (arith, low, apart)) (omega (arith, high)) in
     go rec (passes first) refl
   where
     some_none : (x : ℕ) → Some x ≡ None → ⊥
@@ -40,3 +40,43 @@ none_pass passes first (suc n) e j low high =
         (λ (ne : j ≡ first → ⊥). rec (sym (ap (λ (b : Bool). if b then Some first else lowest_from passes (first + 1) n) is) ∙ e) ne)
         (cases_eq j first)
     go rec true is = absurd (some_none first (sym (ap (λ (b : Bool). if b then Some first else lowest_from passes (first + 1) n) is) ∙ e))
+
+-- the lowest is one of them, and passes
+pub found : (passes : ℕ → Bool) (first n x : ℕ) → lowest_from passes first n ≡ Some x →
+    (passes x ≡ true) × (x < first + n)
+found passes first zero x e = absurd (cc)
+found passes first (suc n) x e = go (λ (rest : lowest_from passes (first + 1) n ≡ Some x). found passes (first + 1) n x rest) (passes first) refl
+  where
+    go : (lowest_from passes (first + 1) n ≡ Some x → (passes x ≡ true) × (x < first + 1 + n)) → (b : Bool) → passes first ≡ b →
+        (passes x ≡ true) × (x < first + suc n)
+    go rec true is =
+        let here : Some first ≡ Some x = sym (ap (λ (b : Bool). if b then Some first else lowest_from passes (first + 1) n) is) ∙ e in
+        let same : first ≡ x = cc in
+        (ap passes (sym same) ∙ is, omega (arith, same))
+    go rec false is =
+        let rest = rec (sym (ap (λ (b : Bool). if b then Some first else lowest_from passes (first + 1) n) is) ∙ e) in
+        (rest.0, omega (arith, rest.1))
+
+-- where each fails, none passes
+pub none_of : (passes : ℕ → Bool) (first n : ℕ) → ((j : ℕ) → first ≤ j → j < first + n → passes j ≡ false) →
+    lowest_from passes first n ≡ None
+none_of passes first zero fails = refl
+none_of passes first (suc n) fails =
+    ap (λ (b : Bool). if b then Some first else lowest_from passes (first + 1) n) (fails first (omega arith) (omega arith)) ∙
+    none_of passes (first + 1) n (λ j low high. fails j (omega (arith, low)) (omega (arith, high)))
+
+-- where one passes, there is a lowest
+pub some_of : (passes : ℕ → Bool) (n j : ℕ) → j < n → passes j ≡ true → is_some (lowest_from passes 0 n) ≡ true
+some_of passes n j low holds = go (lowest_from passes 0 n) refl
+  where
+    off : true ≡ false → ⊥
+    off e = cc
+
+    go : (o : Option ℕ) → lowest_from passes 0 n ≡ o → is_some o ≡ true
+    go None is = absurd (off (sym holds ∙ none_pass passes 0 n is j (omega arith) (omega (arith, low))))
+    go (Some x) is = refl
+
+-- where the first passes, it is the lowest
+pub first_passes : (passes : ℕ → Bool) (n : ℕ) → 0 < n → passes 0 ≡ true → lowest_from passes 0 n ≡ Some 0
+first_passes passes zero some holds = absurd (omega (arith, some))
+first_passes passes (suc n) some holds = ap (λ (b : Bool). if b then Some 0 else lowest_from passes (0 + 1) n) holds

@@ -2,3 +2,5 @@ pub mod Limits
 pub mod Sending
 pub mod Receiving
 pub mod Phases
+pub mod Laws
+pub mod Rows

@@ -1,13 +1,13 @@
 -- All of a rank's phases: one a link of the image, in the image's order.
-use Rattle.std.specs.Prelude.{ℕ, zero, suc, ◌==◌, ◌&&◌, List, [], ◌∷◌, map, slice_get, Bool, true, false, Option, Some, None}
+use Rattle.std.specs.Prelude.{ℕ, zero, suc, ◌==◌, List, [], ◌∷◌, map, slice_get, Bool, false, Option, Some}
 use Rattle.std.specs.Prelude.{if◌then◌else◌}
 use Rattle.rv_image.specs.declared.images.Link.{Link}
 use Rattle.part_phase.specs.declared.phases.Phase.{Phase}
 use Rattle.part_phase.specs.declared.phases.Phase.TheVariants.{Apart, Sending, Receiving}
 use Rattle.part_phase.specs.declared.receiving.RecvPhase.{RecvPhase}
 use Rattle.part_phase.specs.declared.sending.SendPhase.{SendPhase}
-use Rattle.part_phase.specs.Sending.{IsSendPhase, unshaped_sending, shaped_sending, begun_sending}
-use Rattle.part_phase.specs.Receiving.{IsRecvPhase, unshaped_receiving, shaped_receiving, begun_receiving}
+use Rattle.part_phase.specs.Sending.{IsSendPhase, unshaped_sending, begun_sending}
+use Rattle.part_phase.specs.Receiving.{IsRecvPhase, unshaped_receiving, begun_receiving}
 
 -- what each of a rank's sides keeps
 abbrev pub IsPhase : Phase → Type 0

@@ -68,6 +68,10 @@ impl Contents {
         ensures { result.now ≡ take count self.now }
     {
         let all = self.as_slice();
-        if count < all.len() { &all[..count] } else { all }
+        if count < all.len() {
+            &all[..count]
+        } else {
+            all
+        }
     }
 }

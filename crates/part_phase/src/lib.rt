@@ -1,18 +1,23 @@
 //! The phases of a rank's partitioned transfers (MPI 4.1, chapter 4), as plain data: for each link of the image the side
 //! that the rank has of it, with its shape and how far this phase is.
 //!
-//! The meaning stands in specs/: limits, what a side's phase is and what each call makes of it, and all of a rank's.
+//! The meaning stands in specs/: limits, what a side's phase is and what each call makes of it, all of a rank's, laws of
+//! them, and worked values.
 #![tactic(auto)]
 
 mod contents;
+mod laws;
 mod limits;
 mod marks;
 mod phases;
 mod receiving;
+mod rows;
 mod sending;
 
 pub use contents::Contents;
+pub use laws::{arrival_law, beginning_law, freeing_law, taking_law};
 pub use limits::{are_parts, box_words, is_size};
 pub use phases::{Phase, Phases};
 pub use receiving::RecvPhase;
+pub use rows::{cut_rows, limit_rows, padded_rows, sending_rows};
 pub use sending::SendPhase;

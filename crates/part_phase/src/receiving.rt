@@ -85,22 +85,36 @@ impl RecvPhase {
     pub fn is_cut(&self, version: ImageVersion, boxes: u8, bytes: u8) -> bool
         ensures { result ≡ is_cut_of version self.now boxes bytes }
     {
-        let (total, cut) = (u32::from(self.parts) * u32::from(self.size), u32::from(boxes) * u32::from(bytes));
-        are_parts(u64::from(boxes)) && is_size(version, u64::from(bytes)) && cut == total && self.boxes == 0
+        let (total, cut) = (
+            u32::from(self.parts) * u32::from(self.size),
+            u32::from(boxes) * u32::from(bytes),
+        );
+        are_parts(u64::from(boxes))
+            && is_size(version, u64::from(bytes))
+            && cut == total
+            && self.boxes == 0
     }
 
     // A transfer has the side: so many partitions of so many bytes.
     pub(crate) fn shaped(self, parts: u8, size: u8) -> RecvPhase
         ensures { result ≡ shaped_receiving parts size self }
     {
-        RecvPhase { parts, size, ..self }
+        RecvPhase {
+            parts,
+            size,
+            ..self
+        }
     }
 
     // The sender's cut is known: so many boxes of so many bytes.
     pub(crate) fn cut_into(self, boxes: u8, bytes: u8) -> RecvPhase
         ensures { result ≡ cut_into_of boxes bytes self }
     {
-        RecvPhase { boxes, bytes, ..self }
+        RecvPhase {
+            boxes,
+            bytes,
+            ..self
+        }
     }
 
     // A phase begins, unless one is going on.

@@ -1,0 +1,65 @@
+-- Worked values of phases.
+use Rattle.std.specs.Prelude.{◌≡◌, ℕ, List, [], ◌∷◌, ◌++◌, map, replicate, Option, Some, None, true, false}
+use Rattle.rv_image.specs.declared.images.ImageVersion.TheVariants.{One, Two}
+use Rattle.part_phase.specs.declared.receiving.RecvPhase.{RecvPhase}
+use Rattle.part_phase.specs.declared.sending.SendPhase.{SendPhase}
+use Rattle.part_phase.specs.Limits.{are_parts, is_size, padded}
+use Rattle.part_phase.specs.Receiving.{shaped_receiving, unshaped_receiving, is_cut, cut_into, begun_receiving, next_box}
+use Rattle.part_phase.specs.Receiving.{next_box_of, one_taken}
+use Rattle.part_phase.specs.Sending.{shaped_sending, unshaped_sending, begun_sending, readied, is_ready, next_to_free}
+use Rattle.part_phase.specs.Sending.{one_freed}
+
+-- 1 to 16 partitions of 8 to 64 bytes in version 1 and to 128 in version 2, in whole 8s
+abbrev pub LimitRows : Type 0
+LimitRows =
+    (map are_parts (0 ∷ 1 ∷ 16 ∷ 17 ∷ []) ≡ false ∷ true ∷ true ∷ false ∷ [])
+    × (map (is_size One) (0 ∷ 8 ∷ 12 ∷ 64 ∷ 72 ∷ []) ≡ false ∷ true ∷ false ∷ true ∷ false ∷ [])
+    × (map (is_size Two) (0 ∷ 8 ∷ 12 ∷ 72 ∷ 128 ∷ 136 ∷ []) ≡ false ∷ true ∷ false ∷ true ∷ true ∷ false ∷ [])
+
+-- 0 stands behind the bytes, up to the width
+abbrev pub PaddedRows : Type 0
+PaddedRows =
+    (padded One (7 ∷ 8 ∷ []) ≡ (7 ∷ 8 ∷ []) ++ replicate 62 0) × (padded Two (7 ∷ []) ≡ 7 ∷ replicate 127 0)
+
+-- the sender's side of 2 partitions: both are ready, 1 first, and then freed from the lowest on
+abbrev pub two_begun : SendPhase
+two_begun = begun_sending (shaped_sending 2 8 unshaped_sending)
+
+abbrev pub both_ready : SendPhase
+both_ready = readied 0 (readied 1 two_begun)
+
+abbrev pub SendingRows : Type 0
+SendingRows =
+    (next_to_free (shaped_sending 2 8 unshaped_sending) ≡ None)
+    × (map next_to_free (two_begun ∷ both_ready ∷ one_freed both_ready ∷ one_freed (one_freed both_ready) ∷ [])
+    ≡ Some 0 ∷ Some 0 ∷ Some 1 ∷ None ∷ [])
+    × (map (is_ready (readied 1 two_begun)) (0 ∷ 1 ∷ 2 ∷ []) ≡ false ∷ true ∷ false ∷ [])
+    × (one_freed (one_freed both_ready) ≡ shaped_sending 2 8 unshaped_sending)
+    -- a phase that is going on goes on
+    × (begun_sending both_ready ≡ both_ready)
+
+-- the receiver's side of 2 partitions of 96 bytes, which the sender cut into 3 of 64
+abbrev pub two_of_96 : RecvPhase
+two_of_96 = begun_receiving (shaped_receiving 2 96 unshaped_receiving)
+
+abbrev pub cut_apart : RecvPhase
+cut_apart = cut_into 3 64 two_of_96
+
+-- which boxes both partitions wait for, and one that isn't there
+abbrev pub awaited : RecvPhase → List (Option ℕ)
+awaited p = map (next_box_of p) (0 ∷ 1 ∷ 2 ∷ [])
+
+abbrev pub CutRows : Type 0
+CutRows =
+    (is_cut Two two_of_96 3 64 ≡ true)
+    × (is_cut Two two_of_96 2 64 ≡ false)
+    × (is_cut Two cut_apart 3 64 ≡ false)
+    × (next_box two_of_96 ≡ None)
+    × (awaited two_of_96 ≡ None ∷ None ∷ None ∷ [])
+    × (awaited cut_apart ≡ Some 0 ∷ Some 1 ∷ None ∷ [])
+    × (awaited (one_taken 0 cut_apart) ≡ Some 1 ∷ Some 1 ∷ None ∷ [])
+    × (awaited (one_taken 1 (one_taken 0 cut_apart)) ≡ None ∷ Some 2 ∷ None ∷ [])
+    -- the last box ends the phase, whichever it is
+    × (one_taken 2 (one_taken 1 (one_taken 0 cut_apart)) ≡ record cut_apart { active = false })
+    × (one_taken 0 (one_taken 1 (one_taken 2 cut_apart)) ≡ record cut_apart { active = false })
+    × (next_box (begun_receiving (record cut_apart { active = false })) ≡ Some 0)

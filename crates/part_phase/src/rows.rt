@@ -1,0 +1,23 @@
+//! Worked values, as theorems that compute.
+
+ghost use Rattle.part_phase.specs.Rows.{CutRows, LimitRows, PaddedRows, SendingRows};
+
+/// Which numbers of partitions and of bytes are right, in both versions.
+pub fn limit_rows()
+    ensures { LimitRows }
+{}
+
+/// Bytes with 0 behind them, in both widths.
+pub fn padded_rows()
+    ensures { PaddedRows }
+{}
+
+/// A phase of two partitions, made ready in turn and freed.
+pub fn sending_rows()
+    ensures { SendingRows }
+{}
+
+/// What the two partitions of a receiver wait for, whose sender has three.
+pub fn cut_rows()
+    ensures { CutRows }
+{}
