@@ -1,5 +1,6 @@
 -- The checks of a call, in their order. The first that fails gives the code.
-use Rattle.std.specs.Prelude.{ℕ, ◌+◌, ◌*◌, ◌^◌, ◌==◌, if◌then◌else◌, List, [], ◌∷◌, ◌++◌, length, Option, Some, None, Bool, true, not, ◌&&◌, ◌||◌, nat_le, nat_lt, is_some}
+use Rattle.std.specs.Prelude.{ℕ, ◌+◌, ◌*◌, ◌^◌, ◌==◌, if◌then◌else◌, List, [], ◌∷◌, ◌++◌, length, Option, Some, None}
+use Rattle.std.specs.Prelude.{Bool, true, not, ◌&&◌, ◌||◌, nat_le, nat_lt, is_some}
 use Rattle.rv_memory.specs.Memory.{Memory}
 use Rattle.rv_memory.specs.Access.{is_readable, is_writable}
 use Rattle.mp_types.specs.declared.codes.Code.{Code}
@@ -21,7 +22,8 @@ use Rattle.rv_image.specs.declared.images.ImageVersion.{ImageVersion}
 use Rattle.cl_calls.specs.Handles.{handles_in}
 use Rattle.cl_calls.specs.declared.needs.Array.{Array}
 use Rattle.cl_calls.specs.declared.needs.Named.{Named}
-use Rattle.cl_calls.specs.declared.needs.Named.TheVariants.{Nothing, NullOrOpen, Persistent, Open, SendPart, ReceivePart}
+use Rattle.cl_calls.specs.declared.needs.Named.TheVariants.{Nothing, NullOrOpen, Persistent, Open, SendPart}
+use Rattle.cl_calls.specs.declared.needs.Named.TheVariants.{ReceivePart}
 use Rattle.cl_calls.specs.declared.needs.Needs.{Needs}
 use Rattle.cl_calls.specs.declared.needs.Region.{Region}
 use Rattle.cl_calls.specs.declared.needs.Peer.{Peer}
@@ -117,7 +119,9 @@ abbrev pub is_peer : Site → Option ℕ → Option Peer → Bool
 is_peer site None peer = true
 is_peer site (Some comm) None = true
 is_peer site (Some comm) (Some peer) =
-    nat_lt peer.rank (length (members site comm)) || (peer.any && (peer.rank == any)) || (peer.null && (peer.rank == no_rank))
+    nat_lt peer.rank (length (members site comm))
+    || (peer.any && (peer.rank == any))
+    || (peer.null && (peer.rank == no_rank))
 
 abbrev pub is_tag : Tag → Bool
 is_tag t = nat_le t.tag 32767 || (t.any && (t.tag == any))
@@ -135,7 +139,8 @@ has_size version (Some t) = is_size version t.size
 abbrev pub has_region : Memory → Option Region → Bool
 has_region memory None = true
 has_region memory (Some t) =
-    if t.writing then is_writable memory t.address (t.parts * t.size) else is_readable memory t.address (t.parts * t.size)
+    if t.writing then is_writable memory t.address (t.parts * t.size)
+    else is_readable memory t.address (t.parts * t.size)
 
 -- messages have at most 4,096 bytes
 abbrev pub is_count : Range → Bool
@@ -143,7 +148,8 @@ is_count buffer = nat_le buffer.count 4096
 
 abbrev pub is_buffer : Memory → Range → Bool
 is_buffer memory buffer =
-    if buffer.writing then is_writable memory buffer.address buffer.count else is_readable memory buffer.address buffer.count
+    if buffer.writing then is_writable memory buffer.address buffer.count
+    else is_readable memory buffer.address buffer.count
 
 -- a status has 24 bytes; address 0 means that none is wanted
 abbrev pub are_statuses : Memory → Statuses → Bool

@@ -1,7 +1,11 @@
 -- What each call needs to be right.
 use Rattle.std.specs.Prelude.{ℕ, Some, None, Bool, true, false}
 use Rattle.cl_calls.specs.declared.calls.Call.{Call}
-use Rattle.cl_calls.specs.declared.calls.Call.TheVariants.{Exit, Put, Rank, Size, Hart, Send, Ssend, Recv, Isend, Issend, Irecv, Test, Wait, Iprobe, Probe, Improbe, Mprobe, Imrecv, Mrecv, SendInit, RecvInit, Start, RequestFree, Testall, Waitall, PsendInit, PrecvInit, Pready, Parrived, Unknown}
+use Rattle.cl_calls.specs.declared.calls.Call.TheVariants.{Exit, Put, Rank, Size, Hart, Send, Ssend, Recv, Isend}
+use Rattle.cl_calls.specs.declared.calls.Call.TheVariants.{Issend, Irecv, Test, Wait, Iprobe, Probe, Improbe, Mprobe}
+use Rattle.cl_calls.specs.declared.calls.Call.TheVariants.{Imrecv, Mrecv, SendInit, RecvInit, Start, RequestFree}
+use Rattle.cl_calls.specs.declared.calls.Call.TheVariants.{Testall, Waitall, PsendInit, PrecvInit, Pready, Parrived}
+use Rattle.cl_calls.specs.declared.calls.Call.TheVariants.{Unknown}
 use Rattle.cl_calls.specs.declared.calls.Claimed.{Claimed}
 use Rattle.cl_calls.specs.declared.calls.Completing.{Completing}
 use Rattle.cl_calls.specs.declared.calls.Partitioning.{Partitioning}
@@ -10,7 +14,8 @@ use Rattle.cl_calls.specs.declared.calls.Receiving.{Receiving}
 use Rattle.cl_calls.specs.declared.calls.Sending.{Sending}
 use Rattle.cl_calls.specs.declared.calls.Several.{Several}
 use Rattle.cl_calls.specs.declared.needs.Array.{Array}
-use Rattle.cl_calls.specs.declared.needs.Named.TheVariants.{Nothing, NullOrOpen, Persistent, Open, SendPart, ReceivePart}
+use Rattle.cl_calls.specs.declared.needs.Named.TheVariants.{Nothing, NullOrOpen, Persistent, Open, SendPart}
+use Rattle.cl_calls.specs.declared.needs.Named.TheVariants.{ReceivePart}
 use Rattle.cl_calls.specs.declared.needs.Needs.{Needs}
 use Rattle.cl_calls.specs.declared.needs.Region.{Region}
 use Rattle.cl_calls.specs.declared.needs.Peer.{Peer}
@@ -95,7 +100,12 @@ needs_of_claimed status m =
     record nothing { buffer = writes m.buffer m.capacity; statuses = one_status status }
 
 abbrev pub needs_of_probing : Probing → Needs
-needs_of_probing p = record nothing { comm = Some p.comm; peer = Some (source p.source); tag = tag_or_any p.tag; statuses = one_status p.status }
+needs_of_probing p = record nothing {
+  comm = Some p.comm;
+  peer = Some (source p.source);
+  tag = tag_or_any p.tag;
+  statuses = one_status p.status;
+}
 
 abbrev pub needs_of_completing : Completing → Needs
 needs_of_completing c = record nothing { request = NullOrOpen c.handle; statuses = one_status c.status }

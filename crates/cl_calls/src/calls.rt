@@ -1,7 +1,8 @@
 //! The calls of a guest, as its registers spell them.
 
 ghost use Rattle.std.specs.Prelude.{◌≡◌, ◌<◌};
-ghost use Rattle.cl_calls.specs.Calls.{argument as argument_of, call_of, claimed_by, completing_by, partitioning_by, probing_by, receiving_by, sending_by, several_by};
+ghost use Rattle.cl_calls.specs.Calls.{argument as argument_of, call_of, claimed_by, completing_by, partitioning_by};
+ghost use Rattle.cl_calls.specs.Calls.{probing_by, receiving_by, sending_by, several_by};
 
 use rv_decode::Reg;
 use rv_hart::Hart;
@@ -68,8 +69,8 @@ pub struct Several {
     pub statuses: u64,
 }
 
-/// The arguments of a call that begins one side of a partitioned transfer: where its partitions stand, how many there are,
-/// the bytes of each, and the other side.
+/// The arguments of a call that begins one side of a partitioned transfer: where its partitions stand, how many there
+/// are, the bytes of each, and the other side.
 #[derive(Clone, Copy, PartialEq, Eq, Drop, Debug)]
 pub struct Partitioning {
     pub buffer: u64,

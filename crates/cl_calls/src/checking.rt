@@ -3,8 +3,10 @@
 ghost use Rattle.std.specs.Prelude.{◌≡◌, ◌≤◌, IfSome, IsNone, IsTrue, not};
 ghost use Rattle.mp_request.specs.Entries.{is_active as active, is_persistent as persistent};
 ghost use Rattle.mp_request.specs.Table.{has, request_at};
-ghost use Rattle.cl_calls.specs.Checks.{are_named as are_named_of, are_statuses as are_statuses_of, checks, first_fault};
-ghost use Rattle.cl_calls.specs.Checks.{has_parts as has_parts_of, has_region as has_region_of, has_room as has_room_of};
+ghost use Rattle.cl_calls.specs.Checks.{are_named as are_named_of, are_statuses as are_statuses_of, checks};
+ghost use Rattle.cl_calls.specs.Checks.{first_fault};
+ghost use Rattle.cl_calls.specs.Checks.{has_parts as has_parts_of, has_region as has_region_of};
+ghost use Rattle.cl_calls.specs.Checks.{has_room as has_room_of};
 ghost use Rattle.cl_calls.specs.Checks.{has_size as has_size_of, has_slot as has_slot_of, is_array as is_array_of};
 ghost use Rattle.cl_calls.specs.Checks.{is_buffer as is_buffer_of, is_comm, is_count, is_few, is_going as is_going_of};
 ghost use Rattle.cl_calls.specs.Checks.{is_idle as is_idle_of, is_named as is_named_of, is_part as is_part_of, is_peer};

@@ -1,7 +1,8 @@
 //! What each call needs to be right.
 
 ghost use Rattle.std.specs.Prelude.{◌≡◌};
-ghost use Rattle.cl_calls.specs.Needs.{destination as destination_of, needs_of, needs_of_claimed, needs_of_completing, needs_of_partitioning};
+ghost use Rattle.cl_calls.specs.Needs.{destination as destination_of, needs_of, needs_of_claimed};
+ghost use Rattle.cl_calls.specs.Needs.{needs_of_completing, needs_of_partitioning};
 ghost use Rattle.cl_calls.specs.Needs.{needs_of_probing, needs_of_receiving, needs_of_sending, needs_of_several};
 ghost use Rattle.cl_calls.specs.Needs.{one_status, one_tag, opening as opening_of, other_side as other_side_of, reads};
 ghost use Rattle.cl_calls.specs.Needs.{region_read, region_written, source as source_of, tag_or_any, writes};

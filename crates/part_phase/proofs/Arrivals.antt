@@ -46,9 +46,12 @@ some_size n x a low = ⊎_elim
     (cases_lt 0 x)
 
 -- Where the cut leaves the total, a byte of a partition lies in the box of its number over the boxes' size
-module _ (part size parts boxes bytes byte : ℕ) (total : boxes * bytes ≡ parts * size) (known : part < parts) (high : byte < (part + 1) * size) where
+module _ (part size parts boxes bytes byte : ℕ) (total : boxes * bytes ≡ parts * size) (known : part < parts)
+    (high : byte < (part + 1) * size) where
   inside : byte < boxes * bytes
-  inside = let whole : (part + 1) * size ≤ parts * size = mul-le (part + 1) size parts size (omega arith) (omega arith) in omega arith
+  inside =
+      let whole : (part + 1) * size ≤ parts * size = mul-le (part + 1) size parts size (omega arith) (omega arith) in
+      omega arith
 
   some_bytes : 0 < bytes
   some_bytes = some_size boxes bytes byte inside
@@ -86,7 +89,8 @@ arrived p part knows on known none byte within =
     let no_box : lowest_from wanted 0 p.boxes ≡ None =
     sym (ap (λ (b : Bool). if b then lowest_from wanted 0 p.boxes else None) on) ∙ none in
     let fails = none_pass wanted 0 p.boxes no_box box (omega arith) (omega (arith, there)) in
-    (box, ((lies, stops), taken_there p part box fails (omega (arith, lies, within.1)) (omega (arith, stops, within.0))))
+    let taken = taken_there p part box fails (omega (arith, lies, within.1)) (omega (arith, stops, within.0)) in
+    (box, ((lies, stops), taken))
 
 -- a byte that is in a box and in a partition that overlap
 shared : (p : RecvPhase) (part box : ℕ) → box * p.bytes < (part + 1) * p.size → part * p.size < (box + 1) * p.bytes →
@@ -112,15 +116,20 @@ awaited p part box is = go p.active refl
     wanted : ℕ → Bool
     wanted n = is_left p.taken n && overlaps p part n
 
-    go : (b : Bool) → p.active ≡ b → (box < p.boxes) × (get_or p.taken box false ≡ false) × ((byte : ℕ) × (IsInBox p box byte × IsInPart p part byte))
+    go : (b : Bool) → p.active ≡ b → (box < p.boxes) × (get_or p.taken box false ≡ false) ×
+        ((byte : ℕ) × (IsInBox p box byte × IsInPart p part byte))
     go true on =
-        let lowest : lowest_from wanted 0 p.boxes ≡ Some box = sym (ap (λ (b : Bool). if b then lowest_from wanted 0 p.boxes else None) on) ∙ is in
+        let lowest : lowest_from wanted 0 p.boxes ≡ Some box =
+        sym (ap (λ (b : Bool). if b then lowest_from wanted 0 p.boxes else None) on) ∙ is in
         let there = found wanted 0 p.boxes box lowest in
         let parts = both_true (is_left p.taken box) (overlaps p part box) there.0 in
-        let both = both_true (nat_lt (box * p.bytes) ((part + 1) * p.size)) (nat_lt (part * p.size) ((box + 1) * p.bytes)) parts.1 in (
+        let begins_before = nat_lt (box * p.bytes) ((part + 1) * p.size) in
+        let both = both_true begins_before (nat_lt (part * p.size) ((box + 1) * p.bytes)) parts.1 in (
           omega (arith, there.1),
           unmarked_back (get_or p.taken box false) parts.0,
-          shared p part box (less_is (box * p.bytes) ((part + 1) * p.size) both.0) (less_is (part * p.size) ((box + 1) * p.bytes) both.1),
+          shared p part box
+              (less_is (box * p.bytes) ((part + 1) * p.size) both.0)
+              (less_is (part * p.size) ((box + 1) * p.bytes) both.1),
         )
     go false on =
         absurd (none_some box (sym (ap (λ (b : Bool). if b then lowest_from wanted 0 p.boxes else None) on) ∙ is))
@@ -133,8 +142,9 @@ same_number a b e = grind arith
 
 pub cut : CutLaw
 cut version p boxes bytes is =
-    let known = both_true (are_parts boxes && is_size version bytes && (boxes * bytes == p.parts * p.size)) (p.boxes == 0) is in
-    let total = both_true (are_parts boxes && is_size version bytes) (boxes * bytes == p.parts * p.size) known.0 in
+    let same_total = boxes * bytes == p.parts * p.size in
+    let known = both_true (are_parts boxes && is_size version bytes && same_total) (p.boxes == 0) is in
+    let total = both_true (are_parts boxes && is_size version bytes) same_total known.0 in
     let limits = both_true (are_parts boxes) (is_size version bytes) total.0 in
     let few = both_true (nat_le 1 boxes) (nat_le boxes 16) limits.0 in
     (at_least_one boxes few.0, same_number (boxes * bytes) (p.parts * p.size) total.1)

@@ -21,7 +21,8 @@ set_is phases now link change new old put made from =
 
 -- to put in what a change makes of a side is that change
 pub sending_changed : (phases : List Phase) (link : ℕ) (change : SendPhase → SendPhase) →
-    changed_at link (on_sending (λ _. change (sending_at phases link))) phases ≡ changed_at link (on_sending change) phases
+    changed_at link (on_sending (λ _. change (sending_at phases link))) phases ≡
+    changed_at link (on_sending change) phases
 sending_changed [] link change = refl
 sending_changed (Apart ∷ ps) zero change = refl
 sending_changed (Sending p ∷ ps) zero change = refl
@@ -42,10 +43,12 @@ pub sending_is : (phases now : List Phase) (link : ℕ) (change : SendPhase → 
     now ≡ changed_at link (on_sending (λ _. new)) phases → new ≡ change old → old ≡ sending_at phases link →
     now ≡ changed_at link (on_sending change) phases
 sending_is phases now link change new old put made from =
-    put ∙ (ap (λ p. changed_at link (on_sending (λ _. p)) phases) (made ∙ ap change from) ∙ sending_changed phases link change)
+    put ∙ (ap (λ p. changed_at link (on_sending (λ _. p)) phases) (made ∙ ap change from) ∙
+    sending_changed phases link change)
 
 pub receiving_is : (phases now : List Phase) (link : ℕ) (change : RecvPhase → RecvPhase) (new old : RecvPhase) →
     now ≡ changed_at link (on_receiving (λ _. new)) phases → new ≡ change old → old ≡ receiving_at phases link →
     now ≡ changed_at link (on_receiving change) phases
 receiving_is phases now link change new old put made from =
-    put ∙ (ap (λ p. changed_at link (on_receiving (λ _. p)) phases) (made ∙ ap change from) ∙ receiving_changed phases link change)
+    put ∙ (ap (λ p. changed_at link (on_receiving (λ _. p)) phases) (made ∙ ap change from) ∙
+    receiving_changed phases link change)

@@ -32,13 +32,15 @@ begun_send p ended some =
     let new : SendPhase = record p { ready = none_marked; freed = 0 } in
     let is : begun_sending p ≡ new = ap (λ (b : Bool). if b then new else p) ended in
     let going : all_freed new ≡ false = not_le p.parts 0 some in
-    (ap next_to_free is ∙ ap (λ (b : Bool). if b then None else Some 0) going, λ part. ap (λ q. is_ready q part) is ∙ unmarked part)
+    let next = ap next_to_free is ∙ ap (λ (b : Bool). if b then None else Some 0) going in
+    (next, λ part. ap (λ q. is_ready q part) is ∙ unmarked part)
 
 pub begun_receive : BegunReceivingLaw
 begun_receive p idle some =
     let new : RecvPhase = record p { active = true; taken = none_marked } in
     let is : begun_receiving p ≡ new = ap (λ (b : Bool). if b then p else new) idle in
-    (ap next_box is ∙ first_passes (is_left none_marked) p.boxes some refl, λ box. ap (λ (q : RecvPhase). get_or q.taken box false) is ∙ unmarked box)
+    let next = ap next_box is ∙ first_passes (is_left none_marked) p.boxes some refl in
+    (next, λ box. ap (λ (q : RecvPhase). get_or q.taken box false) is ∙ unmarked box)
 
 pub last_freed : LastFreedLaw
 last_freed p last =
@@ -49,11 +51,14 @@ last_freed p last =
     )
 
 pub last_taken : LastTakenLaw
-last_taken p box low others = (ends, ap (λ (b : Bool). if b then lowest_from (is_left (one_taken box p).taken) 0 p.boxes else None) ends)
+last_taken p box low others =
+    let lowest = lowest_from (is_left (one_taken box p).taken) 0 p.boxes in
+    (ends, ap (λ (b : Bool). if b then lowest else None) ends)
   where
     fails : (other : ℕ) → other < p.boxes → is_left (set p.taken box true) other ≡ false
     fails other there = ap not (⊎_elim
-        (λ (same : other ≡ box). ap (λ n. get_or (set p.taken box true) n false) same ∙ get_or-set_same p.taken box true false low)
+        (λ (same : other ≡ box).
+        ap (λ n. get_or (set p.taken box true) n false) same ∙ get_or-set_same p.taken box true false low)
         (λ (apart : other ≢ box). get_or-set_other p.taken box other true false apart ∙ others other there apart)
         (cases_eq other box))
 
@@ -62,8 +67,11 @@ last_taken p box low others = (ends, ap (λ (b : Bool). if b then lowest_from (i
 
 pub one_more : OneTakenLaw
 one_more p box other low there apart left =
-    let stays : is_left (set p.taken box true) other ≡ true = ap not (get_or-set_other p.taken box other true false apart ∙ left) in
-    let goes : are_left (set p.taken box true) p.boxes ≡ true = some_of (is_left (set p.taken box true)) p.boxes other there stays in (
+    let stays : is_left (set p.taken box true) other ≡ true =
+    ap not (get_or-set_other p.taken box other true false apart ∙ left) in
+    let goes : are_left (set p.taken box true) p.boxes ≡ true =
+    some_of (is_left (set p.taken box true)) p.boxes other there stays in (
       goes,
-      ap (λ (b : Bool). get_or (if b then set p.taken box true else none_marked) box false) goes ∙ get_or-set_same p.taken box true false low,
+      ap (λ (b : Bool). get_or (if b then set p.taken box true else none_marked) box false) goes ∙
+          get_or-set_same p.taken box true false low,
     )

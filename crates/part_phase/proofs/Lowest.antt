@@ -5,18 +5,22 @@ use Rattle.std.specs.Prelude.{is_some, if◌then◌else◌}
 use Rattle.std.proofs.lemmas.Bool.{cases_eq}
 use Rattle.part_phase.specs.Receiving.{lowest_from}
 
+-- a number is tried, and then the rest
+abbrev tried : ℕ → Option ℕ → Bool → Option ℕ
+tried first rest passes = if passes then Some first else rest
+
 -- a number that doesn't pass is passed over
 pub skips : (passes : ℕ → Bool) (i n : ℕ) → i < n → passes i ≡ false →
     lowest_from passes i (n - i) ≡ lowest_from passes (i + 1) (n - (i + 1))
 skips passes i n low fails =
     let e : n - i ≡ suc (n - (i + 1)) = omega arith in
-    ap (lowest_from passes i) e ∙ ap (λ (b : Bool). if b then Some i else lowest_from passes (i + 1) (n - (i + 1))) fails
+    ap (lowest_from passes i) e ∙ ap (tried i (lowest_from passes (i + 1) (n - (i + 1)))) fails
 
 -- a number that passes is the lowest from itself on
 pub stops : (passes : ℕ → Bool) (i n : ℕ) → i < n → passes i ≡ true → lowest_from passes i (n - i) ≡ Some i
 stops passes i n low holds =
     let e : n - i ≡ suc (n - (i + 1)) = omega arith in
-    ap (lowest_from passes i) e ∙ ap (λ (b : Bool). if b then Some i else lowest_from passes (i + 1) (n - (i + 1))) holds
+    ap (lowest_from passes i) e ∙ ap (tried i (lowest_from passes (i + 1) (n - (i + 1)))) holds
 
 -- past the end there is none
 pub none_left : (passes : ℕ → Bool) (i n : ℕ) → n ≤ i → lowest_from passes i (n - i) ≡ None
@@ -34,27 +38,30 @@ none_pass passes first (suc n) e j low high =
     some_none : (x : ℕ) → Some x ≡ None → ⊥
     some_none x e = cc
 
-    go : (lowest_from passes (first + 1) n ≡ None → j ≢ first → passes j ≡ false) → (b : Bool) → passes first ≡ b → passes j ≡ false
+    go : (lowest_from passes (first + 1) n ≡ None → j ≢ first → passes j ≡ false) → (b : Bool) →
+        passes first ≡ b → passes j ≡ false
     go rec false is = ⊎_elim
         (λ (same : j ≡ first). ap passes same ∙ is)
-        (λ (ne : j ≡ first → ⊥). rec (sym (ap (λ (b : Bool). if b then Some first else lowest_from passes (first + 1) n) is) ∙ e) ne)
+        (λ (ne : j ≡ first → ⊥). rec (sym (ap (tried first (lowest_from passes (first + 1) n)) is) ∙ e) ne)
         (cases_eq j first)
-    go rec true is = absurd (some_none first (sym (ap (λ (b : Bool). if b then Some first else lowest_from passes (first + 1) n) is) ∙ e))
+    go rec true is = absurd (some_none first (sym (ap (tried first (lowest_from passes (first + 1) n)) is) ∙ e))
 
 -- the lowest is one of them, and passes
 pub found : (passes : ℕ → Bool) (first n x : ℕ) → lowest_from passes first n ≡ Some x →
     (passes x ≡ true) × (x < first + n)
 found passes first zero x e = absurd (cc)
-found passes first (suc n) x e = go (λ (rest : lowest_from passes (first + 1) n ≡ Some x). found passes (first + 1) n x rest) (passes first) refl
+found passes first (suc n) x e =
+    go (λ (rest : lowest_from passes (first + 1) n ≡ Some x). found passes (first + 1) n x rest) (passes first) refl
   where
-    go : (lowest_from passes (first + 1) n ≡ Some x → (passes x ≡ true) × (x < first + 1 + n)) → (b : Bool) → passes first ≡ b →
+    go : (lowest_from passes (first + 1) n ≡ Some x → (passes x ≡ true) × (x < first + 1 + n)) →
+        (b : Bool) → passes first ≡ b →
         (passes x ≡ true) × (x < first + suc n)
     go rec true is =
-        let here : Some first ≡ Some x = sym (ap (λ (b : Bool). if b then Some first else lowest_from passes (first + 1) n) is) ∙ e in
+        let here : Some first ≡ Some x = sym (ap (tried first (lowest_from passes (first + 1) n)) is) ∙ e in
         let same : first ≡ x = cc in
         (ap passes (sym same) ∙ is, omega (arith, same))
     go rec false is =
-        let rest = rec (sym (ap (λ (b : Bool). if b then Some first else lowest_from passes (first + 1) n) is) ∙ e) in
+        let rest = rec (sym (ap (tried first (lowest_from passes (first + 1) n)) is) ∙ e) in
         (rest.0, omega (arith, rest.1))
 
 -- where each fails, none passes
@@ -62,7 +69,7 @@ pub none_of : (passes : ℕ → Bool) (first n : ℕ) → ((j : ℕ) → first �
     lowest_from passes first n ≡ None
 none_of passes first zero fails = refl
 none_of passes first (suc n) fails =
-    ap (λ (b : Bool). if b then Some first else lowest_from passes (first + 1) n) (fails first (omega arith) (omega arith)) ∙
+    ap (tried first (lowest_from passes (first + 1) n)) (fails first (omega arith) (omega arith)) ∙
     none_of passes (first + 1) n (λ j low high. fails j (omega (arith, low)) (omega (arith, high)))
 
 -- where one passes, there is a lowest
@@ -79,4 +86,4 @@ some_of passes n j low holds = go (lowest_from passes 0 n) refl
 -- where the first passes, it is the lowest
 pub first_passes : (passes : ℕ → Bool) (n : ℕ) → 0 < n → passes 0 ≡ true → lowest_from passes 0 n ≡ Some 0
 first_passes passes zero some holds = absurd (omega (arith, some))
-first_passes passes (suc n) some holds = ap (λ (b : Bool). if b then Some 0 else lowest_from passes (0 + 1) n) holds
+first_passes passes (suc n) some holds = ap (tried 0 (lowest_from passes (0 + 1) n)) holds

@@ -1,5 +1,6 @@
 -- Zeros behind bytes.
-use Rattle.std.proofs.Common.{◌≡◌, ℕ, zero, suc, ◌-◌, ◌≤◌, List, [], ◌∷◌, ◌++◌, length, take, drop, replicate, refl, sym, ap, ◌∙◌, arith}
+use Rattle.std.proofs.Common.{◌≡◌, ℕ, zero, suc, ◌-◌, ◌≤◌, List, [], ◌∷◌, ◌++◌, length, take, drop, replicate, refl}
+use Rattle.std.proofs.Common.{sym, ap, ◌∙◌, arith}
 use Rattle.std.proofs.lemmas.List.{drop-replicate}
 
 -- so many of them
@@ -24,7 +25,8 @@ take_padded (b ∷ bs) (suc n) (suc m) low most =
     let all : suc m - suc (length bs) ≡ m - length bs = omega arith in
     let fewer : suc n - suc (length bs) ≡ n - length bs = omega arith in
     ap (λ k. b ∷ take n (bs ++ zeros k)) all ∙
-    (ap (λ l. b ∷ l) (take_padded bs n m (omega (arith, low)) (omega (arith, most))) ∙ ap (λ k. b ∷ bs ++ zeros k) (sym fewer))
+    (ap (λ l. b ∷ l) (take_padded bs n m (omega (arith, low)) (omega (arith, most))) ∙
+    ap (λ k. b ∷ bs ++ zeros k) (sym fewer))
 
 -- and to drop zeros is to have put fewer
 pub drop_zeros : (n m : ℕ) → drop n (zeros m) ≡ zeros (m - n)

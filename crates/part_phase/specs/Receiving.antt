@@ -1,6 +1,7 @@
--- The receiver's side of a link (MPI 4.1, chapter 4.2): its shape, the sender's cut of the same total, whether a phase is
--- going on, and which boxes were taken in it. Box i has the bytes of the sender's partition i.
-use Rattle.std.specs.Prelude.{ℕ, zero, suc, ◌+◌, ◌*◌, ◌≤◌, ◌==◌, nat_lt, ◌&&◌, not, List, set, get_or, Bool, true, false}
+-- The receiver's side of a link (MPI 4.1, chapter 4.2): its shape, the sender's cut of the same total, whether a phase
+-- is going on, and which boxes were taken in it. Box i has the bytes of the sender's partition i.
+use Rattle.std.specs.Prelude.{ℕ, zero, suc, ◌+◌, ◌*◌, ◌≤◌, ◌==◌, nat_lt, ◌&&◌, not, List, set, get_or, Bool, true}
+use Rattle.std.specs.Prelude.{false}
 use Rattle.std.specs.Prelude.{Option, Some, None, is_some, if◌then◌else◌}
 use Rattle.rv_image.specs.declared.images.ImageVersion.{ImageVersion}
 use Rattle.part_phase.specs.declared.receiving.RecvPhase.{RecvPhase}
@@ -47,8 +48,8 @@ is_left taken box = not (get_or taken box false)
 abbrev pub next_box : RecvPhase → Option ℕ
 next_box p = if p.active then lowest_from (is_left p.taken) 0 p.boxes else None
 
--- box i has bytes i * bytes up to (i + 1) * bytes of the whole, partition n has n * size up to (n + 1) * size: some byte is
--- in both
+-- box i has bytes i * bytes up to (i + 1) * bytes of the whole, partition n has n * size up to (n + 1) * size: some
+-- byte is in both
 abbrev pub overlaps : RecvPhase → ℕ → ℕ → Bool
 overlaps p part box = nat_lt (box * p.bytes) ((part + 1) * p.size) && nat_lt (part * p.size) ((box + 1) * p.bytes)
 

@@ -4,7 +4,8 @@ use Rattle.rv_image.specs.declared.images.ImageVersion.TheVariants.{One, Two}
 use Rattle.part_phase.specs.declared.receiving.RecvPhase.{RecvPhase}
 use Rattle.part_phase.specs.declared.sending.SendPhase.{SendPhase}
 use Rattle.part_phase.specs.Limits.{are_parts, is_size, padded}
-use Rattle.part_phase.specs.Receiving.{shaped_receiving, unshaped_receiving, is_cut, cut_into, begun_receiving, next_box}
+use Rattle.part_phase.specs.Receiving.{shaped_receiving, unshaped_receiving, is_cut, cut_into, begun_receiving}
+use Rattle.part_phase.specs.Receiving.{next_box}
 use Rattle.part_phase.specs.Receiving.{next_box_of, one_taken}
 use Rattle.part_phase.specs.Sending.{shaped_sending, unshaped_sending, begun_sending, readied, is_ready, next_to_free}
 use Rattle.part_phase.specs.Sending.{one_freed}

@@ -1,6 +1,7 @@
 -- The sender's side of a link (MPI 4.1, chapter 4.2): its shape, which partitions are ready in this phase, and how many
 -- of them, from the lowest on, were freed: their takes are known.
-use Rattle.std.specs.Prelude.{ℕ, ◌+◌, ◌≤◌, ◌==◌, nat_le, List, replicate, set, get_or, Bool, true, false, Option, Some, None}
+use Rattle.std.specs.Prelude.{ℕ, ◌+◌, ◌≤◌, ◌==◌, nat_le, List, replicate, set, get_or, Bool, true, false, Option}
+use Rattle.std.specs.Prelude.{Some, None}
 use Rattle.std.specs.Prelude.{if◌then◌else◌}
 use Rattle.part_phase.specs.declared.sending.SendPhase.{SendPhase}
 

@@ -7,8 +7,8 @@ use crate::limits::box_words;
 use rv_image::ImageVersion;
 use std::marker::Model;
 
-/// The bytes of a box, 0 behind those of its partition: 64 where it has 8 data words, 128 where it has 16. Takes no memory.
-/// Contracts see the list of them.
+/// The bytes of a box, 0 behind those of its partition: 64 where it has 8 data words, 128 where it has 16. They take no
+/// memory. Contracts see the list of them.
 #[derive(Drop, Debug)]
 pub struct Contents {
     bytes: [u8; 128],

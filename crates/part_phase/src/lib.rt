@@ -1,8 +1,8 @@
-//! The phases of a rank's partitioned transfers (MPI 4.1, chapter 4), as plain data: for each link of the image the side
-//! that the rank has of it, with its shape and how far this phase is.
+//! The phases of a rank's partitioned transfers (MPI 4.1, chapter 4), as plain data: for each link of the image the
+//! side that the rank has of it, with its shape and how far this phase is.
 //!
-//! The meaning stands in specs/: limits, what a side's phase is and what each call makes of it, all of a rank's, laws of
-//! them, and worked values.
+//! The meaning stands in specs/: limits, what a side's phase is and what each call makes of it, all of a rank's, laws
+//! of them, and worked values.
 #![tactic(auto)]
 
 mod contents;

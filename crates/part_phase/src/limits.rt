@@ -22,8 +22,8 @@ pub fn are_parts(parts: u64) -> bool
     1 <= parts && parts <= 16
 }
 
-/// Whether a partition may have so many bytes: whole 8s, and no more than a box has, which are 64 in version 1 and 128 in
-/// version 2.
+/// Whether a partition may have so many bytes: whole 8s, and no more than a box has, which are 64 in version 1 and 128
+/// in version 2.
 pub fn is_size(version: ImageVersion, size: u64) -> bool
     ensures { result ≡ is_size_of version size }
 {

@@ -1,7 +1,9 @@
 //! All of a rank's phases.
 
 ghost use Rattle.std.specs.Prelude.{◌≡◌, ◌≤◌, length, slice_get, set, get_or, IfOk, IsTrue, not};
-ghost use Rattle.part_phase.specs.Phases.{IsPhase, begun, changed_at, first_phase, first_phases, is_unshaped_receiving, is_unshaped_sending, on_receiving, on_sending, receiving_at, sending_at};
+ghost use Rattle.part_phase.specs.Phases.{IsPhase, begun, changed_at, first_phase, first_phases};
+ghost use Rattle.part_phase.specs.Phases.{is_unshaped_receiving, is_unshaped_sending, on_receiving, on_sending};
+ghost use Rattle.part_phase.specs.Phases.{receiving_at, sending_at};
 ghost use Rattle.part_phase.specs.Receiving.{IsRecvPhase, cut_into, one_taken, shaped_receiving};
 ghost use Rattle.part_phase.specs.Sending.{IsSendPhase, all_freed, one_freed, readied, shaped_sending};
 

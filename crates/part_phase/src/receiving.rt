@@ -1,7 +1,9 @@
 //! The receiver's side of a link.
 
 ghost use Rattle.std.specs.Prelude.{◌≡◌, ◌&&◌};
-ghost use Rattle.part_phase.specs.Receiving.{begun_receiving, cut_into as cut_into_of, is_cut as is_cut_of, is_left, lowest_from, next_box, next_box_of, one_taken as one_taken_of, overlaps as overlaps_in, shaped_receiving, unshaped_receiving};
+ghost use Rattle.part_phase.specs.Receiving.{begun_receiving, cut_into as cut_into_of, is_cut as is_cut_of, is_left};
+ghost use Rattle.part_phase.specs.Receiving.{lowest_from, next_box, next_box_of, one_taken as one_taken_of};
+ghost use Rattle.part_phase.specs.Receiving.{overlaps as overlaps_in, shaped_receiving, unshaped_receiving};
 
 use crate::limits::{are_parts, is_size};
 use crate::marks::{is_marked, with_mark};

@@ -6,4 +6,6 @@ use Rattle.part_phase.proofs.Lowest.{skips}
 use Rattle.part_phase.proofs.receiving.lowest.Goals as goal
 
 pub loop-i-preserved : goal.loop-i-preserved
-loop-i-preserved c = c.loop-i.invariant ∙ skips (is_left c.args.taken.now) c.loop-i.i c.args.boxes c.loop-i-test.true (ap not (sym c.is_marked.ensures ∙ c.if-not-is_marked.false))
+loop-i-preserved c =
+    let taken = ap not (sym c.is_marked.ensures ∙ c.if-not-is_marked.false) in
+    c.loop-i.invariant ∙ skips (is_left c.args.taken.now) c.loop-i.i c.args.boxes c.loop-i-test.true taken

@@ -4,4 +4,6 @@ use Rattle.part_phase.proofs.Changes.{sending_is}
 use Rattle.part_phase.proofs.phases.Phases.shape_sending.Goals as goal
 
 pub returns : goal.returns
-returns c = sending_is _ _ _ (shaped_sending c.args.parts c.args.size) _ _ c.put_sending.ensures c.shaped.ensures c.sending.ensures.phase
+returns c =
+    sending_is _ _ _ (shaped_sending c.args.parts c.args.size) _ _
+    c.put_sending.ensures c.shaped.ensures c.sending.ensures.phase
