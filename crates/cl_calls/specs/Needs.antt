@@ -1,5 +1,5 @@
 -- What each call needs to be right.
-use Rattle.std.specs.Prelude.{ℕ, Some, None, Bool, true, false}
+use Rattle.std.specs.Prelude.{ℕ, Some, None, true, false}
 use Rattle.cl_calls.specs.declared.calls.Call.{Call}
 use Rattle.cl_calls.specs.declared.calls.Call.TheVariants.{Exit, Put, Rank, Size, Hart, Send, Ssend, Recv, Isend}
 use Rattle.cl_calls.specs.declared.calls.Call.TheVariants.{Issend, Irecv, Test, Wait, Iprobe, Probe, Improbe, Mprobe}

@@ -11,7 +11,7 @@ found : (r : ℕ) (xs : List ℕ) (i : ℕ) → i < length xs →
     ((k : ℕ) → k < i → (get_or xs k 0 == r) ≡ false) → get_or xs i 0 ≡ r → Some i ≡ place_of r xs
 found r xs i h before here =
     let e : position_or_len (λ x. x == r) xs ≡ i =
-      position_or_len_is (λ x. x == r) xs i 0 (omega (arith, h)) before (λ _. same r (get_or xs i 0) here) in
+    position_or_len_is (λ x. x == r) xs i 0 (omega (arith, h)) before (λ _. same r (get_or xs i 0) here) in
     let t : nat_lt i (length xs) ≡ true = search (rules, h) in
     rw (e, t) (λ k. Some i)
 
@@ -22,8 +22,8 @@ none : (r : ℕ) (xs : List ℕ) (i : ℕ) → i ≡ length xs →
     ((k : ℕ) → k < i → (get_or xs k 0 == r) ≡ false) → None ≡ place_of r xs
 none r xs i h before =
     let e : position_or_len (λ x. x == r) xs ≡ i =
-      position_or_len_is (λ x. x == r) xs i 0 (omega (arith, h)) before
-      (λ l. absurd (impossible i (length xs) h l)) in
+    position_or_len_is (λ x. x == r) xs i 0 (omega (arith, h)) before
+    (λ l. absurd (impossible i (length xs) h l)) in
     let t : nat_lt i (length xs) ≡ false = search (rules, h) in
     rw (e, t) (λ k. None)
 
