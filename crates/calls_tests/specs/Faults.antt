@@ -16,7 +16,7 @@ use Rattle.cl_state_laws.specs.SeveralRows.{code_of_several, several}
 
 -- with no requests, where the output has so many bytes
 abbrev pub code_with_output : ℕ → Call → Option Code
-code_with_output written call = first_fault (checks first_of_two small_memory no_requests written (needs_of call))
+code_with_output written call = first_fault (checks first_of_two small_memory no_requests [] written (needs_of call))
 
 abbrev pub claimed : ℕ → ℕ → Claimed
 claimed buffer capacity = record { buffer = buffer; capacity = capacity; message = 5 }
@@ -88,7 +88,7 @@ SeveralStatuses =
 
 -- where no handle is free only what opens a request is refused
 abbrev pub code_where_full : Call → Option Code
-code_where_full call = first_fault (checks first_of_two small_memory full 0 (needs_of call))
+code_where_full call = first_fault (checks first_of_two small_memory full [] 0 (needs_of call))
 
 abbrev pub full_table : List (Call × Option Code)
 full_table =

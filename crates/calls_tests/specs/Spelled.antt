@@ -3,6 +3,7 @@ use Rattle.std.specs.Prelude.{◌≡◌, ℕ, [], ◌∷◌, map, replicate}
 use Rattle.cl_calls.specs.declared.calls.Call.{Call}
 use Rattle.cl_calls.specs.declared.calls.Claimed.{Claimed}
 use Rattle.cl_calls.specs.declared.calls.Completing.{Completing}
+use Rattle.cl_calls.specs.declared.calls.Partitioning.{Partitioning}
 use Rattle.cl_calls.specs.declared.calls.Probing.{Probing}
 use Rattle.cl_calls.specs.declared.calls.Receiving.{Receiving}
 use Rattle.cl_calls.specs.declared.calls.Sending.{Sending}
@@ -32,6 +33,9 @@ completing = record { handle = 1; status = 2 }
 abbrev pub several : Several
 several = record { array = 1; count = 2; statuses = 3 }
 
+abbrev pub partitioning : Partitioning
+partitioning = record { buffer = 1; parts = 2; size = 3; peer = 4; tag = 5; comm = 6 }
+
 -- 0 to 4: of the rank itself
 abbrev pub LocalCalls : Type 0
 LocalCalls =
@@ -59,6 +63,12 @@ RequestCalls =
     ∷ Call.RequestFree 1
     ∷ Call.Testall several ∷ Call.Waitall several ∷ []
 
+-- 40 to 43: of partitioned transfers
+abbrev pub PartitionedCalls : Type 0
+PartitionedCalls =
+    map spelled (40 ∷ 41 ∷ 42 ∷ 43 ∷ [])
+    ≡ Call.PsendInit partitioning ∷ Call.PrecvInit partitioning ∷ Call.Pready 1 2 ∷ Call.Parrived 1 2 ∷ []
+
 -- those between, and those above
 abbrev pub NoCalls : Type 0
-NoCalls = map spelled (5 ∷ 15 ∷ 36 ∷ 64 ∷ 272 ∷ []) ≡ replicate 5 Call.Unknown
+NoCalls = map spelled (5 ∷ 15 ∷ 36 ∷ 39 ∷ 44 ∷ 64 ∷ 272 ∷ []) ≡ replicate 7 Call.Unknown

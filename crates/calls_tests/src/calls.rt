@@ -2,15 +2,15 @@
 
 ghost use Rattle.std.specs.Prelude.{◌≡◌, ◌≤◌, ℕ, Some, true, false};
 ghost use Rattle.mp_types.specs.declared.codes.Code.TheVariants as code;
-ghost use Rattle.cl_calls.specs.declared.needs.Named.TheVariants.{NullOrOpen, Open, Persistent};
+ghost use Rattle.cl_calls.specs.declared.needs.Named.TheVariants.{NullOrOpen, Open, Persistent, ReceivePart, SendPart};
 ghost use Rattle.calls_tests.specs.Faults.{FullTableRows, KindRows, OrderRows, OutputRows, SeveralStatuses};
+ghost use Rattle.calls_tests.specs.Partitioned.{PartRows, ShapeRows, SideRows};
 ghost use Rattle.calls_tests.specs.Places.{CommRows, MemberRows, PeerRows};
-ghost use Rattle.calls_tests.specs.Spelled.{LocalCalls, NoCalls, ProbeCalls, RequestCalls, TransferCalls};
+ghost use Rattle.calls_tests.specs.Spelled.{LocalCalls, NoCalls, PartitionedCalls, ProbeCalls, RequestCalls};
+ghost use Rattle.calls_tests.specs.Spelled.{TransferCalls};
 
-use cl_calls::{Call, Completing, Needs, Site, fault};
-use mp_request::Requests;
+use cl_calls::{Call, Completing, Needs, Standing, fault};
 use mp_types::Code;
-use rv_memory::RankMemory;
 
 /// Numbers 0 to 4 spell EXIT, PUT, RANK, SIZE and HART.
 pub fn local_calls()
@@ -32,6 +32,11 @@ pub fn request_calls()
     ensures { RequestCalls }
 {}
 
+/// Numbers 40 to 43 spell PSEND_INIT, PRECV_INIT, PREADY and PARRIVED.
+pub fn partitioned_calls()
+    ensures { PartitionedCalls }
+{}
+
 /// Other numbers spell no call.
 pub fn no_calls()
     ensures { NoCalls }
@@ -47,7 +52,8 @@ pub fn communicators()
     ensures { CommRows }
 {}
 
-/// The null process may be sent to and received from; any rank may be received from and not sent to.
+/// The null process may be sent to and received from, any rank may be received from and not sent to, and neither is the
+/// other side of a partitioned transfer.
 pub fn peers()
     ensures { PeerRows }
 {}
@@ -77,37 +83,41 @@ pub fn full_table()
     ensures { FullTableRows }
 {}
 
+/// The shapes of partitioned transfers have their limits, in both versions of images.
+pub fn shapes()
+    ensures { ShapeRows }
+{}
+
+/// The checks of one side of a partitioned transfer go in their order.
+pub fn sides()
+    ensures { SideRows }
+{}
+
+/// A partition is one of its side's, and is made ready once in a phase.
+pub fn partitions()
+    ensures { PartRows }
+{}
+
 /// A number that is no call's is refused with code 5, whatever else is wrong.
-pub fn unknown_call(
-    site: &Site,
-    memory: &RankMemory,
-    requests: &Requests,
-    written: usize,
-    needs: &Needs,
-) -> Option<Code>
+pub fn unknown_call(standing: &Standing, needs: &Needs) -> Option<Code>
     requires few { needs.now.handles.count ≤ 255 → needs.now.statuses.count ≤ 255 }
     requires unknown { needs.now.known ≡ false }
     ensures { result ≡ Some code.BadCall }
 {
-    fault(site, memory, requests, written, needs)
+    fault(standing, needs)
 }
 
 /// 256 handles are too many, wherever their array lies.
-pub fn many_handles(
-    site: &Site,
-    memory: &RankMemory,
-    requests: &Requests,
-    written: usize,
-    needs: &Needs,
-) -> Option<Code>
+pub fn many_handles(standing: &Standing, needs: &Needs) -> Option<Code>
     requires known { needs.now.known ≡ true }
     requires many { needs.now.handles.count ≡ 256 }
     ensures { result ≡ Some code.BadCount }
 {
-    fault(site, memory, requests, written, needs)
+    fault(standing, needs)
 }
 
-/// TEST and WAIT take the null request and open ones, START persistent ones, and REQUEST_FREE open ones.
+/// TEST and WAIT take the null request and open ones, START persistent ones, REQUEST_FREE open ones, and PREADY and
+/// PARRIVED the two sides of partitioned transfers.
 pub fn named(call: &Call) -> Needs
     ensures test { (completing : Completing) → call.now ≡ Call.Test completing
         → result.request ≡ NullOrOpen completing.handle }
@@ -115,6 +125,9 @@ pub fn named(call: &Call) -> Needs
         → result.request ≡ NullOrOpen completing.handle }
     ensures start { (handle : ℕ) → call.now ≡ Call.Start handle → result.request ≡ Persistent handle }
     ensures free { (handle : ℕ) → call.now ≡ Call.RequestFree handle → result.request ≡ Open handle }
+    ensures ready { (handle part : ℕ) → call.now ≡ Call.Pready handle part → result.request ≡ SendPart handle part }
+    ensures arrived { (handle part : ℕ) → call.now ≡ Call.Parrived handle part
+        → result.request ≡ ReceivePart handle part }
 {
     call.needs()
 }
