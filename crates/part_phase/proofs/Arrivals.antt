@@ -6,10 +6,10 @@ use Rattle.std.proofs.lemmas.Bool.{cases_lt}
 use Rattle.std.proofs.lemmas.Nat.{mul-le, div_below, mod_below, div-add-mod'}
 use Rattle.std.proofs.Math.Nat.{suc-mul}
 use Rattle.part_phase.specs.declared.receiving.RecvPhase.{RecvPhase}
-use Rattle.part_phase.specs.Laws.{ArrivedLaw, AwaitedLaw, CutLaw, IsInBox, IsInPart, IsTaken}
+use Rattle.part_phase.specs.Laws.{ArrivedLaw, AwaitedLaw, CutLaw, NextBoxLaw, IsInBox, IsInPart, IsTaken}
 use Rattle.part_phase.specs.Limits.{are_parts, is_size}
 use Rattle.part_phase.specs.Receiving.{lowest_from, is_left, overlaps}
-use Rattle.part_phase.proofs.Lowest.{none_pass, found}
+use Rattle.part_phase.proofs.Lowest.{none_pass, found, found_lowest}
 
 is_less : (a b : ℕ) → a < b → nat_lt a b ≡ true
 is_less a b low = grind arith
@@ -109,6 +109,24 @@ shared p part box first second =
 
 none_some : (x : ℕ) → None ≡ Some x → ⊥
 none_some x e = cc
+
+pub next : NextBoxLaw
+next p box is = go p.active refl
+  where
+    go : (b : Bool) → p.active ≡ b → (box < p.boxes) × (get_or p.taken box false ≡ false) ×
+        ((lower : ℕ) → lower < box → IsTaken p lower)
+    go true on =
+        let lowest : lowest_from (is_left p.taken) 0 p.boxes ≡ Some box =
+        sym (ap (λ (b : Bool). if b then lowest_from (is_left p.taken) 0 p.boxes else None) on) ∙ is in
+        let there = found (is_left p.taken) 0 p.boxes box lowest in (
+          omega (arith, there.1),
+          unmarked_back (get_or p.taken box false) there.0,
+          λ lower low. marked_back (get_or p.taken lower false)
+              (found_lowest (is_left p.taken) 0 p.boxes box lowest lower (omega arith) low),
+        )
+    go false on =
+        let lowest = lowest_from (is_left p.taken) 0 p.boxes in
+        absurd (none_some box (sym (ap (λ (b : Bool). if b then lowest else None) on) ∙ is))
 
 pub awaited : AwaitedLaw
 awaited p part box is = go p.active refl

@@ -1,11 +1,12 @@
 -- How phases begin and end.
 use Rattle.std.proofs.Common.{◌≡◌, ◌≢◌, ℕ, zero, suc, ◌+◌, ◌<◌, ◌≤◌, ◌==◌, set, get_or, replicate, Bool, true, false}
-use Rattle.std.proofs.Common.{Some, None, refl, ap, ◌∙◌, ⊎_elim, arith, get_or-set_other, get_or-set_same}
+use Rattle.std.proofs.Common.{Some, None, refl, sym, ap, ◌∙◌, ⊎_elim, arith, get_or-set_other, get_or-set_same}
 use Rattle.std.specs.Prelude.{is_some, nat_le, not, if◌then◌else◌}
 use Rattle.std.proofs.lemmas.Bool.{cases_eq}
 use Rattle.part_phase.specs.declared.receiving.RecvPhase.{RecvPhase}
 use Rattle.part_phase.specs.declared.sending.SendPhase.{SendPhase}
-use Rattle.part_phase.specs.Laws.{BegunReceivingLaw, BegunSendingLaw, LastFreedLaw, LastTakenLaw, OneTakenLaw}
+use Rattle.part_phase.specs.Laws.{BegunReceivingLaw, BegunSendingLaw, LastFreedLaw, LastTakenLaw, NextToFreeLaw}
+use Rattle.part_phase.specs.Laws.{OneTakenLaw}
 use Rattle.part_phase.specs.Receiving.{lowest_from, is_left, are_left, one_taken, next_box, begun_receiving}
 use Rattle.part_phase.specs.Sending.{none_marked, all_freed, begun_sending, is_last, is_ready, next_to_free, one_freed}
 use Rattle.part_phase.proofs.Lowest.{none_of, some_of, first_passes}
@@ -24,6 +25,9 @@ not_le a b low = grind arith
 is_le : (a b : ℕ) → a ≤ b → nat_le a b ≡ true
 is_le a b low = grind arith
 
+le_not : (a b : ℕ) → nat_le a b ≡ false → b < a
+le_not a b e = grind arith
+
 same_is : (a b : ℕ) → a ≡ b → (a == b) ≡ true
 same_is a b e = grind arith
 
@@ -41,6 +45,19 @@ begun_receive p idle some =
     let is : begun_receiving p ≡ new = ap (λ (b : Bool). if b then p else new) idle in
     let next = ap next_box is ∙ first_passes (is_left none_marked) p.boxes some refl in
     (next, λ box. ap (λ (q : RecvPhase). get_or q.taken box false) is ∙ unmarked box)
+
+pub next_free : NextToFreeLaw
+next_free p part is = go (all_freed p) refl
+  where
+    none_some : None ≡ Some part → ⊥
+    none_some e = cc
+
+    go : (b : Bool) → all_freed p ≡ b → part < p.parts
+    go true ended = absurd (none_some (sym (ap (λ (b : Bool). if b then None else Some p.freed) ended) ∙ is))
+    go false going =
+        let here : Some p.freed ≡ Some part = sym (ap (λ (b : Bool). if b then None else Some p.freed) going) ∙ is in
+        let same : p.freed ≡ part = cc in
+        let less = le_not p.parts p.freed going in omega (arith, same, less)
 
 pub last_freed : LastFreedLaw
 last_freed p last =

@@ -64,6 +64,25 @@ found passes first (suc n) x e =
         let rest = rec (sym (ap (tried first (lowest_from passes (first + 1) n)) is) ∙ e) in
         (rest.0, omega (arith, rest.1))
 
+-- and all below it fail
+pub found_lowest : (passes : ℕ → Bool) (first n x : ℕ) → lowest_from passes first n ≡ Some x →
+    (j : ℕ) → first ≤ j → j < x → passes j ≡ false
+found_lowest passes first zero x e j low high = absurd (cc)
+found_lowest passes first (suc n) x e j low high =
+    let rec = λ (rest : lowest_from passes (first + 1) n ≡ Some x) (apart : j ≢ first).
+    found_lowest passes (first + 1) n x rest j (omega (arith, low, apart)) high in
+    go rec (passes first) refl
+  where
+    go : (lowest_from passes (first + 1) n ≡ Some x → j ≢ first → passes j ≡ false) → (b : Bool) →
+        passes first ≡ b → passes j ≡ false
+    go rec false is = ⊎_elim
+        (λ (same : j ≡ first). ap passes same ∙ is)
+        (λ (ne : j ≡ first → ⊥). rec (sym (ap (tried first (lowest_from passes (first + 1) n)) is) ∙ e) ne)
+        (cases_eq j first)
+    go rec true is =
+        let here : Some first ≡ Some x = sym (ap (tried first (lowest_from passes (first + 1) n)) is) ∙ e in
+        let same : first ≡ x = cc in absurd (omega (arith, low, high, same))
+
 -- where each fails, none passes
 pub none_of : (passes : ℕ → Bool) (first n : ℕ) → ((j : ℕ) → first ≤ j → j < first + n → passes j ≡ false) →
     lowest_from passes first n ≡ None

@@ -30,6 +30,11 @@ abbrev pub CutLaw : Type 0
 CutLaw = (version : ImageVersion) (p : RecvPhase) (boxes bytes : ℕ) → is_cut version p boxes bytes ≡ true →
     KnowsCut (cut_into boxes bytes p)
 
+-- the next box is the lowest of the sender's that isn't taken
+abbrev pub NextBoxLaw : Type 0
+NextBoxLaw = (p : RecvPhase) (box : ℕ) → next_box p ≡ Some box →
+    (box < p.boxes) × (get_or p.taken box false ≡ false) × ((lower : ℕ) → lower < box → IsTaken p lower)
+
 -- a partition that waits for no box in a phase has arrived (4.2.3)
 abbrev pub ArrivedLaw : Type 0
 ArrivedLaw = (p : RecvPhase) (part : ℕ) → KnowsCut p → p.active ≡ true → part < p.parts →
@@ -62,6 +67,10 @@ abbrev pub BegunReceivingLaw : Type 0
 BegunReceivingLaw = (p : RecvPhase) → p.active ≡ false → 0 < p.boxes →
     (next_box (begun_receiving p) ≡ Some 0) ×
     ((box : ℕ) → get_or (begun_receiving p).taken box false ≡ false)
+
+-- the next partition to be freed is one of the side's
+abbrev pub NextToFreeLaw : Type 0
+NextToFreeLaw = (p : SendPhase) (part : ℕ) → next_to_free p ≡ Some part → part < p.parts
 
 -- the last partition that is freed ends the phase
 abbrev pub LastFreedLaw : Type 0

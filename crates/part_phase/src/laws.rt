@@ -1,7 +1,7 @@
 //! What holds of phases, in the standard's words (MPI 4.1, chapter 4.2).
 
 ghost use Rattle.part_phase.specs.Laws.{ArrivedLaw, AwaitedLaw, BegunReceivingLaw, BegunSendingLaw, CutLaw};
-ghost use Rattle.part_phase.specs.Laws.{LastFreedLaw, LastTakenLaw, OneTakenLaw};
+ghost use Rattle.part_phase.specs.Laws.{LastFreedLaw, LastTakenLaw, NextBoxLaw, NextToFreeLaw, OneTakenLaw};
 
 /// A partition that waits for no box in a phase has arrived: each byte of it lies in a box that was taken. One that
 /// waits for a box hasn't.
@@ -11,8 +11,9 @@ pub fn arrival_law()
     ensures awaited { AwaitedLaw }
 {}
 
-/// The last box that is taken ends a phase, and no other does.
+/// The next box is the lowest that isn't taken. The last one that is taken ends a phase, and no other does.
 pub fn taking_law()
+    ensures next { NextBoxLaw }
     ensures last { LastTakenLaw }
     ensures one { OneTakenLaw }
 {}
@@ -25,5 +26,6 @@ pub fn beginning_law()
 
 /// The last partition that is freed ends a phase.
 pub fn freeing_law()
-    ensures { LastFreedLaw }
+    ensures next { NextToFreeLaw }
+    ensures last { LastFreedLaw }
 {}

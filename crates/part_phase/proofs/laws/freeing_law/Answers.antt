@@ -1,5 +1,8 @@
-use Rattle.part_phase.proofs.Ends.{last_freed}
+use Rattle.part_phase.proofs.Ends.{last_freed, next_free}
 use Rattle.part_phase.proofs.laws.freeing_law.Goals as goal
 
-pub returns : goal.returns
-returns c = last_freed
+pub returns-clause-next : goal.returns-clause-next
+returns-clause-next c = next_free
+
+pub returns-clause-last : goal.returns-clause-last
+returns-clause-last c = last_freed

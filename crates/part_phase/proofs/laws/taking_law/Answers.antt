@@ -1,5 +1,9 @@
+use Rattle.part_phase.proofs.Arrivals.{next}
 use Rattle.part_phase.proofs.Ends.{last_taken, one_more}
 use Rattle.part_phase.proofs.laws.taking_law.Goals as goal
+
+pub returns-clause-next : goal.returns-clause-next
+returns-clause-next c = next
 
 pub returns-clause-last : goal.returns-clause-last
 returns-clause-last c = last_taken
