@@ -11,5 +11,6 @@ pub mod Room
 pub mod Table
 pub mod Told
 pub mod Turn
+pub mod Moves
 pub mod Laws
 pub mod Rows

@@ -11,29 +11,38 @@ use Rattle.cl_calls.specs.declared.needs.Needs.{Needs}
 use Rattle.cl_calls.specs.declared.sites.Site.{Site}
 use Rattle.cl_calls.specs.Needs.{needs_of}
 use Rattle.cl_calls.specs.Checks.{is_named, is_comm, is_peer, is_tag, is_count, is_idle, is_few, is_array}
+use Rattle.cl_calls.specs.Checks.{has_parts, has_size, is_part, is_going, is_unready}
+use Rattle.part_phase.specs.declared.phases.Phase.{Phase}
 
 -- what the checks make sure of, and the code leans on: arguments
--- that name a member of a communicator, a tag and a length
+-- that name a member of a communicator, a tag, a length and a shape
 abbrev pub IsRight : Site → Needs → Type 0
 IsRight site needs =
     IsTrue (is_comm site needs.comm)
     × IsTrue (is_peer site needs.comm needs.peer)
     × IsTrue (is_tag needs.tag)
     × IsTrue (is_count needs.buffer)
+    × IsTrue (has_parts needs.region)
+    × IsTrue (has_size site.version needs.region)
 
--- and a request that is there and, where it is to be started or freed, isn't active
-abbrev pub IsThere : Table → Needs → Type 0
-IsThere table needs = IsTrue (is_named table needs.request) × IsTrue (is_idle table needs.request)
+-- and a request that is there and, where it is to be started or freed, isn't active; where a partition of it is to be
+-- made ready, a phase is going on, and the partition isn't ready
+pub record IsThere (table : Table) (phases : List Phase) (needs : Needs) : Type 0 where
+  pub named : IsTrue (is_named table needs.request)
+  pub idle : IsTrue (is_idle table needs.request)
+  pub part : IsTrue (is_part table phases needs.request)
+  pub going : IsTrue (is_going table phases needs.request)
+  pub unready : IsTrue (is_unready table phases needs.request)
 
 -- and an array of handles, not too long, that is in the memory
 abbrev pub HasHandles : Memory → Needs → Type 0
 HasHandles memory needs = IsTrue (is_few needs.handles) × IsTrue (is_array memory needs.handles)
 
 -- a call that goes on has passed the checks
-abbrev pub IsChecked : Site → Memory → Table → Doing → Type 0
-IsChecked site memory table (Go call) =
-    IsRight site (needs_of call) × IsThere table (needs_of call) × HasHandles memory (needs_of call)
-IsChecked site memory table _ = Unit {0}
+abbrev pub IsChecked : Site → Memory → Table → List Phase → Doing → Type 0
+IsChecked site memory table phases (Go call) =
+    IsRight site (needs_of call) × IsThere table phases (needs_of call) × HasHandles memory (needs_of call)
+IsChecked site memory table phases _ = Unit {0}
 
 -- an instruction is a running hart's
 abbrev pub IsRunning : Doing → State → Type 0

@@ -3,13 +3,14 @@ use Rattle.std.specs.Prelude.{ℕ, List, [], ◌∷◌, ◌++◌, replicate, tak
 use Rattle.rv_memory.specs.Memory.{Memory}
 use Rattle.rv_hart.specs.State.{State}
 use Rattle.rv_hart.specs.declared.state.Mode.TheVariants.{Running}
+use Rattle.rv_image.specs.declared.images.ImageVersion.TheVariants.{One}
 use Rattle.cl_calls.specs.declared.sites.Site.{Site}
 use Rattle.mp_request.specs.Table.{no_requests}
 use Rattle.cl_state.specs.Rank.{Rank}
 
--- rank 0 of 2, without links
+-- rank 0 of 2, without links, of an image of version 1
 abbrev pub first_of_two : Site
-first_of_two = record { number = 0; ranks = 2; comms = (0 ∷ 1 ∷ []) ∷ []; links = [] }
+first_of_two = record { number = 0; ranks = 2; comms = (0 ∷ 1 ∷ []) ∷ []; links = []; version = One }
 
 -- 8 bytes of text, the second word ECALL's, and 56 bytes of data that begin with "hi\n"
 abbrev pub small_memory : Memory

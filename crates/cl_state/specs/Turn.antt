@@ -1,5 +1,5 @@
 -- A hart's turn under way, and the part of its rank that it changes.
-use Rattle.std.specs.Prelude.{◌≡◌, ◌≤◌, ℕ, ◌+◌, List, length, vec_len, vec_capacity, IsTrue}
+use Rattle.std.specs.Prelude.{◌≡◌, ◌≤◌, ℕ, ◌+◌, List, length, vec_len, vec_capacity, IsTrue, not}
 use Rattle.rv_memory.specs.Memory.{bytes_at}
 use Rattle.rv_hart.specs.declared.state.Mode.TheVariants.{Running}
 use Rattle.mp_request.specs.Entries.{is_new}
@@ -10,16 +10,22 @@ use Rattle.cl_calls.specs.Handles.{handles_in}
 use Rattle.cl_calls.specs.Needs.{array_at}
 use Rattle.cl_state.specs.declared.asking.Doing.{Doing}
 use Rattle.cl_state.specs.declared.row.Outcome.{Outcome}
-use Rattle.cl_state.specs.declared.row.Outcome.TheVariants.{Steps, Puts, Opens, Starts, Frees, CompletesAll}
+use Rattle.cl_state.specs.declared.row.Outcome.TheVariants.{Steps, Puts, Opens, Starts, Frees, CompletesAll, BeginsPhase}
 use Rattle.cl_state.specs.declared.row.Purpose.TheVariants.{Start}
 use Rattle.cl_state.specs.declared.row.Row.{Row}
-use Rattle.cl_state.specs.declared.row.Row.TheVariants.{AtOnce, OnReply}
+use Rattle.cl_state.specs.declared.row.Row.TheVariants.{AtOnce, OnReply, OnBox}
+use Rattle.cl_state.specs.declared.row.Visit.{Visit}
+use Rattle.cl_state.specs.declared.row.Visit.TheVariants as visit
 use Rattle.cl_state.specs.declared.row.Wanted.{Wanted}
 use Rattle.cl_state.specs.declared.row.Wanted.TheVariants as wanted
 use Rattle.cl_state.specs.declared.telling.News.{News}
 use Rattle.cl_state.specs.declared.turn.Turn.{Turn}
 use Rattle.cl_state.specs.Asked.{Part}
-use Rattle.cl_state.specs.Right.{IsChecked, IsRunning, output_of}
+use Rattle.cl_state.specs.Right.{IsChecked, IsRight, IsRunning, output_of}
+use Rattle.part_phase.specs.Phases.{sending_at}
+use Rattle.part_phase.specs.Sending.{all_freed}
+use Rattle.cl_calls.specs.declared.calls.Call.TheVariants as call
+use Rattle.cl_calls.specs.Needs.{needs_of}
 use Rattle.cl_state.specs.Several.{pendings, posts_of}
 use Rattle.cl_state.specs.Table.{row_in}
 use Rattle.cl_state.specs.Told.{told_in}
@@ -49,7 +55,7 @@ pub record Becomes (old new : Turn) (then : Part) : Type 0 where
 -- what the checks and `room` made sure of, for what the turn does
 pub record IsReady (turn : Turn) (d : Doing) : Type 0 where
   pub running : IsRunning d turn.hart.now
-  pub checked : IsChecked turn.site.now turn.memory.now turn.requests.now d
+  pub checked : IsChecked turn.site.now turn.memory.now turn.requests.now turn.phases.now d
   pub fresh : turn.fresh.now ≡ output_of turn.memory.now d
   pub room : vec_len turn.out.now + length turn.fresh.now ≤ vec_capacity turn.out.now
 
@@ -58,7 +64,7 @@ abbrev pub told_by : News → Part → Part
 told_by news part = told_in news.site.now news.number news.doing.now news.answer.now part
 
 abbrev pub row_for : Turn → Doing → Row
-row_for turn d = row_in turn.site.now turn.number turn.memory.now turn.requests.now d
+row_for turn d = row_in turn.site.now turn.number turn.memory.now turn.requests.now turn.phases.now d
 
 -- an array of handles, not too long, that is in the memory
 abbrev pub HasArray : Turn → Several → Type 0
@@ -83,13 +89,23 @@ IsAble turn (Opens request) = IsTrue (is_new request.state)
 IsAble turn (Starts handle progress) = IsInactive turn.requests.now handle
 IsAble turn (Frees handle) = IsInactive turn.requests.now handle
 IsAble turn (CompletesAll value s) = HasArray turn s
+IsAble turn (BeginsPhase handle link) = IsInactive turn.requests.now handle
 IsAble turn _ = Unit {0}
 
+-- a side that is to be made has arguments that name a member and a tag, and a shape inside the limits
 abbrev pub IsWantable : Turn → Wanted → Type 0
 IsWantable turn (wanted.Post (Start handle) t) = IsInactive turn.requests.now handle
 IsWantable turn (wanted.All value s) = HasArray turn s
+IsWantable turn (wanted.SendingLink t) = IsRight turn.site.now (needs_of (call.PsendInit t))
+IsWantable turn (wanted.ReceivingLink t) = IsRight turn.site.now (needs_of (call.PrecvInit t))
 IsWantable turn _ = Unit {0}
+
+-- a partition that is to be freed is one of a phase that is going on
+abbrev pub IsVisitable : Turn → Visit → Type 0
+IsVisitable turn (visit.Frees m link target) = IsTrue (not (all_freed (sending_at turn.phases.now link)))
+IsVisitable turn _ = Unit {0}
 
 abbrev pub IsRow : Turn → Row → Type 0
 IsRow turn (AtOnce o) = IsAble turn o
 IsRow turn (OnReply m w) = IsWantable turn w
+IsRow turn (OnBox v) = IsVisitable turn v
