@@ -26,7 +26,7 @@ use Rattle.cl_state.specs.declared.row.Wanted.TheVariants as wanted
 use Rattle.cl_state.specs.Asked.{Part}
 use Rattle.cl_state.specs.Several.{are_fit, pendings}
 use Rattle.cl_state.specs.Table.{begun}
-use Rattle.cl_state.specs.Told.{arrived, arrived_from, completed_all, done, found, found_at, found_nothing, gathered, gathered_if, not_yet}
+use Rattle.cl_state.specs.Told.{arrived, arrived_from, completed_all, done, found, found_at, found_nothing, freed, gathered, gathered_if, not_yet}
 use Rattle.cl_state.specs.Told.{opened, opened_at, received, received_from, received_message, replied, told_row}
 
 pub kept_not_yet : (m : Manner) (part : Part) → (not_yet m part).phases ≡ part.phases
@@ -62,6 +62,10 @@ pub kept_all : (site : Site) (value statuses : ℕ) (handles : List ℕ) (gots :
     → (completed_all site value statuses handles gots part).phases ≡ part.phases
 unfolding completed_all
 kept_all site value statuses handles gots part = refl
+
+pub kept_freed : (handle : ℕ) (part : Part) → (freed handle part).phases ≡ part.phases
+unfolding freed
+kept_freed handle part = refl
 
 kept_if : (b : Bool) (site : Site) (value statuses : ℕ) (handles : List ℕ) (gots : List (Option Message)) (part : Part)
     → (gathered_if b site value statuses handles gots part).phases ≡ part.phases

@@ -1,6 +1,6 @@
 -- A call that goes on has passed its checks.
 use Rattle.std.proofs.Common.{◌≡◌, ℕ, refl, Bool, true, false, List, [], ◌∷◌, ◌++◌, length, Option, Some, None, IsTrue}
-use Rattle.std.specs.Prelude.{if◌then◌else◌, ◌×◌, ◌&&◌}
+use Rattle.std.specs.Prelude.{if◌then◌else◌, ◌&&◌}
 use Rattle.rv_memory.specs.Access.{word_at}
 use Rattle.rv_hart.specs.declared.state.Mode.{Mode}
 use Rattle.rv_hart.specs.declared.state.Mode.TheVariants.{Running, Waiting, Ended, Trapped}
@@ -42,7 +42,9 @@ passed_if_none site part None c held = held refl
 passed_if_none site part (Some code) c held = tt
 
 passed_checked : (site : Site) (part : Part) → HasPassed site part (checked site part)
-passed_checked site part = passed_if_none site part _ (call_of part.hart) (all_hold _)
+passed_checked site part =
+    let cs = checks site part.memory part.requests part.phases (length part.out) (needs_of (call_of part.hart)) in
+    passed_if_none site part (first_fault cs) (call_of part.hart) (all_hold cs)
 
 passed_if : (site : Site) (part : Part) (b : Bool) (d : Doing) → HasPassed site part d
     → HasPassed site part (if b then d else Step)

@@ -1,5 +1,5 @@
 -- What a turn does to the phases of its rank, by what was asked and answered: at most one link's phase changes.
-use Rattle.std.specs.Prelude.{◌≡◌, ◌<◌, ◌×◌, ℕ, if◌then◌else◌, List, length, slice_get, Option, Some, None, IsTrue, true, false, not}
+use Rattle.std.specs.Prelude.{◌≡◌, ◌<◌, ℕ, if◌then◌else◌, List, length, slice_get, Option, Some, None, IsTrue, true, false, not}
 use Rattle.rv_memory.specs.Memory.{Memory, bytes_at}
 use Rattle.mp_types.specs.declared.replies.Reply.TheVariants as reply
 use Rattle.mp_types.specs.declared.requests.Request.{Request}
@@ -154,11 +154,12 @@ Known site memory phases _ = Unit {0}
 
 -- ---- the laws
 
--- the phases after a turn are these, of at most one link
-pub record PhasesMove (rank : Rank) (hart : ℕ) (a : Answer) (after : List Phase) : Type 0 where
-  pub moved : after ≡ moved rank.site (started_by rank hart) (asked rank hart) a rank.phases
-  pub known : Known rank.site rank.memory rank.phases (asked rank hart)
+-- the phases after a turn
+abbrev pub MovedLaw : Type 0
+MovedLaw =
+    (rank : Rank) (hart : ℕ) (a : Answer) (stamp : ℕ)
+    → (told rank hart a stamp).phases ≡ moved rank.site (started_by rank hart) (asked rank hart) a rank.phases
 
-abbrev pub PhasesLaw : Type 0
-PhasesLaw =
-    (rank : Rank) (hart : ℕ) (a : Answer) (stamp : ℕ) → PhasesMove rank hart a (told rank hart a stamp).phases
+-- and what its question knows
+abbrev pub KnownLaw : Type 0
+KnownLaw = (rank : Rank) (hart : ℕ) → Known rank.site rank.memory rank.phases (asked rank hart)
