@@ -2,8 +2,8 @@
 use Rattle.std.proofs.Common.{◌≡◌, ◌<◌, ◌≤◌, ◌+◌, ℕ, zero, suc, refl, ap, sym, ◌∙◌, Bool, true, false, List, [], ◌∷◌, ◌++◌, length}
 use Rattle.std.proofs.Common.{length-append, Option, Some, None, IsTrue, arith}
 use Rattle.std.proofs.lemmas.Bool.{ltb-true}
-use Rattle.std.proofs.lemmas.List.{length-replicate, length-take-le}
-use Rattle.std.specs.Prelude.{◌==◌, ◌*◌, ◌&&◌, if◌then◌else◌, not, is_some, nat_lt, replicate}
+use Rattle.std.proofs.lemmas.List.{length-replicate, length-take}
+use Rattle.std.specs.Prelude.{◌==◌, ◌*◌, ◌&&◌, if◌then◌else◌, not, is_some, nat_lt, replicate, take, ◌-◌}
 use Rattle.rv_memory.specs.Memory.{Memory, bytes_at}
 use Rattle.mp_types.specs.declared.requests.Request.{Request}
 use Rattle.mp_types.specs.declared.requests.Request.TheVariants as request
@@ -17,7 +17,7 @@ use Rattle.mp_request.specs.Table.{Table, request_at}
 use Rattle.part_phase.specs.declared.phases.Phase.{Phase}
 use Rattle.part_phase.specs.declared.receiving.RecvPhase.{RecvPhase}
 use Rattle.part_phase.specs.declared.sending.SendPhase.{SendPhase}
-use Rattle.part_phase.specs.Limits.{are_parts, box_bytes, is_size, padded}
+use Rattle.part_phase.specs.Limits.{are_parts, box_bytes, is_size}
 use Rattle.part_phase.specs.Phases.{receiving_at, sending_at}
 use Rattle.part_phase.specs.Receiving.{is_left, lowest_from, next_box, next_box_of, overlaps}
 use Rattle.part_phase.specs.Sending.{all_freed, is_ready, next_to_free}
@@ -43,7 +43,7 @@ use Rattle.cl_state.specs.declared.pending.Pending.{Pending}
 use Rattle.cl_state.specs.declared.pending.Pending.TheVariants as pending
 use Rattle.cl_state.specs.Asked.{Part, asked, asked_by, asked_completing, asked_in, asked_poll, asked_start, doing, part_of}
 use Rattle.cl_state.specs.Moves.{AsksReady, Known, KnownLaw}
-use Rattle.cl_state.specs.Partitions.{asked_arrived, asked_awaited, asked_ready, awaited, awaited_at, awaited_by, awaited_in, taking_of}
+use Rattle.cl_state.specs.Partitions.{asked_arrived, asked_awaited, asked_ready, awaited, awaited_at, awaited_by, awaited_in, boxed, taking_of}
 use Rattle.cl_state.specs.Pending.{asked_pending, pending_in, pending_of}
 use Rattle.cl_state.specs.Several.{asked_all, pendings, posts_of}
 use Rattle.cl_state.specs.Transfers.{asked_transfer, receive_of, send_of}
@@ -144,11 +144,12 @@ known_completing site memory phases m (Some r) = known_at site memory phases m r
 
 -- ---- partitions
 
-padded_width : (version : ImageVersion) (bytes : List ℕ) → length (padded version bytes) ≡ box_bytes version
-padded_width version bytes =
-    let zeros : List ℕ = replicate (box_bytes version) 0 in
-    length-take-le (box_bytes version) (bytes ++ zeros)
-    (omega (arith, length-append bytes zeros, length-replicate {A = ℕ} (box_bytes version) 0))
+boxed_width : (version : ImageVersion) (bytes : List ℕ) → length (boxed version bytes) ≡ box_bytes version
+boxed_width version bytes =
+    let kept : List ℕ = take (box_bytes version) bytes in
+    let zeros : List ℕ = replicate (box_bytes version - length kept) 0 in
+    omega (arith, length-take (box_bytes version) bytes, length-append kept zeros,
+    length-replicate {A = ℕ} (box_bytes version - length kept) 0)
 
 not_true : (b : Bool) → IsTrue (not b) → b ≡ false
 not_true true is = absurd (cc)
@@ -167,7 +168,7 @@ known_ready site memory phases part (Some side) there going unready = record {
   address = side.buffer + part * side.size;
   size = side.size;
   copied = refl;
-  width = padded_width site.version (bytes_at memory (side.buffer + part * side.size) side.size);
+  width = boxed_width site.version (bytes_at memory (side.buffer + part * side.size) side.size);
 }
 
 known_arrived : (site : Site) (memory : Memory) (phases : List Phase) (part : ℕ) (o : Option Partitions)

@@ -1,5 +1,10 @@
 pub mod Idle
+pub mod Kept
+pub mod Known
+pub mod Moved
 pub mod Moves
+pub mod Passed
+pub mod Phases
 pub mod Posts
 pub mod Ready
 pub mod Starts

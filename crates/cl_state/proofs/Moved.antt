@@ -3,7 +3,6 @@ use Rattle.std.proofs.lemmas.Bool.{eqb-true}
 use Rattle.std.proofs.Common.{◌≡◌, ℕ, refl, ap, sym, subst, Bool, true, false, List, [], ◌∷◌, Option, Some, None, IsTrue}
 use Rattle.std.specs.Prelude.{◌==◌, ◌+◌, ◌*◌, if◌then◌else◌, is_some, not, slice_get}
 use Rattle.rv_memory.specs.Memory.{Memory, bytes_at}
-use Rattle.part_phase.specs.Limits.{padded}
 use Rattle.mp_types.specs.declared.replies.Reply.{Reply}
 use Rattle.mp_types.specs.declared.replies.Reply.TheVariants as reply
 use Rattle.mp_types.specs.declared.requests.Request.{Request}
@@ -50,7 +49,7 @@ use Rattle.cl_state.specs.declared.row.Wanted.TheVariants as wanted
 use Rattle.cl_state.specs.Asked.{Part, asked_completing, asked_start}
 use Rattle.cl_state.specs.Moves.{link_of, link_of_request, moved, moved_by_hub}
 use Rattle.cl_state.specs.Partitions.{asked_awaited, asked_arrived, asked_ready, awaited, awaited_at, awaited_by, awaited_in}
-use Rattle.cl_state.specs.Partitions.{awaited_of_part, box_of, taking_of}
+use Rattle.cl_state.specs.Partitions.{awaited_of_part, box_of, boxed, taking_of}
 use Rattle.cl_state.specs.Pending.{asked_pending, pending_in, pending_of}
 use Rattle.cl_state.specs.Several.{asked_all}
 use Rattle.cl_state.specs.Table.{begins, completes, completing, gathers, row_arrived, row_awaited, row_completing, row_of_part}
@@ -360,7 +359,7 @@ pub moves_ready : (site : Site) (part : Part) (ready : ℕ) (o : Option Partitio
 moves_ready site part ready None a = refl
 moves_ready site part ready (Some side) a =
     moves_readies site part side.link ready
-    (padded site.version (bytes_at part.memory (side.buffer + ready * side.size) side.size)) a
+    (boxed site.version (bytes_at part.memory (side.buffer + ready * side.size) side.size)) a
 
 pub moves_arrived : (site : Site) (part : Part) (asked : ℕ) (o : Option Partitions)
     → MovesSo site part None (row_arrived part.phases asked o) (asked_arrived part.phases asked o)

@@ -11,7 +11,7 @@ use Rattle.mp_request.specs.Table.{Table, request_at}
 use Rattle.part_phase.specs.declared.phases.Phase.{Phase}
 use Rattle.part_phase.specs.declared.receiving.RecvPhase.{RecvPhase}
 use Rattle.part_phase.specs.declared.sending.SendPhase.{SendPhase}
-use Rattle.part_phase.specs.Limits.{are_parts, box_bytes, is_size, padded}
+use Rattle.part_phase.specs.Limits.{are_parts, box_bytes, is_size}
 use Rattle.part_phase.specs.Phases.{begun, changed_at, is_unshaped_receiving, is_unshaped_sending, on_receiving, on_sending, receiving_at, sending_at}
 use Rattle.part_phase.specs.Receiving.{cut_into, is_cut, is_left, one_taken, shaped_receiving}
 use Rattle.part_phase.specs.Sending.{all_freed, is_ready, next_to_free, one_freed, readied, shaped_sending}
@@ -24,6 +24,7 @@ use Rattle.cl_state.specs.declared.asking.Ask.TheVariants as ask
 use Rattle.cl_state.specs.declared.asking.Doing.{Doing}
 use Rattle.cl_state.specs.declared.asking.Doing.TheVariants.{Go}
 use Rattle.cl_state.specs.Asked.{asked, doing, part_of}
+use Rattle.cl_state.specs.Partitions.{boxed}
 use Rattle.cl_state.specs.Rank.{Rank}
 use Rattle.cl_state.specs.Told.{told}
 
@@ -114,7 +115,7 @@ pub record AsksReady (site : Site) (memory : Memory) (p : SendPhase) (part : ℕ
   pub unready : is_ready p part ≡ false
   pub address : ℕ
   pub size : ℕ
-  pub copied : bytes ≡ padded site.version (bytes_at memory address size)
+  pub copied : bytes ≡ boxed site.version (bytes_at memory address size)
   pub width : length bytes ≡ box_bytes site.version
 
 -- the lowest partition that isn't freed, and it is ready

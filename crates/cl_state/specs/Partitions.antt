@@ -1,5 +1,5 @@
 -- Partitioned requests (MPI 4.1, chapter 4): what each awaits, what it asks, and what completes it.
-use Rattle.std.specs.Prelude.{ℕ, ◌+◌, ◌*◌, ◌==◌, if◌then◌else◌, List, Option, Some, None, not, true, false}
+use Rattle.std.specs.Prelude.{ℕ, ◌+◌, ◌*◌, ◌==◌, if◌then◌else◌, List, Option, Some, None, not, take, true, false}
 use Rattle.rv_memory.specs.Memory.{Memory, bytes_at}
 use Rattle.mp_types.specs.declared.requests.Request.TheVariants as request
 use Rattle.mp_request.specs.declared.entries.OpenRequest.{OpenRequest}
@@ -11,7 +11,8 @@ use Rattle.mp_request.specs.declared.entries.Transfer.TheVariants.{SendPartition
 use Rattle.part_phase.specs.declared.phases.Phase.{Phase}
 use Rattle.part_phase.specs.declared.receiving.RecvPhase.{RecvPhase}
 use Rattle.part_phase.specs.declared.sending.SendPhase.{SendPhase}
-use Rattle.part_phase.specs.Limits.{padded}
+use Rattle.rv_image.specs.declared.images.ImageVersion.{ImageVersion}
+use Rattle.part_phase.specs.Limits.{box_bytes, padded}
 use Rattle.part_phase.specs.Phases.{sending_at, receiving_at}
 use Rattle.part_phase.specs.Receiving.{next_box, next_box_of}
 use Rattle.part_phase.specs.Sending.{is_ready, next_to_free}
@@ -82,11 +83,15 @@ asked_awaited m (Taking link part) = ask.Freed link part
 asked_awaited m (Cut link) = ask.Hub (request.Cut link)
 asked_awaited m (Box link box) = ask.Look link box
 
--- partition n stands n times the size behind the buffer (4.2.2); in its box 0 stands behind it
+-- bytes as they stand in a box: no more than it has, and 0 behind them
+abbrev pub boxed : ImageVersion → List ℕ → List ℕ
+boxed version bytes = padded version (take (box_bytes version) bytes)
+
+-- partition n stands n times the size behind the buffer (4.2.2)
 abbrev pub asked_ready : Site → Memory → ℕ → Option Partitions → Ask
 asked_ready site memory part None = ask.Local
 asked_ready site memory part (Some side) =
-    ask.Ready side.link part (padded site.version (bytes_at memory (side.buffer + part * side.size) side.size))
+    ask.Ready side.link part (boxed site.version (bytes_at memory (side.buffer + part * side.size) side.size))
 
 -- 4.2.3
 abbrev pub asked_arrived : List Phase → ℕ → Option Partitions → Ask

@@ -1,5 +1,5 @@
 -- The limits of a shape, by the image's version.
-use Rattle.std.specs.Prelude.{ℕ, ◌*◌, ◌%◌, ◌==◌, ◌&&◌, nat_le, Bool, List, ◌++◌, replicate, take}
+use Rattle.std.specs.Prelude.{ℕ, ◌*◌, ◌-◌, ◌%◌, ◌==◌, ◌&&◌, nat_le, Bool, List, ◌++◌, length, replicate}
 use Rattle.rv_image.specs.declared.images.ImageVersion.{ImageVersion}
 use Rattle.rv_image.specs.declared.images.ImageVersion.TheVariants.{One, Two}
 
@@ -20,6 +20,6 @@ are_parts parts = nat_le 1 parts && nat_le parts 16
 abbrev pub is_size : ImageVersion → ℕ → Bool
 is_size version size = nat_le 8 size && nat_le size (box_bytes version) && (size % 8 == 0)
 
--- the bytes as they stand in a box: 0 behind them up to its width, and no more than that
+-- the bytes as they stand in a box: 0 behind them up to its width
 abbrev pub padded : ImageVersion → List ℕ → List ℕ
-padded version bytes = take (box_bytes version) (bytes ++ replicate (box_bytes version) 0)
+padded version bytes = bytes ++ replicate (box_bytes version - length bytes) 0
