@@ -38,8 +38,8 @@ pub struct Standing<'a> {
     pub written: usize,
 }
 
-// The sender's side of a partitioned transfer that a request has.
-fn sending_side(requests: &Requests, handle: u64) -> Option<Partitions>
+/// The sender's side of a partitioned transfer that the request of a handle has.
+pub fn sending_side(requests: &Requests, handle: u64) -> Option<Partitions>
     ensures { result ≡ sending_side_of (request_at requests.now handle) }
 {
     match requests.get(handle)?.transfer {
@@ -48,8 +48,8 @@ fn sending_side(requests: &Requests, handle: u64) -> Option<Partitions>
     }
 }
 
-// And the receiver's.
-fn receiving_side(requests: &Requests, handle: u64) -> Option<Partitions>
+/// The receiver's side of a partitioned transfer that the request of a handle has.
+pub fn receiving_side(requests: &Requests, handle: u64) -> Option<Partitions>
     ensures { result ≡ receiving_side_of (request_at requests.now handle) }
 {
     match requests.get(handle)?.transfer {

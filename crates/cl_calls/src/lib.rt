@@ -14,7 +14,7 @@ pub use calls::{
     ANY, Call, Claimed, Completing, NO_MESSAGE, NO_RANK, Partitioning, Probing, Receiving, Sending,
     Several,
 };
-pub use checking::{Standing, fault};
+pub use checking::{Standing, fault, receiving_side, sending_side};
 pub use handles::{Handles, handles_at};
 pub use needs::{Array, Named, Needs, Peer, Range, Region, Statuses, Tag};
 pub use sites::{Communicators, Site, place};

@@ -225,6 +225,18 @@ impl RankMemory {
         !writing || self.text <= address
     }
 
+    /// As many of the `count` bytes from an address on as are in the memory. Takes no memory.
+    pub fn bytes(&self, address: u64, count: u64) -> &[u8]
+        ensures { result.now ≡ bytes_at self.now address count }
+    {
+        if address >= self.size() {
+            return &[];
+        }
+        let at = address as usize;
+        let most = count.min(self.size() - address) as usize;
+        &self.bytes[at..at + most]
+    }
+
     /// A copy of `count` bytes from an address on. `Range` where one isn't in the memory, `Memory` where there is none for
     /// the copy. Zero bytes are right at any address, and take no memory.
     pub fn read_bytes(&self, alloc: Global, address: u64, count: u64) -> Result<Vec<u8>, BytesFault>
