@@ -1,3 +1,4 @@
+pub mod Checked
 pub mod Idle
 pub mod Kept
 pub mod Known
@@ -5,6 +6,7 @@ pub mod Moved
 pub mod Moves
 pub mod Passed
 pub mod Phases
+pub mod Places
 pub mod Posts
 pub mod Ready
 pub mod Starts

@@ -292,7 +292,7 @@ abbrev pub row_by : Manner → Completing → Option Awaited → Transfer → Pe
 row_by m c (Some a) t p = row_awaited m t (completing m c 0 0) a
 row_by m c None t p = completes m c p
 
-row_is : (m : Manner) (c : Completing) (o : Option Awaited) (r : OpenRequest)
+pub row_is : (m : Manner) (c : Completing) (o : Option Awaited) (r : OpenRequest)
     → row_by m c o r.transfer (pending_of (Some r)) ≡ row_completing m c o (Some r)
 row_is m c None r = refl
 row_is m c (Some a) r = refl

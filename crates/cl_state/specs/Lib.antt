@@ -7,6 +7,7 @@ pub mod Several
 pub mod Asked
 pub mod Deals
 pub mod Right
+pub mod Standing
 pub mod Room
 pub mod Table
 pub mod Told

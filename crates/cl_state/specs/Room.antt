@@ -1,5 +1,6 @@
 -- What contracts see of a running rank, and the room that a turn needs.
 use Rattle.std.specs.Prelude.{◌≡◌, ◌<◌, ◌≤◌, ℕ, ◌+◌, [], get_or, vec_len, vec_capacity}
+use Rattle.cl_calls.specs.declared.checking.Standing.{Standing}
 use Rattle.cl_state.specs.Asked.{doing, no_hart, part_of}
 use Rattle.cl_state.specs.Rank.{Rank}
 use Rattle.cl_state.specs.Right.{IsChecked, IsRunning, output_of}
@@ -30,3 +31,11 @@ pub record IsNext (s : RankState) (hart : ℕ) (d : Doing) : Type 0 where
   pub spelled : d ≡ doing s.site (part_of (rank_of s) hart)
   pub right : IsChecked s.site s.memory s.requests s.phases d
   pub running : IsRunning d (get_or s.harts.items hart no_hart)
+
+-- how the rank stands
+pub record IsStanding (s : RankState) (standing : Standing) : Type 0 where
+  pub site : standing.site.now ≡ s.site
+  pub memory : standing.memory.now ≡ s.memory
+  pub requests : standing.requests.now ≡ s.requests
+  pub phases : standing.phases.now ≡ s.phases
+  pub written : standing.written ≡ vec_len s.out

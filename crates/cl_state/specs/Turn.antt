@@ -1,6 +1,7 @@
 -- A hart's turn under way, and the part of its rank that it changes.
 use Rattle.std.specs.Prelude.{◌≡◌, ◌≤◌, ℕ, ◌+◌, List, length, vec_len, vec_capacity, IsTrue, not}
 use Rattle.rv_memory.specs.Memory.{bytes_at}
+use Rattle.rv_hart.specs.State.{State}
 use Rattle.rv_hart.specs.declared.state.Mode.TheVariants.{Running}
 use Rattle.mp_request.specs.Entries.{is_new}
 use Rattle.mp_request.specs.Table.{IsInactive}
@@ -18,6 +19,7 @@ use Rattle.cl_state.specs.declared.row.Visit.{Visit}
 use Rattle.cl_state.specs.declared.row.Visit.TheVariants as visit
 use Rattle.cl_state.specs.declared.row.Wanted.{Wanted}
 use Rattle.cl_state.specs.declared.row.Wanted.TheVariants as wanted
+use Rattle.cl_state.specs.declared.telling.Common.{Common}
 use Rattle.cl_state.specs.declared.telling.News.{News}
 use Rattle.cl_state.specs.declared.turn.Turn.{Turn}
 use Rattle.cl_state.specs.Asked.{Part}
@@ -52,12 +54,33 @@ pub record Becomes (old new : Turn) (then : Part) : Type 0 where
   pub phases : new.phases.ghost_name ≡ old.phases.ghost_name
   pub out : new.out.ghost_name ≡ old.out.ghost_name
 
+-- what the checks made sure of
+abbrev pub IsCheckedIn : Turn → Doing → Type 0
+IsCheckedIn turn d = IsChecked turn.site.now turn.memory.now turn.requests.now turn.phases.now d
+
 -- what the checks and `room` made sure of, for what the turn does
 pub record IsReady (turn : Turn) (d : Doing) : Type 0 where
   pub running : IsRunning d turn.hart.now
-  pub checked : IsChecked turn.site.now turn.memory.now turn.requests.now turn.phases.now d
+  pub checked : IsCheckedIn turn d
   pub fresh : turn.fresh.now ≡ output_of turn.memory.now d
   pub room : vec_len turn.out.now + length turn.fresh.now ≤ vec_capacity turn.out.now
+
+-- a hart, and what all harts of its rank have in common
+abbrev pub part_with : State → Common → Part
+part_with hart common = record {
+  hart = hart;
+  memory = common.memory.now;
+  requests = common.requests.now;
+  phases = common.phases.now;
+  out = common.out.now.items;
+}
+
+-- behind the same references
+pub record KeepsPlaces (old new : Common) : Type 0 where
+  pub memory : new.memory.ghost_name ≡ old.memory.ghost_name
+  pub requests : new.requests.ghost_name ≡ old.requests.ghost_name
+  pub phases : new.phases.ghost_name ≡ old.phases.ghost_name
+  pub out : new.out.ghost_name ≡ old.out.ghost_name
 
 -- what a hart's part of its rank becomes by the news
 abbrev pub told_by : News → Part → Part

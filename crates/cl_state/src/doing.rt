@@ -1,18 +1,23 @@
 //! What the next turn of a hart is, and what it asks.
 
-ghost use Rattle.std.specs.Prelude.{◌≡◌, ◌<◌, MatchResult, false};
+ghost use Rattle.std.specs.Prelude.{◌≡◌, ◌<◌, ℕ, List, length, MatchResult, false};
+ghost use Rattle.mp_request.specs.Table.{request_at};
 ghost use Rattle.cl_calls.specs.Needs.{needs_of_probing};
-ghost use Rattle.cl_state.specs.Asked.{asked_by, asked_claim, asked_in, asked_poll, asked_probe, asked_start, carried};
+ghost use Rattle.cl_state.specs.Asked.{asked_claim, asked_completing, asked_poll, asked_probe, asked_start, carried};
 ghost use Rattle.cl_state.specs.Asked.{checked as checked_of, doing as doing_of, is_ecall as is_ecall_of};
-ghost use Rattle.cl_state.specs.Right.{IsChecked, IsNoStep, IsRight, IsRunning};
+ghost use Rattle.cl_state.specs.Partitions.{awaited as awaited_of};
+ghost use Rattle.cl_state.specs.Pending.{pending_of};
+ghost use Rattle.cl_state.specs.Right.{IsNoStep, IsRight, IsRunning};
+ghost use Rattle.cl_state.specs.Standing.{IsCheckedOn, asked_on, part_on};
 ghost use Rattle.cl_state.specs.declared.asking.Doing.TheVariants.{Go};
 
 use crate::asking::{Ask, Doing};
-use crate::pending::Manner;
-use crate::several::{ask_several, pending};
+use crate::partitions::{Awaited, ask_arrived, ask_ready, ask_receiving, ask_sending};
+use crate::pending::{Manner, Pending};
+use crate::several::ask_several;
 use crate::transfers::{ask, ask_claimed, receive, send, source, sync_send, tag};
-use cl_calls::{Call, NO_RANK, Probing, Site, fault};
-use mp_request::{OpenRequest, Requests};
+use cl_calls::{Call, NO_RANK, Probing, Site, Standing, fault};
+use mp_request::OpenRequest;
 use mp_types::Request;
 use rv_hart::{Hart, Mode, Wait};
 use rv_memory::RankMemory;
@@ -30,46 +35,39 @@ pub(crate) fn is_ecall(word: Option<u32>) -> bool
 }
 
 /// The call that a hart's registers spell, if all its checks hold.
-fn checked(site: &Site, memory: &RankMemory, requests: &Requests, out: &[u8], hart: &Hart) -> Doing
-    ensures doing { result
-        ≡ checked_of site.now
-        (record { hart = hart.now; memory = memory.now; requests = requests.now; out = out.now }) }
-    ensures right { IsChecked site.now memory.now requests.now result }
+#[tactic(auto, using(crate::proofs::Checked::checked_on))]
+fn checked(standing: &Standing, hart: &Hart) -> Doing
+    ensures doing { (out : List ℕ) → length out ≡ standing.now.written
+        → result ≡ checked_of standing.now.site.now (part_on standing.now hart.now out) }
+    ensures right { IsCheckedOn standing.now result }
     ensures call { IsNoStep result }
 {
     let call = Call::of(hart);
-    match fault(site, memory, requests, out.len(), &call.needs()) {
+    match fault(standing, &call.needs()) {
         None => Doing::Go(call),
         Some(code) => Doing::Refused(code),
     }
 }
 
 impl Doing {
-    /// What the next turn of a hart is, of a rank with this memory, these requests and this output.
+    /// What the next turn of a hart is, of a rank that stands so, with as many bytes of output.
     #[tactic(auto, unfolding(crate::specs::Asked::doing))]
-    pub fn of(
-        site: &Site,
-        memory: &RankMemory,
-        requests: &Requests,
-        out: &[u8],
-        hart: &Hart,
-    ) -> Doing
-        ensures doing { result
-            ≡ doing_of site.now
-            (record { hart = hart.now; memory = memory.now; requests = requests.now; out = out.now }) }
-        ensures right { IsChecked site.now memory.now requests.now result }
+    pub fn of(standing: &Standing, hart: &Hart) -> Doing
+        ensures doing { (out : List ℕ) → length out ≡ standing.now.written
+            → result ≡ doing_of standing.now.site.now (part_on standing.now hart.now out) }
+        ensures right { IsCheckedOn standing.now result }
         ensures running { IsRunning result hart.now }
     {
         match hart.mode() {
             Mode::Running => {
-                if is_ecall(memory.text_word(hart.pc())) {
-                    checked(site, memory, requests, out, hart)
+                if is_ecall(standing.memory.text_word(hart.pc())) {
+                    checked(standing, hart)
                 } else {
                     Doing::Step
                 }
             }
             Mode::Waiting(Wait::Post(post)) => Doing::Poll(Call::of(hart), post),
-            Mode::Waiting(Wait::Again) => checked(site, memory, requests, out, hart),
+            Mode::Waiting(Wait::Again) => checked(standing, hart),
             Mode::Ended(_) => Doing::Stopped,
             Mode::Trapped(_, _) => Doing::Stopped,
         }
@@ -77,21 +75,15 @@ impl Doing {
 
     /// What such a turn asks. Only a copy of bytes to be sent, or a
     /// list of posts, takes memory: nothing else is refused.
-    pub fn ask(
-        &self,
-        alloc: Global,
-        site: &Site,
-        memory: &RankMemory,
-        requests: &Requests,
-    ) -> Result<Ask, AllocError>
-        requires { IsChecked site.now memory.now requests.now self.now }
-        ensures { MatchResult result (λ ask. ask ≡ asked_in site.now memory.now requests.now self.now)
-            (λ e. 0 < carried (asked_in site.now memory.now requests.now self.now)) }
+    pub fn ask(&self, alloc: Global, standing: &Standing) -> Result<Ask, AllocError>
+        requires { IsCheckedOn standing.now self.now }
+        ensures { MatchResult result (λ ask. ask ≡ asked_on standing.now self.now)
+            (λ e. 0 < carried (asked_on standing.now self.now)) }
     {
         match *self {
             Doing::Step => Ok(Ask::Plain),
             Doing::Refused(_) => Ok(Ask::Local),
-            Doing::Go(call) => ask_by(alloc, site, memory, requests, &call),
+            Doing::Go(call) => ask_by(alloc, standing, &call),
             Doing::Poll(call, post) => Ok(poll(&call, post)),
             Doing::Stopped => Ok(Ask::Idle),
         }
@@ -150,17 +142,26 @@ fn start(
     }
 }
 
-fn ask_by(
-    alloc: Global,
-    site: &Site,
-    memory: &RankMemory,
-    requests: &Requests,
-    call: &Call,
-) -> Result<Ask, AllocError>
-    requires { IsChecked site.now memory.now requests.now (Go call.now) }
-    ensures { MatchResult result (λ ask. ask ≡ asked_by site.now memory.now requests.now call.now)
-        (λ e. 0 < carried (asked_by site.now memory.now requests.now call.now)) }
+/// What TEST and WAIT ask: a partitioned request for what it awaits in its phase, any other for what it needs.
+fn ask_completing(standing: &Standing, manner: Manner, handle: u64) -> Ask
+    ensures { result
+        ≡ asked_completing manner
+        (awaited_of standing.now.phases.now (request_at standing.now.requests.now handle))
+        (pending_of (request_at standing.now.requests.now handle)) }
 {
+    let request = standing.requests.get(handle);
+    match Awaited::of(standing.phases, request) {
+        Some(awaited) => awaited.ask(manner),
+        None => Pending::of(request).ask(),
+    }
+}
+
+fn ask_by(alloc: Global, standing: &Standing, call: &Call) -> Result<Ask, AllocError>
+    requires { IsCheckedOn standing.now (Go call.now) }
+    ensures { MatchResult result (λ ask. ask ≡ asked_on standing.now (Go call.now))
+        (λ e. 0 < carried (asked_on standing.now (Go call.now))) }
+{
+    let (site, memory, requests) = (standing.site, standing.memory, standing.requests);
     match *call {
         Call::Send(sending) => ask(alloc, memory, Manner::Blocking, &send(site, &sending)),
         Call::Ssend(sending) => ask(alloc, memory, Manner::Blocking, &sync_send(site, &sending)),
@@ -176,14 +177,17 @@ fn ask_by(
         Call::Start { handle } => start(alloc, memory, requests.get(handle)),
         Call::Imrecv(claimed) => Ok(ask_claimed(Manner::Immediate, &claimed)),
         Call::Mrecv { claimed, .. } => Ok(ask_claimed(Manner::Blocking, &claimed)),
-        Call::Test(completing) | Call::Wait(completing) => {
-            Ok(pending(requests, completing.handle).ask())
-        }
+        Call::Test(call) => Ok(ask_completing(standing, Manner::Immediate, call.handle)),
+        Call::Wait(call) => Ok(ask_completing(standing, Manner::Blocking, call.handle)),
         Call::Testall(several) | Call::Waitall(several) => {
             ask_several(alloc, memory, requests, &several)
         }
         Call::Iprobe(probing) | Call::Probe(probing) => Ok(probe(site, &probing)),
         Call::Improbe(probing) | Call::Mprobe(probing) => Ok(claim(site, &probing)),
+        Call::PsendInit(partitioning) => Ok(ask_sending(site, &partitioning)),
+        Call::PrecvInit(partitioning) => Ok(ask_receiving(site, &partitioning)),
+        Call::Pready { handle, part } => Ok(ask_ready(standing, handle, part)),
+        Call::Parrived { handle, part } => Ok(ask_arrived(standing, handle, part)),
         Call::Exit { .. }
         | Call::Put { .. }
         | Call::Rank { .. }

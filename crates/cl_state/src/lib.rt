@@ -6,9 +6,11 @@
 mod asking;
 mod doing;
 mod loading;
+mod partitions;
 mod pending;
 mod row;
 mod several;
+mod sides;
 mod state;
 mod table;
 mod telling;
@@ -16,6 +18,7 @@ mod transfers;
 mod turn;
 
 pub use asking::{Answer, Ask, Doing};
+pub use partitions::Awaited;
 pub use pending::{Manner, Pending, Target};
-pub use row::{Outcome, Purpose, Row, Wanted};
-pub use state::RankState;
+pub use row::{Outcome, Purpose, Row, Visit, Wanted};
+pub use state::{RankParts, RankState};

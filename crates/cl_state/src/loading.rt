@@ -5,9 +5,10 @@ ghost use Rattle.rv_image.specs.Image.{IsImage};
 ghost use Rattle.rv_memory.specs.Memory.{loaded_memory};
 ghost use Rattle.cl_state.specs.Rank.{below, loaded, start_harts};
 
-use crate::state::RankState;
+use crate::state::{RankParts, RankState};
 use cl_calls::{Communicators, Site};
 use mp_request::Requests;
+use part_phase::Phases;
 use rv_hart::Hart;
 use rv_image::{Comms, Image, ImageParts, Links, Members};
 use rv_memory::RankMemory;
@@ -87,10 +88,19 @@ impl RankState {
             ranks: parts.ranks,
             comms: all_comms(alloc, parts.ranks, &parts.comms)?,
             links: copy_links(alloc, &parts.links)?,
+            version: parts.version,
         };
         let memory = memory(alloc, parts)?;
         let harts = all_harts(alloc, parts, rank)?;
         let requests = Requests::new(alloc)?;
-        Ok(RankState::new(alloc, site, memory, harts, requests))
+        let phases = Phases::of(alloc, &parts.links, rank)?;
+        let parts = RankParts {
+            site,
+            memory,
+            harts,
+            requests,
+            phases,
+        };
+        Ok(RankState::new(alloc, parts))
     }
 }

@@ -7,15 +7,26 @@ ghost use Rattle.cl_state.specs.Right.{growth_of};
 ghost use Rattle.cl_state.specs.Told.{told};
 
 use crate::asking::{Answer, Ask, Doing};
-use crate::telling::{News, tell_hart};
-use cl_calls::{Call, Site};
+use crate::telling::{Common, News, tell_hart};
+use cl_calls::{Call, Site, Standing};
 use mp_request::Requests;
 use mp_types::Stamp;
+use part_phase::Phases;
 use rv_hart::Hart;
 use rv_memory::RankMemory;
 use std::alloc::{AllocError, Global};
 
-/// A rank: its memory, its harts, its open requests, its output and its clock, beside what the image fixes.
+/// A rank's parts as they are loaded: what the image fixes, its memory, its harts, its requests and its phases.
+#[derive(Drop)]
+pub struct RankParts {
+    pub site: Site,
+    pub memory: RankMemory,
+    pub harts: Vec<Hart>,
+    pub requests: Requests,
+    pub phases: Phases,
+}
+
+/// A rank: its memory, its harts, its open requests, its phases, its output and its clock, beside what the image fixes.
 #[derive(Drop)]
 pub struct RankState {
     alloc: Global,
@@ -23,6 +34,8 @@ pub struct RankState {
     pub memory: RankMemory,
     pub harts: Vec<Hart>,
     pub requests: Requests,
+    /// One a link of the image.
+    pub phases: Phases,
     pub out: Vec<u8>,
     /// The bytes that the next turn puts behind the output, once `room` made them.
     pub fresh: Vec<u8>,
@@ -31,37 +44,52 @@ pub struct RankState {
 
 impl RankState {
     ghost use Rattle.std.specs.Prelude.{[]};
-    ghost use Rattle.cl_state.specs.Room.{HasRoom, IsNext, rank_of};
+    ghost use Rattle.cl_state.specs.Room.{HasRoom, IsNext, IsStanding, rank_of};
 
-    /// A rank with no output at clock 0.
-    pub fn new(
-        alloc: Global,
-        site: Site,
-        memory: RankMemory,
-        harts: Vec<Hart>,
-        requests: Requests,
-    ) -> RankState
+    /// A rank with these parts, with no output, at clock 0.
+    pub fn new(alloc: Global, parts: RankParts) -> RankState
         ensures rank { rank_of result
             ≡ record {
-              site = site;
-              memory = memory;
-              harts = harts.items;
-              requests = requests;
-              phases = [];
+              site = parts.site;
+              memory = parts.memory;
+              harts = parts.harts.items;
+              requests = parts.requests;
+              phases = parts.phases;
               out = [];
               clock = 0;
             } }
-        ensures harts { vec_len result.harts ≡ vec_len harts }
+        ensures harts { vec_len result.harts ≡ vec_len parts.harts }
     {
+        let RankParts {
+            site,
+            memory,
+            harts,
+            requests,
+            phases,
+        } = parts;
         RankState {
             alloc,
             site,
             memory,
             harts,
             requests,
+            phases,
             out: Vec::new(alloc),
             fresh: Vec::new(alloc),
             clock: 0,
+        }
+    }
+
+    /// How the rank stands when a turn is read.
+    fn standing(&self) -> Standing<'_>
+        ensures { IsStanding self.now result }
+    {
+        Standing {
+            site: &self.site,
+            memory: &self.memory,
+            requests: &self.requests,
+            phases: &self.phases,
+            written: self.out.len(),
         }
     }
 
@@ -70,13 +98,7 @@ impl RankState {
         requires { hart < vec_len self.now.harts }
         ensures { IsNext self.now hart result }
     {
-        Doing::of(
-            &self.site,
-            &self.memory,
-            &self.requests,
-            self.out.as_slice(),
-            &self.harts[hart as usize],
-        )
+        Doing::of(&self.standing(), &self.harts[hart as usize])
     }
 
     /// What the hart asks in its next turn. Only a copy of bytes to be sent, or a list of posts, takes memory: nothing
@@ -96,7 +118,7 @@ impl RankState {
         ensures { MatchResult result (λ ask. ask ≡ asked (rank_of self.now) hart)
             (λ e. 0 < carried (asked (rank_of self.now) hart)) }
     {
-        doing.ask(self.alloc, &self.site, &self.memory, &self.requests)
+        doing.ask(self.alloc, &self.standing())
     }
 
     /// A copy of bytes to be put behind the output. No bytes take no memory.
@@ -171,13 +193,13 @@ impl RankState {
             doing,
             answer,
         };
-        tell_hart(
-            &news,
-            &mut self.harts[hart as usize],
-            &mut self.memory,
-            &mut self.requests,
-            &mut self.out,
-        );
+        let mut common = Common {
+            memory: &mut self.memory,
+            requests: &mut self.requests,
+            phases: &mut self.phases,
+            out: &mut self.out,
+        };
+        tell_hart(&news, &mut self.harts[hart as usize], &mut common);
         self.clock = stamp;
     }
 }

@@ -1,27 +1,35 @@
 //! The table of calls: one row a call, with what it does at once, or the reply that it wants of the hub.
 
 ghost use Rattle.std.specs.Prelude.{◌≡◌};
+ghost use Rattle.mp_request.specs.Table.{request_at};
+ghost use Rattle.cl_calls.specs.Checks.{receiving_side as receiving_side_of, sending_side as sending_side_of};
+ghost use Rattle.cl_calls.specs.Needs.{needs_of};
+ghost use Rattle.cl_calls.specs.declared.calls.Call.TheVariants as call;
 ghost use Rattle.cl_state.specs.declared.asking.Doing.TheVariants.{Go};
-ghost use Rattle.cl_state.specs.Right.{IsChecked};
-ghost use Rattle.cl_state.specs.Table.{begins as begins_of, begun as begun_of, claims as claims_of, comes as comes_of};
-ghost use Rattle.cl_state.specs.Table.{completes as completes_of, completing, gathers as gathers_of, gives as gives_of};
-ghost use Rattle.cl_state.specs.Table.{into as into_of, makes as makes_of, nothing_comes as nothing_comes_of};
-ghost use Rattle.cl_state.specs.Table.{polled as polled_by, probes as probes_of, receives as receives_of};
-ghost use Rattle.cl_state.specs.Table.{receives_claimed as receives_claimed_of, row_of as row_by, sees as sees_of};
+ghost use Rattle.cl_state.specs.Partitions.{awaited as awaited_of};
+ghost use Rattle.cl_state.specs.Right.{IsThere};
+ghost use Rattle.cl_state.specs.Table.{begins as begins_of, begins_phase as begins_phase_of, begun as begun_of};
+ghost use Rattle.cl_state.specs.Table.{claims as claims_of, comes as comes_of, completes as completes_of, completing};
+ghost use Rattle.cl_state.specs.Table.{concludes as concludes_of, gathers as gathers_of, gives as gives_of};
+ghost use Rattle.cl_state.specs.Table.{holds as holds_of, into as into_of, makes as makes_of};
+ghost use Rattle.cl_state.specs.Table.{nothing_comes as nothing_comes_of, polled as polled_by, probes as probes_of};
+ghost use Rattle.cl_state.specs.Table.{receives as receives_of, receives_claimed as receives_claimed_of, row_arrived};
+ghost use Rattle.cl_state.specs.Table.{row_awaited, row_completing, row_of_part, row_ready, sees as sees_of};
 ghost use Rattle.cl_state.specs.Table.{starts as starts_of};
-ghost use Rattle.cl_state.specs.Turn.{HasArray, posts_wanted, row_for};
+ghost use Rattle.cl_state.specs.Turn.{HasArray, IsCheckedIn, posts_wanted, row_for};
 
 use crate::asking::Doing;
+use crate::partitions::Awaited;
 use crate::pending::{Manner, Pending, Target};
-use crate::row::{Outcome, Purpose, Row, Wanted};
-use crate::several::{array, needs_hub, pending};
+use crate::row::{Outcome, Purpose, Row, Visit, Wanted};
+use crate::several::{array, needs_hub};
 use crate::transfers::{receive, receive_claimed, send, sync_send};
 use crate::turn::Turn;
 use cl_calls::{
     ANY, Call, Claimed, Completing, NO_MESSAGE, NO_RANK, Probing, Receiving, Several, handles_at,
-    place,
+    place, receiving_side, sending_side,
 };
-use mp_request::{OpenRequest, Progress, State, Transfer};
+use mp_request::{OpenRequest, Partitions, Progress, State, Transfer};
 use mp_types::Code;
 
 /// How a call goes on once its transfer has begun.
@@ -42,6 +50,16 @@ pub(crate) fn begun(why: Purpose, transfer: Transfer, progress: Progress) -> Out
     }
 }
 
+/// A partitioned transfer begins a phase, by a start alone.
+fn begins_phase(why: Purpose, link: u8) -> Row
+    ensures { result ≡ begins_phase_of why link }
+{
+    match why {
+        Purpose::Start(handle) => Row::AtOnce(Outcome::BeginsPhase { handle, link }),
+        Purpose::Send | Purpose::Open => Row::AtOnce(Outcome::Ends(Code::BadRequest, 0)),
+    }
+}
+
 /// A transfer with the null process is finished at once, any other begins by a post.
 fn begins(why: Purpose, transfer: Transfer) -> Row
     ensures { result ≡ begins_of why transfer }
@@ -50,8 +68,8 @@ fn begins(why: Purpose, transfer: Transfer) -> Row
         Transfer::SendToNull | Transfer::ReceiveFromNull => {
             Row::AtOnce(begun(why, transfer, Progress::Finished))
         }
-        Transfer::SendPartitions(_) | Transfer::ReceivePartitions(_) => {
-            Row::AtOnce(Outcome::Ends(Code::BadRequest, 0))
+        Transfer::SendPartitions(side) | Transfer::ReceivePartitions(side) => {
+            begins_phase(why, side.link)
         }
         Transfer::Send { .. } | Transfer::Receive { .. } | Transfer::ReceiveClaimed { .. } => {
             Row::OnReply(Manner::Posting, Wanted::Post(why, transfer))
@@ -223,6 +241,73 @@ fn polled(call: &Call) -> Wanted
     }
 }
 
+/// How a partitioned request completes with which nothing is left.
+fn concludes(transfer: Transfer, target: Target) -> Outcome
+    ensures { result ≡ concludes_of transfer target }
+{
+    match transfer {
+        Transfer::ReceivePartitions(side) => Outcome::Arrives { side, target },
+        _ => Outcome::Completes {
+            source: ANY,
+            target,
+        },
+    }
+}
+
+/// A test or a wait that is held up by its own rank.
+fn holds(manner: Manner) -> Outcome
+    ensures { result ≡ holds_of manner }
+{
+    match manner {
+        Manner::Immediate => Outcome::Ends(Code::Ok, 0),
+        Manner::Blocking | Manner::Polling | Manner::Posting => Outcome::Holds,
+    }
+}
+
+/// A test or a wait of a partitioned request that is active, by what it awaits in its phase.
+fn awaits(manner: Manner, transfer: Transfer, target: Target, awaited: Awaited) -> Row
+    ensures { result ≡ row_awaited manner transfer target awaited }
+{
+    match awaited {
+        Awaited::Nothing => Row::AtOnce(concludes(transfer, target)),
+        Awaited::Unready => Row::AtOnce(holds(manner)),
+        Awaited::Taking { link, part: _ } => Row::OnBox(Visit::Frees {
+            manner,
+            link,
+            target,
+        }),
+        Awaited::Cut { link } => Row::OnReply(manner, Wanted::Cut { manner, link }),
+        Awaited::Box { link: _, part } => match transfer {
+            Transfer::ReceivePartitions(side) => Row::OnBox(Visit::Takes {
+                manner,
+                side,
+                part,
+                target,
+            }),
+            _ => Row::AtOnce(Outcome::Ends(Code::BadRequest, 0)),
+        },
+    }
+}
+
+/// A test for one partition of the receiver's side, by what it awaits. One that awaits nothing has arrived.
+fn arrives(side: Partitions, asked: u8, awaited: Awaited) -> Row
+    ensures { result ≡ row_of_part side asked awaited }
+{
+    match awaited {
+        Awaited::Cut { link } => Row::OnReply(
+            Manner::Immediate,
+            Wanted::Cut {
+                manner: Manner::Immediate,
+                link,
+            },
+        ),
+        Awaited::Box { link: _, part } => Row::OnBox(Visit::Sees { side, part, asked }),
+        Awaited::Nothing | Awaited::Unready | Awaited::Taking { .. } => {
+            Row::AtOnce(Outcome::Ends(Code::Ok, 1))
+        }
+    }
+}
+
 impl<'a> Turn<'a> {
     /// Where no request needs the hub all complete at once, and else all or none.
     fn gathers(&self, manner: Manner, several: Several) -> Row
@@ -238,10 +323,60 @@ impl<'a> Turn<'a> {
         }
     }
 
+    /// A test or a wait: of a partitioned request by what it awaits in its phase, of any other by what it needs.
+    fn completing(&self, manner: Manner, call: &Completing) -> Row
+        ensures { result
+            ≡ row_completing manner call.now
+            (awaited_of self.now.phases.now (request_at self.now.requests.now call.now.handle))
+            (request_at self.now.requests.now call.now.handle) }
+    {
+        let request = self.requests.get(call.handle);
+        match (Awaited::of(self.phases, request), request) {
+            (Some(awaited), Some(request)) => {
+                let target = Target::of(manner, call, 0, 0);
+                awaits(manner, request.transfer, target, awaited)
+            }
+            (_, request) => completes(manner, call, Pending::of(request)),
+        }
+    }
+
+    /// A partition is made ready.
+    fn readying(&self, handle: u64, part: u64) -> Row
+        requires { IsThere self.now.requests.now self.now.phases.now (needs_of (call.Pready handle part)) }
+        ensures { result ≡ row_ready part (sending_side_of (request_at self.now.requests.now handle)) }
+    {
+        match sending_side(self.requests, handle) {
+            None => Row::AtOnce(Outcome::Ends(Code::BadRequest, 0)),
+            Some(side) => {
+                let _phase = self.phases.sending(side.link);
+                Row::OnBox(Visit::Readies {
+                    link: side.link,
+                    part: part as u8,
+                })
+            }
+        }
+    }
+
+    /// It is asked whether a partition has arrived.
+    fn arriving(&self, handle: u64, part: u64) -> Row
+        requires { IsThere self.now.requests.now self.now.phases.now (needs_of (call.Parrived handle part)) }
+        ensures { result
+            ≡ row_arrived self.now.phases.now part (receiving_side_of (request_at self.now.requests.now handle)) }
+    {
+        match receiving_side(self.requests, handle) {
+            None => Row::AtOnce(Outcome::Ends(Code::BadRequest, 0)),
+            Some(side) => {
+                let _phase = self.phases.receiving(side.link);
+                let asked = part as u8;
+                arrives(side, asked, Awaited::of_part(self.phases, side.link, asked))
+            }
+        }
+    }
+
     /// The row of a call that is right.
     fn row_of(&self, call: &Call) -> Row
-        requires { IsChecked self.now.site.now self.now.memory.now self.now.requests.now (Go call.now) }
-        ensures { result ≡ row_by self.now.site.now self.now.number self.now.memory.now self.now.requests.now call.now }
+        requires { IsCheckedIn self.now (Go call.now) }
+        ensures { result ≡ row_for self.now (Go call.now) }
     {
         let site = self.site;
         match *call {
@@ -262,29 +397,25 @@ impl<'a> Turn<'a> {
             Call::Mrecv { claimed, status } => receives_claimed(&claimed, status),
             Call::Start { handle } => starts(handle, self.requests.get(handle)),
             Call::RequestFree { handle } => Row::AtOnce(Outcome::Frees(handle)),
-            Call::Test(call) => completes(
-                Manner::Immediate,
-                &call,
-                pending(self.requests, call.handle),
-            ),
-            Call::Wait(call) => completes(
-                Manner::Blocking,
-                &call,
-                pending(self.requests, call.handle),
-            ),
+            Call::Test(call) => self.completing(Manner::Immediate, &call),
+            Call::Wait(call) => self.completing(Manner::Blocking, &call),
             Call::Testall(call) => self.gathers(Manner::Immediate, call),
             Call::Waitall(call) => self.gathers(Manner::Blocking, call),
             Call::Iprobe(call) => sees(Manner::Immediate, &call),
             Call::Probe(call) => sees(Manner::Blocking, &call),
             Call::Improbe(call) => claims(Manner::Immediate, &call),
             Call::Mprobe(call) => claims(Manner::Blocking, &call),
+            Call::PsendInit(call) => Row::OnReply(Manner::Posting, Wanted::SendingLink(call)),
+            Call::PrecvInit(call) => Row::OnReply(Manner::Posting, Wanted::ReceivingLink(call)),
+            Call::Pready { handle, part } => self.readying(handle, part),
+            Call::Parrived { handle, part } => self.arriving(handle, part),
             Call::Unknown => Row::AtOnce(Outcome::Stays),
         }
     }
 
     /// The row of a turn.
     pub(crate) fn row(&self, doing: &Doing) -> Row
-        requires { IsChecked self.now.site.now self.now.memory.now self.now.requests.now doing.now }
+        requires { IsCheckedIn self.now doing.now }
         ensures { result ≡ row_for self.now doing.now }
     {
         match *doing {

@@ -2,17 +2,21 @@
 
 ghost use Rattle.std.specs.Prelude.{◌≡◌, ◌≤◌, ◌+◌, length, vec_capacity, vec_len};
 ghost use Rattle.cl_state.specs.Right.{IsChecked, IsRunning, output_of};
-ghost use Rattle.cl_state.specs.Told.{done, replied, told_in, told_row};
-ghost use Rattle.cl_state.specs.Turn.{Becomes, IsAble, IsReady, IsRow, IsWantable, part_in, told_by};
+ghost use Rattle.cl_state.specs.Told.{done, replied, told_in, told_row, visited};
+ghost use Rattle.cl_state.specs.Turn.{Becomes, IsAble, IsReady, IsRow, IsVisitable, IsWantable, KeepsPlaces};
+ghost use Rattle.cl_state.specs.Turn.{part_in, part_with, told_by};
 
 use crate::asking::{Answer, Doing};
-use crate::row::{Outcome, Row, Wanted};
+use crate::pending::Manner;
+use crate::row::{Outcome, Row, Visit, Wanted};
+use crate::sides::{Cut, Taken};
 use crate::table::begun;
-use crate::transfers::posted;
+use crate::transfers::Posted;
 use crate::turn::Turn;
 use cl_calls::{ANY, Site};
 use mp_request::Requests;
 use mp_types::{Code, Reply};
+use part_phase::Phases;
 use rv_hart::{Hart, Mode};
 use rv_memory::RankMemory;
 
@@ -35,6 +39,9 @@ impl<'a> Turn<'a> {
             Outcome::Completes { source, target } => self.receive(target, source, ANY, &[]),
             Outcome::FindsNothing { value, status } => self.find_nothing(value, status),
             Outcome::CompletesAll { value, several } => self.complete_several(value, several),
+            Outcome::BeginsPhase { handle, link } => self.begin_phase(handle, link),
+            Outcome::Holds => self.hold(),
+            Outcome::Arrives { side, target } => self.arrive(&side, target),
         }
     }
 
@@ -45,7 +52,11 @@ impl<'a> Turn<'a> {
     {
         match (wanted, reply) {
             (Wanted::Post(why, transfer), Reply::Posted { post, done }) => {
-                self.act(begun(why, transfer, posted(&transfer, *post, *done)))
+                let posted = Posted {
+                    post: *post,
+                    done: *done,
+                };
+                self.act(begun(why, transfer, posted.progress(&transfer)))
             }
             (Wanted::MessageOrPost(_), Reply::Posted { post, done: _ }) => self.wait(*post),
             (Wanted::MessageOrPost(target), Reply::Got(message)) => {
@@ -63,6 +74,57 @@ impl<'a> Turn<'a> {
             (Wanted::Claim { status }, Reply::Held(message, envelope)) => {
                 self.find(*message, status, *envelope)
             }
+            (Wanted::SendingLink(partitioning), Reply::Link(link)) => {
+                self.make_sending(&partitioning, *link)
+            }
+            (Wanted::ReceivingLink(partitioning), Reply::Link(link)) => {
+                self.make_receiving(&partitioning, *link)
+            }
+            (Wanted::Cut { manner, link }, Reply::Cut { parts, size }) => {
+                let cut = Cut {
+                    boxes: *parts,
+                    bytes: *size,
+                };
+                self.know_cut(manner, link, cut)
+            }
+            _ => self.end(Code::BadRequest, 0),
+        }
+    }
+
+    /// What the answer of a box does. Any other doesn't fit.
+    fn visit(&mut self, visit: Visit, answer: &Answer)
+        requires { IsVisitable self.old visit }
+        ensures { Becomes self.old self.new (visited self.old.site.now visit answer.now (part_in self.old)) }
+    {
+        match (visit, answer) {
+            (Visit::Readies { link, part }, Answer::Alone) => self.ready_part(link, part),
+            (
+                Visit::Frees {
+                    manner,
+                    link,
+                    target,
+                },
+                Answer::Freed,
+            ) => self.free_part(manner, link, target),
+            (Visit::Frees { manner, .. }, Answer::Missed) => self.not_yet(manner),
+            (
+                Visit::Takes {
+                    manner,
+                    side,
+                    part,
+                    target,
+                },
+                Answer::Taken(bytes),
+            ) => {
+                let taken = Taken { side, part, bytes };
+                self.take_box(manner, &taken, target)
+            }
+            (Visit::Takes { manner, .. }, Answer::Missed) => self.not_yet(manner),
+            (Visit::Sees { side, part, asked }, Answer::Taken(bytes)) => {
+                let taken = Taken { side, part, bytes };
+                self.see_box(&taken, asked)
+            }
+            (Visit::Sees { .. }, Answer::Missed) => self.not_yet(Manner::Immediate),
             _ => self.end(Code::BadRequest, 0),
         }
     }
@@ -80,6 +142,7 @@ impl<'a> Turn<'a> {
                 Answer::Reply(reply) => self.take(wanted, reply),
                 _ => self.end(Code::BadRequest, 0),
             },
+            Row::OnBox(visit) => self.visit(visit, answer),
         }
     }
 
@@ -106,30 +169,34 @@ pub(crate) struct News<'a> {
     pub(crate) answer: &'a Answer,
 }
 
+/// What all harts of a rank have in common, and a turn of one may change.
+#[derive(Drop)]
+pub(crate) struct Common<'a> {
+    pub(crate) memory: &'a mut RankMemory,
+    pub(crate) requests: &'a mut Requests,
+    pub(crate) phases: &'a mut Phases,
+    pub(crate) out: &'a mut Vec<u8>,
+}
+
 /// The answer to what a hart's turn asked.
-pub(crate) fn tell_hart(
-    news: &News<'_>,
-    hart: &mut Hart,
-    memory: &mut RankMemory,
-    requests: &mut Requests,
-    out: &mut Vec<u8>,
-)
+pub(crate) fn tell_hart(news: &News, hart: &mut Hart, common: &mut Common)
     requires running { IsRunning news.now.doing.now hart.old }
-    requires checked { IsChecked news.now.site.now memory.old requests.old news.now.doing.now }
-    requires fresh { news.now.fresh.now ≡ output_of memory.old news.now.doing.now }
-    requires room { vec_len out.old + length news.now.fresh.now ≤ vec_capacity out.old }
-    ensures { record { hart = hart.new; memory = memory.new; requests = requests.new; out = out.new.items }
-        ≡ told_by news.now
-        (record { hart = hart.old; memory = memory.old; requests = requests.old; out = out.old.items }) }
+    requires checked { IsChecked news.now.site.now common.old.memory.now common.old.requests.now common.old.phases.now
+        news.now.doing.now }
+    requires fresh { news.now.fresh.now ≡ output_of common.old.memory.now news.now.doing.now }
+    requires room { vec_len common.old.out.now + length news.now.fresh.now ≤ vec_capacity common.old.out.now }
+    ensures told { part_with hart.new common.new ≡ told_by news.now (part_with hart.old common.old) }
+    ensures places { KeepsPlaces common.old common.new }
 {
     let mut turn = Turn {
         site: news.site,
         number: news.number,
         fresh: news.fresh,
         hart,
-        memory,
-        requests,
-        out,
+        memory: &mut *common.memory,
+        requests: &mut *common.requests,
+        phases: &mut *common.phases,
+        out: &mut *common.out,
     };
     turn.finish(news.doing, news.answer);
 }

@@ -42,7 +42,7 @@ pub(crate) fn tag(tag: u64) -> Option<u16>
 
 /// What a send with right arguments transfers, in standard mode.
 pub(crate) fn send(site: &Site, sending: &Sending) -> Transfer
-    requires { IsRight site.now (needs_of_sending false sending.now) }
+    requires { IsRight site.now (needs_of_sending sending.now) }
     ensures { result ≡ send_of site.now false sending.now }
 {
     if sending.dest == NO_RANK {
@@ -60,7 +60,7 @@ pub(crate) fn send(site: &Site, sending: &Sending) -> Transfer
 
 /// The same in synchronous mode.
 pub(crate) fn sync_send(site: &Site, sending: &Sending) -> Transfer
-    requires { IsRight site.now (needs_of_sending false sending.now) }
+    requires { IsRight site.now (needs_of_sending sending.now) }
     ensures { result ≡ send_of site.now true sending.now }
 {
     if sending.dest == NO_RANK {
@@ -78,7 +78,7 @@ pub(crate) fn sync_send(site: &Site, sending: &Sending) -> Transfer
 
 /// What a receive with right arguments transfers.
 pub(crate) fn receive(site: &Site, receiving: &Receiving) -> Transfer
-    requires { IsRight site.now (needs_of_receiving false 0 receiving.now) }
+    requires { IsRight site.now (needs_of_receiving 0 receiving.now) }
     ensures { result ≡ receive_of site.now receiving.now }
 {
     if receiving.source == NO_RANK {
@@ -185,18 +185,27 @@ pub(crate) fn ask_claimed(manner: Manner, claimed: &Claimed) -> Ask
     })
 }
 
-/// How far a transfer is once it has its post: a synchronous send waits until it is paired with a receive.
-pub(crate) fn posted(transfer: &Transfer, post: u64, done: bool) -> Progress
-    ensures { result ≡ posted_by transfer.now post done }
-{
-    match *transfer {
-        Transfer::Send { sync, .. } => {
-            if sync && !done {
-                Progress::OnPost(post)
-            } else {
-                Progress::Finished
+/// What the hub said of a post: its number, and whether it is a send and complete.
+#[derive(Clone, Copy, Drop)]
+pub(crate) struct Posted {
+    pub(crate) post: u64,
+    pub(crate) done: bool,
+}
+
+impl Posted {
+    /// How far a transfer is once it has its post: a synchronous send waits until it is paired with a receive.
+    pub(crate) fn progress(self, transfer: &Transfer) -> Progress
+        ensures { result ≡ posted_by transfer.now self.post self.done }
+    {
+        match *transfer {
+            Transfer::Send { sync, .. } => {
+                if sync && !self.done {
+                    Progress::OnPost(self.post)
+                } else {
+                    Progress::Finished
+                }
             }
+            _ => Progress::OnPost(self.post),
         }
-        _ => Progress::OnPost(post),
     }
 }

@@ -6,7 +6,7 @@ ghost use Rattle.rv_memory.specs.Memory.{bytes_of};
 ghost use Rattle.mp_request.specs.Entries.{is_new};
 ghost use Rattle.mp_request.specs.Table.{IsInactive};
 ghost use Rattle.cl_state.specs.declared.row.Outcome.TheVariants as outcome;
-ghost use Rattle.cl_state.specs.Told.{done, ended, found as found_by, found_nothing, freed, not_yet as not_yet_of};
+ghost use Rattle.cl_state.specs.Told.{again, done, ended, found as found_by, found_nothing, freed, not_yet as not_yet_of};
 ghost use Rattle.cl_state.specs.Told.{opened, received, received_message, returned, waiting, with_status};
 ghost use Rattle.cl_state.specs.Turn.{Becomes, IsAble, part_in};
 ghost use Rattle.cl_state.specs.Written.{written as written_in};
@@ -15,6 +15,7 @@ use crate::pending::{Manner, Target};
 use cl_calls::{ANY, NO_RANK, Site, place};
 use mp_request::{OpenRequest, Progress, Requests};
 use mp_types::{Code, Envelope, Message};
+use part_phase::Phases;
 use rv_decode::Reg;
 use rv_hart::{Hart, Mode, Wait, step};
 use rv_memory::RankMemory;
@@ -30,6 +31,7 @@ pub(crate) struct Turn<'a> {
     pub(crate) hart: &'a mut Hart,
     pub(crate) memory: &'a mut RankMemory,
     pub(crate) requests: &'a mut Requests,
+    pub(crate) phases: &'a mut Phases,
     pub(crate) out: &'a mut Vec<u8>,
 }
 
@@ -86,7 +88,7 @@ pub(crate) fn status_bytes(source: u64, tag: u64, count: u64) -> [u8; 24]
 }
 
 #[tactic(auto, unfolding(crate::specs::Told::with_status))]
-fn write_status(memory: &mut RankMemory, address: u64, source: u64, tag: u64, count: u64)
+pub(crate) fn write_status(memory: &mut RankMemory, address: u64, source: u64, tag: u64, count: u64)
     ensures { memory.new ≡ with_status memory.old address source tag count }
 {
     if address != 0 {
@@ -110,13 +112,20 @@ impl<'a> Turn<'a> {
         self.hart.set_mode(Mode::Waiting(Wait::Post(post)));
     }
 
+    /// The hart makes its call anew in its next turn.
+    pub(crate) fn hold(&mut self)
+        ensures { Becomes self.old self.new (again (part_in self.old)) }
+    {
+        self.hart.set_mode(Mode::Waiting(Wait::Again));
+    }
+
     /// What was asked for isn't there yet.
     pub(crate) fn not_yet(&mut self, manner: Manner)
         ensures { Becomes self.old self.new (not_yet_of manner (part_in self.old)) }
     {
         match manner {
             Manner::Immediate => self.end(Code::Ok, 0),
-            Manner::Blocking => self.hart.set_mode(Mode::Waiting(Wait::Again)),
+            Manner::Blocking => self.hold(),
             Manner::Posting => self.end(Code::BadRequest, 0),
             Manner::Polling => {}
         }

@@ -6,12 +6,6 @@ use Rattle.std.specs.List.{cons_option}
 use Rattle.std.proofs.lemmas.List.{length-map}
 use Rattle.std.proofs.lemmas.Bool.{leb-true}
 use Rattle.rv_memory.specs.Memory.{Memory, value_at}
-use Rattle.rv_hart.specs.declared.state.Mode.{Mode}
-use Rattle.rv_hart.specs.declared.state.Mode.TheVariants.{Running, Waiting, Ended, Trapped}
-use Rattle.rv_hart.specs.declared.state.Wait.TheVariants.{Post, Again}
-use Rattle.rv_memory.specs.Access.{word_at}
-use Rattle.mp_types.specs.declared.codes.Code.{Code}
-use Rattle.mp_types.specs.declared.codes.Code.TheVariants.{BadCall, BadCount}
 use Rattle.mp_types.specs.declared.requests.Request.{Request}
 use Rattle.mp_types.specs.declared.requests.Request.TheVariants as request
 use Rattle.mp_request.specs.declared.entries.OpenRequest.{OpenRequest}
@@ -23,17 +17,26 @@ use Rattle.cl_calls.specs.declared.calls.Call.{Call}
 use Rattle.cl_calls.specs.declared.calls.Call.TheVariants as call
 use Rattle.cl_calls.specs.declared.calls.Several.{Several}
 use Rattle.cl_calls.specs.declared.sites.Site.{Site}
-use Rattle.cl_calls.specs.Calls.{no_rank, no_message, call_of}
-use Rattle.cl_calls.specs.Checks.{checks, first_fault, is_few}
+use Rattle.cl_calls.specs.Calls.{no_rank, no_message}
+use Rattle.cl_calls.specs.Checks.{is_few, receiving_side, sending_side}
 use Rattle.cl_calls.specs.Handles.{handles_in, words_at}
 use Rattle.cl_calls.specs.Needs.{array_at, needs_of}
 use Rattle.cl_state.specs.declared.asking.Ask.TheVariants as ask
 use Rattle.cl_state.specs.declared.asking.Doing.{Doing}
-use Rattle.cl_state.specs.declared.asking.Doing.TheVariants.{Step, Go, Poll}
+use Rattle.cl_state.specs.declared.asking.Doing.TheVariants.{Step, Refused, Go, Poll, Stopped}
 use Rattle.cl_state.specs.declared.pending.Pending.{Pending}
-use Rattle.cl_state.specs.declared.pending.Pending.TheVariants.{Nothing, FromNull, Message as Awaited, Word}
-use Rattle.cl_state.specs.Asked.{Part, asked, asked_by, asked_in, asked_poll, asked_several, asked_start, checked}
-use Rattle.cl_state.specs.Asked.{doing, doing_in, go_or_refuse, is_ecall, part_of}
+use Rattle.cl_state.specs.declared.pending.Pending.TheVariants as pending
+use Rattle.cl_state.specs.declared.partitions.Awaited.{Awaited}
+use Rattle.cl_state.specs.declared.partitions.Awaited.TheVariants.{Nothing, Unready, Taking, Cut, Box}
+use Rattle.cl_state.specs.declared.pending.Manner.{Manner}
+use Rattle.cl_state.specs.declared.pending.Manner.TheVariants.{Immediate, Blocking, Polling, Posting}
+use Rattle.cl_state.specs.Asked.{Part, asked, asked_by, asked_completing, asked_in, asked_poll, asked_several}
+use Rattle.cl_state.specs.Asked.{asked_start, doing, part_of}
+use Rattle.cl_state.specs.Partitions.{asked_arrived, asked_awaited, asked_ready, awaited, awaited_of_part}
+use Rattle.cl_state.proofs.Passed.{HasPassed, passed}
+use Rattle.mp_request.specs.declared.entries.Partitions.{Partitions}
+use Rattle.part_phase.specs.declared.phases.Phase.{Phase}
+use Rattle.part_phase.specs.Phases.{receiving_at}
 use Rattle.cl_state_laws.specs.Laws.{PostsLaw}
 use Rattle.cl_state.specs.Pending.{asked_pending, pending_of}
 use Rattle.cl_state.specs.Several.{asked_all, pendings, post_of, posts_of}
@@ -59,35 +62,12 @@ abbrev HasFew : Doing → Type 0
 HasFew (Go c) = IsTrue (is_few (needs_of c).handles)
 HasFew _ = Unit {0}
 
-second_holds : (a b : Bool) (x : Option Code) (c d : Code) → (if a then (if b then x else Some d) else Some c) ≡ None
-    → b ≡ true
-second_holds true true x c d none = refl
-second_holds true false x c d none = cc
-second_holds false b x c d none = cc
-
-few_if_none : (o : Option Code) (c : Call) → (o ≡ None → IsTrue (is_few (needs_of c).handles))
-    → HasFew (go_or_refuse o c)
-few_if_none None c few = few refl
-few_if_none (Some code) c few = tt
-
-few_checked : (site : Site) (part : Part) → HasFew (checked site part)
-few_checked site part =
-    few_if_none (first_fault (checks site part.memory part.requests (length part.out) (needs_of (call_of part.hart))))
-    (call_of part.hart)
-    (second_holds (needs_of (call_of part.hart)).known (is_few (needs_of
-    (call_of part.hart)).handles) _ BadCall BadCount)
-
-few_if : (b : Bool) (d : Doing) → HasFew d → HasFew (if b then d else Step)
-few_if true d few = few
-few_if false d few = tt
-
-few_doing : (mode : Mode) (site : Site) (part : Part) → HasFew (doing_in mode site part)
-few_doing Running site part =
-    few_if (is_ecall (word_at part.memory part.hart.pc)) (checked site part) (few_checked site part)
-few_doing (Waiting (Post post)) site part = tt
-few_doing (Waiting Again) site part = few_checked site part
-few_doing (Ended code) site part = tt
-few_doing (Trapped cause pc) site part = tt
+few_passed : (site : Site) (part : Part) (d : Doing) → HasPassed site part d → HasFew d
+few_passed site part (Go c) passed = passed.1.0
+few_passed site part Step passed = tt
+few_passed site part (Refused code) passed = tt
+few_passed site part (Poll c post) passed = tt
+few_passed site part Stopped passed = tt
 
 -- ---- TESTALL and WAITALL alone ask for several posts
 
@@ -102,10 +82,10 @@ no_all_transfer memory now (SendPartitions side) posts hub = cc
 no_all_transfer memory now (ReceivePartitions side) posts hub = cc
 
 no_all_pending : (p : Pending) (posts : List ℕ) → asked_pending p ≡ ask.Hub (request.All posts) → ⊥
-no_all_pending Nothing posts hub = cc
-no_all_pending FromNull posts hub = cc
-no_all_pending (Awaited post buffer capacity) posts hub = cc
-no_all_pending (Word post) posts hub = cc
+no_all_pending pending.Nothing posts hub = cc
+no_all_pending pending.FromNull posts hub = cc
+no_all_pending (pending.Message post buffer capacity) posts hub = cc
+no_all_pending (pending.Word post) posts hub = cc
 
 no_all_if : (local : Bool) (r : Request) (posts : List ℕ) → (r ≡ request.All posts → ⊥)
     → (if local then ask.Local else ask.Hub r) ≡ ask.Hub (request.All posts) → ⊥
@@ -132,54 +112,91 @@ few_several memory table s posts few hub =
     let below = leb-true s.count 255 few in
     omega (arith, ap length same, most, all, count, below)
 
-few_call : (site : Site) (memory : Memory) (table : Table) (c : Call) (posts : List ℕ) → HasFew (Go c)
-    → asked_by site memory table c ≡ ask.Hub (request.All posts) → length posts ≤ 255
-few_call site memory table (call.Send s) posts few hub =
+-- ---- nor do partitioned requests
+
+no_all_awaited : (m : Manner) (a : Awaited) (posts : List ℕ) → asked_awaited m a ≡ ask.Hub (request.All posts) → ⊥
+no_all_awaited m Nothing posts hub = cc
+no_all_awaited Immediate Unready posts hub = cc
+no_all_awaited Blocking Unready posts hub = cc
+no_all_awaited Polling Unready posts hub = cc
+no_all_awaited Posting Unready posts hub = cc
+no_all_awaited m (Taking link part) posts hub = cc
+no_all_awaited m (Cut link) posts hub = cc
+no_all_awaited m (Box link box) posts hub = cc
+
+no_all_either : (m : Manner) (o : Option Awaited) (p : Pending) (posts : List ℕ)
+    → asked_completing m o p ≡ ask.Hub (request.All posts) → ⊥
+no_all_either m None p posts hub = no_all_pending p posts hub
+no_all_either m (Some a) p posts hub = no_all_awaited m a posts hub
+
+no_all_completing : (phases : List Phase) (m : Manner) (o : Option OpenRequest) (posts : List ℕ)
+    → asked_completing m (awaited phases o) (pending_of o) ≡ ask.Hub (request.All posts) → ⊥
+no_all_completing phases m o posts hub = no_all_either m (awaited phases o) (pending_of o) posts hub
+
+no_all_ready : (site : Site) (memory : Memory) (part : ℕ) (o : Option Partitions) (posts : List ℕ)
+    → asked_ready site memory part o ≡ ask.Hub (request.All posts) → ⊥
+no_all_ready site memory part None posts hub = cc
+no_all_ready site memory part (Some side) posts hub = cc
+
+no_all_arrived : (phases : List Phase) (part : ℕ) (o : Option Partitions) (posts : List ℕ)
+    → asked_arrived phases part o ≡ ask.Hub (request.All posts) → ⊥
+no_all_arrived phases part None posts hub = cc
+no_all_arrived phases part (Some side) posts hub =
+    no_all_awaited Immediate (awaited_of_part side.link (receiving_at phases side.link) part) posts hub
+
+few_call : (site : Site) (memory : Memory) (table : Table) (phases : List Phase) (c : Call) (posts : List ℕ) → HasFew (Go c)
+    → asked_by site memory table phases c ≡ ask.Hub (request.All posts) → length posts ≤ 255
+few_call site memory table phases (call.Send s) posts few hub =
     absurd (no_all_transfer memory true (send_of site false s) posts hub)
-few_call site memory table (call.Ssend s) posts few hub =
+few_call site memory table phases (call.Ssend s) posts few hub =
     absurd (no_all_transfer memory true (send_of site true s) posts hub)
-few_call site memory table (call.Recv r status) posts few hub =
+few_call site memory table phases (call.Recv r status) posts few hub =
     absurd (no_all_transfer memory true (receive_of site r) posts hub)
-few_call site memory table (call.Isend s) posts few hub =
+few_call site memory table phases (call.Isend s) posts few hub =
     absurd (no_all_transfer memory false (send_of site false s) posts hub)
-few_call site memory table (call.Issend s) posts few hub =
+few_call site memory table phases (call.Issend s) posts few hub =
     absurd (no_all_transfer memory false (send_of site true s) posts hub)
-few_call site memory table (call.Irecv r) posts few hub =
+few_call site memory table phases (call.Irecv r) posts few hub =
     absurd (no_all_transfer memory false (receive_of site r) posts hub)
-few_call site memory table (call.Test c) posts few hub =
-    absurd (no_all_pending (pending_of (request_at table c.handle)) posts hub)
-few_call site memory table (call.Wait c) posts few hub =
-    absurd (no_all_pending (pending_of (request_at table c.handle)) posts hub)
-few_call site memory table (call.Iprobe p) posts few hub =
+few_call site memory table phases (call.Test c) posts few hub =
+    absurd (no_all_completing phases Immediate (request_at table c.handle) posts hub)
+few_call site memory table phases (call.Wait c) posts few hub =
+    absurd (no_all_completing phases Blocking (request_at table c.handle) posts hub)
+few_call site memory table phases (call.Iprobe p) posts few hub =
     absurd (no_all_if (p.source == no_rank) _ posts (λ same. cc) hub)
-few_call site memory table (call.Probe p) posts few hub =
+few_call site memory table phases (call.Probe p) posts few hub =
     absurd (no_all_if (p.source == no_rank) _ posts (λ same. cc) hub)
-few_call site memory table (call.Improbe p) posts few hub =
+few_call site memory table phases (call.Improbe p) posts few hub =
     absurd (no_all_if (p.source == no_rank) _ posts (λ same. cc) hub)
-few_call site memory table (call.Mprobe p) posts few hub =
+few_call site memory table phases (call.Mprobe p) posts few hub =
     absurd (no_all_if (p.source == no_rank) _ posts (λ same. cc) hub)
-few_call site memory table (call.Imrecv m) posts few hub =
+few_call site memory table phases (call.Imrecv m) posts few hub =
     absurd (no_all_if (m.message == no_message) _ posts (λ same. cc) hub)
-few_call site memory table (call.Mrecv m status) posts few hub =
+few_call site memory table phases (call.Mrecv m status) posts few hub =
     absurd (no_all_if (m.message == no_message) _ posts (λ same. cc) hub)
-few_call site memory table (call.Start handle) posts few hub =
+few_call site memory table phases (call.Start handle) posts few hub =
     absurd (no_all_start memory (request_at table handle) posts hub)
-few_call site memory table (call.Testall s) posts few hub = few_several memory table s posts few hub
-few_call site memory table (call.Waitall s) posts few hub = few_several memory table s posts few hub
-few_call site memory table _ posts few hub = cc
+few_call site memory table phases (call.Testall s) posts few hub = few_several memory table s posts few hub
+few_call site memory table phases (call.Waitall s) posts few hub = few_several memory table s posts few hub
+few_call site memory table phases (call.Pready handle part) posts few hub =
+    absurd (no_all_ready site memory part (sending_side (request_at table handle)) posts hub)
+few_call site memory table phases (call.Parrived handle part) posts few hub =
+    absurd (no_all_arrived phases part (receiving_side (request_at table handle)) posts hub)
+few_call site memory table phases _ posts few hub = cc
 
 no_all_poll : (c : Call) (post : ℕ) (posts : List ℕ) → asked_poll c post ≡ ask.Hub (request.All posts) → ⊥
 no_all_poll (call.Ssend s) post posts hub = cc
 no_all_poll _ post posts hub = cc
 
-few_turn : (site : Site) (memory : Memory) (table : Table) (d : Doing) (posts : List ℕ) → HasFew d
-    → asked_in site memory table d ≡ ask.Hub (request.All posts) → length posts ≤ 255
-few_turn site memory table (Go c) posts few hub = few_call site memory table c posts few hub
-few_turn site memory table (Poll c post) posts few hub = absurd (no_all_poll c post posts hub)
-few_turn site memory table _ posts few hub = cc
+few_turn : (site : Site) (memory : Memory) (table : Table) (phases : List Phase) (d : Doing) (posts : List ℕ)
+    → HasFew d → asked_in site memory table phases d ≡ ask.Hub (request.All posts) → length posts ≤ 255
+few_turn site memory table phases (Go c) posts few hub = few_call site memory table phases c posts few hub
+few_turn site memory table phases (Poll c post) posts few hub = absurd (no_all_poll c post posts hub)
+few_turn site memory table phases _ posts few hub = cc
 
 pub at_most_255 : PostsLaw
-unfolding asked doing
+unfolding asked
 at_most_255 rank hart posts hub =
-    few_turn rank.site rank.memory rank.requests (doing rank.site (part_of rank hart)) posts
-    (few_doing (part_of rank hart).hart.mode rank.site (part_of rank hart)) hub
+    let d = doing rank.site (part_of rank hart) in
+    few_turn rank.site rank.memory rank.requests rank.phases d posts
+    (few_passed rank.site (part_of rank hart) d (passed rank.site (part_of rank hart))) hub

@@ -11,7 +11,7 @@ use Rattle.cl_state_laws.specs.Laws.{RefusalLaw, ReturnLaw}
 pub refused : RefusalLaw
 unfolding told asked returned
 refused rank hart code answer stamp is = record {
-  asks = ap (asked_in rank.site rank.memory rank.requests) is;
+  asks = ap (asked_in rank.site rank.memory rank.requests rank.phases) is;
   leaves = ap (λ d. with_part rank hart (told_in rank.site hart d answer (part_of rank hart)) stamp) is;
 }
 

@@ -1,4 +1,6 @@
 pub mod Laws
 pub mod CallRows
+pub mod CutRows
+pub mod PartitionRows
 pub mod RequestRows
 pub mod SeveralRows
