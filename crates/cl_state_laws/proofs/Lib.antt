@@ -4,3 +4,5 @@ pub mod Replies
 pub mod Worked
 pub mod WorkedRequests
 pub mod WorkedSeveral
+pub mod Misses
+pub mod WorkedPartitions

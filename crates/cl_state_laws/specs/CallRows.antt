@@ -127,7 +127,7 @@ receiving buffer capacity source tag comm =
 
 -- the checks of calls whose arguments are wrong in one way or in several
 abbrev pub code_of : Call → Option Code
-code_of call = first_fault (checks first_of_two small_memory no_requests 0 (needs_of call))
+code_of call = first_fault (checks first_of_two small_memory no_requests [] 0 (needs_of call))
 
 abbrev pub refusals : List (Call × Option Code)
 refusals =

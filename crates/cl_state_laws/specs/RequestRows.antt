@@ -266,7 +266,7 @@ abbrev pub some_requests : Table
 some_requests = table_of (ordinary receive (OnPost 3) ∷ inactive receive ∷ active receive (OnPost 4) ∷ [])
 
 abbrev pub code_with : Table → Call → Option Code
-code_with table call = first_fault (checks first_of_two small_memory table 0 (needs_of call))
+code_with table call = first_fault (checks first_of_two small_memory table [] 0 (needs_of call))
 
 abbrev pub of_handle : ℕ → ℕ → Completing
 of_handle handle status = record { handle = handle; status = status }

@@ -138,7 +138,7 @@ NoneRow =
 abbrev pub code_of_several : ℕ → ℕ → Several → Option Code
 code_of_several first second s =
     first_fault
-    (checks first_of_two (arrayed (handle first ++ handle second)) two_pending 0 (needs_of (Call.Testall s)))
+    (checks first_of_two (arrayed (handle first ++ handle second)) two_pending [] 0 (needs_of (Call.Testall s)))
 
 abbrev pub several_refusals : List (ℕ × ℕ × Several × Option Code)
 several_refusals =

@@ -1,7 +1,8 @@
 //! Laws of a told rank.
 
 ghost use Rattle.cl_state.specs.Laws.{ToldLaw};
-ghost use Rattle.cl_state_laws.specs.Laws.{HubRefusalLaw, NotYetLaw, PostsLaw, RefusalLaw, ReturnLaw};
+ghost use Rattle.cl_state.specs.Moves.{KnownLaw, MovedLaw};
+ghost use Rattle.cl_state_laws.specs.Laws.{HubRefusalLaw, MissLaw, NotYetLaw, PostsLaw, RefusalLaw, ReturnLaw};
 
 /// A told rank has the event's stamp as its clock, and keeps what the image fixes and its number of harts.
 pub fn told_law()
@@ -23,8 +24,8 @@ pub fn hub_refusal_law()
     ensures { HubRefusalLaw }
 {}
 
-/// A call that the hub can't complete yet changes no memory, request
-/// or output: flag 0 of TEST and TESTALL, or a hart that waits.
+/// A call that the hub can't complete yet changes no memory, request,
+/// phase or output: flag 0 of TEST and TESTALL, or a hart that waits.
 pub fn not_yet_law()
     ensures { NotYetLaw }
 {}
@@ -32,4 +33,22 @@ pub fn not_yet_law()
 /// Where the hub is asked for several posts they are at most 255.
 pub fn posts_law()
     ensures { PostsLaw }
+{}
+
+/// A look at a box in vain changes nothing of the rank but the clock and
+/// the hart: flag 0 of TEST and PARRIVED, or a hart that waits.
+pub fn miss_law()
+    ensures { MissLaw }
+{}
+
+/// What a turn does to the phases of its rank, by what was asked and answered: at most one link's changes, which begins,
+/// has its shape or its cut, or has one partition ready, freed or taken.
+pub fn phases_law()
+    ensures { MovedLaw }
+{}
+
+/// What is known of the phase that a turn asks about: a partition is made ready once in a phase; TEST and WAIT ask after the
+/// lowest partition that isn't freed, and after boxes that aren't taken; a shape is inside the limits.
+pub fn questions_law()
+    ensures { KnownLaw }
 {}

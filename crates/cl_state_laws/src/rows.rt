@@ -1,5 +1,7 @@
 //! Worked rows, as theorems that compute: what a small guest's calls ask and are told.
 
+ghost use Rattle.cl_state_laws.specs.CutRows.{CutRow, ReceivedRow, TakenRow, UnfitCutRow};
+ghost use Rattle.cl_state_laws.specs.PartitionRows.{FreedRow, LinkRow, ReadyRow, SentRow, StartRow, UnreadyRow};
 ghost use Rattle.cl_state_laws.specs.RequestRows.{ClaimedRow, FullRow, HandleRows, NullProbeRow, OpenRow};
 ghost use Rattle.cl_state_laws.specs.RequestRows.{PersistentRow, ProbeRow, ReceiveRow, SsendRow, TestRow, WaitRow};
 ghost use Rattle.cl_state_laws.specs.SeveralRows.{DoneAndPendingRow, NoneRow, OverlapRow, SeveralRefusals, StatusesRow};
@@ -130,4 +132,55 @@ pub fn completes_none()
 /// The codes of TESTALL whose count, array, handles or statuses are wrong.
 pub fn refuses_several()
     ensures { SeveralRefusals }
+{}
+
+/// PREADY of partitions 3, 0, 2 and 1, each with its bytes.
+pub fn makes_partitions_ready()
+    ensures { ReadyRow }
+{}
+
+/// PREADY of a partition that is ready, of one that isn't there, and before START: codes 15, 9 and 16.
+pub fn refuses_partitions()
+    ensures { UnreadyRow }
+{}
+
+/// TEST and WAIT of a sender look at the lowest partition alone that isn't freed; WAIT is held where it isn't ready.
+pub fn frees_the_lowest_partition()
+    ensures { FreedRow }
+{}
+
+/// A partitioned send completes with the last partition that is freed, with the empty status.
+pub fn completes_a_partitioned_send()
+    ensures { SentRow }
+{}
+
+/// START begins a phase, in which no partition is ready or freed.
+pub fn starts_a_phase()
+    ensures { StartRow }
+{}
+
+/// Two transfers of equal tag have a link each; a link that doesn't fit is refused with code 6.
+pub fn shapes_the_sides_of_links()
+    ensures { LinkRow }
+{}
+
+/// A receiver that cuts a total into 2 of 96 where the sender cut it into 3 of 64: what PARRIVED asks, writes and
+/// answers.
+pub fn sees_partitions_arrive()
+    ensures { CutRow }
+{}
+
+/// PARRIVED of a request that was wholly taken, or is inactive: 1, and nobody is asked.
+pub fn tells_what_was_taken()
+    ensures { TakenRow }
+{}
+
+/// A cut of another total, or of too many partitions, ends the call with code 6 and isn't kept.
+pub fn refuses_unfit_cuts()
+    ensures { UnfitCutRow }
+{}
+
+/// TEST and WAIT of a receiver take one box a turn; with the last one the status has the source, the tag and all bytes.
+pub fn completes_a_partitioned_receive()
+    ensures { ReceivedRow }
 {}
