@@ -15,6 +15,9 @@ use Rattle.mp_types.specs.declared.requests.Request.TheVariants as request
 use Rattle.mp_request.specs.declared.entries.Progress.TheVariants.{Finished, OnPost}
 use Rattle.mp_request.specs.declared.entries.Transfer.TheVariants.{SendToNull, ReceiveFromNull, Send, Receive}
 use Rattle.mp_request.specs.Table.{Table, no_requests}
+use Rattle.part_phase.specs.declared.phases.Phase.TheVariants.{Apart, Sending, Receiving}
+use Rattle.part_phase.specs.Receiving.{unshaped_receiving}
+use Rattle.part_phase.specs.Sending.{unshaped_sending}
 use Rattle.cl_calls.specs.Calls.{any, no_rank, no_message}
 use Rattle.cl_state.specs.declared.asking.Answer.{Answer}
 use Rattle.cl_state.specs.declared.asking.Ask.{Ask}
@@ -255,6 +258,10 @@ LoadedRow =
     × ((loaded small_image 1).site.links ≡ small_image.links)
     × (take 17 (loaded small_image 1).memory.bytes ≡ small_image.text ++ replicate 8 0 ++ 7 ∷ [])
     × ((loaded small_image 1).memory.text ≡ 8)
+    × ((loaded small_image 1).site.version ≡ Two)
     × ((loaded small_image 1).requests ≡ no_requests)
+    × ((loaded small_image 0).phases ≡ Sending unshaped_sending ∷ [])
+    × ((loaded small_image 1).phases ≡ Apart ∷ [])
+    × ((loaded small_image 2).phases ≡ Receiving unshaped_receiving ∷ [])
     × ((loaded small_image 1).out ≡ [])
     × ((loaded small_image 1).clock ≡ 0)

@@ -9,12 +9,8 @@ ghost use Rattle.calls_tests.specs.Turns.{AskedPlaces, BreakRow, ExitRow, Issend
 ghost use Rattle.calls_tests.specs.Turns.{NoStatus, ProbeWaits, RankSizeRow, ReceiveFromNullRow, SecondHartRow};
 ghost use Rattle.calls_tests.specs.Turns.{SendToNullRow, SeveralPlaces, StatusOverBuffer, StoppedRows, ToldPlaces};
 
-use cl_calls::Site;
-use cl_state::{Answer, Ask, RankState};
-use mp_request::Requests;
+use cl_state::{Answer, Ask, RankParts, RankState};
 use mp_types::Stamp;
-use rv_hart::Hart;
-use rv_memory::RankMemory;
 use std::alloc::{AllocError, Global};
 
 /// EXIT ends its hart with its code.
@@ -92,7 +88,8 @@ pub fn no_status()
     ensures { NoStatus }
 {}
 
-/// A rank is loaded with its number, its communicators, its links, its harts at the entry, and clock 0.
+/// A rank is loaded with its number, its communicators, its links and its sides of them, its harts at the entry, and
+/// clock 0.
 pub fn loads()
     ensures { LoadedRow }
 {}
@@ -123,17 +120,12 @@ pub fn tells_what_was_answered(
 }
 
 /// A new rank has put nothing out, and is at clock 0.
-pub fn begins_at_clock_0(
-    alloc: Global,
-    site: Site,
-    memory: RankMemory,
-    harts: Vec<Hart>,
-    requests: Requests,
-) -> RankState
+pub fn begins_at_clock_0(alloc: Global, parts: RankParts) -> RankState
     ensures out { result.out.items ≡ [] }
     ensures clock { result.clock ≡ 0 }
+    ensures phases { result.phases ≡ parts.phases }
 {
-    RankState::new(alloc, site, memory, harts, requests)
+    RankState::new(alloc, parts)
 }
 
 /// An instruction needs no room.

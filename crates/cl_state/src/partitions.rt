@@ -7,15 +7,16 @@ ghost use Rattle.part_phase.specs.Phases.{receiving_at};
 ghost use Rattle.cl_calls.specs.Checks.{receiving_side as receiving_side_of, sending_side as sending_side_of};
 ghost use Rattle.cl_calls.specs.Needs.{needs_of};
 ghost use Rattle.cl_calls.specs.declared.calls.Call.TheVariants as call;
+ghost use Rattle.cl_state.specs.Moves.{started_in};
 ghost use Rattle.cl_state.specs.Partitions.{asked_arrived, asked_awaited, asked_ready, asked_receiving, asked_sending};
 ghost use Rattle.cl_state.specs.Partitions.{awaited as awaited_of, awaited_by, awaited_by_sender};
 ghost use Rattle.cl_state.specs.Partitions.{awaited_in, awaited_of_part, boxed as boxed_of, side_on as side_of};
 ghost use Rattle.cl_state.specs.Right.{IsRight, IsThere};
 
-use crate::asking::Ask;
+use crate::asking::{Ask, Doing};
 use crate::pending::Manner;
-use cl_calls::{Partitioning, Site, Standing, receiving_side, sending_side};
-use mp_request::{OpenRequest, Partitions, State, Transfer};
+use cl_calls::{Call, Partitioning, Site, Standing, receiving_side, sending_side};
+use mp_request::{OpenRequest, Partitions, Requests, State, Transfer};
 use mp_types::Request;
 use part_phase::{Contents, Phases, RecvPhase, SendPhase, box_words};
 use rv_image::ImageVersion;
@@ -119,6 +120,25 @@ impl Awaited {
             Awaited::Taking { link, part } => Ask::Freed { link, part },
             Awaited::Cut { link } => Ask::Hub(Request::Cut { link }),
             Awaited::Box { link, part } => Ask::Look { link, part },
+        }
+    }
+}
+
+impl Doing {
+    /// The link whose phase the turn begins: that of the partitioned request that it starts.
+    pub(crate) fn starts(&self, requests: &Requests) -> Option<u8>
+        ensures { result ≡ started_in requests.now self.now }
+    {
+        let Doing::Go(Call::Start { handle }) = *self else {
+            return None;
+        };
+        match requests.get(handle) {
+            None => None,
+            Some(request) => match request.transfer {
+                Transfer::SendPartitions(side) => Some(side.link),
+                Transfer::ReceivePartitions(side) => Some(side.link),
+                _ => None,
+            },
         }
     }
 }

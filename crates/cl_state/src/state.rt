@@ -3,6 +3,7 @@
 ghost use Rattle.std.specs.Prelude.{◌≡◌, ◌<◌, vec_len, IfOk, IsOk, IsOkAnd, MatchResult, OnOk};
 ghost use Rattle.rv_memory.specs.Memory.{bytes_at};
 ghost use Rattle.cl_state.specs.Asked.{asked, carried, doing as doing_of, part_of};
+ghost use Rattle.cl_state.specs.Moves.{started_by};
 ghost use Rattle.cl_state.specs.Right.{growth_of};
 ghost use Rattle.cl_state.specs.Told.{told};
 
@@ -119,6 +120,15 @@ impl RankState {
             (λ e. 0 < carried (asked (rank_of self.now) hart)) }
     {
         doing.ask(self.alloc, &self.standing())
+    }
+
+    /// The link whose phase the hart's turn begins, if it starts a partitioned request.
+    #[tactic(auto, unfolding(crate::specs::Moves::started_by))]
+    pub fn starts_next(&self, hart: u8, doing: &Doing) -> Option<u8>
+        requires { IsNext self.now hart doing.now }
+        ensures { result ≡ started_by (rank_of self.now) hart }
+    {
+        doing.starts(&self.requests)
     }
 
     /// A copy of bytes to be put behind the output. No bytes take no memory.
