@@ -1,5 +1,5 @@
 -- A call is checked with as many bytes of output as there are.
-use Rattle.std.proofs.Common.{◌≡◌, ℕ, List, ap, length, sym}
+use Rattle.std.proofs.Common.{◌≡◌, ℕ, ap, length, sym}
 use Rattle.cl_calls.specs.declared.sites.Site.{Site}
 use Rattle.cl_calls.specs.Calls.{call_of}
 use Rattle.cl_calls.specs.Checks.{checks, first_fault}
@@ -13,5 +13,5 @@ pub checked_on : (site : Site) (part : Part) (written : ℕ) → length part.out
     ≡ checked site part
 checked_on site part written same =
     ap (λ (n : ℕ). go_or_refuse
-      (first_fault (checks site part.memory part.requests part.phases n (needs_of (call_of part.hart))))
-      (call_of part.hart)) (sym same)
+    (first_fault (checks site part.memory part.requests part.phases n (needs_of (call_of part.hart))))
+    (call_of part.hart)) (sym same)

@@ -1,5 +1,5 @@
 -- What a turn does that keeps all phases.
-use Rattle.std.proofs.Common.{◌≡◌, ℕ, refl, Bool, true, false, List, [], ◌∷◌, Option, Some, None}
+use Rattle.std.proofs.Common.{◌≡◌, ℕ, refl, Bool, true, false, List, Option, Some, None}
 use Rattle.mp_types.specs.declared.messages.Envelope.{Envelope}
 use Rattle.mp_types.specs.declared.messages.Message.{Message}
 use Rattle.mp_types.specs.declared.replies.Reply.{Reply}
@@ -12,7 +12,6 @@ use Rattle.mp_request.specs.declared.entries.Transfer.{Transfer}
 use Rattle.mp_request.specs.Table.{lowest_free}
 use Rattle.cl_calls.specs.declared.calls.Several.{Several}
 use Rattle.cl_calls.specs.declared.sites.Site.{Site}
-use Rattle.cl_calls.specs.Site.{members, place_of}
 use Rattle.cl_state.specs.declared.asking.Answer.{Answer}
 use Rattle.cl_state.specs.declared.asking.Answer.TheVariants as answer
 use Rattle.cl_state.specs.declared.pending.Manner.{Manner}
@@ -24,9 +23,9 @@ use Rattle.cl_state.specs.declared.row.Row.TheVariants.{OnReply}
 use Rattle.cl_state.specs.declared.row.Wanted.{Wanted}
 use Rattle.cl_state.specs.declared.row.Wanted.TheVariants as wanted
 use Rattle.cl_state.specs.Asked.{Part}
-use Rattle.cl_state.specs.Several.{are_fit, pendings}
 use Rattle.cl_state.specs.Table.{begun}
-use Rattle.cl_state.specs.Told.{arrived, arrived_from, completed_all, done, found, found_at, found_nothing, freed, gathered, gathered_if, not_yet}
+use Rattle.cl_state.specs.Told.{arrived, arrived_from, completed_all, done, found, found_at, found_nothing, freed}
+use Rattle.cl_state.specs.Told.{gathered_if, not_yet}
 use Rattle.cl_state.specs.Told.{opened, opened_at, received, received_from, received_message, replied, told_row}
 
 pub kept_not_yet : (m : Manner) (part : Part) → (not_yet m part).phases ≡ part.phases

@@ -1,54 +1,49 @@
 -- What a turn knows of the phase that it asks about.
-use Rattle.std.proofs.Common.{◌≡◌, ◌<◌, ◌≤◌, ◌+◌, ℕ, zero, suc, refl, ap, sym, ◌∙◌, Bool, true, false, List, [], ◌∷◌, ◌++◌, length}
+use Rattle.std.proofs.Common.{◌≡◌, ◌<◌, ◌+◌, ℕ, zero, suc, refl, ap, sym, ◌∙◌, Bool, true, false, List, [], ◌∷◌, length}
 use Rattle.std.proofs.Common.{length-append, Option, Some, None, IsTrue, arith}
 use Rattle.std.proofs.lemmas.Bool.{ltb-true}
 use Rattle.std.proofs.lemmas.List.{length-replicate, length-take}
-use Rattle.std.specs.Prelude.{◌==◌, ◌*◌, ◌&&◌, if◌then◌else◌, not, is_some, nat_lt, replicate, take, ◌-◌}
+use Rattle.std.specs.Prelude.{◌==◌, ◌*◌, ◌&&◌, if◌then◌else◌, not, nat_lt, replicate, take, ◌-◌}
 use Rattle.rv_memory.specs.Memory.{Memory, bytes_at}
 use Rattle.mp_types.specs.declared.requests.Request.{Request}
-use Rattle.mp_types.specs.declared.requests.Request.TheVariants as request
 use Rattle.mp_request.specs.declared.entries.OpenRequest.{OpenRequest}
 use Rattle.mp_request.specs.declared.entries.Partitions.{Partitions}
 use Rattle.mp_request.specs.declared.entries.State.{State}
 use Rattle.mp_request.specs.declared.entries.State.TheVariants.{Ordinary, Inactive, Active}
 use Rattle.mp_request.specs.declared.entries.Transfer.{Transfer}
 use Rattle.mp_request.specs.declared.entries.Transfer.TheVariants as transfer
-use Rattle.mp_request.specs.Table.{Table, request_at}
+use Rattle.mp_request.specs.Table.{request_at}
 use Rattle.part_phase.specs.declared.phases.Phase.{Phase}
-use Rattle.part_phase.specs.declared.receiving.RecvPhase.{RecvPhase}
-use Rattle.part_phase.specs.declared.sending.SendPhase.{SendPhase}
 use Rattle.part_phase.specs.Limits.{are_parts, box_bytes, is_size}
 use Rattle.part_phase.specs.Phases.{receiving_at, sending_at}
-use Rattle.part_phase.specs.Receiving.{is_left, lowest_from, next_box, next_box_of, overlaps}
+use Rattle.part_phase.specs.Receiving.{is_left, lowest_from, overlaps}
 use Rattle.part_phase.specs.Sending.{all_freed, is_ready, next_to_free}
 use Rattle.rv_image.specs.declared.images.ImageVersion.{ImageVersion}
-use Rattle.rv_image.specs.declared.images.ImageVersion.TheVariants.{One, Two}
 use Rattle.cl_calls.specs.declared.calls.Call.{Call}
 use Rattle.cl_calls.specs.declared.calls.Call.TheVariants as call
-use Rattle.cl_calls.specs.declared.calls.Partitioning.{Partitioning}
 use Rattle.cl_calls.specs.declared.sites.Site.{Site}
 use Rattle.cl_calls.specs.Calls.{no_rank, no_message}
-use Rattle.cl_calls.specs.Checks.{holds_of_sender, is_count, receiving_side, sending_side, is_part, is_going, is_unready}
+use Rattle.cl_calls.specs.Checks.{holds_of_sender, receiving_side, sending_side}
 use Rattle.cl_calls.specs.Handles.{handles_in}
 use Rattle.cl_calls.specs.Needs.{array_at}
-use Rattle.cl_state.specs.declared.asking.Ask.{Ask}
 use Rattle.cl_state.specs.declared.asking.Ask.TheVariants as ask
 use Rattle.cl_state.specs.declared.asking.Doing.{Doing}
 use Rattle.cl_state.specs.declared.asking.Doing.TheVariants.{Step, Refused, Go, Poll, Stopped}
-use Rattle.cl_state.specs.declared.partitions.Awaited.{Awaited}
-use Rattle.cl_state.specs.declared.partitions.Awaited.TheVariants.{Nothing, Unready, Taking, Cut, Box}
+use Rattle.cl_state.specs.declared.partitions.Awaited.TheVariants.{Unready}
 use Rattle.cl_state.specs.declared.pending.Manner.{Manner}
 use Rattle.cl_state.specs.declared.pending.Manner.TheVariants.{Immediate, Blocking, Polling, Posting}
 use Rattle.cl_state.specs.declared.pending.Pending.{Pending}
 use Rattle.cl_state.specs.declared.pending.Pending.TheVariants as pending
-use Rattle.cl_state.specs.Asked.{Part, asked, asked_by, asked_completing, asked_in, asked_poll, asked_start, doing, part_of}
-use Rattle.cl_state.specs.Moves.{AsksReady, Known, KnownLaw}
-use Rattle.cl_state.specs.Partitions.{asked_arrived, asked_awaited, asked_ready, awaited, awaited_at, awaited_by, awaited_in, boxed, taking_of}
+use Rattle.cl_state.specs.Asked.{Part, asked, asked_by, asked_completing, asked_in, asked_poll, asked_start, doing}
+use Rattle.cl_state.specs.Asked.{part_of}
+use Rattle.cl_state.specs.Moves.{Known, KnownLaw}
+use Rattle.cl_state.specs.Partitions.{asked_arrived, asked_awaited, asked_ready, awaited, awaited_at, awaited_by}
+use Rattle.cl_state.specs.Partitions.{awaited_in, boxed, taking_of}
 use Rattle.cl_state.specs.Pending.{asked_pending, pending_in, pending_of}
 use Rattle.cl_state.specs.Several.{asked_all, pendings, posts_of}
 use Rattle.cl_state.specs.Transfers.{asked_transfer, receive_of, send_of}
 use Rattle.cl_state.proofs.Moved.{by_awaited, by_taking}
-use Rattle.cl_state.proofs.Passed.{HasPassed, left_holds, passed, right_holds}
+use Rattle.cl_state.proofs.Passed.{HasPassed, left_holds, passed}
 
 -- ---- the lowest box
 
@@ -99,8 +94,8 @@ known_receiver site memory phases m link passes left =
     tt
     (λ going unknown. record { going = going; unknown = unknown })
     (λ box going is. look box going
-      (found_lowest passes 0 (receiving_at phases link).boxes box
-      (if_active (receiving_at phases link).active (lowest_from passes 0 (receiving_at phases link).boxes) box going is)))
+    (found_lowest passes 0 (receiving_at phases link).boxes box
+    (if_active (receiving_at phases link).active (lowest_from passes 0 (receiving_at phases link).boxes) box going is)))
   where
     look : (box : ℕ) → (receiving_at phases link).active ≡ true
         → (passes box ≡ true) × (box < 0 + (receiving_at phases link).boxes)
@@ -148,8 +143,12 @@ boxed_width : (version : ImageVersion) (bytes : List ℕ) → length (boxed vers
 boxed_width version bytes =
     let kept : List ℕ = take (box_bytes version) bytes in
     let zeros : List ℕ = replicate (box_bytes version - length kept) 0 in
-    omega (arith, length-take (box_bytes version) bytes, length-append kept zeros,
-    length-replicate {A = ℕ} (box_bytes version - length kept) 0)
+    omega (
+      arith,
+      length-take (box_bytes version) bytes,
+      length-append kept zeros,
+      length-replicate {A = ℕ} (box_bytes version - length kept) 0,
+    )
 
 not_true : (b : Bool) → IsTrue (not b) → b ≡ false
 not_true true is = absurd (cc)
@@ -178,7 +177,7 @@ known_arrived site memory phases part (Some side) =
     known_receiver site memory phases Immediate side.link
     (λ box. is_left (receiving_at phases side.link).taken box && overlaps (receiving_at phases side.link) part box)
     (λ box is. left_holds (is_left (receiving_at phases side.link).taken box)
-      (overlaps (receiving_at phases side.link) part box) is)
+    (overlaps (receiving_at phases side.link) part box) is)
 
 -- ---- a turn
 

@@ -1,16 +1,15 @@
 -- What each row does to the phases, by what it asks.
 use Rattle.std.proofs.lemmas.Bool.{eqb-true}
-use Rattle.std.proofs.Common.{◌≡◌, ℕ, refl, ap, sym, subst, Bool, true, false, List, [], ◌∷◌, Option, Some, None, IsTrue}
+use Rattle.std.proofs.Common.{◌≡◌, ℕ, refl, ap, sym, subst, Bool, true, false, List, [], ◌∷◌, Option, Some, None}
+use Rattle.std.proofs.Common.{IsTrue}
 use Rattle.std.specs.Prelude.{◌==◌, ◌+◌, ◌*◌, if◌then◌else◌, is_some, not, slice_get}
 use Rattle.rv_memory.specs.Memory.{Memory, bytes_at}
-use Rattle.mp_types.specs.declared.replies.Reply.{Reply}
 use Rattle.mp_types.specs.declared.replies.Reply.TheVariants as reply
 use Rattle.mp_types.specs.declared.requests.Request.{Request}
 use Rattle.mp_types.specs.declared.requests.Request.TheVariants as request
 use Rattle.mp_request.specs.declared.entries.OpenRequest.{OpenRequest}
 use Rattle.mp_request.specs.declared.entries.Partitions.{Partitions}
-use Rattle.mp_request.specs.declared.entries.Progress.{Progress}
-use Rattle.mp_request.specs.declared.entries.Progress.TheVariants.{Finished, OnPost, InPhase}
+use Rattle.mp_request.specs.declared.entries.Progress.TheVariants.{Finished}
 use Rattle.mp_request.specs.declared.entries.State.{State}
 use Rattle.mp_request.specs.declared.entries.State.TheVariants.{Ordinary, Inactive, Active}
 use Rattle.mp_request.specs.declared.entries.Transfer.{Transfer}
@@ -22,7 +21,6 @@ use Rattle.part_phase.specs.declared.sending.SendPhase.{SendPhase}
 use Rattle.part_phase.specs.Phases.{changed_at, is_unshaped_receiving, is_unshaped_sending, receiving_at, sending_at}
 use Rattle.part_phase.specs.Receiving.{is_cut, next_box, next_box_of}
 use Rattle.part_phase.specs.Sending.{all_freed, is_ready, next_to_free}
-use Rattle.cl_calls.specs.declared.calls.Claimed.{Claimed}
 use Rattle.cl_calls.specs.declared.calls.Completing.{Completing}
 use Rattle.cl_calls.specs.declared.calls.Partitioning.{Partitioning}
 use Rattle.cl_calls.specs.declared.calls.Several.{Several}
@@ -48,13 +46,15 @@ use Rattle.cl_state.specs.declared.row.Wanted.{Wanted}
 use Rattle.cl_state.specs.declared.row.Wanted.TheVariants as wanted
 use Rattle.cl_state.specs.Asked.{Part, asked_completing, asked_start}
 use Rattle.cl_state.specs.Moves.{link_of, link_of_request, moved, moved_by_hub}
-use Rattle.cl_state.specs.Partitions.{asked_awaited, asked_arrived, asked_ready, awaited, awaited_at, awaited_by, awaited_in}
-use Rattle.cl_state.specs.Partitions.{awaited_of_part, box_of, boxed, taking_of}
+use Rattle.cl_state.specs.Partitions.{asked_awaited, asked_arrived, asked_ready, awaited, awaited_at, awaited_by}
+use Rattle.cl_state.specs.Partitions.{awaited_in}
+use Rattle.cl_state.specs.Partitions.{box_of, boxed, taking_of}
 use Rattle.cl_state.specs.Pending.{asked_pending, pending_in, pending_of}
 use Rattle.cl_state.specs.Several.{asked_all}
-use Rattle.cl_state.specs.Table.{begins, completes, completing, gathers, row_arrived, row_awaited, row_completing, row_of_part}
+use Rattle.cl_state.specs.Table.{begins, completes, completing, gathers, row_arrived, row_awaited, row_completing}
+use Rattle.cl_state.specs.Table.{row_of_part}
 use Rattle.cl_state.specs.Table.{row_ready, starts}
-use Rattle.cl_state.specs.Told.{arrived, ended, freed_one, made_side_at, not_yet, part_readied, phase_begun, received, seen_one}
+use Rattle.cl_state.specs.Told.{freed_one, made_side_at, part_readied, phase_begun, seen_one}
 use Rattle.cl_state.specs.Told.{taken_one, told_row}
 use Rattle.cl_state.specs.Transfers.{asked_transfer}
 use Rattle.cl_state.proofs.Kept.{IsPlain, kept_all, kept_arrived, kept_begun, kept_not_yet, kept_received, kept_told}
@@ -133,7 +133,8 @@ moves_begins site part memory now (purpose.Start h) (transfer.ReceiveClaimed buf
 pub moves_starts : (site : Site) (part : Part) (memory : Memory) (handle : ℕ) (o : Option OpenRequest)
     → MovesSo site part (link_of_request o) (starts handle o) (asked_start memory o)
 moves_starts site part memory handle None a = refl
-moves_starts site part memory handle (Some r) a = moves_begins site part memory false (purpose.Start handle) r.transfer a
+moves_starts site part memory handle (Some r) a =
+    moves_begins site part memory false (purpose.Start handle) r.transfer a
 
 -- a receive that waits for its message itself, by whether its source is the null process
 pub moves_receives : (site : Site) (part : Part) (null : Bool) (memory : Memory) (t : Transfer) (x y : Row)
@@ -350,7 +351,8 @@ pub moves_completing : (site : Site) (part : Part) (m : Manner) (c : Completing)
     (asked_completing m (awaited phases o) (pending_of o))
 moves_completing site part m c phases None = moves_completes site part m c pending.Nothing
 moves_completing site part m c phases (Some r) =
-    subst (λ (row : Row). MovesSo site part None row (asked_completing m (awaited phases (Some r)) (pending_of (Some r))))
+    subst (λ (row : Row). MovesSo site part None row
+    (asked_completing m (awaited phases (Some r)) (pending_of (Some r))))
     (row_is m c (awaited phases (Some r)) r)
     (moves_at site part m c phases r.state r.transfer)
 

@@ -1,5 +1,5 @@
 -- A call that goes on has passed its checks.
-use Rattle.std.proofs.Common.{◌≡◌, ℕ, refl, Bool, true, false, List, [], ◌∷◌, ◌++◌, length, Option, Some, None, IsTrue}
+use Rattle.std.proofs.Common.{◌≡◌, refl, Bool, true, false, List, [], ◌∷◌, length, Option, Some, None, IsTrue}
 use Rattle.std.specs.Prelude.{if◌then◌else◌, ◌&&◌}
 use Rattle.rv_memory.specs.Access.{word_at}
 use Rattle.rv_hart.specs.declared.state.Mode.{Mode}

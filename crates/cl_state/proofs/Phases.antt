@@ -1,13 +1,12 @@
 -- What a turn does to the phases of its rank, and what it knows of the phase that it asks about.
-use Rattle.std.proofs.Common.{◌≡◌, ◌<◌, ℕ, refl, ap, Bool, true, false, List, length, Option, Some, None, IsTrue}
+use Rattle.std.proofs.Common.{ℕ, refl, true, false, length, None}
 use Rattle.std.specs.Prelude.{◌==◌, if◌then◌else◌, [], is_some}
-use Rattle.rv_memory.specs.Memory.{Memory}
 use Rattle.mp_request.specs.Table.{lowest_free, request_at}
 use Rattle.cl_calls.specs.declared.calls.Call.{Call}
 use Rattle.cl_calls.specs.declared.calls.Call.TheVariants as call
 use Rattle.cl_calls.specs.declared.sites.Site.{Site}
 use Rattle.cl_calls.specs.Calls.{any, no_rank, no_message}
-use Rattle.cl_calls.specs.Checks.{has_room, has_slot, receiving_side, sending_side}
+use Rattle.cl_calls.specs.Checks.{has_room, receiving_side, sending_side}
 use Rattle.cl_calls.specs.Site.{member}
 use Rattle.cl_calls.specs.Handles.{handles_in}
 use Rattle.cl_calls.specs.Needs.{array_at}
@@ -22,7 +21,7 @@ use Rattle.cl_state.specs.Moves.{MovedLaw, started_by, started_in}
 use Rattle.cl_state.specs.Several.{pendings, posts_of}
 use Rattle.cl_state.specs.Table.{comes, into, nothing_comes, polled, probes, row_in, row_of}
 use Rattle.cl_state.specs.Told.{told}
-use Rattle.cl_state.specs.Transfers.{claimed_of, receive_of, send_of, source_of, tag_of}
+use Rattle.cl_state.specs.Transfers.{receive_of, send_of, source_of, tag_of}
 use Rattle.mp_types.specs.declared.requests.Request.{Request}
 use Rattle.mp_types.specs.declared.requests.Request.TheVariants as request
 use Rattle.mp_request.specs.declared.entries.State.TheVariants.{Inactive}
@@ -34,9 +33,10 @@ use Rattle.cl_state.specs.declared.row.Outcome.TheVariants.{FindsNothing}
 use Rattle.cl_state.specs.declared.row.Wanted.{Wanted}
 use Rattle.cl_state.specs.Pending.{flag}
 use Rattle.cl_state.proofs.Kept.{IsPlain, kept_freed, kept_nothing, kept_opened, kept_received}
-use Rattle.cl_state.proofs.Moved.{IsQuiet, MovesSo, moves_arrived, moves_begins, moves_claimed, moves_completing, moves_gathers, moves_hub}
+use Rattle.cl_state.proofs.Moved.{IsQuiet, MovesSo, moves_arrived, moves_begins, moves_claimed, moves_completing}
+use Rattle.cl_state.proofs.Moved.{moves_gathers, moves_hub}
 use Rattle.cl_state.proofs.Moved.{moves_if, moves_ready, moves_receives, moves_receiving, moves_sending, moves_starts}
-use Rattle.cl_state.proofs.Passed.{HasPassed, left_holds, passed, right_holds}
+use Rattle.cl_state.proofs.Passed.{HasPassed, passed, right_holds}
 
 abbrev pub MovesCall : Site → ℕ → Part → Call → Type 0
 MovesCall site hart part c =
@@ -77,11 +77,14 @@ moves_call site hart part (call.Test c) passed =
     moves_completing site part Immediate c part.phases (request_at part.requests c.handle)
 moves_call site hart part (call.Wait c) passed =
     moves_completing site part Blocking c part.phases (request_at part.requests c.handle)
-moves_call site hart part (call.Iprobe p) passed = moves_probes site part Immediate p (flag Immediate) (wanted.Sight (flag Immediate) p.status)
+moves_call site hart part (call.Iprobe p) passed =
+    moves_probes site part Immediate p (flag Immediate) (wanted.Sight (flag Immediate) p.status)
     (request.Probe p.comm (source_of site p.comm p.source) (tag_of p.tag)) tt tt
-moves_call site hart part (call.Probe p) passed = moves_probes site part Blocking p (flag Blocking) (wanted.Sight (flag Blocking) p.status)
+moves_call site hart part (call.Probe p) passed =
+    moves_probes site part Blocking p (flag Blocking) (wanted.Sight (flag Blocking) p.status)
     (request.Probe p.comm (source_of site p.comm p.source) (tag_of p.tag)) tt tt
-moves_call site hart part (call.Improbe p) passed = moves_probes site part Immediate p no_message (wanted.Claim p.status)
+moves_call site hart part (call.Improbe p) passed =
+    moves_probes site part Immediate p no_message (wanted.Claim p.status)
     (request.Claim p.comm (source_of site p.comm p.source) (tag_of p.tag)) tt tt
 moves_call site hart part (call.Mprobe p) passed = moves_probes site part Blocking p no_message (wanted.Claim p.status)
     (request.Claim p.comm (source_of site p.comm p.source) (tag_of p.tag)) tt tt
@@ -108,10 +111,12 @@ moves_call site hart part (call.Waitall s) passed =
     (posts_of (pendings part.requests (handles_in part.memory (array_at s.array s.count))))
 moves_call site hart part (call.PsendInit t) passed =
     moves_sending site part t t.comm (member site t.comm t.peer) t.tag
-    (right_holds (has_room (length part.out) 0) (is_some (lowest_free part.requests)) passed.1.1.1.1.1.1.1.1.1.1.1.1.1.0)
+    (right_holds (has_room (length part.out) 0) (is_some (lowest_free part.requests))
+    passed.1.1.1.1.1.1.1.1.1.1.1.1.1.0)
 moves_call site hart part (call.PrecvInit t) passed =
     moves_receiving site part t t.comm (member site t.comm t.peer) t.tag
-    (right_holds (has_room (length part.out) 0) (is_some (lowest_free part.requests)) passed.1.1.1.1.1.1.1.1.1.1.1.1.1.0)
+    (right_holds (has_room (length part.out) 0) (is_some (lowest_free part.requests))
+    passed.1.1.1.1.1.1.1.1.1.1.1.1.1.0)
 moves_call site hart part (call.Pready handle ready) passed =
     moves_ready site part ready (sending_side (request_at part.requests handle))
 moves_call site hart part (call.Parrived handle asked) passed =

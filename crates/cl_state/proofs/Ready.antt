@@ -33,7 +33,8 @@ use Rattle.cl_calls.specs.Checks.{receiving_side, sending_side}
 use Rattle.cl_state.specs.declared.pending.Target.{Target}
 use Rattle.cl_state.specs.Partitions.{awaited, awaited_at, awaited_by, awaited_by_sender, awaited_in}
 use Rattle.cl_state.specs.Pending.{pending_of}
-use Rattle.cl_state.specs.Table.{begins, begins_phase, begun, completes, completing, gathers, holds, polled, row_arrived}
+use Rattle.cl_state.specs.Table.{begins, begins_phase, begun, completes, completing, gathers, holds, polled}
+use Rattle.cl_state.specs.Table.{row_arrived}
 use Rattle.cl_state.specs.Table.{row_awaited, row_completing, row_of_part, row_ready, starts}
 use Rattle.cl_state.proofs.Moved.{by_awaited, by_taking, row_by, row_is}
 use Rattle.cl_state.specs.Transfers.{send_of, receive_of, claimed_of}

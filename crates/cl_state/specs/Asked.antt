@@ -32,7 +32,8 @@ use Rattle.cl_state.specs.declared.pending.Pending.{Pending}
 use Rattle.cl_state.specs.Rank.{Rank}
 use Rattle.cl_state.specs.Transfers.{source_of, tag_of, send_of, receive_of, asked_transfer, asked_claimed}
 use Rattle.cl_state.specs.Pending.{pending_of, asked_pending}
-use Rattle.cl_state.specs.Partitions.{awaited, asked_awaited, asked_ready, asked_arrived, asked_sending, asked_receiving}
+use Rattle.cl_state.specs.Partitions.{awaited, asked_awaited, asked_ready, asked_arrived, asked_sending}
+use Rattle.cl_state.specs.Partitions.{asked_receiving}
 use Rattle.cl_state.specs.Several.{pendings, posts_of, asked_all}
 
 -- what one hart's turn may change of its rank, but for the clock

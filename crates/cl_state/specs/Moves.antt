@@ -1,5 +1,6 @@
 -- What a turn does to the phases of its rank, by what was asked and answered: at most one link's phase changes.
-use Rattle.std.specs.Prelude.{◌≡◌, ◌<◌, ℕ, if◌then◌else◌, List, length, slice_get, Option, Some, None, IsTrue, true, false, not}
+use Rattle.std.specs.Prelude.{◌≡◌, ◌<◌, ℕ, if◌then◌else◌, List, length, slice_get, Option, Some, None, IsTrue, true}
+use Rattle.std.specs.Prelude.{false, not}
 use Rattle.rv_memory.specs.Memory.{Memory, bytes_at}
 use Rattle.mp_types.specs.declared.replies.Reply.TheVariants as reply
 use Rattle.mp_types.specs.declared.requests.Request.{Request}
@@ -12,7 +13,8 @@ use Rattle.part_phase.specs.declared.phases.Phase.{Phase}
 use Rattle.part_phase.specs.declared.receiving.RecvPhase.{RecvPhase}
 use Rattle.part_phase.specs.declared.sending.SendPhase.{SendPhase}
 use Rattle.part_phase.specs.Limits.{are_parts, box_bytes, is_size}
-use Rattle.part_phase.specs.Phases.{begun, changed_at, is_unshaped_receiving, is_unshaped_sending, on_receiving, on_sending, receiving_at, sending_at}
+use Rattle.part_phase.specs.Phases.{begun, changed_at, is_unshaped_receiving, is_unshaped_sending, on_receiving}
+use Rattle.part_phase.specs.Phases.{on_sending, receiving_at, sending_at}
 use Rattle.part_phase.specs.Receiving.{cut_into, is_cut, is_left, one_taken, shaped_receiving}
 use Rattle.part_phase.specs.Sending.{all_freed, is_ready, next_to_free, one_freed, readied, shaped_sending}
 use Rattle.cl_calls.specs.declared.calls.Call.TheVariants as call

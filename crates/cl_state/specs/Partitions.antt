@@ -19,7 +19,6 @@ use Rattle.part_phase.specs.Sending.{is_ready, next_to_free}
 use Rattle.cl_calls.specs.declared.calls.Partitioning.{Partitioning}
 use Rattle.cl_calls.specs.declared.sites.Site.{Site}
 use Rattle.cl_calls.specs.Site.{member}
-use Rattle.cl_calls.specs.Checks.{sending_side, receiving_side}
 use Rattle.cl_state.specs.declared.asking.Ask.{Ask}
 use Rattle.cl_state.specs.declared.asking.Ask.TheVariants as ask
 use Rattle.cl_state.specs.declared.partitions.Awaited.{Awaited}

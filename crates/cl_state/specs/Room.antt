@@ -1,5 +1,5 @@
 -- What contracts see of a running rank, and the room that a turn needs.
-use Rattle.std.specs.Prelude.{◌≡◌, ◌<◌, ◌≤◌, ℕ, ◌+◌, [], get_or, vec_len, vec_capacity}
+use Rattle.std.specs.Prelude.{◌≡◌, ◌<◌, ◌≤◌, ℕ, ◌+◌, get_or, vec_len, vec_capacity}
 use Rattle.cl_calls.specs.declared.checking.Standing.{Standing}
 use Rattle.cl_state.specs.Asked.{doing, no_hart, part_of}
 use Rattle.cl_state.specs.Rank.{Rank}

@@ -1,5 +1,6 @@
 -- The rank after the answer. A reply that isn't one for its request is told as the code BadRequest.
-use Rattle.std.specs.Prelude.{ℕ, ◌+◌, ◌*◌, ◌==◌, if◌then◌else◌, List, [], ◌++◌, length, take, set, slice_get, Option, Some, None}
+use Rattle.std.specs.Prelude.{ℕ, ◌+◌, ◌*◌, ◌==◌, if◌then◌else◌, List, [], ◌++◌, length, take, set, slice_get, Option}
+use Rattle.std.specs.Prelude.{Some, None}
 use Rattle.std.specs.Prelude.{Bool, true, false, nat_lt, is_some}
 use Rattle.rv_memory.specs.Memory.{Memory, bytes_of, bytes_at}
 use Rattle.rv_hart.specs.State.{State, write, at_pc, in_mode}
@@ -21,7 +22,8 @@ use Rattle.mp_request.specs.declared.entries.State.TheVariants.{Inactive}
 use Rattle.mp_request.specs.declared.entries.Transfer.{Transfer}
 use Rattle.mp_request.specs.declared.entries.Transfer.TheVariants.{SendPartitions, ReceivePartitions}
 use Rattle.part_phase.specs.declared.phases.Phase.{Phase}
-use Rattle.part_phase.specs.Phases.{sending_at, receiving_at, changed_at, on_sending, on_receiving, begun as begun_phase}
+use Rattle.part_phase.specs.Phases.{sending_at, receiving_at, changed_at, on_sending, on_receiving}
+use Rattle.part_phase.specs.Phases.{begun as begun_phase}
 use Rattle.part_phase.specs.Phases.{is_unshaped_sending, is_unshaped_receiving}
 use Rattle.part_phase.specs.Receiving.{shaped_receiving, is_cut, cut_into, next_box_of, one_taken}
 use Rattle.part_phase.specs.Sending.{shaped_sending, all_freed, readied, one_freed}
@@ -180,14 +182,14 @@ abbrev pub made_sending : Site → Partitioning → ℕ → Part → Part
 made_sending site t link part =
     if is_unshaped_sending (slice_get part.phases link)
     then made_side_at (lowest_free part.requests) (SendPartitions (side_on site t link)) link
-        (on_sending (shaped_sending t.parts t.size)) part
+    (on_sending (shaped_sending t.parts t.size)) part
     else ended code.BadRequest 0 part
 
 abbrev pub made_receiving : Site → Partitioning → ℕ → Part → Part
 made_receiving site t link part =
     if is_unshaped_receiving (slice_get part.phases link)
     then made_side_at (lowest_free part.requests) (ReceivePartitions (side_on site t link)) link
-        (on_receiving (shaped_receiving t.parts t.size)) part
+    (on_receiving (shaped_receiving t.parts t.size)) part
     else ended code.BadRequest 0 part
 
 -- a cut fits that leaves the receiver's total, inside the limits. It is kept, and nothing has come yet

@@ -11,7 +11,8 @@ use Rattle.cl_calls.specs.Handles.{handles_in}
 use Rattle.cl_calls.specs.Needs.{array_at}
 use Rattle.cl_state.specs.declared.asking.Doing.{Doing}
 use Rattle.cl_state.specs.declared.row.Outcome.{Outcome}
-use Rattle.cl_state.specs.declared.row.Outcome.TheVariants.{Steps, Puts, Opens, Starts, Frees, CompletesAll, BeginsPhase}
+use Rattle.cl_state.specs.declared.row.Outcome.TheVariants.{Steps, Puts, Opens, Starts, Frees, CompletesAll}
+use Rattle.cl_state.specs.declared.row.Outcome.TheVariants.{BeginsPhase}
 use Rattle.cl_state.specs.declared.row.Purpose.TheVariants.{Start}
 use Rattle.cl_state.specs.declared.row.Row.{Row}
 use Rattle.cl_state.specs.declared.row.Row.TheVariants.{AtOnce, OnReply, OnBox}

@@ -143,8 +143,8 @@ impl Doing {
     }
 }
 
-/// Where a partition or box stands: so many sizes behind the buffer. One past all addresses is at the last of them, where no
-/// memory is.
+/// Where a partition or box stands: so many sizes behind the buffer. One past all addresses is at the last of them,
+/// where no memory is.
 pub(crate) fn place_at(buffer: u64, part: u8, size: u8) -> u64
     ensures { result ≡ min (buffer + part * size) (2 ^ 64 - 1) }
 {

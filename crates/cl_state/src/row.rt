@@ -83,13 +83,29 @@ pub enum Wanted {
 #[derive(Clone, Copy, Drop)]
 pub enum Visit {
     /// A partition is made ready.
-    Readies { link: u8, part: u8 },
+    Readies {
+        link: u8,
+        part: u8,
+    },
     /// A partition may be found taken; with the last one the request completes.
-    Frees { manner: Manner, link: u8, target: Target },
+    Frees {
+        manner: Manner,
+        link: u8,
+        target: Target,
+    },
     /// A box may be taken; with the last one the request completes.
-    Takes { manner: Manner, side: Partitions, part: u8, target: Target },
+    Takes {
+        manner: Manner,
+        side: Partitions,
+        part: u8,
+        target: Target,
+    },
     /// A box may be taken; the value tells whether that was the last one which this partition overlaps.
-    Sees { side: Partitions, part: u8, asked: u8 },
+    Sees {
+        side: Partitions,
+        part: u8,
+        asked: u8,
+    },
 }
 
 /// What a turn does.

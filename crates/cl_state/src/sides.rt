@@ -83,7 +83,8 @@ impl<'a> Turn<'a> {
         };
         match self.requests.open(request) {
             Ok(handle) => {
-                self.phases.shape_receiving(link, t.parts as u8, t.size as u8);
+                self.phases
+                    .shape_receiving(link, t.parts as u8, t.size as u8);
                 self.end(Code::Ok, u64::from(handle))
             }
             Err(_) => self.end(Code::Full, 0),
@@ -137,7 +138,13 @@ impl<'a> Turn<'a> {
             Some(source) => {
                 let _ = self.requests.complete(target.handle);
                 let count = u64::from(side.parts) * u64::from(side.size);
-                write_status(self.memory, target.status, source, u64::from(side.tag), count);
+                write_status(
+                    self.memory,
+                    target.status,
+                    source,
+                    u64::from(side.tag),
+                    count,
+                );
                 self.end(Code::Ok, target.value)
             }
         }

@@ -144,7 +144,8 @@ no_all_arrived phases part None posts hub = cc
 no_all_arrived phases part (Some side) posts hub =
     no_all_awaited Immediate (awaited_of_part side.link (receiving_at phases side.link) part) posts hub
 
-few_call : (site : Site) (memory : Memory) (table : Table) (phases : List Phase) (c : Call) (posts : List ℕ) → HasFew (Go c)
+few_call : (site : Site) (memory : Memory) (table : Table) (phases : List Phase) (c : Call) (posts : List ℕ)
+    → HasFew (Go c)
     → asked_by site memory table phases c ≡ ask.Hub (request.All posts) → length posts ≤ 255
 few_call site memory table phases (call.Send s) posts few hub =
     absurd (no_all_transfer memory true (send_of site false s) posts hub)

@@ -14,7 +14,7 @@ use Rattle.mp_request.specs.declared.entries.OpenRequest.{OpenRequest}
 use Rattle.mp_request.specs.declared.entries.Partitions.{Partitions}
 use Rattle.mp_request.specs.declared.entries.Transfer.{Transfer}
 use Rattle.mp_request.specs.declared.entries.Transfer.TheVariants as transfer
-use Rattle.mp_request.specs.Table.{Table, request_at}
+use Rattle.mp_request.specs.Table.{request_at}
 use Rattle.part_phase.specs.declared.phases.Phase.{Phase}
 use Rattle.part_phase.specs.Phases.{receiving_at, sending_at}
 use Rattle.cl_calls.specs.declared.calls.Call.{Call}
@@ -26,20 +26,19 @@ use Rattle.cl_calls.specs.Checks.{receiving_side, sending_side}
 use Rattle.cl_calls.specs.Handles.{handles_in}
 use Rattle.cl_calls.specs.Needs.{array_at}
 use Rattle.cl_state.specs.declared.asking.Answer.TheVariants as answer
-use Rattle.cl_state.specs.declared.asking.Ask.{Ask}
 use Rattle.cl_state.specs.declared.asking.Ask.TheVariants as ask
 use Rattle.cl_state.specs.declared.asking.Doing.{Doing}
 use Rattle.cl_state.specs.declared.asking.Doing.TheVariants.{Step, Refused, Go, Poll, Stopped}
 use Rattle.cl_state.specs.declared.partitions.Awaited.{Awaited}
-use Rattle.cl_state.specs.declared.partitions.Awaited.TheVariants.{Nothing, Unready, Taking, Cut, Box}
+use Rattle.cl_state.specs.declared.partitions.Awaited.TheVariants.{Unready}
 use Rattle.cl_state.specs.declared.pending.Manner.{Manner}
 use Rattle.cl_state.specs.declared.pending.Manner.TheVariants.{Immediate, Blocking, Polling, Posting}
 use Rattle.cl_state.specs.declared.pending.Pending.{Pending}
 use Rattle.cl_state.specs.declared.pending.Pending.TheVariants as pending
 use Rattle.cl_state.specs.declared.pending.Target.{Target}
 use Rattle.cl_state.specs.declared.row.Row.{Row}
-use Rattle.cl_state.specs.declared.row.Row.TheVariants.{AtOnce, OnReply, OnBox}
-use Rattle.cl_state.specs.Asked.{Part, asked, asked_by, asked_completing, asked_in, asked_poll, asked_start, doing, part_of}
+use Rattle.cl_state.specs.Asked.{Part, asked, asked_by, asked_completing, asked_in, asked_poll, asked_start, doing}
+use Rattle.cl_state.specs.Asked.{part_of}
 use Rattle.cl_state.specs.Partitions.{asked_arrived, asked_awaited, asked_ready, awaited, awaited_at, awaited_by}
 use Rattle.cl_state.specs.Partitions.{awaited_in, taking_of}
 use Rattle.cl_state.proofs.Moved.{by_awaited, by_taking, row_by, row_is}
@@ -112,8 +111,8 @@ looks_by : (phases : List Phase) (m : Manner) (c : Completing) (t : Transfer) (p
 looks_by phases m c (transfer.SendPartitions side) p look =
     looks_sender m side (completing m c 0 0) (sending_at phases side.link) look
 looks_by phases m c (transfer.ReceivePartitions side) p look =
-    looks_receiver m side (completing m c 0 0) (receiving_at phases side.link) (next_box (receiving_at phases side.link))
-    look
+    looks_receiver m side (completing m c 0 0) (receiving_at phases side.link)
+    (next_box (receiving_at phases side.link)) look
 looks_by phases m c transfer.SendToNull p look = absurd (no_look_pending p look)
 looks_by phases m c transfer.ReceiveFromNull p look = absurd (no_look_pending p look)
 looks_by phases m c (transfer.Send sync buffer count dest tag comm) p look = absurd (no_look_pending p look)
@@ -171,13 +170,17 @@ looks_call site hart part (call.Isend s) look = absurd (no_look part.memory fals
 looks_call site hart part (call.Issend s) look = absurd (no_look part.memory false (send_of site true s) look)
 looks_call site hart part (call.Irecv r) look = absurd (no_look part.memory false (receive_of site r) look)
 looks_call site hart part (call.Iprobe p) look =
-    absurd (no_look_if (p.source == no_rank) (request.Probe p.comm (source_of site p.comm p.source) (tag_of p.tag)) look)
+    absurd (no_look_if (p.source == no_rank)
+    (request.Probe p.comm (source_of site p.comm p.source) (tag_of p.tag)) look)
 looks_call site hart part (call.Probe p) look =
-    absurd (no_look_if (p.source == no_rank) (request.Probe p.comm (source_of site p.comm p.source) (tag_of p.tag)) look)
+    absurd (no_look_if (p.source == no_rank)
+    (request.Probe p.comm (source_of site p.comm p.source) (tag_of p.tag)) look)
 looks_call site hart part (call.Improbe p) look =
-    absurd (no_look_if (p.source == no_rank) (request.Claim p.comm (source_of site p.comm p.source) (tag_of p.tag)) look)
+    absurd (no_look_if (p.source == no_rank)
+    (request.Claim p.comm (source_of site p.comm p.source) (tag_of p.tag)) look)
 looks_call site hart part (call.Mprobe p) look =
-    absurd (no_look_if (p.source == no_rank) (request.Claim p.comm (source_of site p.comm p.source) (tag_of p.tag)) look)
+    absurd (no_look_if (p.source == no_rank)
+    (request.Claim p.comm (source_of site p.comm p.source) (tag_of p.tag)) look)
 looks_call site hart part (call.Imrecv m) look =
     absurd (no_look_if (m.message == no_message) (request.Claimed false m.message) look)
 looks_call site hart part (call.Mrecv m status) look =

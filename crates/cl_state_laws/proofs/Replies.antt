@@ -43,7 +43,7 @@ use Rattle.cl_state.specs.Pending.{asked_pending, pending_of}
 use Rattle.cl_state.specs.Several.{asked_all, pendings, posts_of}
 use Rattle.cl_state.specs.Table.{begins, completes, completing, gathers, row_arrived, row_awaited, row_completing}
 use Rattle.cl_state.specs.Table.{row_in, row_of, row_of_part, row_ready, starts}
-use Rattle.cl_state.specs.Told.{ended, told, told_in, told_row, with_part}
+use Rattle.cl_state.specs.Told.{ended, told, told_row, with_part}
 use Rattle.cl_state.specs.Transfers.{asked_transfer, receive_of, send_of}
 use Rattle.cl_state_laws.specs.Laws.{HubRefusalLaw, NotYetLaw}
 
@@ -160,8 +160,10 @@ call_waits site hart memory table phases (call.Improbe p) r hub = either_waits (
 call_waits site hart memory table phases (call.Mprobe p) r hub = either_waits (p.source == no_rank) _ r _ _ tt hub
 call_waits site hart memory table phases (call.Imrecv m) r hub =
     claimed_waits (m.message == no_message) m.buffer m.capacity _ r hub
-call_waits site hart memory table phases (call.Mrecv m status) r hub = either_waits (m.message == no_message) _ r _ _ tt hub
-call_waits site hart memory table phases (call.Start handle) r hub = starts_waits memory handle (request_at table handle) r hub
+call_waits site hart memory table phases (call.Mrecv m status) r hub =
+    either_waits (m.message == no_message) _ r _ _ tt hub
+call_waits site hart memory table phases (call.Start handle) r hub =
+    starts_waits memory handle (request_at table handle) r hub
 call_waits site hart memory table phases (call.Testall s) r hub =
     gathers_waits Immediate s (posts_of (pendings table (handles_in memory (array_at s.array s.count)))) r hub
 call_waits site hart memory table phases (call.Waitall s) r hub =
@@ -218,5 +220,6 @@ unfolding told asked
 kept_not_yet_told rank hart request stamp hub =
     let kept =
     row_kept rank.site _ (part_of rank hart)
-    (turn_waits rank.site hart rank.memory rank.requests rank.phases (doing rank.site (part_of rank hart)) request hub) in
+    (turn_waits rank.site hart rank.memory rank.requests rank.phases
+    (doing rank.site (part_of rank hart)) request hub) in
     record { memory = kept.memory; requests = kept.requests; phases = kept.phases; out = kept.out }

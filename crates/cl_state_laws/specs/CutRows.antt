@@ -1,10 +1,9 @@
 -- A transfer that its two sides cut differently, as in a worked row: the sender 3 of 64 bytes, the receiver 2 of 96.
-use Rattle.std.specs.Prelude.{◌≡◌, ℕ, List, [], ◌∷◌, ◌++◌, replicate, take, drop, Bool, Option, true, false}
+use Rattle.std.specs.Prelude.{◌≡◌, ℕ, List, [], ◌∷◌, ◌++◌, replicate, Bool, true, false}
 use Rattle.rv_image.specs.declared.images.ImageVersion.TheVariants.{Two}
 use Rattle.rv_memory.specs.Memory.{Memory}
 use Rattle.mp_types.specs.declared.replies.Reply.TheVariants as reply
 use Rattle.mp_types.specs.declared.requests.Request.TheVariants as request
-use Rattle.mp_request.specs.declared.entries.OpenRequest.{OpenRequest}
 use Rattle.mp_request.specs.declared.entries.Partitions.{Partitions}
 use Rattle.mp_request.specs.declared.entries.Progress.TheVariants.{InPhase}
 use Rattle.mp_request.specs.declared.entries.Transfer.TheVariants.{ReceivePartitions}
@@ -115,7 +114,8 @@ TakenRow =
 -- a cut of another total ends the call with code 6, and isn't kept; one that isn't known yet gives flag 0
 abbrev pub UnfitCutRow : Type 0
 UnfitCutRow =
-    (told (uncut 1) 0 (Answer.Reply (reply.Cut 3 72)) 9 ≡ ended_in (receiver fresh (taking true 0 0 none_taken) [] 43) 6 0 [] 43)
+    (told (uncut 1) 0 (Answer.Reply (reply.Cut 3 72)) 9
+    ≡ ended_in (receiver fresh (taking true 0 0 none_taken) [] 43) 6 0 [] 43)
     × (told (uncut 1) 0 (Answer.Reply (reply.Cut 17 64)) 9
     ≡ ended_in (receiver fresh (taking true 0 0 none_taken) [] 43) 6 0 [] 43)
     × (told (uncut 1) 0 (Answer.Reply reply.NotYet) 9

@@ -1,22 +1,20 @@
 -- Worked rows of partitioned calls (MPI 4.1, chapter 4): what each asks and is told.
-use Rattle.std.specs.Prelude.{◌≡◌, ℕ, ◌-◌, List, [], ◌∷◌, ◌++◌, drop, map, replicate, take, Bool, Option, Some, None, true, false}
+use Rattle.std.specs.Prelude.{◌≡◌, ℕ, ◌-◌, List, [], ◌∷◌, ◌++◌, drop, replicate, take, Bool, Option, true, false}
 use Rattle.rv_image.specs.declared.images.ImageVersion.{ImageVersion}
-use Rattle.rv_image.specs.declared.images.ImageVersion.TheVariants.{One, Two}
+use Rattle.rv_image.specs.declared.images.ImageVersion.TheVariants.{One}
 use Rattle.rv_image.specs.declared.images.Link.{Link}
 use Rattle.rv_memory.specs.Memory.{Memory}
 use Rattle.rv_hart.specs.declared.state.Mode.TheVariants.{Waiting}
 use Rattle.rv_hart.specs.declared.state.Wait.TheVariants.{Again}
-use Rattle.mp_types.specs.declared.replies.Reply.{Reply}
 use Rattle.mp_types.specs.declared.replies.Reply.TheVariants as reply
 use Rattle.mp_types.specs.declared.requests.Request.TheVariants as request
 use Rattle.mp_request.specs.declared.entries.OpenRequest.{OpenRequest}
 use Rattle.mp_request.specs.declared.entries.Partitions.{Partitions}
 use Rattle.mp_request.specs.declared.entries.Progress.TheVariants.{InPhase}
-use Rattle.mp_request.specs.declared.entries.Transfer.TheVariants.{SendPartitions, ReceivePartitions}
+use Rattle.mp_request.specs.declared.entries.Transfer.TheVariants.{SendPartitions}
 use Rattle.mp_request.specs.Table.{Table, no_requests}
 use Rattle.part_phase.specs.declared.phases.Phase.{Phase}
-use Rattle.part_phase.specs.declared.phases.Phase.TheVariants.{Sending, Receiving}
-use Rattle.part_phase.specs.Receiving.{unshaped_receiving}
+use Rattle.part_phase.specs.declared.phases.Phase.TheVariants.{Sending}
 use Rattle.part_phase.specs.Sending.{none_marked, unshaped_sending}
 use Rattle.cl_calls.specs.declared.sites.Site.{Site}
 use Rattle.cl_state.specs.declared.asking.Answer.{Answer}
@@ -25,7 +23,7 @@ use Rattle.cl_state.specs.Rank.{Rank, below}
 use Rattle.cl_state.specs.Asked.{asked}
 use Rattle.cl_state.specs.Told.{told}
 use Rattle.cl_state.specs.Rows.{calling}
-use Rattle.cl_state_laws.specs.CallRows.{behind, status_bytes}
+use Rattle.cl_state_laws.specs.CallRows.{behind}
 use Rattle.cl_state_laws.specs.RequestRows.{active, empty_status, inactive, table_of}
 
 -- ---- a small rank with links
@@ -101,7 +99,8 @@ ReadyRow =
     × (told (pready (false ∷ false ∷ false ∷ false ∷ []) 3) 0 Answer.Alone 9
     ≡ readied (false ∷ false ∷ false ∷ true ∷ []))
     × (asked (pready (false ∷ false ∷ false ∷ true ∷ []) 0) 0 ≡ Ask.Ready 0 0 (box_of 16))
-    × (told (pready (false ∷ false ∷ false ∷ true ∷ []) 0) 0 Answer.Alone 9 ≡ readied (true ∷ false ∷ false ∷ true ∷ []))
+    × (told (pready (false ∷ false ∷ false ∷ true ∷ []) 0) 0 Answer.Alone 9
+    ≡ readied (true ∷ false ∷ false ∷ true ∷ []))
     × (asked (pready (true ∷ false ∷ false ∷ true ∷ []) 2) 0 ≡ Ask.Ready 0 2 (box_of 32))
     × (told (pready (true ∷ false ∷ false ∷ true ∷ []) 2) 0 Answer.Alone 9 ≡ readied (true ∷ false ∷ true ∷ true ∷ []))
     × (told (pready (true ∷ false ∷ true ∷ true ∷ []) 1) 0 Answer.Alone 9 ≡ readied (true ∷ true ∷ true ∷ true ∷ []))
@@ -131,7 +130,8 @@ testing ready freed = sender ready freed (1 ∷ 0 ∷ []) 22
 abbrev pub waiting : List Bool → ℕ → Rank
 waiting ready freed = sender ready freed (1 ∷ 0 ∷ []) 23
 
--- each touches the lowest partition alone that isn't freed; where that isn't ready TEST is a local call and WAIT is held
+-- each touches the lowest partition alone that isn't freed; where
+-- that isn't ready TEST is a local call and WAIT is held
 abbrev pub FreedRow : Type 0
 FreedRow =
     (asked (testing all_ready 1) 0 ≡ Ask.Freed 0 1)

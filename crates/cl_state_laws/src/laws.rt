@@ -41,14 +41,14 @@ pub fn miss_law()
     ensures { MissLaw }
 {}
 
-/// What a turn does to the phases of its rank, by what was asked and answered: at most one link's changes, which begins,
-/// has its shape or its cut, or has one partition ready, freed or taken.
+/// What a turn does to the phases of its rank, by what was asked and answered: at most one link's changes, which
+/// begins, has its shape or its cut, or has one partition ready, freed or taken.
 pub fn phases_law()
     ensures { MovedLaw }
 {}
 
-/// What is known of the phase that a turn asks about: a partition is made ready once in a phase; TEST and WAIT ask after the
-/// lowest partition that isn't freed, and after boxes that aren't taken; a shape is inside the limits.
+/// What is known of the phase that a turn asks about: a partition is made ready once in a phase; TEST and WAIT ask
+/// after the lowest partition that isn't freed, and after boxes that aren't taken; a shape is inside the limits.
 pub fn questions_law()
     ensures { KnownLaw }
 {}
