@@ -1,4 +1,5 @@
--- The table of calls: one row a call, with what it does at once, or the reply that it wants of the hub.
+-- The table of calls: one row a call, with what it does at once, the reply that it wants of the hub, or the box that it
+-- asks.
 use Rattle.std.specs.Prelude.{ℕ, ◌==◌, if◌then◌else◌, List, length, Option, Some, None, true, false}
 use Rattle.std.specs.Option.{unwrap_or}
 use Rattle.rv_memory.specs.Memory.{Memory}

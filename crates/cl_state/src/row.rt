@@ -1,4 +1,4 @@
-//! A row of the table of calls: what a turn does at once, or which reply it wants and what that does.
+//! A row of the table of calls: what a turn does at once, or which reply or box it wants and what that does.
 
 use crate::pending::{Manner, Target};
 use cl_calls::{Partitioning, Several};

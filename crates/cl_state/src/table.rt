@@ -1,4 +1,5 @@
-//! The table of calls: one row a call, with what it does at once, or the reply that it wants of the hub.
+//! The table of calls: one row a call, with what it does at once, the reply that it wants of the hub, or the box that
+//! it asks.
 
 ghost use Rattle.std.specs.Prelude.{◌≡◌};
 ghost use Rattle.mp_request.specs.Table.{request_at};

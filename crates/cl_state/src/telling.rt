@@ -1,4 +1,4 @@
-//! What an answer does to a hart, the memory, the requests and the output.
+//! What an answer does to a hart, the memory, the requests, the phases and the output.
 
 ghost use Rattle.std.specs.Prelude.{◌≡◌, ◌≤◌, ◌+◌, length, vec_capacity, vec_len};
 ghost use Rattle.cl_state.specs.Right.{IsChecked, IsRunning, output_of};
