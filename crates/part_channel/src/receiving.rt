@@ -9,7 +9,7 @@ ghost use Rattle.part_channel.specs.Channels.{receiver_box};
 ghost use Rattle.part_channel.specs.Sending.{none_marked};
 ghost use Rattle.part_channel.specs.Receiving.{new_recv_side, awaited, lowest_from, is_left, next_box, overlaps};
 ghost use Rattle.part_channel.specs.Receiving.{next_box_of, HasArrived, take_refusal, took, shown_take, take_stamp};
-ghost use Rattle.part_channel.specs.Receiving.{HasGot};
+ghost use Rattle.part_channel.specs.Receiving.{IsRecvSide, HasGot};
 
 use crate::channel::Channel;
 use crate::lanes::try_take;
@@ -127,7 +127,10 @@ impl RecvSide {
 
     /// The lowest box that isn't taken in this phase. None between phases, and while the sender's cut isn't known.
     pub fn next(&self) -> Option<u8>
-        ensures { result ≡ next_box self.now }
+        ensures lowest { result ≡ next_box self.now }
+        // Whoever asks knows what a side keeps.
+        ensures kept { IsRecvSide self.now.keys self.now.parts self.now.size self.now.boxes self.now.bytes self.now.active
+            self.now.taken }
     {
         if self.active {
             lowest(&self.taken, self.boxes)

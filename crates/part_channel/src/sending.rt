@@ -6,7 +6,7 @@ ghost use Rattle.part_box.specs.Keys.{BoxId, new_sender};
 ghost use Rattle.part_channel.specs.Channels.{sender_box};
 ghost use Rattle.part_channel.specs.Words.{words_of};
 ghost use Rattle.part_channel.specs.Sending.{new_send_side, shaped, begun, next_to_free, ready_refusal, readied};
-ghost use Rattle.part_channel.specs.Sending.{HasMade, tested, test_progress, none_marked, IsPast, IsTold};
+ghost use Rattle.part_channel.specs.Sending.{IsSendSide, HasMade, tested, test_progress, none_marked, IsPast, IsTold};
 
 use crate::channel::Channel;
 use crate::lanes::{above, put};
@@ -98,7 +98,9 @@ impl SendSide {
 
     /// The lowest partition of this phase that isn't freed. None between phases.
     pub fn next(&self) -> Option<u8>
-        ensures { result ≡ next_to_free self.now }
+        ensures lowest { result ≡ next_to_free self.now }
+        // Whoever asks knows what a side keeps.
+        ensures kept { IsSendSide self.now.keys self.now.parts self.now.size self.now.freed self.now.ready }
     {
         if self.parts <= self.freed {
             None
