@@ -1,4 +1,5 @@
 pub mod Alone
-pub mod Boxless
 pub mod Clocks
+pub mod Lists
+pub mod Rows
 pub mod Turned

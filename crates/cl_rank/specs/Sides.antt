@@ -3,21 +3,23 @@
 use Rattle.std.specs.Prelude.{ℕ, ◌≡◌, ◌<◌, ◌≤◌, ◌==◌, ◌&&◌, ◌⊎◌, ⊤, List, [], ◌∷◌, length, map, take, slice_get, Bool, true, false}
 use Rattle.std.specs.Prelude.{Option, Some, None, if◌then◌else◌}
 use Rattle.rv_image.specs.declared.images.ImageVersion.{ImageVersion}
+use Rattle.rv_image.specs.declared.images.Link.{Link}
 use Rattle.part_box.specs.declared.view.Sending.{Sending}
 use Rattle.part_box.specs.declared.view.Receiving.{Receiving}
 use Rattle.part_box.specs.Gate.{ready_stamp, taken_stamp}
-use Rattle.part_box.specs.Keys.{Sender, Receiver}
+use Rattle.part_box.specs.Keys.{BoxId, Sender, Receiver}
 use Rattle.part_box.specs.Rule.{GateRule}
 use Rattle.part_box.specs.Steps.{with_made, with_freed, with_look, with_got}
 use Rattle.part_channel.specs.Channels.{ChannelView, sender_box, receiver_box}
-use Rattle.part_channel.specs.Receiving.{RecvView}
-use Rattle.part_channel.specs.Sending.{SendView, IsPast}
+use Rattle.part_channel.specs.Receiving.{RecvView, new_recv_side}
+use Rattle.part_channel.specs.Sending.{SendView, IsPast, new_send_side}
 use Rattle.part_channel.specs.Words.{bytes_of}
 use Rattle.part_phase.specs.declared.phases.Phase.{Phase}
 use Rattle.part_phase.specs.declared.phases.Phase.TheVariants.{Apart, Sending as SendingPhase, Receiving as ReceivingPhase}
 use Rattle.part_phase.specs.declared.receiving.RecvPhase.{RecvPhase}
 use Rattle.part_phase.specs.declared.sending.SendPhase.{SendPhase}
 use Rattle.part_phase.specs.Limits.{box_bytes, box_words}
+use Rattle.part_phase.specs.Phases.{first_phases}
 use Rattle.cl_rank.specs.Deeds.{Act}
 
 -- the sides of a rank, each with the number of its link
@@ -60,6 +62,17 @@ pub record AreSides (version : ImageVersion) (phases : List Phase) (clock : ℕ)
   pub fit : (link : ℕ) → PhaseFits (slice_get phases link) (side_of link sides.sends) (side_of link sides.recvs)
   pub sizes : (link : ℕ) (s : SendView) → side_of link sides.sends ≡ Some s → s.size ≤ box_bytes version
   pub past : (link : ℕ) (s : SendView) → side_of link sides.sends ≡ Some s → IsPast s clock
+  -- a side that has no shape knows no cut
+  pub uncut : (link : ℕ) (r : RecvView) → side_of link sides.recvs ≡ Some r → r.parts ≡ 0 → r.boxes ≡ 0
+
+-- the sides of a rank as they are made: of each of its links one, without a shape, whose keys know nothing
+pub record AreNewSides (links : List Link) (rank : ℕ) (sides : Sides) : Type 0 where
+  pub fit : (link : ℕ) → PhaseFits (slice_get (first_phases links rank) link) (side_of link sides.sends)
+      (side_of link sides.recvs)
+  pub sends : (link : ℕ) (s : SendView) → side_of link sides.sends ≡ Some s
+      → (boxes : List BoxId) × (s ≡ new_send_side boxes)
+  pub recvs : (link : ℕ) (r : RecvView) → side_of link sides.recvs ≡ Some r
+      → (boxes : List BoxId) × (r ≡ new_recv_side boxes)
 
 -- the channel of each link has the boxes of the rank's side of it, and they have the width that the version says
 abbrev pub HasSender : ImageVersion → Option ChannelView → SendView → Type 0

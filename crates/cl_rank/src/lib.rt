@@ -6,6 +6,7 @@
 mod desks;
 pub mod laws;
 mod ranks;
+mod sides;
 mod stops;
 mod turning;
 
@@ -14,4 +15,5 @@ pub use cl_state::{Answer, Ask, Doing, RankState};
 pub use cl_trace::{Bare, Cursor, Event, Kind, Seen, Trace};
 pub use desks::{Desk, LockedDesk, PlainDesk};
 pub use ranks::Rank;
+pub use sides::BoxPlace;
 pub use stops::Stop;

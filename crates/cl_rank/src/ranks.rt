@@ -1,37 +1,67 @@
-//! A rank with its trace, and its turns.
+//! A rank with its trace and the sides of its links, and its turns.
 
-ghost use Rattle.std.specs.Prelude.{◌≡◌, ◌<◌, ◌≤◌, ◌+◌, ◌^◌, ℕ, [], length, vec_len, IfOk, IfErr, OnOk, OnErr};
+ghost use Rattle.std.specs.Prelude.{◌≡◌, ◌<◌, ◌≤◌, ◌+◌, ◌^◌, ℕ, List, [], Some, None, length, vec_len, IfOk, IfErr, OnOk, OnErr};
+ghost use Rattle.part_box.specs.Rule.{GateRule};
+ghost use Rattle.part_box.specs.declared.view.Receiving.{Receiving};
+ghost use Rattle.part_box.specs.declared.view.Sending.{Sending};
+ghost use Rattle.part_phase.specs.Limits.{box_words};
 ghost use Rattle.cl_state.specs.Rank.{loaded};
 ghost use Rattle.cl_state.specs.Room.{rank_of};
+ghost use Rattle.cl_rank.specs.Fitting.{RequestsFit};
+ghost use Rattle.cl_rank.specs.Sides.{AreChannelsOf, AreNewSides, AreSides, receiver_of, sender_of};
 ghost use Rattle.cl_rank.specs.Turns.{Answered, IsActive, IsCause, IsTurn, StopHolds};
+ghost use Rattle.cl_rank.specs.Views.{sides_in, view_of};
 
 use crate::desks::{Desk, PlainDesk};
+use crate::sides::BoxPlace;
 use crate::stops::Stop;
-use crate::turning::{all_stopped, step_plain, take_turn};
+use crate::turning::{all_stopped, step_plain};
 use cl_journal::{CLOCK_MAX, Hub};
 use cl_state::RankState;
 use cl_trace::Trace;
+use part_channel::{Channel, RecvSide, SendSide};
 use rv_image::Image;
 use std::alloc::{AllocError, Global};
 
-/// A rank with the events of its turns so far.
+/// A rank with the events of its turns so far, and the sides that it has of the image's links.
 #[derive(Drop)]
 pub struct Rank {
-    alloc: Global,
+    pub(crate) alloc: Global,
     pub state: RankState,
     /// How many turns the rank may take.
     pub budget: u64,
     pub trace: Trace,
+    /// The sender's sides, each with the number of its link.
+    pub sends: Vec<(u8, SendSide)>,
+    /// The receiver's sides, likewise.
+    pub recvs: Vec<(u8, RecvSide)>,
+    /// The box that the last turn asked, if it asked one.
+    pub asked_box: Option<BoxPlace>,
     ghost low: { state.clock < 2 ^ 62 },
     ghost within: { length trace.events ≤ budget },
+    ghost sides: { AreSides state.site.version state.phases state.clock (sides_in sends.items recvs.items) },
+    ghost fit: { RequestsFit state.requests state.phases },
 }
 
 impl Rank {
-    /// The rank of this number as it is loaded, which took no turn.
-    pub fn new(alloc: Global, image: &Image, rank: u8, budget: u64) -> Result<Rank, AllocError>
-        ensures state { IfOk result (λ new. rank_of new.state ≡ loaded image.now rank) }
+    /// The rank of this number as it is loaded, which took no turn, with the sides of its links, which are new.
+    pub fn new(
+        alloc: Global,
+        image: &Image,
+        rank: u8,
+        budget: u64,
+        sends: Vec<(u8, SendSide)>,
+        recvs: Vec<(u8, RecvSide)>,
+    ) -> Result<Rank, AllocError>
+        requires { AreNewSides image.now.links rank (sides_in sends.items recvs.items) }
+        ensures view { IfOk result (λ new. view_of new
+            ≡ record {
+              rank = loaded image.now rank;
+              events = [];
+              sides = sides_in sends.items recvs.items;
+              asked_box = None;
+            }) }
         ensures harts { IfOk result (λ new. vec_len new.state.harts ≡ image.now.harts) }
-        ensures trace { IfOk result (λ new. new.trace.events ≡ []) }
         ensures budget { IfOk result (λ new. new.budget ≡ budget) }
     {
         Ok(Rank {
@@ -39,27 +69,36 @@ impl Rank {
             state: RankState::load(alloc, image, rank)?,
             budget,
             trace: Trace::new(alloc),
+            sends,
+            recvs,
+            asked_box: None,
         })
     }
 
-    /// Takes a turn of a hart that is there: one event, behind those before. Only a call of the hub reaches the desk.
+    /// Takes a turn of a hart that is there: one event, behind those before. Only a call of the hub reaches the desk,
+    /// and only a step on a box its channel: `channels` are those of all links, by number.
     ///
     /// Refusals, in this order: AllEnded where all harts are stopped, Budget where
     /// there are as many events as the budget allows, ClockFull where the rank's clock
     /// is 2^62 - 1, then Memory or the desk's. After each the rank is as it was.
     #[inline(always)]
-    pub fn turn<R, D: Desk<R>>(&mut self, rt: &R, desk: &mut D, hart: u8) -> Result<(), Stop>
-        requires { hart < vec_len self.old.state.harts }
-        ensures turned { OnOk result
-            (IsTurn D.gives hart (rank_of self.old.state)
-            (rank_of self.new.state) self.old.trace.events self.new.trace.events desk.old desk.new) }
+    pub fn turn<R, D: Desk<R>>(
+        &mut self,
+        rt: &R,
+        desk: &mut D,
+        channels: &[Channel],
+        hart: u8,
+    ) -> Result<(), Stop>
+        requires hart { hart < vec_len self.old.state.harts }
+        requires own { AreChannelsOf self.old.state.site.version channels.now (view_of self.old).sides }
+        ensures turned { OnOk result (IsTurn D.gives hart (view_of self.old) (view_of self.new) desk.old desk.new) }
         ensures active { OnOk result (IsActive (rank_of self.old.state)
             (length self.old.trace.events) self.old.budget) }
         ensures stop { IfErr result
             (λ stop. StopHolds D.gives hart (rank_of self.old.state)
             (length self.old.trace.events) self.old.budget desk.old desk.new stop) }
-        ensures state { OnErr result (rank_of self.new.state ≡ rank_of self.old.state) }
-        ensures events { OnErr result (self.new.trace.events ≡ self.old.trace.events) }
+        ensures unchanged { OnErr result (view_of self.new ≡ view_of self.old) }
+        ensures own { AreChannelsOf self.new.state.site.version channels.now (view_of self.new).sides }
         ensures budget { self.new.budget ≡ self.old.budget }
         ensures harts { vec_len self.new.state.harts ≡ vec_len self.old.state.harts }
     {
@@ -71,45 +110,62 @@ impl Rank {
         }
         let stamp = self.state.clock + 1;
         if step_plain(&mut self.state, hart, stamp) {
+            self.asked_box = None;
             self.trace.push_plain(hart, stamp);
             return Ok(());
         }
-        self.slow_turn(rt, desk, hart)
+        self.slow_turn(rt, desk, channels, hart)
     }
 
     /// Takes a turn of a hart over the hub itself, and never waits. After a refusal the hub is as it was, too.
-    pub fn turn_plain(&mut self, hub: &mut Hub, hart: u8) -> Result<(), Stop>
-        requires { hart < vec_len self.old.state.harts }
-        ensures turned { OnOk result
-            (IsTurn Answered hart (rank_of self.old.state)
-            (rank_of self.new.state) self.old.trace.events self.new.trace.events hub.old hub.new) }
+    pub fn turn_plain(
+        &mut self,
+        hub: &mut Hub,
+        channels: &[Channel],
+        hart: u8,
+    ) -> Result<(), Stop>
+        requires hart { hart < vec_len self.old.state.harts }
+        requires own { AreChannelsOf self.old.state.site.version channels.now (view_of self.old).sides }
+        ensures turned { OnOk result (IsTurn Answered hart (view_of self.old) (view_of self.new) hub.old hub.new) }
         ensures active { OnOk result (IsActive (rank_of self.old.state)
             (length self.old.trace.events) self.old.budget) }
         ensures stop { IfErr result
             (λ stop. StopHolds Answered hart (rank_of self.old.state)
             (length self.old.trace.events) self.old.budget hub.old hub.new stop) }
-        ensures state { OnErr result (rank_of self.new.state ≡ rank_of self.old.state) }
-        ensures events { OnErr result (self.new.trace.events ≡ self.old.trace.events) }
+        ensures unchanged { OnErr result (view_of self.new ≡ view_of self.old) }
         ensures hub { OnErr result (hub.new ≡ hub.old) }
+        ensures own { AreChannelsOf self.new.state.site.version channels.now (view_of self.new).sides }
         ensures budget { self.new.budget ≡ self.old.budget }
         ensures harts { vec_len self.new.state.harts ≡ vec_len self.old.state.harts }
     {
         let mut desk = PlainDesk { hub };
-        self.turn(&(), &mut desk, hart)
+        self.turn(&(), &mut desk, channels, hart)
     }
 
-    /// The rank's state and its trace.
-    pub fn into_parts(self) -> (RankState, Trace)
+    /// The rank's state, its trace, and its sides of links, the sender's first.
+    pub fn into_parts(
+        self,
+    ) -> (
+        RankState,
+        Trace,
+        Vec<(u8, SendSide)>,
+        Vec<(u8, RecvSide)>,
+    )
         ensures state { result.0 ≡ self.state }
         ensures trace { result.1 ≡ self.trace }
+        ensures sends { result.2 ≡ self.sends }
+        ensures recvs { result.3 ≡ self.recvs }
     {
         let Rank {
             alloc: _,
             state,
             budget: _,
             trace,
+            sends,
+            recvs,
+            asked_box: _,
         } = self;
-        (state, trace)
+        (state, trace, sends, recvs)
     }
 
     /// Why there is no turn, of a rank that is at an end or found no memory.
@@ -126,34 +182,5 @@ impl Rank {
         } else {
             Stop::Memory
         }
-    }
-
-    /// A turn of any kind, of a rank that has a turn left and room for its event.
-    #[inline(never)]
-    fn slow_turn<R, D: Desk<R>>(&mut self, rt: &R, desk: &mut D, hart: u8) -> Result<(), Stop>
-        requires hart { hart < vec_len self.old.state.harts }
-        requires low { self.old.state.clock + 1 < 2 ^ 62 }
-        requires left { length self.old.trace.events < self.old.budget }
-        requires few { length self.old.trace.events + 1 < 2 ^ 64 }
-        requires room { 0 < self.old.trace.room }
-        ensures turned { OnOk result
-            (IsTurn D.gives hart (rank_of self.old.state)
-            (rank_of self.new.state) self.old.trace.events self.new.trace.events desk.old desk.new) }
-        ensures active { OnOk result (IsActive (rank_of self.old.state)
-            (length self.old.trace.events) self.old.budget) }
-        ensures stop { IfErr result
-            (λ stop. StopHolds D.gives hart (rank_of self.old.state)
-            (length self.old.trace.events) self.old.budget desk.old desk.new stop) }
-        ensures state { OnErr result (rank_of self.new.state ≡ rank_of self.old.state) }
-        ensures events { OnErr result (self.new.trace.events ≡ self.old.trace.events) }
-        ensures budget { self.new.budget ≡ self.old.budget }
-        ensures harts { vec_len self.new.state.harts ≡ vec_len self.old.state.harts }
-    {
-        if all_stopped(&self.state) {
-            return Err(Stop::AllEnded);
-        }
-        let event = take_turn(self.alloc, &mut self.state, rt, desk, hart)?;
-        self.trace.push(event);
-        Ok(())
     }
 }

@@ -1,24 +1,32 @@
 //! What a turn does to a rank.
 
-ghost use Rattle.std.specs.Prelude.{◌≡◌, ◌<◌, ◌+◌, ◌^◌, ◌++◌, ◌∷◌, ℕ, List, [], vec_len, None, IfOk, IfErr, OnOk};
+ghost use Rattle.std.specs.Prelude.{◌≡◌, ◌<◌, ◌+◌, ◌^◌, ℕ, List, length, vec_len, IfErr, OnOk};
 ghost use Rattle.std.specs.Prelude.{OnErr, IsTrue, IsFalse};
 ghost use Rattle.mp_types.specs.declared.replies.Reply.{Reply};
+ghost use Rattle.part_channel.specs.Channels.{ChannelView};
 ghost use Rattle.cl_state.specs.declared.asking.Ask.TheVariants as ask;
 ghost use Rattle.cl_state.specs.declared.asking.Answer.TheVariants.{Alone, Reply as AnswerReply};
 ghost use Rattle.cl_state.specs.Asked.{asked, is_ecall as is_ecall_of};
-ghost use Rattle.cl_state.specs.Room.{HasRoom, IsNext, rank_of};
+ghost use Rattle.cl_state.specs.Room.{rank_of};
 ghost use Rattle.cl_state.specs.Told.{told};
-ghost use Rattle.cl_trace.specs.declared.events.Event.{Event};
+ghost use Rattle.cl_rank.specs.Follows.{named_link as named_link_in, started_link};
+ghost use Rattle.cl_rank.specs.Sides.{AreChannelsOf};
 ghost use Rattle.cl_rank.specs.Turns.{AllStopped, IsTurn, StopHolds, all_stopped as all_stopped_of};
 ghost use Rattle.cl_rank.specs.Turns.{is_stopped as is_stopped_of};
+ghost use Rattle.cl_rank.specs.Views.{AsksNobody, IsHubTurn, IsQuietTurn, MayTurn, view_of};
 
 use crate::desks::Desk;
+use crate::ranks::Rank;
+use crate::sides::{BoxPlace, begin, follow_receiver, follow_sender, make_ready, take, test};
 use crate::stops::{Stop, stop_of};
+use cl_calls::Call;
 use cl_state::{Answer, Ask, Doing, RankState};
 use cl_trace::{Event, Kind};
+use mp_request::{OpenRequest, Requests, Transfer};
 use mp_types::{Reply, Request, Stamp};
+use part_channel::{Channel, Progress, Take};
+use part_phase::{Contents, box_words};
 use rv_hart::{Hart, Mode, step};
-use std::alloc::Global;
 
 /// Whether a word is ECALL's.
 #[inline(always)]
@@ -80,23 +88,47 @@ pub(crate) fn all_stopped(state: &RankState) -> bool
     true
 }
 
-/// Tells the rank that what a hart asked was done, at the next stamp.
-fn tell_alone(state: &mut RankState, hart: u8, doing: &Doing, kind: Kind) -> Event
-    requires next { IsNext state.old hart doing.now }
-    requires room { HasRoom state.old hart }
-    requires low { state.old.clock + 1 < 2 ^ 62 }
-    ensures event { result ≡ record { hart = hart; stamp = state.old.clock + 1; kind = kind; request = None } }
-    ensures told { rank_of state.new ≡ told (rank_of state.old) hart Alone (state.old.clock + 1) }
-    ensures clock { state.new.clock < 2 ^ 62 }
-    ensures harts { vec_len state.new.harts ≡ vec_len state.old.harts }
+/// A hart's turn, as it was worked out.
+#[derive(Clone, Copy, Drop)]
+pub(crate) struct Turn {
+    pub(crate) hart: u8,
+    pub(crate) doing: Doing,
+}
+
+/// A call of the hub that a hart asked for. The copy of the request was made before the call, so that nothing can fail
+/// once the hub has answered.
+#[derive(Drop)]
+struct HubCall {
+    turn: Turn,
+    request: Request,
+    /// The request that the event keeps.
+    copy: Request,
+}
+
+/// The link on which a call begins a phase, if it does.
+fn started(requests: &Requests, doing: &Doing) -> Option<u8>
+    ensures { result ≡ started_link requests.now doing.now }
 {
-    let stamp = state.clock + 1;
-    state.tell_next(hart, doing, &Answer::Alone, stamp);
-    Event {
-        hart,
-        stamp,
-        kind,
-        request: None,
+    let Doing::Go(Call::Start { handle }) = doing else {
+        return None;
+    };
+    match requests.get(*handle) {
+        Some(OpenRequest { transfer, .. }) => match transfer {
+            Transfer::SendPartitions(side) | Transfer::ReceivePartitions(side) => Some(side.link),
+            _ => None,
+        },
+        None => None,
+    }
+}
+
+/// The link whose side gets its shape or its cut by a reply. Any other reply changes no side, so that any number will do.
+fn named_link(request: &Request, reply: &Reply) -> u8
+    ensures { result ≡ named_link_in request.now reply.now }
+{
+    match (request, reply) {
+        (_, Reply::Link(link)) => *link,
+        (Request::Cut { link }, _) => *link,
+        _ => 0,
     }
 }
 
@@ -113,112 +145,232 @@ fn into_reply(answer: Answer) -> Reply
     }
 }
 
-/// A call of the hub that a hart asked for. The copy of the request was made before the call, so that nothing can fail
-/// once the hub has answered.
-#[derive(Drop)]
-struct HubCall {
-    /// What the hart's turn is.
-    doing: Doing,
-    request: Request,
-    /// The request that the event keeps.
-    copy: Request,
-}
+impl Rank {
+    /// A turn of any kind, of a rank that has a turn left and room for its event.
+    #[inline(never)]
+    pub(crate) fn slow_turn<R, D: Desk<R>>(
+        &mut self,
+        rt: &R,
+        desk: &mut D,
+        channels: &[Channel],
+        hart: u8,
+    ) -> Result<(), Stop>
+        requires hart { hart < vec_len self.old.state.harts }
+        requires low { self.old.state.clock + 1 < 2 ^ 62 }
+        requires left { length self.old.trace.events < self.old.budget }
+        requires few { length self.old.trace.events + 1 < 2 ^ 64 }
+        requires space { 0 < self.old.trace.room }
+        requires own { AreChannelsOf self.old.state.site.version channels.now (view_of self.old).sides }
+        ensures turned { OnOk result (IsTurn D.gives hart (view_of self.old) (view_of self.new) desk.old desk.new) }
+        ensures active { OnOk result (IsActive (rank_of self.old.state)
+            (length self.old.trace.events) self.old.budget) }
+        ensures stop { IfErr result
+            (λ stop. StopHolds D.gives hart (rank_of self.old.state)
+            (length self.old.trace.events) self.old.budget desk.old desk.new stop) }
+        ensures unchanged { OnErr result (view_of self.new ≡ view_of self.old) }
+        ensures own { AreChannelsOf self.new.state.site.version channels.now (view_of self.new).sides }
+        ensures budget { self.new.budget ≡ self.old.budget }
+        ensures harts { vec_len self.new.state.harts ≡ vec_len self.old.state.harts }
+    {
+        if all_stopped(&self.state) {
+            return Err(Stop::AllEnded);
+        }
+        let doing = self.state.next(hart);
+        let Ok(ask) = self.state.ask_next(hart, &doing) else {
+            return Err(Stop::Memory);
+        };
+        let Ok(()) = self.state.room_next(hart, &doing) else {
+            return Err(Stop::Memory);
+        };
+        let turn = Turn { hart, doing };
+        match ask {
+            Ask::Hub(request) => return self.call_hub(rt, desk, turn, request),
+            Ask::Plain => self.go_alone(turn, Kind::Plain),
+            Ask::Local => self.go_alone(turn, Kind::Local),
+            Ask::Held => self.go_alone(turn, Kind::Held),
+            Ask::Idle => self.go_alone(turn, Kind::Idle),
+            Ask::Ready { link, part, bytes } => {
+                self.make_ready(channels, turn, BoxPlace { link, part }, &bytes)
+            }
+            Ask::Look { link, part } => self.look(channels, turn, BoxPlace { link, part }),
+            Ask::Freed { link, part } => self.test(channels, turn, BoxPlace { link, part }),
+        }
+        Ok(())
+    }
 
-/// Makes the call that a hart asked for, and tells the rank its reply.
-fn tell_reply<R, D: Desk<R>>(
-    state: &mut RankState,
-    rt: &R,
-    desk: &mut D,
-    hart: u8,
-    call: HubCall,
-) -> Result<Event, Stop>
-    requires next { IsNext state.old hart call.doing }
-    requires asked { asked (rank_of state.old) hart ≡ ask.Hub call.request }
-    requires copy { call.copy ≡ call.request }
-    requires room { HasRoom state.old hart }
-    requires low { state.old.clock + 1 < 2 ^ 62 }
-    requires active { ¬ (AllStopped (rank_of state.old)) }
-    ensures turned { IfOk result
-        (λ e. (events : List Event)
-        → IsTurn D.gives hart (rank_of state.old) (rank_of state.new) events (events ++ e ∷ []) desk.old desk.new) }
-    ensures stop { (turns budget : ℕ) → turns < budget
-        → IfErr result (λ stop. StopHolds D.gives hart (rank_of state.old) turns budget desk.old desk.new stop) }
-    ensures err { OnErr result (rank_of state.new ≡ rank_of state.old) }
-    ensures stamp { IfOk result (λ e. e.stamp < 2 ^ 62) }
-    ensures clock { OnOk result (state.new.clock < 2 ^ 62) }
-    ensures harts { vec_len state.new.harts ≡ vec_len state.old.harts }
-{
-    let HubCall {
-        doing,
-        request,
-        copy,
-    } = call;
-    let clock = state.clock;
-    match desk.call(rt, state.site.number, hart, clock, request) {
-        Err(fault) => Err(stop_of(fault)),
-        Ok((reply, stamp)) => {
-            let answer = Answer::Reply(reply);
-            state.tell_next(hart, &doing, &answer, stamp);
-            Ok(Event {
-                hart,
-                stamp,
-                kind: Kind::Hub(into_reply(answer)),
-                request: Some(copy),
-            })
+    /// A turn that asks nobody.
+    fn go_alone(&mut self, turn: Turn, kind: Kind)
+        requires may { MayTurn self.old turn }
+        requires asked { AsksNobody (asked (rank_of self.old.state) turn.hart) kind }
+        ensures turned { IsQuietTurn turn.hart (view_of self.old) (view_of self.new) }
+        ensures own { (channels : List ChannelView)
+            → AreChannelsOf self.old.state.site.version channels (view_of self.old).sides
+            → AreChannelsOf self.new.state.site.version channels (view_of self.new).sides }
+        ensures budget { self.new.budget ≡ self.old.budget }
+        ensures harts { vec_len self.new.state.harts ≡ vec_len self.old.state.harts }
+    {
+        let (hart, stamp) = (turn.hart, self.state.clock + 1);
+        let link = started(&self.state.requests, &turn.doing);
+        self.state.tell_next(hart, &turn.doing, &Answer::Alone, stamp);
+        if let Some(link) = link {
+            begin(&mut self.sends, &mut self.recvs, link);
+        }
+        self.asked_box = None;
+        self.trace.push(Event {
+            hart,
+            stamp,
+            kind,
+            request: None,
+        });
+    }
+
+    /// Makes the call that a hart asked for, and tells the rank its reply.
+    fn call_hub<R, D: Desk<R>>(
+        &mut self,
+        rt: &R,
+        desk: &mut D,
+        turn: Turn,
+        request: Request,
+    ) -> Result<(), Stop>
+        requires may { MayTurn self.old turn }
+        requires asked { asked (rank_of self.old.state) turn.hart ≡ ask.Hub request }
+        requires active { ¬ (AllStopped (rank_of self.old.state)) }
+        ensures turned { OnOk result
+            (IsTurn D.gives turn.hart (view_of self.old) (view_of self.new) desk.old desk.new) }
+        ensures stop { IfErr result
+            (λ stop. StopHolds D.gives turn.hart (rank_of self.old.state)
+            (length self.old.trace.events) self.old.budget desk.old desk.new stop) }
+        ensures unchanged { OnErr result (view_of self.new ≡ view_of self.old) }
+        ensures own { (channels : List ChannelView)
+            → AreChannelsOf self.old.state.site.version channels (view_of self.old).sides
+            → AreChannelsOf self.new.state.site.version channels (view_of self.new).sides }
+        ensures budget { self.new.budget ≡ self.old.budget }
+        ensures harts { vec_len self.new.state.harts ≡ vec_len self.old.state.harts }
+    {
+        let Ok(copy) = request.try_copy(self.alloc) else {
+            return Err(Stop::Memory);
+        };
+        let clock = self.state.clock;
+        match desk.call(rt, self.state.site.number, turn.hart, clock, request) {
+            Err(fault) => Err(stop_of(fault)),
+            Ok((reply, stamp)) => {
+                self.tell_reply(turn, copy, reply, stamp);
+                Ok(())
+            }
         }
     }
-}
 
-/// The turn of a hart, of a rank whose harts are not all stopped and whose clock isn't full.
-pub(crate) fn take_turn<R, D: Desk<R>>(
-    alloc: Global,
-    state: &mut RankState,
-    rt: &R,
-    desk: &mut D,
-    hart: u8,
-) -> Result<Event, Stop>
-    requires hart { hart < vec_len state.old.harts }
-    requires low { state.old.clock + 1 < 2 ^ 62 }
-    requires active { ¬ (AllStopped (rank_of state.old)) }
-    ensures turned { IfOk result
-        (λ e. (events : List Event)
-        → IsTurn D.gives hart (rank_of state.old) (rank_of state.new) events (events ++ e ∷ []) desk.old desk.new) }
-    ensures stop { (turns budget : ℕ) → turns < budget
-        → IfErr result (λ stop. StopHolds D.gives hart (rank_of state.old) turns budget desk.old desk.new stop) }
-    ensures err { OnErr result (rank_of state.new ≡ rank_of state.old) }
-    ensures stamp { IfOk result (λ e. e.stamp < 2 ^ 62) }
-    ensures clock { OnOk result (state.new.clock < 2 ^ 62) }
-    ensures harts { vec_len state.new.harts ≡ vec_len state.old.harts }
-{
-    let doing = state.next(hart);
-    let Ok(ask) = state.ask_next(hart, &doing) else {
-        return Err(Stop::Memory);
-    };
-    let Ok(()) = state.room_next(hart, &doing) else {
-        return Err(Stop::Memory);
-    };
-    match ask {
-        Ask::Hub(request) => {
-            let Ok(copy) = request.try_copy(alloc) else {
-                return Err(Stop::Memory);
-            };
-            let call = HubCall {
-                doing,
-                request,
-                copy,
-            };
-            tell_reply(state, rt, desk, hart, call)
-        }
-        Ask::Plain => Ok(tell_alone(state, hart, &doing, Kind::Plain)),
-        Ask::Local => Ok(tell_alone(state, hart, &doing, Kind::Local)),
-        Ask::Held => Ok(tell_alone(state, hart, &doing, Kind::Held)),
-        Ask::Idle => Ok(tell_alone(state, hart, &doing, Kind::Idle)),
-        Ask::Ready {
-            link: _,
-            part: _,
-            bytes: _,
-        } => unreachable!(),
-        Ask::Look { link: _, part: _ } => unreachable!(),
-        Ask::Freed { link: _, part: _ } => unreachable!(),
+    /// Tells the rank the reply to its request.
+    fn tell_reply(&mut self, turn: Turn, request: Request, reply: Reply, stamp: Stamp)
+        requires may { MayTurn self.old turn }
+        requires asked { asked (rank_of self.old.state) turn.hart ≡ ask.Hub request }
+        requires stamp { (self.old.state.clock < stamp) × (stamp < 2 ^ 62) }
+        ensures turned { IsHubTurn turn.hart request reply stamp (view_of self.old) (view_of self.new) }
+        ensures own { (channels : List ChannelView)
+            → AreChannelsOf self.old.state.site.version channels (view_of self.old).sides
+            → AreChannelsOf self.new.state.site.version channels (view_of self.new).sides }
+        ensures budget { self.new.budget ≡ self.old.budget }
+        ensures harts { vec_len self.new.state.harts ≡ vec_len self.old.state.harts }
+    {
+        let (hart, link) = (turn.hart, named_link(&request, &reply));
+        let phases = &self.state.phases;
+        let (sending, receiving) = (phases.sending(link), phases.receiving(link));
+        let answer = Answer::Reply(reply);
+        self.state.tell_next(hart, &turn.doing, &answer, stamp);
+        let phases = &self.state.phases;
+        follow_sender(&mut self.sends, link, sending, phases.sending(link));
+        follow_receiver(&mut self.recvs, link, receiving, phases.receiving(link));
+        self.asked_box = None;
+        self.trace.push(Event {
+            hart,
+            stamp,
+            kind: Kind::Hub(into_reply(answer)),
+            request: Some(request),
+        });
+    }
+
+    /// Makes a partition ready, with the bytes that are to stand in its box.
+    fn make_ready(
+        &mut self,
+        channels: &[Channel],
+        turn: Turn,
+        place: BoxPlace,
+        bytes: &Contents,
+    )
+        requires may { MayTurn self.old turn }
+        requires asked { asked (rank_of self.old.state) turn.hart ≡ ask.Ready place.link place.part bytes.now }
+        requires own { AreChannelsOf self.old.state.site.version channels.now (view_of self.old).sides }
+        ensures turned { IsQuietTurn turn.hart (view_of self.old) (view_of self.new) }
+        ensures own { AreChannelsOf self.new.state.site.version channels.now (view_of self.new).sides }
+        ensures budget { self.new.budget ≡ self.old.budget }
+        ensures harts { vec_len self.new.state.harts ≡ vec_len self.old.state.harts }
+    {
+        let size = self.state.phases.sending(place.link).size;
+        let clock = self.state.clock;
+        let bytes = &bytes.as_slice()[..size as usize];
+        let stamp = make_ready(&mut self.sends, channels, place, bytes, clock);
+        self.state.tell_next(turn.hart, &turn.doing, &Answer::Alone, stamp);
+        self.asked_box = Some(place);
+        self.trace.push(Event {
+            hart: turn.hart,
+            stamp,
+            kind: Kind::Ready,
+            request: None,
+        });
+    }
+
+    /// Looks whether a partition was taken.
+    fn test(&mut self, channels: &[Channel], turn: Turn, place: BoxPlace)
+        requires may { MayTurn self.old turn }
+        requires asked { asked (rank_of self.old.state) turn.hart ≡ ask.Freed place.link place.part }
+        requires own { AreChannelsOf self.old.state.site.version channels.now (view_of self.old).sides }
+        ensures turned { IsQuietTurn turn.hart (view_of self.old) (view_of self.new) }
+        ensures own { AreChannelsOf self.new.state.site.version channels.now (view_of self.new).sides }
+        ensures budget { self.new.budget ≡ self.old.budget }
+        ensures harts { vec_len self.new.state.harts ≡ vec_len self.old.state.harts }
+    {
+        let progress = test(&mut self.sends, channels, place.link, self.state.clock);
+        let (answer, kind, stamp) = match progress {
+            Progress::Freed(stamp) => (Answer::Freed, Kind::Freed, stamp),
+            Progress::Missed(stamp) => (Answer::Missed, Kind::Miss, stamp),
+            Progress::AllFreed => unreachable!(),
+            Progress::NotReady => unreachable!(),
+        };
+        self.state.tell_next(turn.hart, &turn.doing, &answer, stamp);
+        self.asked_box = Some(place);
+        self.trace.push(Event {
+            hart: turn.hart,
+            stamp,
+            kind,
+            request: None,
+        });
+    }
+
+    /// Looks whether a box is ready, and takes what lies in it.
+    fn look(&mut self, channels: &[Channel], turn: Turn, place: BoxPlace)
+        requires may { MayTurn self.old turn }
+        requires asked { asked (rank_of self.old.state) turn.hart ≡ ask.Look place.link place.part }
+        requires own { AreChannelsOf self.old.state.site.version channels.now (view_of self.old).sides }
+        ensures turned { IsQuietTurn turn.hart (view_of self.old) (view_of self.new) }
+        ensures own { AreChannelsOf self.new.state.site.version channels.now (view_of self.new).sides }
+        ensures budget { self.new.budget ≡ self.old.budget }
+        ensures harts { vec_len self.new.state.harts ≡ vec_len self.old.state.harts }
+    {
+        let version = self.state.site.version;
+        let (answer, kind, stamp) = match take(&mut self.recvs, channels, place, self.state.clock) {
+            Take::Taken(bytes, stamp) => {
+                let bytes = Contents::of(version, &bytes[..8 * box_words(version)]);
+                (Answer::Taken(bytes), Kind::Take, stamp)
+            }
+            Take::Missed(stamp) => (Answer::Missed, Kind::Miss, stamp),
+        };
+        self.state.tell_next(turn.hart, &turn.doing, &answer, stamp);
+        self.asked_box = Some(place);
+        self.trace.push(Event {
+            hart: turn.hart,
+            stamp,
+            kind,
+            request: None,
+        });
     }
 }

@@ -1,0 +1,98 @@
+-- Lists of sides and of phases, of which one is changed.
+use Rattle.std.proofs.Common.{◌≡◌, ◌≢◌, ℕ, zero, suc, ◌<◌, ◌==◌, List, [], ◌∷◌, length, set, Bool, true, false, Option, Some, None}
+use Rattle.std.proofs.Common.{refl, sym, ap, ◌∙◌, rules, arith}
+use Rattle.std.specs.Prelude.{slice_get, option_map, if◌then◌else◌}
+use Rattle.part_channel.specs.Sending.{modified}
+use Rattle.part_phase.specs.declared.phases.Phase.{Phase}
+use Rattle.part_phase.specs.Phases.{changed_at}
+use Rattle.cl_rank.specs.Sides.{side_of}
+use Rattle.cl_rank.specs.Steps.{changed_side, IsPlace}
+
+pub itself : (n : ℕ) → (n == n) ≡ true
+itself n = search rules
+
+pub differs : (l link : ℕ) → l ≢ link → (l == link) ≡ false
+differs l link h = search (rules, h)
+
+pub is_equal : (l link : ℕ) → (l == link) ≡ true → l ≡ link
+is_equal l link h = search (rules, h)
+
+module _ {S : Type 0} where
+  -- the side that is changed
+  pub at_changed : (link : ℕ) (f : S → S) (xs : List (ℕ × S)) →
+      side_of link (changed_side link f xs) ≡ option_map f (side_of link xs)
+  at_changed link f [] = refl
+  at_changed link f (x ∷ xs) = go (x.0 == link) refl (at_changed link f xs)
+    where
+      go : (b : Bool) → (x.0 == link) ≡ b → side_of link (changed_side link f xs) ≡ option_map f (side_of link xs)
+          → side_of link (changed_side link f (x ∷ xs)) ≡ option_map f (side_of link (x ∷ xs))
+      go true e h = rw e refl
+      go false e h = rw e h
+
+  -- and any other
+  pub beside : (l link : ℕ) (f : S → S) (xs : List (ℕ × S)) → l ≢ link →
+      side_of l (changed_side link f xs) ≡ side_of l xs
+  beside l link f [] other = refl
+  beside l link f (x ∷ xs) other = go (x.0 == link) refl (beside l link f xs other)
+    where
+      go : (b : Bool) → (x.0 == link) ≡ b → side_of l (changed_side link f xs) ≡ side_of l xs
+          → side_of l (changed_side link f (x ∷ xs)) ≡ side_of l (x ∷ xs)
+      go true e h = rw e (rw (differs x.0 l (λ k. other (sym k ∙ is_equal x.0 link e))) refl)
+      go false e h = rw e (rw h refl)
+
+  -- where there is no such side nothing changes, nor where it becomes what it was
+  pub none_changed : (link : ℕ) (f : S → S) (xs : List (ℕ × S)) → side_of link xs ≡ None → changed_side link f xs ≡ xs
+  none_changed link f [] none = refl
+  none_changed link f (x ∷ xs) none = go (x.0 == link) refl (none_changed link f xs) none
+    where
+      go : (b : Bool) → (x.0 == link) ≡ b → (side_of link xs ≡ None → changed_side link f xs ≡ xs)
+          → side_of link (x ∷ xs) ≡ None → changed_side link f (x ∷ xs) ≡ x ∷ xs
+      go true e h none = grind (e, none)
+      go false e h none = rw e (ap (λ l. x ∷ l) (h (grind (e, none))))
+
+  pub same_changed : (link : ℕ) (f : S → S) (xs : List (ℕ × S)) → ((s : S) → side_of link xs ≡ Some s → f s ≡ s)
+      → changed_side link f xs ≡ xs
+  same_changed link f [] same = refl
+  same_changed link f (x ∷ xs) same = go (x.0 == link) refl (same_changed link f xs) same
+    where
+      go : (b : Bool) → (x.0 == link) ≡ b
+          → (((s : S) → side_of link xs ≡ Some s → f s ≡ s) → changed_side link f xs ≡ xs)
+          → ((s : S) → side_of link (x ∷ xs) ≡ Some s → f s ≡ s) → changed_side link f (x ∷ xs) ≡ x ∷ xs
+      go true e h same = rw e (ap (λ s. (x.0, s) ∷ xs) (same x.1 (rw e refl)))
+      go false e h same = rw e (ap (λ l. x ∷ l) (h (λ s at. same s (rw e at))))
+
+  -- a side is found at its place
+  pub at_place : (link : ℕ) (xs : List (ℕ × S)) (i : ℕ) (s : S) → slice_get xs i ≡ Some (link, s)
+      → ((k : ℕ) (x : ℕ × S) → k < i → slice_get xs k ≡ Some x → (x.0 == link) ≡ false) → IsPlace link xs (Some i)
+  at_place link [] i s is before = absurd (cc)
+  at_place link (x ∷ xs) zero s is before =
+      let e : x ≡ (link, s) = cc in
+      ?zero
+  at_place link (x ∷ xs) (suc i) s is before = ?suc
+
+  -- an element that is modified, and another
+  pub at_modified : (xs : List S) (i : ℕ) (f : S → S) → slice_get (modified xs i f) i ≡ option_map f (slice_get xs i)
+  at_modified [] i f = refl
+  at_modified (x ∷ xs) zero f = refl
+  at_modified (x ∷ xs) (suc i) f = at_modified xs i f
+
+  pub beside_modified : (xs : List S) (i j : ℕ) (f : S → S) → j ≢ i → slice_get (modified xs i f) j ≡ slice_get xs j
+  beside_modified [] i j f other = refl
+  beside_modified (x ∷ xs) zero zero f other = absurd (other refl)
+  beside_modified (x ∷ xs) zero (suc j) f other = refl
+  beside_modified (x ∷ xs) (suc i) zero f other = refl
+  beside_modified (x ∷ xs) (suc i) (suc j) f other = beside_modified xs i j f (λ e. other (ap suc e))
+
+pub phase_changed : (link : ℕ) (g : Phase → Phase) (ps : List Phase) →
+    slice_get (changed_at link g ps) link ≡ option_map g (slice_get ps link)
+phase_changed link g [] = refl
+phase_changed zero g (p ∷ ps) = refl
+phase_changed (suc link) g (p ∷ ps) = phase_changed link g ps
+
+pub phase_beside : (l link : ℕ) (g : Phase → Phase) (ps : List Phase) → l ≢ link →
+    slice_get (changed_at link g ps) l ≡ slice_get ps l
+phase_beside l link g [] other = refl
+phase_beside zero zero g (p ∷ ps) other = absurd (other refl)
+phase_beside (suc l) zero g (p ∷ ps) other = refl
+phase_beside zero (suc link) g (p ∷ ps) other = refl
+phase_beside (suc l) (suc link) g (p ∷ ps) other = phase_beside l link g ps (λ e. other (ap suc e))

@@ -1,0 +1,147 @@
+//! The sides that a rank has of its links: each makes the steps on its boxes, and follows the rank's phase.
+
+ghost use Rattle.std.specs.Prelude.{◌≡◌, ◌<◌, ◌+◌, ◌-◌, ◌^◌};
+ghost use Rattle.cl_rank.specs.Steps.{IsPlace, IsReadied, IsTaken, IsTested, MayReady, MayTake, MayTest, changed_side};
+ghost use Rattle.cl_rank.specs.Steps.{ReceiverMay, SenderMay, begun_receiver, begun_sender, followed_receiver};
+ghost use Rattle.cl_rank.specs.Steps.{followed_sender};
+
+use mp_types::Stamp;
+use part_channel::{Channel, Progress, RecvSide, SendSide, Take};
+use part_phase::{RecvPhase, SendPhase};
+
+/// A box of the cluster, by the number of its link and its number there.
+#[derive(Clone, Copy, PartialEq, Eq, Drop, Debug)]
+pub struct BoxPlace {
+    pub link: u8,
+    pub part: u8,
+}
+
+/// Where the side of a link stands.
+fn find<S>(sides: &[(u8, S)], link: u8) -> Option<usize>
+    ensures { IsPlace link sides.now result }
+{
+    for i in 0..sides.len() {
+        if sides[i].0 == link {
+            return Some(i);
+        }
+    }
+    None
+}
+
+/// Makes a partition ready with these bytes, and answers the stamp.
+pub(crate) fn make_ready(
+    sends: &mut Vec<(u8, SendSide)>,
+    channels: &[Channel],
+    place: BoxPlace,
+    bytes: &[u8],
+    clock: Stamp,
+) -> Stamp
+    requires may { MayReady channels.now place.link place.part bytes.now clock sends.old.items }
+    requires low { clock < 2 ^ 62 - 1 }
+    ensures stamp { result ≡ clock + 1 }
+    ensures made { IsReadied channels.now place.link place.part bytes.now result sends.old.items sends.new.items }
+{
+    let Some(at) = find(sends.as_slice(), place.link) else {
+        unreachable!()
+    };
+    let side = &mut sends[at].1;
+    let _kept = side.next();
+    let channel = &channels[place.link as usize];
+    match side.ready(channel, place.part, bytes, clock) {
+        Ok(stamp) => stamp,
+        Err(_) => unreachable!(),
+    }
+}
+
+/// Looks whether the lowest partition of a link that isn't freed was taken. It was made ready.
+pub(crate) fn test(
+    sends: &mut Vec<(u8, SendSide)>,
+    channels: &[Channel],
+    link: u8,
+    clock: Stamp,
+) -> Progress
+    requires may { MayTest channels.now link clock sends.old.items }
+    requires low { clock < 2 ^ 62 - 1 }
+    ensures tested { IsTested channels.now link clock result sends.old.items sends.new.items }
+{
+    let Some(at) = find(sends.as_slice(), link) else {
+        unreachable!()
+    };
+    let side = &mut sends[at].1;
+    let _kept = side.next();
+    side.test(&channels[link as usize], clock)
+}
+
+/// Takes what lies in a box, if a thing is seen there.
+pub(crate) fn take(
+    recvs: &mut Vec<(u8, RecvSide)>,
+    channels: &[Channel],
+    place: BoxPlace,
+    clock: Stamp,
+) -> Take
+    requires may { MayTake channels.now place.link place.part recvs.old.items }
+    requires low { clock < 2 ^ 62 - 1 }
+    ensures taken { IsTaken channels.now place.link place.part clock result recvs.old.items recvs.new.items }
+{
+    let Some(at) = find(recvs.as_slice(), place.link) else {
+        unreachable!()
+    };
+    let side = &mut recvs[at].1;
+    let _kept = side.next();
+    match side.take(&channels[place.link as usize], place.part, clock) {
+        Ok(take) => take,
+        Err(_) => unreachable!(),
+    }
+}
+
+/// The sides of a link begin a phase, where none is going on.
+pub(crate) fn begin(sends: &mut Vec<(u8, SendSide)>, recvs: &mut Vec<(u8, RecvSide)>, link: u8)
+    ensures sends { sends.new.items ≡ changed_side link begun_sender sends.old.items }
+    ensures recvs { recvs.new.items ≡ changed_side link begun_receiver recvs.old.items }
+{
+    if let Some(at) = find(sends.as_slice(), link) {
+        // a phase that is going on goes on
+        let _ = sends[at].1.start();
+    }
+    if let Some(at) = find(recvs.as_slice(), link) {
+        let _ = recvs[at].1.start();
+    }
+}
+
+/// The sender's side of a link gets the shape that its phase got, if it got one.
+pub(crate) fn follow_sender(
+    sends: &mut Vec<(u8, SendSide)>,
+    link: u8,
+    was: SendPhase,
+    now: SendPhase,
+)
+    requires { SenderMay link was now sends.old.items }
+    ensures { sends.new.items ≡ changed_side link (followed_sender was now) sends.old.items }
+{
+    if was.parts == 0 && now.parts != 0 {
+        if let Some(at) = find(sends.as_slice(), link) {
+            sends[at].1.shape(now.parts, now.size);
+        }
+    }
+}
+
+/// The receiver's side of a link gets the shape or the cut that its phase got, if it got one.
+pub(crate) fn follow_receiver(
+    recvs: &mut Vec<(u8, RecvSide)>,
+    link: u8,
+    was: RecvPhase,
+    now: RecvPhase,
+)
+    requires { ReceiverMay link was now recvs.old.items }
+    ensures { recvs.new.items ≡ changed_side link (followed_receiver was now) recvs.old.items }
+{
+    let Some(at) = find(recvs.as_slice(), link) else {
+        return;
+    };
+    let side = &mut recvs[at].1;
+    if was.parts == 0 && now.parts != 0 {
+        side.shape(now.parts, now.size);
+    } else if was.boxes == 0 && now.boxes != 0 {
+        side.cut(now.boxes, now.bytes);
+    }
+}
