@@ -1,6 +1,6 @@
 -- Lists of sides and of phases, of which one is changed.
 use Rattle.std.proofs.Common.{◌≡◌, ◌≢◌, ℕ, zero, suc, ◌<◌, ◌==◌, List, [], ◌∷◌, length, set, Bool, true, false, Option, Some, None}
-use Rattle.std.proofs.Common.{refl, sym, ap, ◌∙◌, rules, arith}
+use Rattle.std.proofs.Common.{refl, sym, ap, subst, ◌∙◌, rules, arith}
 use Rattle.std.specs.Prelude.{slice_get, option_map, if◌then◌else◌}
 use Rattle.part_channel.specs.Sending.{modified}
 use Rattle.part_phase.specs.declared.phases.Phase.{Phase}
@@ -18,6 +18,9 @@ pub is_equal : (l link : ℕ) → (l == link) ≡ true → l ≡ link
 is_equal l link h = search (rules, h)
 
 module _ {S : Type 0} where
+  cut_off : (s : S) → Some s ≡ None → ⊥
+  cut_off s h = cc
+
   -- the side that is changed
   pub at_changed : (link : ℕ) (f : S → S) (xs : List (ℕ × S)) →
       side_of link (changed_side link f xs) ≡ option_map f (side_of link xs)
@@ -26,8 +29,8 @@ module _ {S : Type 0} where
     where
       go : (b : Bool) → (x.0 == link) ≡ b → side_of link (changed_side link f xs) ≡ option_map f (side_of link xs)
           → side_of link (changed_side link f (x ∷ xs)) ≡ option_map f (side_of link (x ∷ xs))
-      go true e h = rw e refl
-      go false e h = rw e h
+      go true e h = rw e (rw e refl)
+      go false e h = rw e (rw e h)
 
   -- and any other
   pub beside : (l link : ℕ) (f : S → S) (xs : List (ℕ × S)) → l ≢ link →
@@ -47,8 +50,9 @@ module _ {S : Type 0} where
     where
       go : (b : Bool) → (x.0 == link) ≡ b → (side_of link xs ≡ None → changed_side link f xs ≡ xs)
           → side_of link (x ∷ xs) ≡ None → changed_side link f (x ∷ xs) ≡ x ∷ xs
-      go true e h none = grind (e, none)
-      go false e h none = rw e (ap (λ l. x ∷ l) (h (grind (e, none))))
+      go true e h none = absurd (cut_off x.1 (subst (λ b. (if b then Some x.1 else side_of link xs) ≡ None) e none))
+      go false e h none = rw e (ap (λ l. x ∷ l)
+          (h (subst (λ b. (if b then Some x.1 else side_of link xs) ≡ None) e none)))
 
   pub same_changed : (link : ℕ) (f : S → S) (xs : List (ℕ × S)) → ((s : S) → side_of link xs ≡ Some s → f s ≡ s)
       → changed_side link f xs ≡ xs
@@ -67,8 +71,24 @@ module _ {S : Type 0} where
   at_place link [] i s is before = absurd (cc)
   at_place link (x ∷ xs) zero s is before =
       let e : x ≡ (link, s) = cc in
-      ?zero
-  at_place link (x ∷ xs) (suc i) s is before = ?suc
+      (s, is, here e, λ f. first e f)
+    where
+      same : x ≡ (link, s) → (x.0 == link) ≡ true
+      same e = ap (λ y. y.0 == link) e ∙ itself link
+      here : x ≡ (link, s) → side_of link (x ∷ xs) ≡ Some s
+      here e = rw (same e) (ap (λ y. Some y.1) e)
+      first : x ≡ (link, s) → (f : S → S) → (link, f s) ∷ xs ≡ changed_side link f (x ∷ xs)
+      first e f = rw (same e) (ap (λ (y : ℕ × S). (y.0, f y.1) ∷ xs) (sym e))
+  at_place link (x ∷ xs) (suc i) s is before =
+      let other : (x.0 == link) ≡ false = before 0 x (omega arith) refl in
+      let rest : IsPlace link xs (Some i) = at_place link xs i s is (λ k y low there. before (suc k) y (omega (arith, low)) there) in
+      (rest.0, rest.1, rw other rest.2, λ f. rw other (ap (λ l. x ∷ l) (rest.3 f)))
+
+  pub no_place : (link : ℕ) (xs : List (ℕ × S))
+      → ((k : ℕ) (x : ℕ × S) → slice_get xs k ≡ Some x → (x.0 == link) ≡ false) → side_of link xs ≡ None
+  no_place link [] before = refl
+  no_place link (x ∷ xs) before =
+      rw (before 0 x refl) (no_place link xs (λ k y there. before (suc k) y there))
 
   -- an element that is modified, and another
   pub at_modified : (xs : List S) (i : ℕ) (f : S → S) → slice_get (modified xs i f) i ≡ option_map f (slice_get xs i)

@@ -26,7 +26,7 @@ use Rattle.part_phase.specs.Limits.{are_parts, is_size}
 use Rattle.part_phase.specs.Phases.{sending_at, receiving_at}
 use Rattle.part_phase.specs.Receiving.{next_box, next_box_of}
 use Rattle.part_phase.specs.Sending.{all_freed, is_ready, next_to_free}
-use Rattle.cl_calls.specs.Calls.{no_rank, no_message}
+use Rattle.cl_calls.specs.Calls.{call_of, no_rank, no_message}
 use Rattle.cl_calls.specs.Checks.{checks, first_fault, holds_of_sender, receiving_side, sending_side, sends_in}
 use Rattle.cl_calls.specs.Needs.{needs_of}
 use Rattle.cl_calls.specs.declared.calls.Call.{Call}
@@ -221,14 +221,14 @@ module _ (v : ImageVersion) (table : Table) (phases : List Phase) where
   unready_fits Polling = refl
   unready_fits Posting = refl
 
-  SenderFits : Manner → Partitions → Target → Awaited → Type 0
+  abbrev pub SenderFits : Manner → Partitions → Target → Awaited → Type 0
   SenderFits m side target a =
       RowFits v table phases None (asked_awaited m a) (row_awaited m (SendPartitions side) target a)
 
   taking_fits : (m : Manner) (side : Partitions) (target : Target) (part : ℕ) (b : Bool)
       → next_to_free (sending_at phases side.link) ≡ Some part → is_ready (sending_at phases side.link) part ≡ b
       → SenderFits m side target (if b then awaits.Taking side.link part else awaits.Unready)
-  taking_fits m side target part true next ready = (refl, next, ready)
+  taking_fits m side target part true next ready = (refl, (next, ready))
   taking_fits m side target part false next ready = unready_fits m
 
   sender_fits : (m : Manner) (side : Partitions) (target : Target) (next : Option ℕ)
@@ -279,7 +279,7 @@ module _ (v : ImageVersion) (table : Table) (phases : List Phase) where
 
   -- ---- a test or a wait
 
-  CompletesAt : Manner → Completing → State → Transfer → Type 0
+  abbrev pub CompletesAt : Manner → Completing → State → Transfer → Type 0
   CompletesAt m c s t =
       RowFits v table phases None (asked_completing m (awaited_at phases s t) (pending_in s t))
       (row_completing m c (awaited_at phases s t) (Some (record { transfer = t; state = s })))
@@ -314,14 +314,17 @@ abbrev pub AllTrue : List (Bool × Code) → Type 0
 AllTrue [] = Unit {0}
 AllTrue (check ∷ checks) = (check.0 ≡ true) × AllTrue checks
 
+some_none : (code : Code) → Some code ≡ None → ⊥
+some_none code h = cc
+
 passed : (cs : List (Bool × Code)) → first_fault cs ≡ None → AllTrue cs
 passed [] h = tt
 passed (check ∷ cs) h = go check.0 refl h (passed cs)
   where
     go : (b : Bool) → check.0 ≡ b → (if check.0 then first_fault cs else Some check.1) ≡ None
         → (first_fault cs ≡ None → AllTrue cs) → (check.0 ≡ true) × AllTrue cs
-    go true e h rest = (e, rest (grind (e, h)))
-    go false e h rest = absurd (grind (e, h))
+    go true e h rest = (e, rest (subst (λ c. (if c then first_fault cs else Some check.1) ≡ None) e h))
+    go false e h rest = absurd (some_none check.1 (subst (λ c. (if c then first_fault cs else Some check.1) ≡ None) e h))
 
 -- what is done has passed its checks
 abbrev pub Passed : Site → Memory → Table → List Phase → ℕ → Doing → Type 0
@@ -329,17 +332,18 @@ Passed site memory table phases written (Go c) = AllTrue (checks site memory tab
 Passed site memory table phases written _ = Unit {0}
 
 module _ (site : Site) (part : Part) where
-  PassedIn : Doing → Type 0
+  abbrev pub PassedIn : Doing → Type 0
   PassedIn d = Passed site part.memory part.requests part.phases (length part.out) d
 
   refused_or_passed : (c : Call) (o : Option Code)
       → first_fault (checks site part.memory part.requests part.phases (length part.out) (needs_of c)) ≡ o
       → PassedIn (go_or_refuse o c)
-  refused_or_passed c None e = passed _ e
+  refused_or_passed c None e =
+      passed (checks site part.memory part.requests part.phases (length part.out) (needs_of c)) e
   refused_or_passed c (Some code) e = tt
 
   checked_passed : PassedIn (checked site part)
-  checked_passed = refused_or_passed _ _ refl
+  checked_passed = refused_or_passed (call_of part.hart) _ refl
 
   step_or_passed : (b : Bool) → PassedIn (if b then checked site part else Step)
   step_or_passed true = checked_passed
@@ -372,9 +376,9 @@ module _ (site : Site) (hart : ℕ) (memory : Memory) (table : Table) (phases : 
       → RowFits site.version table phases None (asked_ready site memory part side) (row_ready part side)
   ready_fits handle part None is ok = refl
   ready_fits handle part (Some side) is ok = (refl, record {
-    there = by (λ p. nat_lt part p.parts) ok.7;
-    going = not_true _ (by (λ p. not (all_freed p)) ok.11);
-    unready = not_true _ (by (λ p. not (is_ready p part)) ok.12);
+    there = by (λ p. nat_lt part p.parts) ok.1.1.1.1.1.1.1.0;
+    going = not_true _ (by (λ p. not (all_freed p)) ok.1.1.1.1.1.1.1.1.1.1.1.0);
+    unready = not_true _ (by (λ p. not (is_ready p part)) ok.1.1.1.1.1.1.1.1.1.1.1.1.0);
   })
     where
       by : (holds : SendPhase → Bool)
@@ -390,30 +394,30 @@ module _ (site : Site) (hart : ℕ) (memory : Memory) (table : Table) (phases : 
   call_fits (call.Rank comm) ok = refl
   call_fits (call.Size comm) ok = refl
   call_fits call.Hart ok = refl
-  call_fits (call.Send s) ok = begins_fits _ _ _ memory true purpose.Send (send_of site false s)
-  call_fits (call.Ssend s) ok = begins_fits _ _ _ memory true purpose.Send (send_of site true s)
-  call_fits (call.Recv r status) ok = recv_fits _ _ _ (r.source == no_rank) memory _ _ _ _ _ _
-  call_fits (call.Isend s) ok = begins_fits _ _ _ memory false purpose.Open (send_of site false s)
-  call_fits (call.Issend s) ok = begins_fits _ _ _ memory false purpose.Open (send_of site true s)
-  call_fits (call.Irecv r) ok = begins_fits _ _ _ memory false purpose.Open (receive_of site r)
-  call_fits (call.Test c) ok = test_fits _ _ _ Immediate c (request_at table c.handle)
-  call_fits (call.Wait c) ok = test_fits _ _ _ Blocking c (request_at table c.handle)
-  call_fits (call.Iprobe p) ok = either _ _ _ (p.source == no_rank) None _ _ _ _ refl tt
-  call_fits (call.Probe p) ok = either _ _ _ (p.source == no_rank) None _ _ _ _ refl tt
-  call_fits (call.Improbe p) ok = either _ _ _ (p.source == no_rank) None _ _ _ _ refl tt
-  call_fits (call.Mprobe p) ok = either _ _ _ (p.source == no_rank) None _ _ _ _ refl tt
-  call_fits (call.Imrecv m) ok = imrecv_fits _ _ _ (m.message == no_message) _ _ _
-  call_fits (call.Mrecv m status) ok = either _ _ _ (m.message == no_message) None _ _ _ _ refl tt
-  call_fits (call.SendInit s) ok = (refl, null_or_send _ _ _ (s.dest == no_rank) _ refl)
-  call_fits (call.RecvInit r) ok = (refl, null_or_receive _ _ _ (r.source == no_rank) _ refl)
-  call_fits (call.Start handle) ok = starts_fits _ _ _ memory handle (request_at table handle)
+  call_fits (call.Send s) ok = begins_fits site.version table phases memory true purpose.Send (send_of site false s)
+  call_fits (call.Ssend s) ok = begins_fits site.version table phases memory true purpose.Send (send_of site true s)
+  call_fits (call.Recv r status) ok = recv_fits site.version table phases (r.source == no_rank) memory _ _ _ _ _ _
+  call_fits (call.Isend s) ok = begins_fits site.version table phases memory false purpose.Open (send_of site false s)
+  call_fits (call.Issend s) ok = begins_fits site.version table phases memory false purpose.Open (send_of site true s)
+  call_fits (call.Irecv r) ok = begins_fits site.version table phases memory false purpose.Open (receive_of site r)
+  call_fits (call.Test c) ok = test_fits site.version table phases Immediate c (request_at table c.handle)
+  call_fits (call.Wait c) ok = test_fits site.version table phases Blocking c (request_at table c.handle)
+  call_fits (call.Iprobe p) ok = either site.version table phases (p.source == no_rank) None _ _ _ _ refl tt
+  call_fits (call.Probe p) ok = either site.version table phases (p.source == no_rank) None _ _ _ _ refl tt
+  call_fits (call.Improbe p) ok = either site.version table phases (p.source == no_rank) None _ _ _ _ refl tt
+  call_fits (call.Mprobe p) ok = either site.version table phases (p.source == no_rank) None _ _ _ _ refl tt
+  call_fits (call.Imrecv m) ok = imrecv_fits site.version table phases (m.message == no_message) _ _ _
+  call_fits (call.Mrecv m status) ok = either site.version table phases (m.message == no_message) None _ _ _ _ refl tt
+  call_fits (call.SendInit s) ok = (refl, null_or_send site.version table phases (s.dest == no_rank) _ refl)
+  call_fits (call.RecvInit r) ok = (refl, null_or_receive site.version table phases (r.source == no_rank) _ refl)
+  call_fits (call.Start handle) ok = starts_fits site.version table phases memory handle (request_at table handle)
   call_fits (call.RequestFree handle) ok = refl
-  call_fits (call.Testall s) ok = gathers_fits _ _ _ Immediate s _
-  call_fits (call.Waitall s) ok = gathers_fits _ _ _ Blocking s _
-  call_fits (call.PsendInit t) ok = (and_left _ _ ok.7, and_left _ _ ok.8)
-  call_fits (call.PrecvInit t) ok = (and_left _ _ ok.7, and_left _ _ ok.8)
+  call_fits (call.Testall s) ok = gathers_fits site.version table phases Immediate s _
+  call_fits (call.Waitall s) ok = gathers_fits site.version table phases Blocking s _
+  call_fits (call.PsendInit t) ok = (and_left _ _ ok.1.1.1.1.1.1.1.0, and_left _ _ ok.1.1.1.1.1.1.1.1.0)
+  call_fits (call.PrecvInit t) ok = (and_left _ _ ok.1.1.1.1.1.1.1.0, and_left _ _ ok.1.1.1.1.1.1.1.1.0)
   call_fits (call.Pready handle part) ok = ready_fits handle part (sending_side (request_at table handle)) refl ok
-  call_fits (call.Parrived handle part) ok = arrived_fits _ _ _ part (receiving_side (request_at table handle))
+  call_fits (call.Parrived handle part) ok = arrived_fits site.version table phases part (receiving_side (request_at table handle))
   call_fits call.Unknown ok = refl
 
   polls_fits : (c : Call) (post : ℕ)

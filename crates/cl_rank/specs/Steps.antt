@@ -80,7 +80,7 @@ pub record IsTested (channels : List ChannelView) (link clock : ℕ) (progress :
   pub at : SenderAt channels link old
   pub gate : ℕ
   pub kept : keeps_sending at.side
-  pub tested : new ≡ changed_side link (λ s. tested s gate) old
+  pub moved : new ≡ changed_side link (λ s. tested s gate) old
   pub found : progress ≡ test_progress at.side clock gate
   pub own : map sender_box (tested at.side gate).keys ≡ at.channel.boxes
   pub told : IsTold (tested at.side gate) progress
@@ -98,7 +98,7 @@ pub record IsTaken (channels : List ChannelView) (link part clock : ℕ) (take :
   pub words : List ℕ
   pub kept : keeps_receiving at.side
   pub long : length words ≡ at.channel.width
-  pub took : new ≡ changed_side link (λ r. took r part gate words clock) old
+  pub moved : new ≡ changed_side link (λ r. took r part gate words clock) old
   pub shown : take ≡ shown_take clock words (ready_stamp gate)
   pub own : map receiver_box (took at.side part gate words clock).keys ≡ at.channel.boxes
   pub stamp : (clock < take_stamp take) × (take_stamp take < 2 ^ 62)
