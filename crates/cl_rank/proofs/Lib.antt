@@ -1,7 +1,10 @@
 pub mod Alone
 pub mod Answered
 pub mod Clocks
+pub mod Kept
+pub mod Keys
 pub mod Lists
 pub mod Rows
+pub mod Stepped
 pub mod Tables
 pub mod Turned

@@ -1,7 +1,8 @@
 -- Lists of sides and of phases, of which one is changed.
 use Rattle.std.proofs.Common.{◌≡◌, ◌≢◌, ℕ, zero, suc, ◌<◌, ◌==◌, List, [], ◌∷◌, length, set, Bool, true, false, Option, Some, None}
 use Rattle.std.proofs.Common.{refl, sym, ap, subst, ◌∙◌, rules, arith}
-use Rattle.std.specs.Prelude.{slice_get, option_map, if◌then◌else◌}
+use Rattle.std.proofs.lemmas.Option.{slice_get_read}
+use Rattle.std.specs.Prelude.{◌≤◌, get_or, slice_get, IfSome, option_map, if◌then◌else◌}
 use Rattle.part_channel.specs.Sending.{modified}
 use Rattle.part_phase.specs.declared.phases.Phase.{Phase}
 use Rattle.part_phase.specs.Phases.{changed_at}
@@ -84,11 +85,70 @@ module _ {S : Type 0} where
       let rest : IsPlace link xs (Some i) = at_place link xs i s is (λ k y low there. before (suc k) y (omega (arith, low)) there) in
       (rest.0, rest.1, rw other rest.2, λ f. rw other (ap (λ l. x ∷ l) (rest.3 f)))
 
-  pub no_place : (link : ℕ) (xs : List (ℕ × S))
+  no_place : (link : ℕ) (xs : List (ℕ × S))
       → ((k : ℕ) (x : ℕ × S) → slice_get xs k ≡ Some x → (x.0 == link) ≡ false) → side_of link xs ≡ None
   no_place link [] before = refl
   no_place link (x ∷ xs) before =
       rw (before 0 x refl) (no_place link xs (λ k y there. before (suc k) y there))
+
+  found_low : (xs : List (ℕ × S)) (k : ℕ) (x : ℕ × S) → slice_get xs k ≡ Some x → k < length xs
+  found_low [] k x e = absurd (cut_off_pair x (sym e))
+    where
+      cut_off_pair : (x : ℕ × S) → Some x ≡ None → ⊥
+      cut_off_pair x h = cc
+  found_low (y ∷ ys) zero x e = omega arith
+  found_low (y ∷ ys) (suc k) x e = let low : k < length ys = found_low ys k x e in omega (arith, low)
+
+  -- the first side that has the link, and none
+  abbrev pub NoneBefore : ℕ → List (ℕ × S) → ℕ → Type 0
+  NoneBefore link xs i = (k : ℕ) → k < i → IfSome (slice_get xs k) (λ x. (x.0 == link) ≡ false)
+
+  before_at : (link : ℕ) (xs : List (ℕ × S)) (i : ℕ) → NoneBefore link xs i → (k : ℕ) (x : ℕ × S) → k < i
+      → slice_get xs k ≡ Some x → (x.0 == link) ≡ false
+  before_at link xs i before k x low is = subst (λ o. IfSome o (λ x. (x.0 == link) ≡ false)) is (before k low)
+
+  pub found : (link : ℕ) (xs : List (ℕ × S)) (i : ℕ) (x : ℕ × S) → i < length xs → x ≡ get_or xs i x
+      → (get_or xs i x).0 ≡ link → NoneBefore link xs i → IsPlace link xs (Some i)
+  found link xs i x low is at before =
+      let here : slice_get xs i ≡ Some x = slice_get_read xs (length xs) i x refl low is in
+      let named : x.0 ≡ link = ap (λ (y : ℕ × S). y.0) is ∙ at in
+      at_place link xs i x.1 (here ∙ ap (λ n. Some (n, x.1)) named) (before_at link xs i before)
+
+  pub not_found : (link : ℕ) (xs : List (ℕ × S)) (i : ℕ) → length xs ≤ i → NoneBefore link xs i
+      → side_of link xs ≡ None
+  not_found link xs i long before =
+      no_place link xs
+      (λ k x is. before_at link xs i before k x (let low : k < length xs = found_low xs k x is in omega (arith, low, long)) is)
+
+  pub left_alone : (link : ℕ) (f : S → S) (xs : List (ℕ × S)) → side_of link xs ≡ None → xs ≡ changed_side link f xs
+  left_alone link f xs none = sym (none_changed link f xs none)
+
+  -- what stands at a place
+  at_index : (xs : List (ℕ × S)) (i : ℕ) (x y : ℕ × S) → slice_get xs i ≡ Some y → get_or xs i x ≡ y
+  at_index [] i x y e = absurd (none_some y e)
+    where
+      none_some : (y : ℕ × S) → None ≡ Some y → ⊥
+      none_some y h = cc
+  at_index (z ∷ zs) zero x y e = same_pair z y e
+    where
+      same_pair : (z y : ℕ × S) → Some z ≡ Some y → z ≡ y
+      same_pair z y h = cc
+  at_index (z ∷ zs) (suc i) x y e = at_index zs i x y e
+
+  abbrev pub Placed : ℕ → List (ℕ × S) → ℕ → ℕ × S → Type 0
+  Placed link xs i x =
+      (side_of link xs ≡ Some x.1) × ((f : S → S) → set xs i (x.0, f x.1) ≡ changed_side link f xs)
+
+  pub placed : (link : ℕ) (xs : List (ℕ × S)) (i : ℕ) (x : ℕ × S) → IsPlace link xs (Some i) → x ≡ get_or xs i x
+      → Placed link xs i x
+  placed link xs i x place is =
+      subst (Placed link xs i) (sym (is ∙ at_index xs i x (link, place.0) place.1)) (place.2, place.3)
+
+  pub same_side : (link : ℕ) (xs : List (ℕ × S)) (s t : S) → side_of link xs ≡ Some s → side_of link xs ≡ Some t → s ≡ t
+  same_side link xs s t p q = both s t (sym p ∙ q)
+    where
+      both : (s t : S) → Some s ≡ Some t → s ≡ t
+      both s t h = cc
 
   -- an element that is modified, and another
   pub at_modified : (xs : List S) (i : ℕ) (f : S → S) → slice_get (modified xs i f) i ≡ option_map f (slice_get xs i)

@@ -27,6 +27,9 @@ pub record Sides : Type 0 where
   pub sends : List (ℕ × SendView)
   pub recvs : List (ℕ × RecvView)
 
+abbrev pub sides_in : List (ℕ × SendView) → List (ℕ × RecvView) → Sides
+sides_in sends recvs = record { sends = sends; recvs = recvs }
+
 -- the side of a link, if the rank has it
 abbrev pub side_of : {S : Type 0} → ℕ → List (ℕ × S) → Option S
 side_of link [] = None

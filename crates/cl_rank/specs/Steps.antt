@@ -137,14 +137,10 @@ followed_receiver was now r =
     r
 
 -- a side that gets its shape has none; one that learns the cut has a shape of the same total, and knows none
-abbrev pub SenderMay : ℕ → SendPhase → SendPhase → List (ℕ × SendView) → Type 0
-SenderMay link was now sends =
-    (s : SendView) → side_of link sends ≡ Some s → gets was.parts now.parts ≡ true
-    → (s.parts ≡ 0) × InLimits now.parts now.size
+abbrev pub SendingMay : SendPhase → SendPhase → SendView → Type 0
+SendingMay was now s = gets was.parts now.parts ≡ true → (s.parts ≡ 0) × InLimits now.parts now.size
 
-pub record ReceiverMay (link : ℕ) (was now : RecvPhase) (recvs : List (ℕ × RecvView)) : Type 0 where
-  pub shape : (r : RecvView) → side_of link recvs ≡ Some r → gets was.parts now.parts ≡ true
-      → ((r.parts ≡ 0) × (r.boxes ≡ 0)) × InLimits now.parts now.size
-  pub cut : (r : RecvView) → side_of link recvs ≡ Some r → gets was.parts now.parts ≡ false
-      → gets was.boxes now.boxes ≡ true
+pub record ReceivingMay (was now : RecvPhase) (r : RecvView) : Type 0 where
+  pub shape : gets was.parts now.parts ≡ true → ((r.parts ≡ 0) × (r.boxes ≡ 0)) × InLimits now.parts now.size
+  pub cut : gets was.parts now.parts ≡ false → gets was.boxes now.boxes ≡ true
       → ((r.boxes ≡ 0) × (now.boxes * now.bytes ≡ r.parts * r.size)) × InLimits now.boxes now.bytes

@@ -19,16 +19,13 @@ use Rattle.cl_rank.specs.declared.ranks.Rank.{Rank}
 use Rattle.cl_rank.specs.declared.sides.BoxPlace.{BoxPlace}
 use Rattle.cl_rank.specs.declared.turning.Turn.{Turn}
 use Rattle.cl_rank.specs.Deeds.{Act, Deed, event_of, RankMoves, Answers, answer_of, kind_of, request_of}
-use Rattle.cl_rank.specs.Sides.{Sides, KeysMove, place_of}
+use Rattle.cl_rank.specs.Sides.{KeysMove, place_of, sides_in}
 use Rattle.cl_rank.specs.Turns.{RankView}
 
 -- a box as the pair of its link and its number there
 abbrev pub place_in : Option BoxPlace → Option (ℕ × ℕ)
 place_in None = None
 place_in (Some box) = Some (box.link, box.part)
-
-abbrev pub sides_in : List (ℕ × SendView) → List (ℕ × RecvView) → Sides
-sides_in sends recvs = record { sends = sends; recvs = recvs }
 
 abbrev pub view_of : Rank → RankView
 view_of r = record {

@@ -8,9 +8,8 @@ ghost use Rattle.part_phase.specs.Limits.{box_words};
 ghost use Rattle.cl_state.specs.Rank.{loaded};
 ghost use Rattle.cl_state.specs.Room.{rank_of};
 ghost use Rattle.cl_rank.specs.Fitting.{RequestsFit};
-ghost use Rattle.cl_rank.specs.Sides.{AreChannelsOf, AreNewSides, AreSides, receiver_of, sender_of};
+ghost use Rattle.cl_rank.specs.Sides.{AreChannelsOf, AreNewSides, AreSides, sides_in};
 ghost use Rattle.cl_rank.specs.Turns.{Answered, IsActive, IsCause, IsTurn, StopHolds};
-ghost use Rattle.cl_rank.specs.Views.{sides_in, view_of};
 
 use crate::desks::{Desk, PlainDesk};
 use crate::sides::BoxPlace;
@@ -44,6 +43,8 @@ pub struct Rank {
 }
 
 impl Rank {
+    ghost use Rattle.cl_rank.specs.Views.{view_of};
+
     /// The rank of this number as it is loaded, which took no turn, with the sides of its links, which are new.
     pub fn new(
         alloc: Global,

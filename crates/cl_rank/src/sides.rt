@@ -1,8 +1,9 @@
 //! The sides that a rank has of its links: each makes the steps on its boxes, and follows the rank's phase.
 
-ghost use Rattle.std.specs.Prelude.{◌≡◌, ◌<◌, ◌+◌, ◌-◌, ◌^◌};
+ghost use Rattle.std.specs.Prelude.{◌≡◌, ◌<◌, ◌+◌, ◌-◌, ◌^◌, IfSome};
 ghost use Rattle.cl_rank.specs.Steps.{IsPlace, IsReadied, IsTaken, IsTested, MayReady, MayTake, MayTest, changed_side};
-ghost use Rattle.cl_rank.specs.Steps.{ReceiverMay, SenderMay, begun_receiver, begun_sender, followed_receiver};
+ghost use Rattle.cl_rank.specs.Sides.{side_of};
+ghost use Rattle.cl_rank.specs.Steps.{ReceivingMay, SendingMay, begun_receiver, begun_sender, followed_receiver};
 ghost use Rattle.cl_rank.specs.Steps.{followed_sender};
 
 use mp_types::Stamp;
@@ -94,54 +95,87 @@ pub(crate) fn take(
     }
 }
 
-/// The sides of a link begin a phase, where none is going on.
-pub(crate) fn begin(sends: &mut Vec<(u8, SendSide)>, recvs: &mut Vec<(u8, RecvSide)>, link: u8)
-    ensures sends { sends.new.items ≡ changed_side link begun_sender sends.old.items }
-    ensures recvs { recvs.new.items ≡ changed_side link begun_receiver recvs.old.items }
+/// A phase begins. One that is going on goes on.
+fn begin_sending(side: &mut SendSide)
+    ensures { side.new ≡ begun_sender side.old }
+{
+    let _ = side.start();
+}
+
+fn begin_receiving(side: &mut RecvSide)
+    ensures { side.new ≡ begun_receiver side.old }
+{
+    let _ = side.start();
+}
+
+/// The sender's side of a link begins a phase, where none is going on.
+#[tactic(auto, using(crate::proofs::Lists::left_alone))]
+pub(crate) fn begin_sender(sends: &mut Vec<(u8, SendSide)>, link: u8)
+    ensures { sends.new.items ≡ changed_side link begun_sender sends.old.items }
 {
     if let Some(at) = find(sends.as_slice(), link) {
-        // a phase that is going on goes on
-        let _ = sends[at].1.start();
+        begin_sending(&mut sends[at].1);
     }
+}
+
+/// The receiver's side of a link begins a phase, where none is going on.
+#[tactic(auto, using(crate::proofs::Lists::left_alone))]
+pub(crate) fn begin_receiver(recvs: &mut Vec<(u8, RecvSide)>, link: u8)
+    ensures { recvs.new.items ≡ changed_side link begun_receiver recvs.old.items }
+{
     if let Some(at) = find(recvs.as_slice(), link) {
-        let _ = recvs[at].1.start();
+        begin_receiving(&mut recvs[at].1);
+    }
+}
+
+fn follow_sending(side: &mut SendSide, was: SendPhase, now: SendPhase)
+    requires { SendingMay was now side.old }
+    ensures { side.new ≡ followed_sender was now side.old }
+{
+    if was.parts == 0 && now.parts != 0 {
+        side.shape(now.parts, now.size);
     }
 }
 
 /// The sender's side of a link gets the shape that its phase got, if it got one.
+#[tactic(auto, using(crate::proofs::Lists::left_alone))]
 pub(crate) fn follow_sender(
     sends: &mut Vec<(u8, SendSide)>,
     link: u8,
     was: SendPhase,
     now: SendPhase,
 )
-    requires { SenderMay link was now sends.old.items }
+    requires { IfSome (side_of link sends.old.items) (SendingMay was now) }
     ensures { sends.new.items ≡ changed_side link (followed_sender was now) sends.old.items }
 {
+    if let Some(at) = find(sends.as_slice(), link) {
+        follow_sending(&mut sends[at].1, was, now);
+    }
+}
+
+fn follow_receiving(side: &mut RecvSide, was: RecvPhase, now: RecvPhase)
+    requires { ReceivingMay was now side.old }
+    ensures { side.new ≡ followed_receiver was now side.old }
+{
     if was.parts == 0 && now.parts != 0 {
-        if let Some(at) = find(sends.as_slice(), link) {
-            sends[at].1.shape(now.parts, now.size);
-        }
+        side.shape(now.parts, now.size);
+    } else if was.boxes == 0 && now.boxes != 0 {
+        side.cut(now.boxes, now.bytes);
     }
 }
 
 /// The receiver's side of a link gets the shape or the cut that its phase got, if it got one.
+#[tactic(auto, using(crate::proofs::Lists::left_alone))]
 pub(crate) fn follow_receiver(
     recvs: &mut Vec<(u8, RecvSide)>,
     link: u8,
     was: RecvPhase,
     now: RecvPhase,
 )
-    requires { ReceiverMay link was now recvs.old.items }
+    requires { IfSome (side_of link recvs.old.items) (ReceivingMay was now) }
     ensures { recvs.new.items ≡ changed_side link (followed_receiver was now) recvs.old.items }
 {
-    let Some(at) = find(recvs.as_slice(), link) else {
-        return;
-    };
-    let side = &mut recvs[at].1;
-    if was.parts == 0 && now.parts != 0 {
-        side.shape(now.parts, now.size);
-    } else if was.boxes == 0 && now.boxes != 0 {
-        side.cut(now.boxes, now.bytes);
+    if let Some(at) = find(recvs.as_slice(), link) {
+        follow_receiving(&mut recvs[at].1, was, now);
     }
 }
