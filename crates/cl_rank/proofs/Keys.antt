@@ -30,7 +30,7 @@ none_stays false Acts = tt
 not_here : (l p : ℕ) (o : Option (ℕ × ℕ)) → o ≡ None → is_place l p o ≡ false
 not_here l p o none = ap (is_place l p) none
 
-somewhere : (place : ℕ × ℕ) → Some place ≡ None → ⊥
+pub somewhere : (place : ℕ × ℕ) → Some place ≡ None → ⊥
 somewhere place h = cc
 
 elsewhere : (sides : Sides) (act : Act) → place_of act ≡ None → HasKey sides act

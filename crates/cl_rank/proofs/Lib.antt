@@ -4,6 +4,7 @@ pub mod Clocks
 pub mod Kept
 pub mod Keys
 pub mod Lists
+pub mod Moves
 pub mod Rows
 pub mod Stepped
 pub mod Tables

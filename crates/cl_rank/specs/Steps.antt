@@ -144,3 +144,8 @@ pub record ReceivingMay (was now : RecvPhase) (r : RecvView) : Type 0 where
   pub shape : gets was.parts now.parts ≡ true → ((r.parts ≡ 0) × (r.boxes ≡ 0)) × InLimits now.parts now.size
   pub cut : gets was.parts now.parts ≡ false → gets was.boxes now.boxes ≡ true
       → ((r.boxes ≡ 0) × (now.boxes * now.bytes ≡ r.parts * r.size)) × InLimits now.boxes now.bytes
+
+-- the side of a link on which a phase begins, if it does
+abbrev pub begun_at : {S : Type 0} → Option ℕ → (S → S) → List (ℕ × S) → List (ℕ × S)
+begun_at None change sides = sides
+begun_at (Some link) change sides = changed_side link change sides

@@ -3,7 +3,7 @@
 ghost use Rattle.std.specs.Prelude.{◌≡◌, ◌<◌, ◌+◌, ◌-◌, ◌^◌, IfSome};
 ghost use Rattle.cl_rank.specs.Steps.{IsPlace, IsReadied, IsTaken, IsTested, MayReady, MayTake, MayTest, changed_side};
 ghost use Rattle.cl_rank.specs.Sides.{side_of};
-ghost use Rattle.cl_rank.specs.Steps.{ReceivingMay, SendingMay, begun_receiver, begun_sender, followed_receiver};
+ghost use Rattle.cl_rank.specs.Steps.{ReceivingMay, SendingMay, begun_at, begun_receiver, begun_sender, followed_receiver};
 ghost use Rattle.cl_rank.specs.Steps.{followed_sender};
 
 use mp_types::Stamp;
@@ -110,7 +110,7 @@ fn begin_receiving(side: &mut RecvSide)
 
 /// The sender's side of a link begins a phase, where none is going on.
 #[tactic(auto, using(crate::proofs::Lists::left_alone))]
-pub(crate) fn begin_sender(sends: &mut Vec<(u8, SendSide)>, link: u8)
+fn begin_sender(sends: &mut Vec<(u8, SendSide)>, link: u8)
     ensures { sends.new.items ≡ changed_side link begun_sender sends.old.items }
 {
     if let Some(at) = find(sends.as_slice(), link) {
@@ -120,11 +120,26 @@ pub(crate) fn begin_sender(sends: &mut Vec<(u8, SendSide)>, link: u8)
 
 /// The receiver's side of a link begins a phase, where none is going on.
 #[tactic(auto, using(crate::proofs::Lists::left_alone))]
-pub(crate) fn begin_receiver(recvs: &mut Vec<(u8, RecvSide)>, link: u8)
+fn begin_receiver(recvs: &mut Vec<(u8, RecvSide)>, link: u8)
     ensures { recvs.new.items ≡ changed_side link begun_receiver recvs.old.items }
 {
     if let Some(at) = find(recvs.as_slice(), link) {
         begin_receiving(&mut recvs[at].1);
+    }
+}
+
+/// A phase begins on a link, if it does.
+pub(crate) fn begin(
+    sends: &mut Vec<(u8, SendSide)>,
+    recvs: &mut Vec<(u8, RecvSide)>,
+    link: Option<u8>,
+)
+    ensures sends { sends.new.items ≡ begun_at link begun_sender sends.old.items }
+    ensures recvs { recvs.new.items ≡ begun_at link begun_receiver recvs.old.items }
+{
+    if let Some(link) = link {
+        begin_sender(sends, link);
+        begin_receiver(recvs, link);
     }
 }
 

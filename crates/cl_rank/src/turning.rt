@@ -17,8 +17,7 @@ ghost use Rattle.cl_rank.specs.Views.{AsksNobody, IsHubTurn, IsQuietTurn, MayTur
 
 use crate::desks::Desk;
 use crate::ranks::Rank;
-use crate::sides::{BoxPlace, begin_receiver, begin_sender, follow_receiver, follow_sender};
-use crate::sides::{make_ready, take, test};
+use crate::sides::{BoxPlace, begin, follow_receiver, follow_sender, make_ready, take, test};
 use crate::stops::{Stop, stop_of};
 use cl_calls::Call;
 use cl_state::{Answer, Ask, Doing, RankState};
@@ -213,10 +212,7 @@ impl Rank {
         let (hart, stamp) = (turn.hart, self.state.clock + 1);
         let link = started(&self.state.requests, &turn.doing);
         self.state.tell_next(hart, &turn.doing, &Answer::Alone, stamp);
-        if let Some(link) = link {
-            begin_sender(&mut self.sends, link);
-            begin_receiver(&mut self.recvs, link);
-        }
+        begin(&mut self.sends, &mut self.recvs, link);
         self.asked_box = None;
         self.trace.push(Event {
             hart,
