@@ -1,8 +1,8 @@
 -- What the row of a turn is, by what the turn asks.
 use Rattle.std.proofs.Common.{◌≡◌, ℕ, ◌<◌, ◌==◌, List, [], ◌∷◌, length, Bool, true, false, Option, Some, None, refl, sym, ap, ◌∙◌}
-use Rattle.std.proofs.Common.{subst, inl, inr}
+use Rattle.std.proofs.Common.{subst, inl, inr, zero, suc, take, ◌≤◌, ◌+◌, ◌*◌, arith}
 use Rattle.std.specs.Prelude.{if◌then◌else◌, not, ◌&&◌, ◌⊎◌, nat_lt}
-use Rattle.rv_memory.specs.Memory.{Memory}
+use Rattle.rv_memory.specs.Memory.{Memory, bytes_at}
 use Rattle.rv_hart.specs.declared.state.Mode.{Mode}
 use Rattle.rv_hart.specs.declared.state.Mode.TheVariants.{Running, Waiting, Ended, Trapped}
 use Rattle.rv_hart.specs.declared.state.Wait.TheVariants.{Post, Again}
@@ -22,7 +22,7 @@ use Rattle.mp_request.specs.Table.{Table, request_at}
 use Rattle.part_phase.specs.declared.phases.Phase.{Phase}
 use Rattle.part_phase.specs.declared.receiving.RecvPhase.{RecvPhase}
 use Rattle.part_phase.specs.declared.sending.SendPhase.{SendPhase}
-use Rattle.part_phase.specs.Limits.{are_parts, is_size}
+use Rattle.part_phase.specs.Limits.{are_parts, is_size, padded}
 use Rattle.part_phase.specs.Phases.{sending_at, receiving_at}
 use Rattle.part_phase.specs.Receiving.{next_box, next_box_of}
 use Rattle.part_phase.specs.Sending.{all_freed, is_ready, next_to_free}
@@ -103,8 +103,21 @@ pub record CanReady (p : SendPhase) (part : ℕ) : Type 0 where
   pub going : all_freed p ≡ false
   pub unready : is_ready p part ≡ false
 
-abbrev pub IsReadying : Table → List Phase → ℕ → ℕ → Row → Type 0
-IsReadying table phases link part row = (row ≡ OnBox (Readies link part)) × CanReady (sending_at phases link) part
+-- the bytes are those of a request's partition, as they stand in a box
+pub record IsOfRequest (version : ImageVersion) (table : Table) (link : ℕ) (bytes : List ℕ) : Type 0 where
+  pub handle : ℕ
+  pub side : Partitions
+  pub there : sending_side (request_at table handle) ≡ Some side
+  pub of : side.link ≡ link
+  pub raw : List ℕ
+  pub filled : bytes ≡ padded version raw
+  pub count : length raw ≤ side.size
+
+pub record IsReadying (version : ImageVersion) (table : Table) (phases : List Phase) (link part : ℕ) (bytes : List ℕ)
+    (does : Row) : Type 0 where
+  pub row : does ≡ OnBox (Readies link part)
+  pub can : CanReady (sending_at phases link) part
+  pub of : IsOfRequest version table link bytes
 
 -- a partition can be found taken
 abbrev pub CanFree : SendPhase → ℕ → Type 0
@@ -137,7 +150,7 @@ RowFits version table phases started ask.Local row = AloneRow started row
 RowFits version table phases started ask.Held row = AloneRow started row
 RowFits version table phases started ask.Idle row = AloneRow started row
 RowFits version table phases started (ask.Hub r) row = HubRow version r row
-RowFits version table phases started (ask.Ready link part bytes) row = IsReadying table phases link part row
+RowFits version table phases started (ask.Ready link part bytes) row = IsReadying version table phases link part bytes row
 RowFits version table phases started (ask.Freed link part) row = FreesAt phases link part row
 RowFits version table phases started (ask.Look link part) row = TakesAt phases link part row
 
@@ -368,6 +381,12 @@ not_true : (b : Bool) → not b ≡ true → b ≡ false
 not_true true h = sym h
 not_true false h = refl
 
+short : (xs : List ℕ) (n : ℕ) → length (take n xs) ≤ n
+short [] zero = omega arith
+short [] (suc n) = omega arith
+short (x ∷ xs) zero = omega arith
+short (x ∷ xs) (suc n) = let less : length (take n xs) ≤ n = short xs n in omega (arith, less)
+
 -- ---- all rows
 
 module _ (site : Site) (hart : ℕ) (memory : Memory) (table : Table) (phases : List Phase) (written : ℕ) where
@@ -375,11 +394,23 @@ module _ (site : Site) (hart : ℕ) (memory : Memory) (table : Table) (phases : 
       → Passed site memory table phases written (Go (call.Pready handle part))
       → RowFits site.version table phases None (asked_ready site memory part side) (row_ready part side)
   ready_fits handle part None is ok = refl
-  ready_fits handle part (Some side) is ok = (refl, record {
-    there = by (λ p. nat_lt part p.parts) ok.1.1.1.1.1.1.1.0;
-    going = not_true _ (by (λ p. not (all_freed p)) ok.1.1.1.1.1.1.1.1.1.1.1.0);
-    unready = not_true _ (by (λ p. not (is_ready p part)) ok.1.1.1.1.1.1.1.1.1.1.1.1.0);
-  })
+  ready_fits handle part (Some side) is ok = record {
+    row = refl;
+    can = record {
+      there = by (λ p. nat_lt part p.parts) ok.1.1.1.1.1.1.1.0;
+      going = not_true _ (by (λ p. not (all_freed p)) ok.1.1.1.1.1.1.1.1.1.1.1.0);
+      unready = not_true _ (by (λ p. not (is_ready p part)) ok.1.1.1.1.1.1.1.1.1.1.1.1.0);
+    };
+    of = record {
+      handle = handle;
+      side = side;
+      there = is;
+      of = refl;
+      raw = bytes_at memory (side.buffer + part * side.size) side.size;
+      filled = refl;
+      count = short _ side.size;
+    };
+  }
     where
       by : (holds : SendPhase → Bool)
           → holds_of_sender holds phases (sending_side (request_at table handle)) ≡ true

@@ -1,5 +1,5 @@
 -- What the step of a side makes of all sides of a rank.
-use Rattle.std.proofs.Common.{◌≡◌, ℕ, ◌<◌, ◌^◌, List, [], ◌∷◌, zero, suc, length, map, set, get_or, Option, Some, None, refl, sym, ap, subst, ◌∙◌}
+use Rattle.std.proofs.Common.{◌≡◌, ℕ, ◌<◌, ◌≤◌, ◌*◌, ◌%◌, ◌^◌, List, [], ◌∷◌, zero, suc, length, map, set, get_or, Option, Some, None, refl, sym, ap, subst, ◌∙◌}
 use Rattle.std.specs.Prelude.{slice_get}
 use Rattle.mp_types.specs.declared.codes.Code.{Code}
 use Rattle.part_box.specs.Gate.{ready_stamp}
@@ -12,6 +12,7 @@ use Rattle.part_channel.specs.Words.{words_of}
 use Rattle.cl_rank.specs.Sides.{side_of}
 use Rattle.cl_rank.specs.Steps.{IsPlace, IsReadied, IsTaken, IsTested, MayReady, MayTake, MayTest, ReceiverAt, SenderAt}
 use Rattle.cl_rank.specs.Steps.{changed_side, keeps_receiving, keeps_sending}
+use Rattle.part_channel.proofs.Words.{bytes_back}
 use Rattle.cl_rank.proofs.Lists.{placed, same_side}
 
 same_channel : (channels : List ChannelView) (link : ℕ) (x y : ChannelView) → x ≡ get_or channels link x
@@ -38,9 +39,9 @@ module _ (channels : List ChannelView) (link i : ℕ) (channel : ChannelView) (j
   pub readied_so : (part : ℕ) (bytes : List ℕ) (clock stamp : ℕ) (old : List (ℕ × SendView)) (x : ℕ × SendView) (new : SendView)
       → MayReady channels link part bytes clock old → IsPlace link old (Some i) → x ≡ get_or old i x
       → keeps_sending x.1 → new ≡ readied x.1 part (words_of bytes channel.width) stamp
-      → map sender_box new.keys ≡ channel.boxes → IsPast new stamp
+      → map sender_box new.keys ≡ channel.boxes → IsPast new stamp → ((n : ℕ) → get_or bytes n 0 < 256)
       → IsReadied channels link part bytes stamp old (set old i (x.0, new))
-  readied_so part bytes clock stamp old x new may place is kept made own past =
+  readied_so part bytes clock stamp old x new may place is kept made own past small =
       let p = placed link old i x place is in
       let side : x.1 ≡ may.at.side = same_side link old x.1 may.at.side p.0 may.at.there in
       let same : channel ≡ may.at.channel = same_channel channels link channel may.at.channel joined may.at.joins in
@@ -50,6 +51,9 @@ module _ (channels : List ChannelView) (link i : ℕ) (channel : ChannelView) (j
       record {
         at = may.at;
         kept = subst keeps_sending side kept;
+        spelled = bytes_back bytes small
+        (subst (λ n. n % 8 ≡ 0) (sym may.count) (subst keeps_sending side kept).shape.whole) may.at.channel.width
+        (subst (λ n. n ≤ 8 * may.at.channel.width) (sym may.count) may.fits) may.wide;
         made = ap (λ n. set old i (x.0, n)) made ∙ (p.1 (λ s. readied s part (words_of bytes channel.width) stamp)
         ∙ ap (λ (c : ChannelView). changed_side link (λ s. readied s part (words_of bytes c.width) stamp) old) same);
         own = subst (λ (n : SendView). map sender_box n.keys ≡ may.at.channel.boxes) all

@@ -1,5 +1,6 @@
 pub mod Deeds
 pub mod Sides
+pub mod Facts
 pub mod Steps
 pub mod Fitting
 pub mod Follows

@@ -1,5 +1,5 @@
 -- What each step of a rank makes of its sides: one side is changed at most, by what its channel's call says.
-use Rattle.std.specs.Prelude.{ℕ, ◌≡◌, ◌<◌, ◌≤◌, ◌+◌, ◌*◌, ◌%◌, ◌^◌, ◌==◌, nat_lt, List, [], ◌∷◌, length, map, set, slice_get, Bool, true, false, not, ◌&&◌}
+use Rattle.std.specs.Prelude.{ℕ, ◌≡◌, ◌<◌, ◌≤◌, ◌+◌, ◌-◌, ◌*◌, ◌%◌, ◌^◌, ◌++◌, replicate, ◌==◌, nat_lt, List, [], ◌∷◌, length, map, set, slice_get, Bool, true, false, not, ◌&&◌}
 use Rattle.std.specs.Prelude.{Option, Some, None, if◌then◌else◌}
 use Rattle.part_box.specs.Gate.{ready_stamp}
 use Rattle.part_channel.specs.Channels.{ChannelView, sender_box, receiver_box}
@@ -8,7 +8,7 @@ use Rattle.part_channel.specs.declared.progress.Take.{Take}
 use Rattle.part_channel.specs.Receiving.{RecvView, IsRecvSide, awaited, shown_take, take_refusal, took, take_stamp}
 use Rattle.part_channel.specs.Sending.{SendView, IsSendSide, IsPast, begun, shaped, looks_at, ready_refusal, readied, IsTold}
 use Rattle.part_channel.specs.Sending.{test_progress, tested}
-use Rattle.part_channel.specs.Words.{words_of}
+use Rattle.part_channel.specs.Words.{bytes_of, words_of}
 use Rattle.part_phase.specs.declared.receiving.RecvPhase.{RecvPhase}
 use Rattle.part_phase.specs.declared.sending.SendPhase.{SendPhase}
 use Rattle.cl_rank.specs.Sides.{side_of}
@@ -57,6 +57,7 @@ pub record MayReady (channels : List ChannelView) (link part : ℕ) (bytes : Lis
   pub allowed : ready_refusal at.side part ≡ None
   pub count : length bytes ≡ at.side.size
   pub fits : at.side.size ≤ 8 * at.channel.width
+  pub wide : at.channel.width ≤ 16
   pub past : IsPast at.side clock
 
 -- and was made ready at this stamp
@@ -64,6 +65,8 @@ pub record IsReadied (channels : List ChannelView) (link part : ℕ) (bytes : Li
     (old new : List (ℕ × SendView)) : Type 0 where
   pub at : SenderAt channels link old
   pub kept : keeps_sending at.side
+  -- the words spell the bytes
+  pub spelled : bytes_of (words_of bytes at.channel.width) ≡ bytes ++ replicate (128 - length bytes) 0
   pub made : new ≡ changed_side link (λ s. readied s part (words_of bytes at.channel.width) stamp) old
   pub own : map sender_box (readied at.side part (words_of bytes at.channel.width) stamp).keys ≡ at.channel.boxes
   pub past : IsPast (readied at.side part (words_of bytes at.channel.width) stamp) stamp

@@ -45,13 +45,13 @@ pub record MayTurn (r : Rank) (t : Turn) : Type 0 where
   pub space : 0 < r.trace.room
 
 -- a turn that asks nobody is an act of this kind
-pub record AsksNobody (asks : Ask) (kind : Kind) : Type 0 where
+pub record AsksNobody (asks : Ask) (told : Kind) : Type 0 where
   pub act : Act
   pub answers : Answers asks act
   pub alone : answer_of act ≡ Alone
   pub quiet : request_of act ≡ None
   pub nowhere : place_of act ≡ None
-  pub kind : kind ≡ kind_of act
+  pub kind : told ≡ kind_of act
 
 abbrev pub hub_deed : ℕ → Request → Reply → ℕ → RankView → Deed
 hub_deed hart request reply stamp old = record {

@@ -7,6 +7,7 @@ ghost use Rattle.part_box.specs.declared.view.Sending.{Sending};
 ghost use Rattle.part_phase.specs.Limits.{box_words};
 ghost use Rattle.cl_state.specs.Rank.{loaded};
 ghost use Rattle.cl_state.specs.Room.{rank_of};
+ghost use Rattle.cl_rank.specs.Facts.{are_sides_fact};
 ghost use Rattle.cl_rank.specs.Fitting.{RequestsFit};
 ghost use Rattle.cl_rank.specs.Sides.{AreChannelsOf, AreNewSides, AreSides, sides_in};
 ghost use Rattle.cl_rank.specs.Turns.{Answered, IsActive, IsCause, IsTurn, StopHolds};
@@ -38,7 +39,8 @@ pub struct Rank {
     pub asked_box: Option<BoxPlace>,
     ghost low: { state.clock < 2 ^ 62 },
     ghost within: { length trace.events ≤ budget },
-    ghost sides: { AreSides state.site.version state.phases state.clock (sides_in sends.items recvs.items) },
+    ghost sides: { AreSides state.site.version state.phases state.clock (sides_in sends.items recvs.items) }
+        by { are_sides_fact state.site.version state.phases state.clock (sides_in sends.items recvs.items) },
     ghost fit: { RequestsFit state.requests state.phases },
 }
 

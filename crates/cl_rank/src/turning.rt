@@ -11,8 +11,8 @@ ghost use Rattle.cl_state.specs.Room.{rank_of};
 ghost use Rattle.cl_state.specs.Told.{told};
 ghost use Rattle.cl_rank.specs.Follows.{named_link as named_link_in, started_link};
 ghost use Rattle.cl_rank.specs.Sides.{AreChannelsOf};
-ghost use Rattle.cl_rank.specs.Turns.{AllStopped, IsTurn, StopHolds, all_stopped as all_stopped_of};
-ghost use Rattle.cl_rank.specs.Turns.{is_stopped as is_stopped_of};
+ghost use Rattle.cl_rank.specs.Turns.{AllStopped, IsActive, IsTurn, StopHolds};
+ghost use Rattle.cl_rank.specs.Turns.{all_stopped as all_stopped_of, is_stopped as is_stopped_of};
 ghost use Rattle.cl_rank.specs.Views.{AsksNobody, IsHubTurn, IsQuietTurn, MayTurn, view_of};
 
 use crate::desks::Desk;

@@ -1,3 +1,4 @@
+use Rattle.std.proofs.Common.{arith}
 use Rattle.cl_rank.proofs.Stepped.{at_found, never_refused, readied_so}
 use Rattle.cl_rank.proofs.sides.make_ready.Goals as goal
 
@@ -16,4 +17,4 @@ returns-clause-made c =
     c.index_mut.result.now c.ready.new.self c.requires.may
     (at_found c.args.place.link c.in-Some.at _ _ c.find.result c.as_slice.ensures.value c.in-Some.is c.find.ensures)
     c.index_mut.ensures.value c.next-kept.ensures.kept c.in-Ok.ensures.made c.in-Ok.ensures.own
-    c.in-Ok.ensures.past
+    c.in-Ok.ensures.past (λ n. let fits = c.type_inv.bytes n in omega (arith, fits))
