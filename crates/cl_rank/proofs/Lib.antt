@@ -1,6 +1,5 @@
 pub mod Alone
 pub mod Answered
-pub mod Boxes
 pub mod Clocks
 pub mod Kept
 pub mod Keys
@@ -10,3 +9,4 @@ pub mod Rows
 pub mod Stepped
 pub mod Tables
 pub mod Turned
+pub mod Went
