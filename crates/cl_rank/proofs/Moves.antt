@@ -92,13 +92,13 @@ fit_kept old new ps qs fit keeps same = record {
       (subst (λ n. 0 < n) (sym shape.0) had.0, shape.1 ∙ had.1);
 }
 
-receiving_shapes : (g : RecvPhase → RecvPhase) (p : Phase)
+pub receiving_shapes : (g : RecvPhase → RecvPhase) (p : Phase)
     → SameShape (sending_in (Some (on_receiving g p))) (sending_in (Some p))
 receiving_shapes g Apart = (refl, refl)
 receiving_shapes g (Sending p) = (refl, refl)
 receiving_shapes g (Receiving p) = (refl, refl)
 
-sending_shapes : (g : SendPhase → SendPhase) → ((p : SendPhase) → SameShape (g p) p) → (p : Phase)
+pub sending_shapes : (g : SendPhase → SendPhase) → ((p : SendPhase) → SameShape (g p) p) → (p : Phase)
     → SameShape (sending_in (Some (on_sending g p))) (sending_in (Some p))
 sending_shapes g same Apart = (refl, refl)
 sending_shapes g same (Sending p) = same p

@@ -1,12 +1,15 @@
 -- The turns of a running rank, by what its parts became.
 use Rattle.std.proofs.Common.{◌≡◌, ℕ, ◌<◌, ◌≤◌, ◌+◌, ◌^◌, List, [], ◌∷◌, ◌++◌, length, Option, Some, None, refl, sym, ap, subst, ◌∙◌, arith}
-use Rattle.std.specs.Prelude.{max}
+use Rattle.std.specs.Prelude.{max, take}
 use Rattle.mp_types.specs.declared.requests.Request.{Request}
 use Rattle.cl_trace.specs.declared.events.Event.{Event}
 use Rattle.cl_trace.specs.declared.events.Kind.{Kind}
+use Rattle.part_channel.specs.Channels.{ChannelView}
 use Rattle.part_channel.specs.Receiving.{RecvView}
 use Rattle.part_channel.specs.Sending.{SendView}
+use Rattle.part_phase.specs.Phases.{sending_at}
 use Rattle.cl_state.specs.declared.asking.Answer.TheVariants as answer
+use Rattle.cl_state.specs.declared.asking.Ask.TheVariants as ask
 use Rattle.cl_state.specs.declared.state.RankState.{RankState}
 use Rattle.cl_state.specs.Asked.{asked}
 use Rattle.cl_state.specs.Room.{rank_of}
@@ -15,10 +18,11 @@ use Rattle.cl_rank.specs.declared.ranks.Rank.{Rank as Running}
 use Rattle.cl_rank.specs.declared.turning.Turn.{Turn}
 use Rattle.cl_rank.specs.Deeds.{Act, Answers, Deed, IsStamp, answer_of, event_of, kind_of, request_of}
 use Rattle.cl_rank.specs.Follows.{started_link}
-use Rattle.cl_rank.specs.Sides.{KeysMove, place_of, sides_in}
-use Rattle.cl_rank.specs.Steps.{begun_at, begun_receiver, begun_sender}
+use Rattle.cl_rank.specs.Sides.{AreChannelsOf, KeysMove, place_of, sides_in}
+use Rattle.cl_rank.specs.Steps.{IsReadied, MayReady, begun_at, begun_receiver, begun_sender}
 use Rattle.cl_rank.specs.Turns.{RankView}
 use Rattle.cl_rank.specs.Views.{AsksNobody, IsQuietTurn, MayTurn, view_of}
+use Rattle.cl_rank.proofs.Boxes.{long_enough, may_ready, ready_moved}
 use Rattle.cl_rank.proofs.Keys.{somewhere}
 use Rattle.cl_rank.proofs.Moves.{Moved, alone_moved, started_at}
 
@@ -94,3 +98,29 @@ pub event_alone : (events : List Event) (hart stamp : ℕ) (told : Kind) (act : 
 event_alone events hart stamp told act new kind quiet is =
     is ∙ (ap (λ k. events ++ event hart stamp k None ∷ []) kind
     ∙ ap (λ r. events ++ event hart stamp (kind_of act) r ∷ []) (sym quiet))
+
+-- a rank that makes a partition ready
+module _ (r : Running) (t : Turn) (link part : ℕ) (full : List ℕ) (channels : List ChannelView)
+  (own : AreChannelsOf r.state.site.version channels (sides_in r.sends.items r.recvs.items))
+  (asks : asked (rank_of r.state) t.hart ≡ ask.Ready link part full) where
+
+  pub may_go : MayReady channels link part (take (sending_at r.state.phases link).size full) r.state.clock r.sends.items
+  may_go =
+      may_ready (rank_of r.state) t.hart link part full channels r.sends.items r.recvs.items r.sides r.fit own asks
+
+  pub in_bounds : (sending_at r.state.phases link).size ≤ length full
+  in_bounds =
+      long_enough (rank_of r.state) t.hart link part full channels r.sends.items r.recvs.items r.sides r.fit own asks
+
+  pub went_ready : (new : RankState) (stamp : ℕ) (sent : List (ℕ × SendView)) → stamp ≡ r.state.clock + 1
+      → rank_of new ≡ told (rank_of r.state) t.hart answer.Alone stamp
+      → IsReadied channels link part (take (sending_at r.state.phases link).size full) stamp r.sends.items sent
+      → Moved (rank_of r.state) (rank_of new) (sides_in r.sends.items r.recvs.items) (sides_in sent r.recvs.items) stamp
+      (Act.Ready link part full)
+  went_ready new stamp sent next is done =
+      ready_moved (rank_of r.state) t.hart link part full channels r.sends.items r.recvs.items r.sides r.fit own asks
+      (rank_of new) stamp sent next is done
+
+-- the same first bytes
+pub cut_is : (P : List ℕ → Type 0) (n m : ℕ) (xs ys : List ℕ) → n ≡ m → xs ≡ ys → P (take m ys) → P (take n xs)
+cut_is P n m xs ys size same p = subst (λ k. P (take k xs)) (sym size) (subst (λ l. P (take m l)) (sym same) p)
