@@ -140,7 +140,7 @@ sender_at v channels link sends s there (Some c) joins has =
 front_next : (stamp clock front : ℕ) → stamp ≡ clock + 1 → front ≤ clock → front < stamp
 front_next stamp clock front next low = omega (arith, next, low)
 
-key_at : (keys : List Sender) (i : ℕ) → i < length keys → (k : Sender) × (slice_get keys i ≡ Some k)
+pub key_at : (keys : List Sender) (i : ℕ) → i < length keys → (k : Sender) × (slice_get keys i ≡ Some k)
 key_at [] i low = absurd (omega (arith, low))
 key_at (k ∷ keys) zero low = (k, refl)
 key_at (k ∷ keys) (suc i) low = key_at keys i (omega (arith, low))

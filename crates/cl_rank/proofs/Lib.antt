@@ -5,6 +5,7 @@ pub mod Clocks
 pub mod Kept
 pub mod Keys
 pub mod Lists
+pub mod Looked
 pub mod Moves
 pub mod Rows
 pub mod Stepped
