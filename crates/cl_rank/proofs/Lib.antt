@@ -1,5 +1,6 @@
 pub mod Alone
 pub mod Answered
+pub mod Asks
 pub mod Boxes
 pub mod Clocks
 pub mod Kept

@@ -1,0 +1,118 @@
+-- The turns of a running rank that look at a box.
+use Rattle.std.proofs.Common.{◌≡◌, ℕ, ◌<◌, ◌+◌, ◌^◌, ◌⊎◌, List, [], ◌∷◌, ◌++◌, Option, Some, None, refl, sym, ap, subst, ◌∙◌, ⊎_elim, inl, inr}
+use Rattle.part_channel.specs.Channels.{ChannelView}
+use Rattle.part_channel.specs.declared.progress.Progress.{Progress}
+use Rattle.part_channel.specs.declared.progress.Progress.TheVariants as progress
+use Rattle.part_channel.specs.Receiving.{RecvView}
+use Rattle.part_channel.specs.Sending.{SendView}
+use Rattle.cl_state.specs.declared.asking.Answer.{Answer}
+use Rattle.cl_state.specs.declared.asking.Answer.TheVariants as answer
+use Rattle.cl_state.specs.declared.asking.Ask.TheVariants as ask
+use Rattle.cl_state.specs.declared.state.RankState.{RankState}
+use Rattle.cl_state.specs.Asked.{asked}
+use Rattle.cl_state.specs.Room.{rank_of}
+use Rattle.cl_state.specs.Told.{told}
+use Rattle.cl_trace.specs.declared.events.Event.{Event}
+use Rattle.cl_trace.specs.declared.events.Kind.{Kind}
+use Rattle.cl_trace.specs.declared.events.Kind.TheVariants as kind
+use Rattle.cl_rank.specs.declared.ranks.Rank.{Rank as Running}
+use Rattle.cl_rank.specs.declared.turning.Turn.{Turn}
+use Rattle.cl_rank.specs.Deeds.{Act, Answers, IsStamp, answer_of, event_of, kind_of, request_of}
+use Rattle.cl_rank.specs.Sides.{AreChannelsOf, place_of, sides_in}
+use Rattle.cl_rank.specs.Steps.{IsTested}
+use Rattle.cl_rank.proofs.Looked.{freed_moved, missed_moved, never_all, never_unready}
+use Rattle.cl_rank.proofs.Moves.{Moved}
+
+-- what a hart was told, as which kind of event, and at which stamp
+abbrev pub Tidings : Type 0
+Tidings = Answer × Kind × ℕ
+
+-- an act on this box answers what was asked, and moves the rank
+pub record BoxTurn (r : Running) (t : Turn) (link part : ℕ) (new : RankState) (sends : List (ℕ × SendView))
+    (recvs : List (ℕ × RecvView)) (x : Tidings) : Type 0 where
+  pub act : Act
+  pub answers : Answers (asked (rank_of r.state) t.hart) act
+  pub stamp : IsStamp r.state.clock act x.2
+  pub tells : x.0 ≡ answer_of act
+  pub kinds : x.1 ≡ kind_of act
+  pub quiet : request_of act ≡ None
+  pub place : place_of act ≡ Some (link, part)
+  pub low : x.2 < 2 ^ 62
+  pub moved : Moved (rank_of r.state) (rank_of new) (sides_in r.sends.items r.recvs.items) (sides_in sends recvs) x.2 act
+
+module _ (r : Running) (t : Turn) (link part : ℕ) (channels : List ChannelView)
+  (own : AreChannelsOf r.state.site.version channels (sides_in r.sends.items r.recvs.items))
+  (asks : asked (rank_of r.state) t.hart ≡ ask.Freed link part)
+  (found : Progress) (sent : List (ℕ × SendView))
+  (done : IsTested channels link r.state.clock found r.sends.items sent) where
+
+  abbrev pub FoundFreed : Tidings → Type 0
+  FoundFreed x = (stamp : ℕ) × (found ≡ progress.Freed stamp) × (x ≡ (answer.Freed, kind.Freed, stamp))
+
+  abbrev pub FoundMissed : Tidings → Type 0
+  FoundMissed x = (stamp : ℕ) × (found ≡ progress.Missed stamp) × (x ≡ (answer.Missed, kind.Miss, stamp))
+
+  pub not_all : found ≡ progress.AllFreed → ⊥
+  not_all = never_all (rank_of r.state) t.hart link part channels r.sends.items r.recvs.items r.sides r.fit own asks 0 found
+      sent done
+
+  pub not_unready : found ≡ progress.NotReady → ⊥
+  not_unready = never_unready (rank_of r.state) t.hart link part channels r.sends.items r.recvs.items r.sides r.fit own asks
+      0 found sent done
+
+  freed_turn : (new : RankState) (x : Tidings) → FoundFreed x
+      → rank_of new ≡ told (rank_of r.state) t.hart x.0 x.2 → BoxTurn r t link part new sent r.recvs.items x
+  freed_turn new x f is = subst (BoxTurn r t link part new sent r.recvs.items) (sym f.2)
+      (by_stamp (subst (λ (y : Tidings). rank_of new ≡ told (rank_of r.state) t.hart y.0 y.2) f.2 is))
+    where
+      by_stamp : rank_of new ≡ told (rank_of r.state) t.hart answer.Freed f.0
+          → BoxTurn r t link part new sent r.recvs.items (answer.Freed, kind.Freed, f.0)
+      by_stamp is =
+          let m = freed_moved (rank_of r.state) t.hart link part channels r.sends.items r.recvs.items r.sides r.fit own
+          asks f.0 found sent done (rank_of new) f.1 is in
+          record {
+            act = Act.Freed link part m.0;
+            answers = asks;
+            stamp = m.1;
+            tells = refl;
+            kinds = refl;
+            quiet = refl;
+            place = refl;
+            low = m.2;
+            moved = m.3;
+          }
+
+  missed_turn : (new : RankState) (x : Tidings) → FoundMissed x
+      → rank_of new ≡ told (rank_of r.state) t.hart x.0 x.2 → BoxTurn r t link part new sent r.recvs.items x
+  missed_turn new x f is = subst (BoxTurn r t link part new sent r.recvs.items) (sym f.2)
+      (by_stamp (subst (λ (y : Tidings). rank_of new ≡ told (rank_of r.state) t.hart y.0 y.2) f.2 is))
+    where
+      by_stamp : rank_of new ≡ told (rank_of r.state) t.hart answer.Missed f.0
+          → BoxTurn r t link part new sent r.recvs.items (answer.Missed, kind.Miss, f.0)
+      by_stamp is =
+          let m = missed_moved (rank_of r.state) t.hart link part channels r.sends.items r.recvs.items r.sides r.fit own
+          asks f.0 found sent done (rank_of new) f.1 is in
+          record {
+            act = Act.Miss link part;
+            answers = inr asks;
+            stamp = m.0;
+            tells = refl;
+            kinds = refl;
+            quiet = refl;
+            place = refl;
+            low = m.1;
+            moved = m.2;
+          }
+
+  pub test_turn : (new : RankState) (x : Tidings) → FoundFreed x ⊎ FoundMissed x
+      → rank_of new ≡ told (rank_of r.state) t.hart x.0 x.2 → BoxTurn r t link part new sent r.recvs.items x
+  test_turn new x branch is =
+      ⊎_elim (λ (f : FoundFreed x). freed_turn new x f is) (λ (f : FoundMissed x). missed_turn new x f is) branch
+
+-- the event of an act on a box
+pub event_at : (events new : List Event) (hart stamp : ℕ) (k : Kind) (act : Act) → k ≡ kind_of act → request_of act ≡ None
+    → new ≡ events ++ record { hart = hart; stamp = stamp; kind = k; request = None } ∷ []
+    → new ≡ events ++ record { hart = hart; stamp = stamp; kind = kind_of act; request = request_of act } ∷ []
+event_at events new hart stamp k act same quiet is =
+    is ∙ (ap (λ j. events ++ record { hart = hart; stamp = stamp; kind = j; request = None } ∷ []) same
+    ∙ ap (λ q. events ++ record { hart = hart; stamp = stamp; kind = kind_of act; request = q } ∷ []) (sym quiet))
