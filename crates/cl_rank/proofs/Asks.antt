@@ -15,11 +15,13 @@ use Rattle.cl_state.specs.Told.{told}
 use Rattle.cl_trace.specs.declared.events.Event.{Event}
 use Rattle.cl_trace.specs.declared.events.Kind.{Kind}
 use Rattle.cl_trace.specs.declared.events.Kind.TheVariants as kind
+use Rattle.cl_state.specs.Rank.{Rank}
 use Rattle.cl_rank.specs.declared.ranks.Rank.{Rank as Running}
 use Rattle.cl_rank.specs.declared.turning.Turn.{Turn}
 use Rattle.cl_rank.specs.Deeds.{Act, Answers, IsStamp, answer_of, event_of, kind_of, request_of}
 use Rattle.cl_rank.specs.Sides.{AreChannelsOf, place_of, sides_in}
 use Rattle.cl_rank.specs.Steps.{IsTested}
+use Rattle.cl_rank.specs.Views.{AsksNobody}
 use Rattle.cl_rank.proofs.Looked.{freed_moved, missed_moved, never_all, never_unready}
 use Rattle.cl_rank.proofs.Moves.{Moved}
 
@@ -116,3 +118,47 @@ pub event_at : (events new : List Event) (hart stamp : ℕ) (k : Kind) (act : Ac
 event_at events new hart stamp k act same quiet is =
     is ∙ (ap (λ j. events ++ record { hart = hart; stamp = stamp; kind = j; request = None } ∷ []) same
     ∙ ap (λ q. events ++ record { hart = hart; stamp = stamp; kind = kind_of act; request = q } ∷ []) (sym quiet))
+
+pub asks_nothing_plain : (old new : Rank) (hart : ℕ) → new ≡ old → asked old hart ≡ ask.Plain
+    → AsksNobody (asked new hart) kind.Plain
+asks_nothing_plain old new hart same is = record {
+  act = Act.Plain;
+  answers = ap (λ r. asked r hart) same ∙ is;
+  alone = refl;
+  quiet = refl;
+  nowhere = refl;
+  kind = refl;
+}
+
+pub asks_nothing_local : (old new : Rank) (hart : ℕ) → new ≡ old → asked old hart ≡ ask.Local
+    → AsksNobody (asked new hart) kind.Local
+asks_nothing_local old new hart same is = record {
+  act = Act.Local;
+  answers = ap (λ r. asked r hart) same ∙ is;
+  alone = refl;
+  quiet = refl;
+  nowhere = refl;
+  kind = refl;
+}
+
+pub asks_nothing_held : (old new : Rank) (hart : ℕ) → new ≡ old → asked old hart ≡ ask.Held
+    → AsksNobody (asked new hart) kind.Held
+asks_nothing_held old new hart same is = record {
+  act = Act.Held;
+  answers = ap (λ r. asked r hart) same ∙ is;
+  alone = refl;
+  quiet = refl;
+  nowhere = refl;
+  kind = refl;
+}
+
+pub asks_nothing_idle : (old new : Rank) (hart : ℕ) → new ≡ old → asked old hart ≡ ask.Idle
+    → AsksNobody (asked new hart) kind.Idle
+asks_nothing_idle old new hart same is = record {
+  act = Act.Idle;
+  answers = ap (λ r. asked r hart) same ∙ is;
+  alone = refl;
+  quiet = refl;
+  nowhere = refl;
+  kind = refl;
+}

@@ -1,6 +1,7 @@
 //! A rank of the cluster and its turns: each asks, is answered, and is recorded as one event.
 //!
-//! The meaning stands in specs/: deeds, which are events with all that they met, the rank alone, and turns.
+//! The meaning stands in specs/: deeds, which are events with all that they met, the rank alone, the sides that a rank
+//! has of its links with what a deed makes of their keys, and turns.
 #![tactic(auto)]
 
 mod desks;

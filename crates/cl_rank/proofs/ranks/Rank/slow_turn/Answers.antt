@@ -1,0 +1,24 @@
+use Rattle.std.proofs.Common.{◌≡◌, sym, ◌∙◌, subst, refl}
+use Rattle.cl_state.specs.Asked.{asked}
+use Rattle.cl_state.specs.Room.{rank_of}
+use Rattle.cl_trace.specs.declared.events.Kind.TheVariants as kind
+use Rattle.cl_rank.specs.Deeds.{Act}
+use Rattle.cl_rank.specs.Views.{AsksNobody}
+use Rattle.cl_rank.proofs.Asks.{asks_nothing_plain, asks_nothing_local, asks_nothing_held, asks_nothing_idle}
+use Rattle.cl_rank.proofs.ranks.Rank.slow_turn.Goals as goal
+
+pub go_alone-requires-clause-asked : goal.go_alone-requires-clause-asked
+go_alone-requires-clause-asked g c =
+    asks_nothing_plain _ _ c.args.hart c.in-Ok-room_next.ensures.same (sym c.in-Ok.ensures ∙ c.in-Plain.is)
+
+pub go_alone-requires-in-Local-clause-asked : goal.go_alone-requires-in-Local-clause-asked
+go_alone-requires-in-Local-clause-asked g c =
+    asks_nothing_local _ _ c.args.hart c.in-Ok-room_next.ensures.same (sym c.in-Ok.ensures ∙ c.in-Local.is)
+
+pub go_alone-requires-in-Held-clause-asked : goal.go_alone-requires-in-Held-clause-asked
+go_alone-requires-in-Held-clause-asked g c =
+    asks_nothing_held _ _ c.args.hart c.in-Ok-room_next.ensures.same (sym c.in-Ok.ensures ∙ c.in-Held.is)
+
+pub go_alone-requires-in-Idle-clause-asked : goal.go_alone-requires-in-Idle-clause-asked
+go_alone-requires-in-Idle-clause-asked g c =
+    asks_nothing_idle _ _ c.args.hart c.in-Ok-room_next.ensures.same (sym c.in-Ok.ensures ∙ c.in-Idle.is)
