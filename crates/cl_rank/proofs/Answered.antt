@@ -125,6 +125,7 @@ done_becomes site o started part h = at_once o h
   where
     stays : (p : Part) → started ≡ None → Stays part p → Becomes part (begun_at started part.phases) p
     stays p none s = subst (λ l. Becomes part (begun_at l part.phases) p) (sym none) s
+
     at_once : (o : Outcome) → StartsAs o started → Becomes part (begun_at started part.phases) (done site o part)
     at_once outcome.Steps h = stays _ h (still part _ refl refl)
     at_once outcome.Stays h = stays _ h (still part _ refl refl)
@@ -331,17 +332,17 @@ module _ (site : Site) (request : Request) (part : Part) where
   by_got message wanted.Nothing h = inl (still part _ refl refl)
 
   by_done : (w : Wanted) → WantedOf site.version request w → IsReplied w reply.Done
-  by_done(wanted.Post why t) h = inl (still part _ refl refl)
-  by_done(wanted.MessageOrPost target) h = inl (still part _ refl refl)
-  by_done(wanted.Message target) h = inl (still part _ refl refl)
-  by_done(wanted.Word target) h = inl (received_stays target _ _ [] part)
+  by_done (wanted.Post why t) h = inl (still part _ refl refl)
+  by_done (wanted.MessageOrPost target) h = inl (still part _ refl refl)
+  by_done (wanted.Message target) h = inl (still part _ refl refl)
+  by_done (wanted.Word target) h = inl (received_stays target _ _ [] part)
   by_done wanted.Sent h = inl (still part _ refl refl)
-  by_done(wanted.All value s) h = inl (still part _ refl refl)
-  by_done(wanted.Sight value status) h = inl (still part _ refl refl)
-  by_done(wanted.Claim status) h = inl (still part _ refl refl)
-  by_done(wanted.SendingLink t) h = inl (still part _ refl refl)
-  by_done(wanted.ReceivingLink t) h = inl (still part _ refl refl)
-  by_done(wanted.Cut m at) h = inl (still part _ refl refl)
+  by_done (wanted.All value s) h = inl (still part _ refl refl)
+  by_done (wanted.Sight value status) h = inl (still part _ refl refl)
+  by_done (wanted.Claim status) h = inl (still part _ refl refl)
+  by_done (wanted.SendingLink t) h = inl (still part _ refl refl)
+  by_done (wanted.ReceivingLink t) h = inl (still part _ refl refl)
+  by_done (wanted.Cut m at) h = inl (still part _ refl refl)
   by_done wanted.Nothing h = inl (still part _ refl refl)
 
   by_seen : (envelope : Envelope) (w : Wanted) → WantedOf site.version request w → IsReplied w (reply.Seen envelope)

@@ -43,11 +43,10 @@ pub record BoxTurn (r : Running) (t : Turn) (link part : ℕ) (new : RankState) 
   pub moved : Moved (rank_of r.state) (rank_of new) (sides_in r.sends.items r.recvs.items) (sides_in sends recvs) x.2 act
 
 module _ (r : Running) (t : Turn) (link part : ℕ) (channels : List ChannelView)
-  (own : AreChannelsOf r.state.site.version channels (sides_in r.sends.items r.recvs.items))
-  (asks : asked (rank_of r.state) t.hart ≡ ask.Freed link part)
-  (found : Progress) (sent : List (ℕ × SendView))
-  (done : IsTested channels link r.state.clock found r.sends.items sent) where
-
+    (own : AreChannelsOf r.state.site.version channels (sides_in r.sends.items r.recvs.items))
+    (asks : asked (rank_of r.state) t.hart ≡ ask.Freed link part)
+    (found : Progress) (sent : List (ℕ × SendView))
+    (done : IsTested channels link r.state.clock found r.sends.items sent) where
   abbrev pub FoundFreed : Tidings → Type 0
   FoundFreed x = (stamp : ℕ) × (found ≡ progress.Freed stamp) × (x ≡ (answer.Freed, kind.Freed, stamp))
 

@@ -167,12 +167,11 @@ front_low s i clock k past h =
 -- ---- a partition is made ready
 
 module _ (old : Rank) (hart link part : ℕ) (full : List ℕ) (channels : List ChannelView)
-  (sends : List (ℕ × SendView)) (recvs : List (ℕ × RecvView))
-  (sides : AreSides old.site.version old.phases old.clock (sides_in sends recvs))
-  (fit : RequestsFit old.requests old.phases)
-  (own : AreChannelsOf old.site.version channels (sides_in sends recvs))
-  (asks : asked old hart ≡ ask.Ready link part full) where
-
+    (sends : List (ℕ × SendView)) (recvs : List (ℕ × RecvView))
+    (sides : AreSides old.site.version old.phases old.clock (sides_in sends recvs))
+    (fit : RequestsFit old.requests old.phases)
+    (own : AreChannelsOf old.site.version channels (sides_in sends recvs))
+    (asks : asked old hart ≡ ask.Ready link part full) where
   pub readying : IsReadying old.site.version old.requests old.phases link part full (row_at old hart)
   readying = subst (λ a. RowFits old.site.version old.requests old.phases (started_at old hart) a (row_at old hart)) asks
       (fits_at old hart)
@@ -187,9 +186,10 @@ module _ (old : Rank) (hart link part : ℕ) (full : List ℕ) (channels : List 
   fits =
       let shape = fit.size readying.of.handle readying.of.side readying.of.there in
       let same : (sending_at old.phases link).size ≡ readying.of.side.size =
-      ap (λ l. (sending_at old.phases l).size) (sym readying.of.of) ∙ shape.1 in
-      (subst (λ n. length readying.of.raw ≤ n) (sym same) readying.of.count,
-        subst (λ (p : SendPhase). p.size ≤ box_bytes old.site.version) (sym there.2) (sides.sizes link there.0 there.1))
+      ap (λ l. (sending_at old.phases l).size) (sym readying.of.of) ∙ shape.1 in (
+        subst (λ n. length readying.of.raw ≤ n) (sym same) readying.of.count,
+        subst (λ (p : SendPhase). p.size ≤ box_bytes old.site.version) (sym there.2) (sides.sizes link there.0 there.1),
+      )
 
   pub long_enough : (sending_at old.phases link).size ≤ length full
   long_enough =
@@ -244,7 +244,7 @@ module _ (old : Rank) (hart link part : ℕ) (full : List ℕ) (channels : List 
       let by = told_by old hart answer.Alone stamp new is in
       let becomes = ready_becomes old.site link part (part_of old hart) in
       let row : told_row old.site (row_at old hart) answer.Alone (part_of old hart)
-          ≡ told_row old.site (OnBox (Readies link part)) answer.Alone (part_of old hart) =
+      ≡ told_row old.site (OnBox (Readies link part)) answer.Alone (part_of old hart) =
       ap (λ r. told_row old.site r answer.Alone (part_of old hart)) readying.row in
       let phases : new.phases ≡ changed_at link (on_sending (readied_phase part)) old.phases =
       by.phases ∙ (ap (λ (p : Part). p.phases) row ∙ becomes.phases) in
@@ -255,7 +255,7 @@ module _ (old : Rank) (hart link part : ℕ) (full : List ℕ) (channels : List 
       let side : done.at.side ≡ there.0 = same_side link sends done.at.side there.0 done.at.there there.1 in
       let same_recvs : changed_side link (λ r. r) recvs ≡ recvs = same_changed link (λ r. r) recvs (λ r h. refl) in
       let all : sides_in (changed_side link (λ s. readied s part words stamp) sends) (changed_side link (λ r. r) recvs)
-          ≡ sides_in sent recvs =
+      ≡ sides_in sent recvs =
       ap (λ rs. sides_in (changed_side link (λ s. readied s part words stamp) sends) rs) same_recvs
       ∙ ap (λ ss. sides_in ss recvs) (sym done.made) in
       let only : (s : SendView) → side_of link sends ≡ Some s → s ≡ done.at.side =
@@ -267,7 +267,7 @@ module _ (old : Rank) (hart link part : ℕ) (full : List ℕ) (channels : List 
       let wide : width ≡ box_words old.site.version =
       (subst (λ c. HasSender old.site.version c done.at.side) done.at.joins (own.sends link done.at.side done.at.there)).0 in
       let acts : (k : Sender) → slice_get done.at.side.keys part ≡ Some k
-          → SenderActs old.site.version stamp (Act.Ready link part full) k.view (made_of words stamp k).view =
+      → SenderActs old.site.version stamp (Act.Ready link part full) k.view (made_of words stamp k).view =
       λ k h. (
         words,
         length-words_of (take (sending_at old.phases link).size full) width ∙ wide,

@@ -44,8 +44,7 @@ past_later keys clock later low past = λ k d there.
     let before : (get_or keys k d).view.front ≤ clock = past k d there in omega (arith, low, before)
 
 module _ (v : ImageVersion) (ps : List Phase) (clock later : ℕ) (sends : List (ℕ × SendView)) (recvs : List (ℕ × RecvView))
-  (link : ℕ) (g : Phase → Phase) (f : SendView → SendView) (h : RecvView → RecvView) where
-
+    (link : ℕ) (g : Phase → Phase) (f : SendView → SendView) (h : RecvView → RecvView) where
   -- the side of the link and its phase fit again, and the side keeps what it has to
   pub record SideKept : Type 0 where
     pub fit : PhaseFits (option_map g (slice_get ps link)) (option_map f (side_of link sends))
@@ -106,6 +105,7 @@ module _ (v : ImageVersion) (ps : List Phase) (clock later : ℕ) (sends : List 
           → HasSender v c s → HasSender v c t
       has_sender None s t same has = has
       has_sender (Some c) s t same has = (has.0, same ∙ has.1)
+
       has_receiver : (c : Option ChannelView) (s t : RecvView) → map receiver_box t.keys ≡ map receiver_box s.keys
           → HasReceiver v c s → HasReceiver v c t
       has_receiver None s t same has = has

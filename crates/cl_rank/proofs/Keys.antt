@@ -101,6 +101,7 @@ senders_move link part f change xs Acts keys acts l p =
         → KeyMoves true Acts (sender_view o) (sender_view (option_map change o))
     at_key None acts = tt
     at_key (Some k) acts = acts k refl
+
     at_part : (s : SendView) → (f s).keys ≡ modified s.keys part change
         → ((k : Sender) → slice_get s.keys part ≡ Some k → Acts k.view (change k).view)
         → (q : ℕ) → KeyMoves (is_place link q (Some (link, part))) Acts (sender_view (slice_get s.keys q))
@@ -113,6 +114,7 @@ senders_move link part f change xs Acts keys acts l p =
         (sym (other_part link part q other))
         (key_stays Acts _ _ (ap (λ keys. sender_view (slice_get keys q)) is
         ∙ ap sender_view (beside_modified s.keys part q change other)))) q
+
     at_link : (o : Option SendView) → ((s : SendView) → o ≡ Some s → (f s).keys ≡ modified s.keys part change)
         → ((s : SendView) (k : Sender) → o ≡ Some s → slice_get s.keys part ≡ Some k → Acts k.view (change k).view)
         → KeyMoves (is_place link p (Some (link, part))) Acts (sender_key o p) (sender_key (option_map f o) p)
@@ -165,6 +167,7 @@ receivers_move link part f change xs Acts keys acts l p =
         → KeyMoves true Acts (receiver_view o) (receiver_view (option_map change o))
     at_key None acts = tt
     at_key (Some k) acts = acts k refl
+
     at_part : (s : RecvView) → (f s).keys ≡ modified s.keys part change
         → ((k : Receiver) → slice_get s.keys part ≡ Some k → Acts k.view (change k).view)
         → (q : ℕ) → KeyMoves (is_place link q (Some (link, part))) Acts (receiver_view (slice_get s.keys q))
@@ -177,6 +180,7 @@ receivers_move link part f change xs Acts keys acts l p =
         (sym (other_part link part q other))
         (key_stays Acts _ _ (ap (λ keys. receiver_view (slice_get keys q)) is
         ∙ ap receiver_view (beside_modified s.keys part q change other)))) q
+
     at_link : (o : Option RecvView) → ((s : RecvView) → o ≡ Some s → (f s).keys ≡ modified s.keys part change)
         → ((s : RecvView) (k : Receiver) → o ≡ Some s → slice_get s.keys part ≡ Some k → Acts k.view (change k).view)
         → KeyMoves (is_place link p (Some (link, part))) Acts (receiver_key o p) (receiver_key (option_map f o) p)

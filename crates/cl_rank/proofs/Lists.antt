@@ -76,8 +76,10 @@ module _ {S : Type 0} where
     where
       same : x ≡ (link, s) → (x.0 == link) ≡ true
       same e = ap (λ y. y.0 == link) e ∙ itself link
+
       here : x ≡ (link, s) → side_of link (x ∷ xs) ≡ Some s
       here e = rw (same e) (ap (λ y. Some y.1) e)
+
       first : x ≡ (link, s) → (f : S → S) → (link, f s) ∷ xs ≡ changed_side link f (x ∷ xs)
       first e f = rw (same e) (ap (λ (y : ℕ × S). (y.0, f y.1) ∷ xs) (sym e))
   at_place link (x ∷ xs) (suc i) s is before =

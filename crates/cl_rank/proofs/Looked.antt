@@ -153,12 +153,11 @@ none_changed_at zero (Receiving p ∷ ps) = refl
 none_changed_at (suc link) (p ∷ ps) = ap (λ l. p ∷ l) (none_changed_at link ps)
 
 module _ (old : Rank) (hart link part : ℕ) (channels : List ChannelView)
-  (sends : List (ℕ × SendView)) (recvs : List (ℕ × RecvView))
-  (sides : AreSides old.site.version old.phases old.clock (sides_in sends recvs))
-  (fit : RequestsFit old.requests old.phases)
-  (own : AreChannelsOf old.site.version channels (sides_in sends recvs))
-  (asks : asked old hart ≡ ask.Freed link part) where
-
+    (sends : List (ℕ × SendView)) (recvs : List (ℕ × RecvView))
+    (sides : AreSides old.site.version old.phases old.clock (sides_in sends recvs))
+    (fit : RequestsFit old.requests old.phases)
+    (own : AreChannelsOf old.site.version channels (sides_in sends recvs))
+    (asks : asked old hart ≡ ask.Freed link part) where
   pub freeing : FreesAt old.phases link part (row_at old hart)
   freeing = subst (λ a. RowFits old.site.version old.requests old.phases (started_at old hart) a (row_at old hart)) asks
       (fits_at old hart)
@@ -266,29 +265,33 @@ module _ (old : Rank) (hart link part : ℕ) (channels : List ChannelView)
             let by = told_by old hart answer.Freed stamp new tells in
             let becomes = freed_becomes old.site (part_of old hart) link part (row_at old hart) freeing in
             let is_shown = becomes_shown (Some n) shown_some in
-            let told_so = subst (IsTold (tested done.at.side done.gate)) is done.told in
-            (n, stamps, told_so.0, sender_moved old new stamp (Act.Freed link part n) link part sends sent recvs
-            (λ s. tested s done.gate) one_freed (λ k. after_freed k done.gate) sides fit (record {
-              side = done.at.side;
-              there = done.at.there;
-              alone = there.3;
-              made = done.moved;
-              phases = by.phases ∙ becomes.phases;
-              keeps = subst (λ t. Keeps old.requests t) (sym by.requests) becomes.keeps;
-              site = by.site;
-              clock = by.clock;
-              low = below_max old.clock n stamp stamps;
-              shape = λ p. (refl, refl);
-              same = ap phase_of_sender (sym is_shown);
-              size = ap (λ (s : SendView). s.size) is_shown;
-              past = told_so.1;
-              keys = ap (λ (s : SendView). s.keys) is_shown
-                  ∙ ap (λ i. modified done.at.side.keys i (λ k. after_freed k done.gate)) freed_is;
-              boxes = done.own ∙ sym done.at.own;
-              place = refl;
-              has = has_key;
-              acts = λ k h. (done.gate, shown_some, one_made k h, refl);
-            }))
+            let told_so = subst (IsTold (tested done.at.side done.gate)) is done.told in (
+              n,
+              stamps,
+              told_so.0,
+              sender_moved old new stamp (Act.Freed link part n) link part sends sent recvs
+                  (λ s. tested s done.gate) one_freed (λ k. after_freed k done.gate) sides fit (record {
+                    side = done.at.side;
+                    there = done.at.there;
+                    alone = there.3;
+                    made = done.moved;
+                    phases = by.phases ∙ becomes.phases;
+                    keeps = subst (λ t. Keeps old.requests t) (sym by.requests) becomes.keeps;
+                    site = by.site;
+                    clock = by.clock;
+                    low = below_max old.clock n stamp stamps;
+                    shape = λ p. (refl, refl);
+                    same = ap phase_of_sender (sym is_shown);
+                    size = ap (λ (s : SendView). s.size) is_shown;
+                    past = told_so.1;
+                    keys = ap (λ (s : SendView). s.keys) is_shown
+                        ∙ ap (λ i. modified done.at.side.keys i (λ k. after_freed k done.gate)) freed_is;
+                    boxes = done.own ∙ sym done.at.own;
+                    place = refl;
+                    has = has_key;
+                    acts = λ k h. (done.gate, shown_some, one_made k h, refl);
+                  }),
+            )
 
     pub missed_moved : (new : Rank) → found ≡ progress.Missed stamp → new ≡ told old hart answer.Missed stamp
         → (stamp ≡ old.clock + 1) × (stamp < 2 ^ 62)
@@ -304,26 +307,29 @@ module _ (old : Rank) (hart link part : ℕ) (channels : List ChannelView)
             let by = told_by old hart answer.Missed stamp new tells in
             let stays = unfreed_stays old.site (part_of old hart) link part (row_at old hart) freeing in
             let is_shown = becomes_shown None shown_none in
-            let told_so = subst (IsTold (tested done.at.side done.gate)) is done.told in
-            (stamps, told_so.0, sender_moved old new stamp (Act.Miss link part) link part sends sent recvs
-            (λ s. tested s done.gate) (λ p. p) (λ k. after_freed k done.gate) sides fit (record {
-              side = done.at.side;
-              there = done.at.there;
-              alone = there.3;
-              made = done.moved;
-              phases = by.phases ∙ (stays.phases ∙ sym (none_changed_at link old.phases));
-              keeps = subst (λ t. Keeps old.requests t) (sym by.requests) stays.keeps;
-              site = by.site;
-              clock = by.clock;
-              low = omega (arith, stamps);
-              shape = λ p. (refl, refl);
-              same = ap phase_of_sender (sym is_shown);
-              size = ap (λ (s : SendView). s.size) is_shown;
-              past = told_so.1;
-              keys = ap (λ (s : SendView). s.keys) is_shown
-                  ∙ ap (λ i. modified done.at.side.keys i (λ k. after_freed k done.gate)) freed_is;
-              boxes = done.own ∙ sym done.at.own;
-              place = refl;
-              has = inl has_key;
-              acts = λ k h. (done.gate, shown_none, refl);
-            }))
+            let told_so = subst (IsTold (tested done.at.side done.gate)) is done.told in (
+              stamps,
+              told_so.0,
+              sender_moved old new stamp (Act.Miss link part) link part sends sent recvs
+                  (λ s. tested s done.gate) (λ p. p) (λ k. after_freed k done.gate) sides fit (record {
+                    side = done.at.side;
+                    there = done.at.there;
+                    alone = there.3;
+                    made = done.moved;
+                    phases = by.phases ∙ (stays.phases ∙ sym (none_changed_at link old.phases));
+                    keeps = subst (λ t. Keeps old.requests t) (sym by.requests) stays.keeps;
+                    site = by.site;
+                    clock = by.clock;
+                    low = omega (arith, stamps);
+                    shape = λ p. (refl, refl);
+                    same = ap phase_of_sender (sym is_shown);
+                    size = ap (λ (s : SendView). s.size) is_shown;
+                    past = told_so.1;
+                    keys = ap (λ (s : SendView). s.keys) is_shown
+                        ∙ ap (λ i. modified done.at.side.keys i (λ k. after_freed k done.gate)) freed_is;
+                    boxes = done.own ∙ sym done.at.own;
+                    place = refl;
+                    has = inl has_key;
+                    acts = λ k h. (done.gate, shown_none, refl);
+                  }),
+            )

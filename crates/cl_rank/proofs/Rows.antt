@@ -259,9 +259,11 @@ module _ (v : ImageVersion) (table : Table) (phases : List Phase) where
       boxed : (o : Option ℕ) → next ≡ o → p.active ≡ true → P (box_of link o)
       boxed None is on = nothing
       boxed (Some box) is on = look box on is
+
       known : (b : Bool) → p.active ≡ true → P (if b then awaits.Cut link else box_of link next)
       known true on = cut
       known false on = boxed next refl on
+
       active : (b : Bool) → p.active ≡ b
           → P (if not b then awaits.Nothing else if p.boxes == 0 then awaits.Cut link else box_of link next)
       active true on = known (p.boxes == 0) on

@@ -21,8 +21,10 @@ same_channel channels link x y is at = is ∙ there channels link x y at
   where
     none_some : (y : ChannelView) → None ≡ Some y → ⊥
     none_some y h = cc
+
     both : (z y : ChannelView) → Some z ≡ Some y → z ≡ y
     both z y h = cc
+
     there : (channels : List ChannelView) (link : ℕ) (x y : ChannelView) → slice_get channels link ≡ Some y
         → get_or channels link x ≡ y
     there [] link x y e = absurd (none_some y e)
@@ -52,12 +54,12 @@ module _ (channels : List ChannelView) (link i : ℕ) (channel : ChannelView) (j
         at = may.at;
         kept = subst keeps_sending side kept;
         spelled = bytes_back bytes small
-        (subst (λ n. n % 8 ≡ 0) (sym may.count) (subst keeps_sending side kept).shape.whole) may.at.channel.width
-        (subst (λ n. n ≤ 8 * may.at.channel.width) (sym may.count) may.fits) may.wide;
+            (subst (λ n. n % 8 ≡ 0) (sym may.count) (subst keeps_sending side kept).shape.whole) may.at.channel.width
+            (subst (λ n. n ≤ 8 * may.at.channel.width) (sym may.count) may.fits) may.wide;
         made = ap (λ n. set old i (x.0, n)) made ∙ (p.1 (λ s. readied s part (words_of bytes channel.width) stamp)
-        ∙ ap (λ (c : ChannelView). changed_side link (λ s. readied s part (words_of bytes c.width) stamp) old) same);
+            ∙ ap (λ (c : ChannelView). changed_side link (λ s. readied s part (words_of bytes c.width) stamp) old) same);
         own = subst (λ (n : SendView). map sender_box n.keys ≡ may.at.channel.boxes) all
-        (own ∙ ap (λ (c : ChannelView). c.boxes) same);
+            (own ∙ ap (λ (c : ChannelView). c.boxes) same);
         past = subst (λ n. IsPast n stamp) all past;
       }
 
@@ -89,7 +91,7 @@ module _ (channels : List ChannelView) (link i : ℕ) (channel : ChannelView) (j
         moved = ap (λ n. set old i (x.0, n)) made ∙ p.1 (λ s. tested s gate);
         found = found ∙ ap (λ s. test_progress s clock gate) side;
         own = subst (λ (n : SendView). map sender_box n.keys ≡ may.at.channel.boxes) all
-        (own ∙ ap (λ (c : ChannelView). c.boxes) same);
+            (own ∙ ap (λ (c : ChannelView). c.boxes) same);
         told = subst (λ n. IsTold n progress) all told;
       }
 
@@ -113,6 +115,6 @@ module _ (channels : List ChannelView) (link i : ℕ) (channel : ChannelView) (j
         moved = ap (λ n. set old i (x.0, n)) made ∙ p.1 (λ r. took r part gate words clock);
         shown = shown;
         own = subst (λ (n : RecvView). map receiver_box n.keys ≡ may.at.channel.boxes) all
-        (own ∙ ap (λ (c : ChannelView). c.boxes) same);
+            (own ∙ ap (λ (c : ChannelView). c.boxes) same);
         stamp = stamp;
       }

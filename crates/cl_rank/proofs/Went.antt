@@ -101,9 +101,8 @@ event_alone events hart stamp told act new kind quiet is =
 
 -- a rank that makes a partition ready
 module _ (r : Running) (t : Turn) (link part : ℕ) (full : List ℕ) (channels : List ChannelView)
-  (own : AreChannelsOf r.state.site.version channels (sides_in r.sends.items r.recvs.items))
-  (asks : asked (rank_of r.state) t.hart ≡ ask.Ready link part full) where
-
+    (own : AreChannelsOf r.state.site.version channels (sides_in r.sends.items r.recvs.items))
+    (asks : asked (rank_of r.state) t.hart ≡ ask.Ready link part full) where
   pub may_go : MayReady channels link part (take (sending_at r.state.phases link).size full) r.state.clock r.sends.items
   may_go =
       may_ready (rank_of r.state) t.hart link part full channels r.sends.items r.recvs.items r.sides r.fit own asks

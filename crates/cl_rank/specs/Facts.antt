@@ -12,7 +12,6 @@ use Rattle.part_phase.specs.declared.phases.Phase.TheVariants.{Apart, Sending, R
 use Rattle.rv_image.specs.declared.images.ImageVersion.{ImageVersion}
 use Rattle.cl_rank.specs.Sides.{AreSides, PhaseFits, Sides}
 
-
 mark_set : IsSet Bool
 mark_set = hedberg Bool-discrete
 

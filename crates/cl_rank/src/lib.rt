@@ -4,6 +4,7 @@
 //! has of its links with what a deed makes of their keys, and turns.
 #![tactic(auto)]
 
+mod agreeing;
 mod desks;
 pub mod laws;
 mod ranks;
@@ -11,6 +12,7 @@ mod sides;
 mod stops;
 mod turning;
 
+pub use agreeing::agree;
 pub use cl_calls::{ANY, Call, Communicators, NO_RANK, Needs, Peer, Range, Site, Tag, place};
 pub use cl_state::{Answer, Ask, Doing, RankState};
 pub use cl_trace::{Bare, Cursor, Event, Kind, Seen, Trace};

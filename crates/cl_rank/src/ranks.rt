@@ -1,10 +1,6 @@
 //! A rank with its trace and the sides of its links, and its turns.
 
-ghost use Rattle.std.specs.Prelude.{◌≡◌, ◌<◌, ◌≤◌, ◌+◌, ◌^◌, ℕ, List, [], Some, None, length, vec_len, IfOk, IfErr, OnOk, OnErr};
-ghost use Rattle.part_box.specs.Rule.{GateRule};
-ghost use Rattle.part_box.specs.declared.view.Receiving.{Receiving};
-ghost use Rattle.part_box.specs.declared.view.Sending.{Sending};
-ghost use Rattle.part_phase.specs.Limits.{box_words};
+ghost use Rattle.std.specs.Prelude.{◌≡◌, ◌<◌, ◌≤◌, ◌+◌, ◌^◌, [], None, length, vec_len, IfOk, IfErr, OnOk, OnErr};
 ghost use Rattle.cl_state.specs.Rank.{loaded};
 ghost use Rattle.cl_state.specs.Room.{rank_of};
 ghost use Rattle.cl_rank.specs.Facts.{are_sides_fact};
@@ -39,8 +35,7 @@ pub struct Rank {
     pub asked_box: Option<BoxPlace>,
     ghost low: { state.clock < 2 ^ 62 },
     ghost within: { length trace.events ≤ budget },
-    ghost sides: { AreSides state.site.version state.phases state.clock (sides_in sends.items recvs.items) }
-        by { are_sides_fact state.site.version state.phases state.clock (sides_in sends.items recvs.items) },
+    ghost sides: { AreSides state.site.version state.phases state.clock (sides_in sends.items recvs.items) } by { are_sides_fact state.site.version state.phases state.clock (sides_in sends.items recvs.items) },
     ghost fit: { RequestsFit state.requests state.phases },
 }
 
@@ -121,12 +116,7 @@ impl Rank {
     }
 
     /// Takes a turn of a hart over the hub itself, and never waits. After a refusal the hub is as it was, too.
-    pub fn turn_plain(
-        &mut self,
-        hub: &mut Hub,
-        channels: &[Channel],
-        hart: u8,
-    ) -> Result<(), Stop>
+    pub fn turn_plain(&mut self, hub: &mut Hub, channels: &[Channel], hart: u8) -> Result<(), Stop>
         requires hart { hart < vec_len self.old.state.harts }
         requires own { AreChannelsOf self.old.state.site.version channels.now (view_of self.old).sides }
         ensures turned { OnOk result (IsTurn Answered hart (view_of self.old) (view_of self.new) hub.old hub.new) }
@@ -146,14 +136,7 @@ impl Rank {
     }
 
     /// The rank's state, its trace, and its sides of links, the sender's first.
-    pub fn into_parts(
-        self,
-    ) -> (
-        RankState,
-        Trace,
-        Vec<(u8, SendSide)>,
-        Vec<(u8, RecvSide)>,
-    )
+    pub fn into_parts(self) -> (RankState, Trace, Vec<(u8, SendSide)>, Vec<(u8, RecvSide)>)
         ensures state { result.0 ≡ self.state }
         ensures trace { result.1 ≡ self.trace }
         ensures sends { result.2 ≡ self.sends }

@@ -18,7 +18,7 @@ pub struct BoxPlace {
 }
 
 /// Where the side of a link stands.
-fn find<S>(sides: &[(u8, S)], link: u8) -> Option<usize>
+pub(crate) fn find<S>(sides: &[(u8, S)], link: u8) -> Option<usize>
     ensures { IsPlace link sides.now result }
 {
     for i in 0..sides.len() {

@@ -211,7 +211,8 @@ impl Rank {
     {
         let (hart, stamp) = (turn.hart, self.state.clock + 1);
         let link = started(&self.state.requests, &turn.doing);
-        self.state.tell_next(hart, &turn.doing, &Answer::Alone, stamp);
+        self.state
+            .tell_next(hart, &turn.doing, &Answer::Alone, stamp);
         begin(&mut self.sends, &mut self.recvs, link);
         self.asked_box = None;
         self.trace.push(Event {
@@ -288,13 +289,7 @@ impl Rank {
     }
 
     /// Makes a partition ready, with the bytes that are to stand in its box.
-    fn make_ready(
-        &mut self,
-        channels: &[Channel],
-        turn: Turn,
-        place: BoxPlace,
-        bytes: &Contents,
-    )
+    fn make_ready(&mut self, channels: &[Channel], turn: Turn, place: BoxPlace, bytes: &Contents)
         requires may { MayTurn self.old turn }
         requires asked { asked (rank_of self.old.state) turn.hart ≡ ask.Ready place.link place.part bytes.now }
         requires own { AreChannelsOf self.old.state.site.version channels.now (view_of self.old).sides }
@@ -307,7 +302,8 @@ impl Rank {
         let clock = self.state.clock;
         let bytes = &bytes.as_slice()[..size as usize];
         let stamp = make_ready(&mut self.sends, channels, place, bytes, clock);
-        self.state.tell_next(turn.hart, &turn.doing, &Answer::Alone, stamp);
+        self.state
+            .tell_next(turn.hart, &turn.doing, &Answer::Alone, stamp);
         self.asked_box = Some(place);
         self.trace.push(Event {
             hart: turn.hart,

@@ -30,7 +30,7 @@ invariant_of-self c =
     c.requires.own c.requires.asked c.test-progress.result c.test-progress.new.sends.items
     c.test-progress.ensures.tested c.tell_next.new.self c.match-progress.answer
     (elim c.match-progress.branch [
-      in-Freed w ↦ inl (w.in-Freed.stamp, w.in-Freed.is, w.answer-is)
+      | in-Freed w ↦ inl (w.in-Freed.stamp, w.in-Freed.is, w.answer-is)
       | in-Missed w ↦ inr (w.in-Missed.stamp, w.in-Missed.is, w.answer-is)
     ]) c.tell_next.ensures.told in
     let clock = clock_told (rank_of c.args.self.now.state) (rank_of c.tell_next.new.self) c.args.turn.hart _ _
@@ -49,7 +49,7 @@ returns-clause-turned c =
     c.requires.own c.requires.asked c.test-progress.result c.test-progress.new.sends.items
     c.test-progress.ensures.tested c.tell_next.new.self c.match-progress.answer
     (elim c.match-progress.branch [
-      in-Freed w ↦ inl (w.in-Freed.stamp, w.in-Freed.is, w.answer-is)
+      | in-Freed w ↦ inl (w.in-Freed.stamp, w.in-Freed.is, w.answer-is)
       | in-Missed w ↦ inr (w.in-Missed.stamp, w.in-Missed.is, w.answer-is)
     ]) c.tell_next.ensures.told in
     quiet_turn _ _ c.args.turn.hart c.match-progress.answer.2 turn.act (search (rules, c.requires.may.next.there)) turn.low
@@ -66,7 +66,7 @@ returns-clause-own c =
     c.requires.own c.requires.asked c.test-progress.result c.test-progress.new.sends.items
     c.test-progress.ensures.tested c.tell_next.new.self c.match-progress.answer
     (elim c.match-progress.branch [
-      in-Freed w ↦ inl (w.in-Freed.stamp, w.in-Freed.is, w.answer-is)
+      | in-Freed w ↦ inl (w.in-Freed.stamp, w.in-Freed.is, w.answer-is)
       | in-Missed w ↦ inr (w.in-Missed.stamp, w.in-Missed.is, w.answer-is)
     ]) c.tell_next.ensures.told in
     turn.moved.own c.args.channels.now c.requires.own
