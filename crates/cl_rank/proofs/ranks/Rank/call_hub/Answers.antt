@@ -1,0 +1,19 @@
+use Rattle.std.proofs.Common.{Ok, refl, subst, sym}
+use Rattle.cl_rank.proofs.ranks.Rank.call_hub.Goals as goal
+
+pub returns-in-Ok-call-clause-turned : goal.returns-in-Ok-call-clause-turned
+returns-in-Ok-call-clause-turned g c =
+    let h = c.tell_reply.ensures.turned in
+    record {
+      deed = _;
+      rank = refl;
+      by = refl;
+      event = h.event;
+      moves = h.moves;
+      tells =
+          subst (λ q. g.D.Desk.gives c.args.desk.now c.args.self.now.state.site.number c.args.turn.hart
+          c.args.self.now.state.clock q (Ok (c.in-Ok-call.reply, c.in-Ok-call.stamp)) c.call.new.self)
+          (sym c.in-Ok.ensures.copy) c.in-Ok-call.ensures.gives;
+      keys = h.keys;
+      box = h.box;
+    }
