@@ -1,0 +1,5 @@
+pub mod Stands
+pub mod Moves
+pub mod Sides
+pub mod Acts
+pub mod Kept

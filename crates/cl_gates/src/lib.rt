@@ -1,0 +1,5 @@
+//! What each rank alone keeps, so that the steps of a run may be put in order of their stamps: functions with empty
+//! bodies, whose contracts are the laws.
+#![tactic(auto)]
+
+pub mod laws;
