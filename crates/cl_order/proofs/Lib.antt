@@ -1,0 +1,9 @@
+pub mod Appends
+pub mod Merges
+pub mod Apart
+pub mod Boxing
+pub mod Ranks
+pub mod Two
+pub mod Joinings
+pub mod Reorders
+pub mod Needed
