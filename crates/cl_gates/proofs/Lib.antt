@@ -3,3 +3,4 @@ pub mod Moves
 pub mod Sides
 pub mod Acts
 pub mod Kept
+pub mod Worked

@@ -25,16 +25,16 @@ abbrev pub either : (b : Bool) → ((b ≡ true) ⊎ (b ≡ false))
 either true = inl refl
 either false = inr refl
 
-none_shut : Gate.Unused ≢ Gate.Shut
+pub none_shut : Gate.Unused ≢ Gate.Shut
 none_shut e = absurd (cc)
 
-shut_used : Gate.Shut ≢ Gate.Unused
+pub shut_used : Gate.Shut ≢ Gate.Unused
 shut_used e = absurd (cc)
 
-free_open : Gate.Free ≢ Gate.Shut
+pub free_open : Gate.Free ≢ Gate.Shut
 free_open e = absurd (cc)
 
-free_used : Gate.Free ≢ Gate.Unused
+pub free_used : Gate.Free ≢ Gate.Unused
 free_used e = absurd (cc)
 
 not_both : (b : Bool) → b ≡ true → b ≡ false → ⊥
