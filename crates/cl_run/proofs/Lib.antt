@@ -1,3 +1,5 @@
+pub mod Keys
+pub mod BoxSteps
 pub mod Rounds
 pub mod Hubs
 pub mod Stations

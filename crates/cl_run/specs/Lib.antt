@@ -10,6 +10,9 @@ pub use Rattle.cl_machine.specs.Laws
 pub use Rattle.cl_machine.specs.Rows
 pub mod Plans
 pub mod Rounds
+pub mod Keys
 pub mod Runs
 pub mod Driver
+pub mod Wiring
+pub mod Settling
 pub mod UnderWay

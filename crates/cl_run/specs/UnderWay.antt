@@ -5,11 +5,15 @@ use Rattle.rv_image.specs.declared.images.ImageParts.{ImageParts}
 use Rattle.cl_journal.specs.Journal.{Journal, clock_of, entries_by}
 use Rattle.cl_journal.specs.declared.entries.Entry.{Entry}
 use Rattle.cl_trace.specs.declared.events.Event.{Event}
+use Rattle.rv_image.specs.declared.images.Link.{Link}
+use Rattle.cl_state.specs.Rank.{site_of}
+use Rattle.cl_machine.specs.Boxes.{Box, box_number}
 use Rattle.cl_machine.specs.Cluster.{Cluster, IsRun, loaded_cluster}
 use Rattle.cl_run.specs.Driver.{IsStoppedAt, Station}
 use Rattle.cl_machine.specs.Journal.{journal_of}
 use Rattle.cl_machine.specs.Journal as cluster
 use Rattle.cl_machine.specs.Order.{of_rank}
+use Rattle.cl_run.specs.Keys.{IsBoxOf}
 use Rattle.cl_run.specs.Plans.{in_slot}
 use Rattle.cl_run.specs.Runs.{FollowsPlan, HasCause, NoneIdles, hub_calls, is_hub, step_by}
 use Rattle.cl_run.specs.declared.plans.Plan.{Plan}
@@ -26,8 +30,8 @@ Round order Done from (taker ∷ takers) to =
     × Round order Done (slot + 1) takers to
 
 -- rank number r after some steps, with these entries in the journal
-pub record IsSoFar (steps : List Step) (entries : List Entry) (r : ℕ) (plan : Plan) (s : Station) : Type 0 where
-  pub number_is : s.rank.site.number ≡ r
+pub record IsSoFar (image : ImageParts) (steps : List Step) (entries : List Entry) (r : ℕ) (plan : Plan) (s : Station) : Type 0 where
+  pub site_is : s.rank.site ≡ site_of image r
   pub low : s.rank.clock < 2 ^ 62
   pub budget_is : s.budget ≡ plan.budget
   pub in_budget : length s.events ≤ plan.budget
@@ -44,16 +48,26 @@ pub record IsSoFar (steps : List Step) (entries : List Entry) (r : ℕ) (plan : 
 abbrev pub shown : Journal → cluster.Journal
 shown hub = journal_of hub.links hub.entries
 
--- the cluster that a driver stands for; no box was touched
-abbrev pub cluster_of : ImageParts → List Station → Journal → Cluster
-cluster_of image ss hub = record { ranks = map (λ (s : Station). s.rank) ss; journal = shown hub; boxes = (loaded_cluster image).boxes }
+-- the cluster that a driver stands for, with these boxes
+abbrev pub cluster_of : List Station → Journal → List Box → Cluster
+cluster_of ss hub boxes = record { ranks = map (λ (s : Station). s.rank) ss; journal = shown hub; boxes = boxes }
+
+-- the boxes of all links, of ranks that have these sides
+abbrev pub AreBoxes : ImageParts → List Station → List Box → Type 0
+AreBoxes image ss boxes =
+    (link part : ℕ) (l : Link) → slice_get image.links link ≡ Some l → part < 16
+    → (from : Station) × (to : Station) × (slice_get ss l.from ≡ Some from) × (slice_get ss l.to ≡ Some to)
+    × IsBoxOf image.version from.sides to.sides link part (slice_get boxes (box_number link part))
 
 -- the steps so far, with all slots below this one gone through
 pub record IsUnderWay (image : ImageParts) (plans : List Plan) (order : List ℕ) (ss : List Station) (hub : Journal) (slot : ℕ) : Type 0 where
   pub links_are : hub.links ≡ image.links
   pub low : clock_of hub < 2 ^ 62
   pub steps : List Step
-  pub run : IsRun (loaded_cluster image) steps (cluster_of image ss hub)
+  pub boxes : List Box
+  pub are_boxes : AreBoxes image ss boxes
+  pub run : IsRun (loaded_cluster image) steps (cluster_of ss hub boxes)
   pub none_idles : NoneIdles (loaded_cluster image) steps
   pub round : Round order (IsStoppedAt ss) 0 (map (λ (e : Step). e.rank) steps) slot
-  pub each : (r : ℕ) (plan : Plan) (s : Station) → slice_get plans r ≡ Some plan → slice_get ss r ≡ Some s → IsSoFar steps hub.entries r plan s
+  pub each : (r : ℕ) (plan : Plan) (s : Station) → slice_get plans r ≡ Some plan → slice_get ss r ≡ Some s
+      → IsSoFar image steps hub.entries r plan s

@@ -1,19 +1,29 @@
 //! The driver of a run on one thread.
 
-ghost use Rattle.std.specs.Prelude.{◌≡◌, ◌<◌, ◌+◌, ◌*◌, ◌%◌, ℕ, [], None, Some, All, IfOk, IsTrue, is_some, false, true, length, map, slice_get, slice_index, vec_len};
+ghost use Rattle.std.specs.Prelude.{◌≡◌, ◌<◌, ◌+◌, ◌*◌, ◌%◌, ◌≤◌, ℕ, List, None, Some, All, IfOk, IsTrue, is_some, false, true};
+ghost use Rattle.std.specs.Prelude.{length, map, slice_get, slice_index, vec_len};
 ghost use Rattle.rv_image.specs.declared.images.ImageParts.{ImageParts};
+ghost use Rattle.rv_image.specs.Image.{IsLink};
+ghost use Rattle.part_channel.specs.Channels.{ChannelView};
 ghost use Rattle.cl_state.specs.Rank.{below, loaded};
 ghost use Rattle.cl_state.specs.Room.{rank_of};
-ghost use Rattle.cl_run.specs.Driver.{AreFresh, AreSeated, GoesOn, HaveRoom, IsFresh, IsRecordOf, IsSeated, IsStoppedAt, SlotGoes, left, station, stations};
+ghost use Rattle.cl_rank.specs.Sides.{AreChannelsOf};
+ghost use Rattle.cl_run.specs.Driver.{Agree, AreAllNew, AreFresh, AreJoined, AreSeated, GoesOn, HaveKeys, HaveRoom, IsDriver};
+ghost use Rattle.cl_run.specs.Driver.{IsFresh, KeysAgree};
+ghost use Rattle.cl_run.specs.Driver.{IsRecordOf, IsSeated, IsStoppedAt, SlotGoes, Station, left, station, stations};
 ghost use Rattle.cl_run.specs.UnderWay.{IsUnderWay};
+ghost use Rattle.cl_run.specs.Wiring.{AreNewEnds, sides_in};
 ghost use Rattle.cl_run.specs.declared.driver.Seat.{Seat};
 
+use crate::lists::Lists;
 use crate::plans::Plan;
 use crate::records::Record;
+use crate::settling::settle_all;
+use crate::wiring::{Ends, Wiring};
 use cl_journal::Hub;
-use cl_rank::{Rank, RankState, Stop};
-use cl_trace::Trace;
-use rv_image::Image;
+use cl_rank::{BoxPlace, Rank, Stop, agree};
+use part_channel::Channel;
+use rv_image::{Image, Link};
 use std::alloc::{AllocError, Global};
 
 /// What the driver keeps of one rank.
@@ -26,32 +36,12 @@ pub(crate) struct Seat {
     pub stop: Option<Stop>,
 }
 
-/// All ranks, by their numbers, and the hub.
+/// All ranks, by their numbers, the hub, and the channels, by the numbers of their links.
 #[derive(Drop)]
 pub(crate) struct Driver {
     pub seats: Vec<Seat>,
     pub hub: Hub,
-}
-
-/// The lists of a record, with room for what the ranks leave.
-#[derive(Drop)]
-pub(crate) struct Lists {
-    pub traces: Vec<Trace>,
-    pub ranks: Vec<RankState>,
-    pub stops: Vec<Stop>,
-}
-
-impl Lists {
-    /// Empty lists, with room for so many ranks.
-    pub(crate) fn with_room(alloc: Global, count: usize) -> Result<Lists, AllocError>
-        ensures { IfOk result (HaveRoom count) }
-    {
-        Ok(Lists {
-            traces: Vec::with_capacity(alloc, count)?,
-            ranks: Vec::with_capacity(alloc, count)?,
-            stops: Vec::with_capacity(alloc, count)?,
-        })
-    }
+    pub channels: Vec<Channel>,
 }
 
 /// The place behind this one, where so many places are used round and round.
@@ -66,12 +56,17 @@ fn place_after(place: usize, count: usize) -> usize
 }
 
 impl Seat {
-    /// A rank as it is loaded, with its plan's budget.
-    fn load(alloc: Global, image: &Image, rank: u8, plan: &Plan) -> Result<Seat, AllocError>
-        ensures { IfOk result (IsFresh image.now rank plan.now) }
+    /// A rank as it is loaded, with its plan's budget and its ends of the links.
+    fn load(alloc: Global, image: &Image, rank: u8, plan: &Plan, ends: Ends) -> Result<Seat, AllocError>
+        requires { (channels : List ChannelView)
+            × AreNewEnds image.now.version image.now.links channels rank (sides_in ends) }
+        ensures { (channels : List ChannelView)
+            → AreNewEnds image.now.version image.now.links channels rank (sides_in ends)
+            → IfOk result (IsFresh image.now channels rank plan.now) }
     {
+        let Ends { sends, recvs } = ends;
         Ok(Seat {
-            rank: Rank::new(alloc, image, rank, plan.budget)?,
+            rank: Rank::new(alloc, image, rank, plan.budget, sends, recvs)?,
             next: 0,
             stop: None,
         })
@@ -79,14 +74,16 @@ impl Seat {
 
     /// The rank's next turn, by its plan. Where there is none the rank stops.
     #[inline(always)]
-    fn turn(&mut self, hub: &mut Hub, plan: &Plan)
+    fn turn(&mut self, hub: &mut Hub, channels: &[Channel], plan: &Plan)
         requires seated { IsSeated plan.now self.old }
         requires running { self.old.stop ≡ None }
+        requires channels { AreChannelsOf (station self.old).rank.site.version channels.now (station self.old).sides }
         ensures goes { GoesOn plan.now (station self.old) hub.old (station self.new) hub.new }
         ensures seated { IsSeated plan.now self.new }
+        ensures channels { AreChannelsOf (station self.old).rank.site.version channels.now (station self.new).sides }
     {
         let hart = plan.order[self.next];
-        match self.rank.turn_plain(hub, hart) {
+        match self.rank.turn_plain(hub, channels, hart) {
             Ok(()) => {
                 self.next = place_after(self.next, plan.order.len());
             }
@@ -95,34 +92,86 @@ impl Seat {
     }
 }
 
-/// All ranks as they are loaded, by their numbers.
-fn load_seats(alloc: Global, image: &Image, plans: &[Plan]) -> Result<Vec<Seat>, AllocError>
-    requires { length plans.now ≡ image.now.ranks }
+/// All ranks as they are loaded, by their numbers, with these ends of the links.
+fn load_seats(alloc: Global, image: &Image, plans: &[Plan], ends: Vec<Ends>) -> Result<Vec<Seat>, AllocError>
+    requires plans { length plans.now ≡ image.now.ranks }
+    requires count { length ends.items ≡ image.now.ranks }
+    requires ends { (channels : List ChannelView) × AreAllNew image.now channels ends.items }
     ensures count { IfOk result (λ seats. length seats.items ≡ image.now.ranks) }
-    ensures ranks { IfOk result (λ seats. map (λ seat. rank_of seat.rank.state) seats.items ≡ map (loaded image.now) (below image.now.ranks)) }
-    ensures fresh { IfOk result (λ seats. AreFresh image.now plans.now seats.items) }
+    ensures ranks { IfOk result (λ seats. map (λ seat. rank_of seat.rank.state) seats.items
+        ≡ map (loaded image.now) (below image.now.ranks)) }
+    ensures fresh { (channels : List ChannelView) → AreAllNew image.now channels ends.items
+        → IfOk result (λ seats. AreFresh image.now plans.now channels seats.items) }
 {
-    let mut seats = Vec::new(alloc);
-    for rank in 0..image.parts().ranks {
-        let seat = Seat::load(alloc, image, rank, &plans[rank as usize])?;
+    let mut seats: Vec<Seat> = Vec::new(alloc);
+    for own in ends {
+        let rank = seats.len();
+        let seat = Seat::load(alloc, image, rank as u8, &plans[rank], own)?;
         seats.push(seat)?;
     }
     Ok(seats)
 }
 
+/// The two keys of a box, of seats that are the link's two, agree. Nothing changes.
+fn agree_on(seats: &mut [Seat], channels: &[Channel], link: Link, place: BoxPlace)
+    requires link { IsLink (length seats.old) link }
+    requires keys { HaveKeys (map station seats.old) channels.now link place.link place.part }
+    ensures same { seats.new ≡ seats.old }
+    ensures agree { KeysAgree (map station seats.old) link place.link place.part }
+{
+    if link.from < link.to {
+        let (low, high) = seats.split_at_mut(link.to as usize);
+        agree(
+            &mut low[link.from as usize].rank,
+            &mut high[0].rank,
+            channels,
+            place,
+        );
+    } else {
+        let (low, high) = seats.split_at_mut(link.from as usize);
+        agree(
+            &mut high[0].rank,
+            &mut low[link.to as usize].rank,
+            channels,
+            place,
+        );
+    }
+}
+
 impl Driver {
-    /// All ranks as they are loaded, and a hub that was never called.
+    /// All ranks as they are loaded, a hub that was never called, and new channels.
     pub(crate) fn load(alloc: Global, image: &Image, plans: &[Plan]) -> Result<Driver, AllocError>
         requires { length plans.now ≡ image.now.ranks }
-        ensures count { IfOk result (λ driver. length driver.seats.items ≡ image.now.ranks) }
-        ensures ranks { IfOk result (λ driver. map (λ seat. rank_of seat.rank.state) driver.seats.items ≡ map (loaded image.now) (below image.now.ranks)) }
-        ensures fresh { IfOk result (λ driver. AreFresh image.now plans.now driver.seats.items) }
-        ensures links { IfOk result (λ driver. driver.hub.links ≡ image.now.links) }
-        ensures calls { IfOk result (λ driver. driver.hub.entries ≡ []) }
+        ensures { IfOk result (IsDriver image.now plans.now) }
     {
-        let seats = load_seats(alloc, image, plans)?;
+        let Wiring { channels, ends } = Wiring::of(alloc, image)?;
+        let seats = load_seats(alloc, image, plans, ends)?;
         let hub = Hub::start(alloc, image)?;
-        Ok(Driver { seats, hub })
+        Ok(Driver {
+            seats,
+            hub,
+            channels,
+        })
+    }
+
+    /// The two keys of the box that this rank asked last, if it asked one, agree. Nothing changes.
+    fn agree(&mut self, rank: u8)
+        requires there { rank < vec_len self.old.seats }
+        requires joined { AreJoined self.old }
+        ensures same { self.new ≡ self.old }
+        ensures agree { (s : Station) → slice_get (stations self.old) rank ≡ Some s
+            → Agree self.old.hub.links (stations self.old) s.asked }
+    {
+        let Some(place) = self.seats[rank as usize].rank.asked_box else {
+            return;
+        };
+        let link = self.hub.links()[place.link as usize];
+        agree_on(
+            self.seats.as_mut_slice(),
+            self.channels.as_slice(),
+            link,
+            place,
+        );
     }
 
     /// One slot of the order: a turn of this rank, unless it is stopped. Whether anything was done.
@@ -130,12 +179,15 @@ impl Driver {
     fn slot(&mut self, rank: u8, plan: &Plan) -> bool
         requires there { rank < vec_len self.old.seats }
         requires seated { (seat : Seat) → slice_get self.old.seats.items rank ≡ Some seat → IsSeated plan.now seat }
+        requires joined { AreJoined self.old }
         ensures { SlotGoes plan.now rank self.old self.new result }
     {
         if self.seats[rank as usize].stop.is_some() {
             return false;
         }
-        self.seats[rank as usize].turn(&mut self.hub, plan);
+        let channels = self.channels.as_slice();
+        self.seats[rank as usize].turn(&mut self.hub, channels, plan);
+        self.agree(rank);
         true
     }
 
@@ -174,14 +226,23 @@ impl Driver {
     /// What the run left, in lists that have room for it.
     pub(crate) fn into_record(self, lists: Lists) -> Record
         requires stopped { All (λ seat. IsTrue (is_some seat.stop)) self.seats.items }
-        requires room { HaveRoom (length self.seats.items) lists }
+        requires joined { AreJoined self }
+        requires channels { length self.channels.items ≡ length self.hub.links }
+        requires few { length self.hub.links ≤ 32 }
+        requires room { HaveRoom (length self.seats.items) (length self.hub.links) lists }
         ensures { IsRecordOf self result }
     {
-        let Driver { seats, hub } = self;
+        let Driver {
+            seats,
+            hub,
+            channels,
+        } = self;
         let Lists {
             mut traces,
             mut ranks,
             mut stops,
+            mut ends,
+            boxes,
         } = lists;
         for seat in seats {
             let Seat {
@@ -189,18 +250,21 @@ impl Driver {
                 next: _,
                 stop,
             } = seat;
-            let (state, trace) = rank.into_parts();
+            let (state, trace, sends, recvs) = rank.into_parts();
             let Some(stop) = stop else { unreachable!() };
             traces.push_reserved(trace);
             ranks.push_reserved(state);
             stops.push_reserved(stop);
+            ends.push_reserved(Ends { sends, recvs });
         }
+        let boxes = settle_all(channels, hub.links(), ends, boxes);
         let (_, journal) = hub.into_parts();
         Record {
             traces,
             journal,
             ranks,
             stops,
+            boxes,
         }
     }
 }

@@ -3,10 +3,13 @@
 #![tactic(auto)]
 
 mod driver;
+mod lists;
 mod loading;
 mod one;
 mod plans;
 mod records;
+mod settling;
+mod wiring;
 
 pub use cl_machine::{Step, laws, rows};
 pub use loading::Loaded;

@@ -5,15 +5,17 @@ ghost use Rattle.cl_run.specs.Driver.{IsLoaded};
 ghost use Rattle.cl_run.specs.Plans.{ArePlans};
 ghost use Rattle.cl_run.specs.Runs.{IsOneRun};
 
-use crate::driver::{Driver, Lists};
+use crate::driver::Driver;
+use crate::lists::Lists;
 use crate::plans::{Plan, are_plans};
 use crate::records::{Record, RunFault};
 use rv_image::Image;
 use std::alloc::{AllocError, Global};
 use std::marker::Model;
 
-/// All ranks of an image as they are loaded, a hub that was never called, and the room for what their run leaves. So nothing
-/// but the ranks' own turns asks for memory from here on, and a run that is loaded always leaves a record.
+/// All ranks of an image as they are loaded, a hub that was never called, the channels of all links, and the room for what
+/// their run leaves. So nothing but the ranks' own turns asks for memory from here on, and a run that is loaded always
+/// leaves a record.
 ///
 /// Contracts see what is run: the image, the plans and the order.
 #[derive(Drop)]
@@ -41,7 +43,8 @@ fn load_all(alloc: Global, image: &Image, plans: &[Plan]) -> Result<(Driver, Lis
     ensures { IfOk result (λ loaded. IsLoaded image.now plans.now loaded.0 loaded.1) }
 {
     let driver = Driver::load(alloc, image, plans)?;
-    let lists = Lists::with_room(alloc, plans.len())?;
+    let links = image.parts().links.as_slice().len();
+    let lists = Lists::with_room(alloc, plans.len(), links)?;
     Ok((driver, lists))
 }
 
