@@ -383,3 +383,36 @@ module _ (image : ImageParts) (joined : (link : ℕ) (l : Link) → slice_get im
             ),
             put link part w.s0 one.0 w.r0 w.r0 w.here now w.box_there,
           )
+
+-- where a rank's sides stay the boxes do
+pub boxes_same : (image : ImageParts) (ss : List Station) (r : ℕ) (s t : Station) (boxes : List Box)
+    → slice_get ss r ≡ Some s → t.sides ≡ s.sides → AreBoxes image ss boxes → AreBoxes image (slice_set ss r t) boxes
+boxes_same image ss r s t boxes there same are link part l at low =
+    let old = are link part l at low in
+    let from = later l.from old.0 old.2 in
+    let to = later l.to old.1 old.3 in
+    let b = old.4 in (
+      from.0,
+      to.0,
+      from.1,
+      to.1,
+      record {
+        sender = b.sender;
+        receiver = b.receiver;
+        sends = ap (λ (z : Sides). sender_of z link part) from.2 ∙ b.sends;
+        receives = ap (λ (z : Sides). receiver_of z link part) to.2 ∙ b.receives;
+        agree = b.agree;
+        box_is = b.box_is;
+      },
+    )
+  where
+    later : (q : ℕ) (x : Station) → slice_get ss q ≡ Some x
+        → (y : Station) × (slice_get (slice_set ss r t) q ≡ Some y) × (y.sides ≡ x.sides)
+    later q x at = elim (eqb_tells r q) [
+      | inl here ↦ (
+        t,
+        ap (slice_get (slice_set ss r t)) (sym here.1) ∙ get-set_same ss r s t there,
+        same ∙ ap (λ (z : Station). z.sides) (same_Some s x (sym there ∙ ap (slice_get ss) here.1 ∙ at)),
+      )
+      | inr other ↦ (x, get-set_other ss r q t other.1 ∙ at, refl)
+    ]

@@ -12,16 +12,10 @@ use Rattle.cl_journal.specs.Calls.{Calls, entry}
 use Rattle.cl_journal.specs.Journal.{Journal, clock_of, entries_by, is_by, stamp_after}
 use Rattle.cl_journal.specs.declared.entries.Entry.{Entry}
 use Rattle.cl_journal.proofs.History.{stamp_after-snoc}
-use Rattle.cl_state.specs.declared.asking.Ask.{Ask}
-use Rattle.cl_state.specs.Asked.{asked}
-use Rattle.cl_state.specs.Rank.{Rank}
-use Rattle.cl_rank.specs.Deeds.{Act, Answers, Deed, event_of, kind_of, request_of}
-use Rattle.cl_rank.specs.Turns.{Answered, AsksNoBox, Tells, TellsAct}
-use Rattle.cl_rank.proofs.Boxless.{boxless}
-use Rattle.cl_machine.specs.Boxes.{Box}
+use Rattle.cl_rank.specs.Deeds.{Act, Deed, event_of, kind_of, request_of}
+use Rattle.cl_rank.specs.Turns.{Answered, Tells, TellsAct}
 use Rattle.cl_machine.specs.Journal.{Enters, reply_in}
-use Rattle.cl_machine.specs.Parts.{PartsMove, PartsMoveAt}
-use Rattle.cl_machine.specs.Product.{BoxMoves, JournalMoves, box_at, entry_of}
+use Rattle.cl_machine.specs.Product.{JournalMoves, entry_of}
 use Rattle.cl_run.specs.Runs.{is_hub}
 use Rattle.cl_run.specs.UnderWay.{shown}
 
@@ -46,7 +40,6 @@ listed o = cons_option o []
 -- what the hub's part of a deed comes to: the entry of a call, or nothing
 pub record HubPart (before after : Journal) (d : Deed) : Type 0 where
   pub journal_moves : JournalMoves (shown before) (entry_of d) (shown after)
-  pub boxes_stay : (boxes : List Box) → PartsMove BoxMoves box_at boxes d boxes
   pub links_stay : after.links ≡ before.links
   pub entries_are : after.entries ≡ before.entries ++ listed (entry_of d)
   pub own : entries_by d.rank (listed (entry_of d)) ≡ listed (entry_of d)
@@ -59,10 +52,9 @@ pub record HubPart (before after : Journal) (d : Deed) : Type 0 where
   pub rises : (after ≡ before) ⊎ (clock_of before < clock_of after)
 
 quiet : (before after : Journal) (d : Deed) → after ≡ before → entry_of d ≡ None → request_of d.act ≡ None → is_hub (kind_of d.act) ≡ false
-    → box_at d ≡ None → HubPart before after d
-quiet before after d same none nothing no_hub no_box = record {
+    → HubPart before after d
+quiet before after d same none nothing no_hub = record {
   journal_moves = subst (λ o. JournalMoves (shown before) o (shown after)) (sym none) (ap shown same);
-  boxes_stay = λ boxes. subst (λ o. PartsMoveAt BoxMoves o boxes d boxes) (sym no_box) refl;
   links_stay = ap (λ (j : Journal). j.links) same;
   entries_are = ap (λ (j : Journal). j.entries) same ∙ sym (append-nil before.entries) ∙ ap (λ (o : Option Entry). before.entries ++ listed o) (sym none);
   own = ap (λ (o : Option Entry). entries_by d.rank (listed o)) none ∙ ap (λ (o : Option Entry). listed o) (sym none);
@@ -81,7 +73,6 @@ called before after rank hart stamp clock request reply c =
     let last : clock_of after ≡ stamp = ap (stamp_after 0) c.entries ∙ stamp_after-snoc 0 before.entries e in
     record {
       journal_moves = enters before after rank hart clock request (reply, stamp) c;
-      boxes_stay = λ boxes. refl;
       links_stay = c.links;
       entries_are = c.entries;
       own = filter-keeps (is_by rank) e [] (eq-eqb rank rank refl);
@@ -93,34 +84,17 @@ called before after rank hart stamp clock request reply c =
       rises = inr (omega (arith, c.stamp, last));
     }
 
-abbrev NoBox : Act → Type 0
-NoBox (Act.Ready link part bytes) = ⊥
-NoBox (Act.Take link part gate bytes) = ⊥
-NoBox (Act.Freed link part gate) = ⊥
-NoBox _ = Unit {0}
-
-no_act : (asks : Ask) (a : Act) → AsksNoBox asks → Answers asks a → NoBox a
-no_act asks Act.Plain h k = tt
-no_act asks Act.Local h k = tt
-no_act asks (Act.Hub clock request reply) h k = tt
-no_act asks (Act.Ready link part bytes) h k = subst AsksNoBox k h
-no_act asks (Act.Take link part gate bytes) h k = subst AsksNoBox k h
-no_act asks (Act.Miss link part) h k = tt
-no_act asks (Act.Freed link part gate) h k = subst AsksNoBox k h
-no_act asks Act.Held h k = tt
-no_act asks Act.Idle h k = tt
-
-pub hub_part : (before after : Journal) (rank : Rank) (d : Deed) → Answers (asked rank d.hart) d.act → Tells Answered before after d → HubPart before after d
-hub_part before after rank d answers h = by_act d.act (no_act (asked rank d.hart) d.act (boxless rank d.hart) answers) h
+pub hub_part : (before after : Journal) (d : Deed) → Tells Answered before after d → HubPart before after d
+hub_part before after d h = by_act d.act h
   where
-    by_act : (a : Act) → NoBox a → TellsAct Answered d.rank d.hart d.stamp before after a
+    by_act : (a : Act) → TellsAct Answered d.rank d.hart d.stamp before after a
         → HubPart before after (record { rank = d.rank; hart = d.hart; stamp = d.stamp; act = a })
-    by_act Act.Plain n h = quiet before after _ h refl refl refl refl
-    by_act Act.Local n h = quiet before after _ h refl refl refl refl
-    by_act (Act.Hub clock request reply) n h = called before after d.rank d.hart d.stamp clock request reply h
-    by_act (Act.Ready link part bytes) n h = absurd n
-    by_act (Act.Take link part gate bytes) n h = absurd n
-    by_act (Act.Miss link part) n h = quiet before after _ h refl refl refl refl
-    by_act (Act.Freed link part gate) n h = absurd n
-    by_act Act.Held n h = quiet before after _ h refl refl refl refl
-    by_act Act.Idle n h = quiet before after _ h refl refl refl refl
+    by_act Act.Plain h = quiet before after _ h refl refl refl
+    by_act Act.Local h = quiet before after _ h refl refl refl
+    by_act (Act.Hub clock request reply) h = called before after d.rank d.hart d.stamp clock request reply h
+    by_act (Act.Ready link part bytes) h = quiet before after _ h refl refl refl
+    by_act (Act.Take link part gate bytes) h = quiet before after _ h refl refl refl
+    by_act (Act.Miss link part) h = quiet before after _ h refl refl refl
+    by_act (Act.Freed link part gate) h = quiet before after _ h refl refl refl
+    by_act Act.Held h = quiet before after _ h refl refl refl
+    by_act Act.Idle h = quiet before after _ h refl refl refl

@@ -74,7 +74,7 @@ module _ (steps : List Step) (before after : Journal) (r : ℕ) (plan : Plan) (s
 
   part : HubPart before after d
   unfolding d
-  part = hub_part before after s.rank turn.deed turn.moves.2 turn.tells
+  part = hub_part before after turn.deed turn.tells
 
   own_entries : entries_by r after.entries ≡ entries_by r before.entries ++ listed (entry_of d)
   own_entries = entries_more r before.entries after.entries (listed (entry_of d)) part.entries_are
@@ -223,7 +223,15 @@ module _ (steps : List Step) (before : Journal) (r : ℕ) (plan : Plan) (s t : S
   pub after_stop : (after : Journal) → Stops plan s before t after → IsSoFar steps before.entries r plan t
   after_stop after h =
       let is : record s { stop = Some h.stop } ≡ t =
-      (λ i. record { rank = (sym h.rank_stays) i; events = (sym h.events_stay) i; next = (sym h.next_stays) i; budget = (sym h.budget_stays) i; stop = (sym h.stops) i }) in
+      (λ i. record {
+        rank = (sym h.rank_stays) i;
+        events = (sym h.events_stay) i;
+        sides = (sym h.sides_stay) i;
+        asked = (sym h.asked_stays) i;
+        next = (sym h.next_stays) i;
+        budget = (sym h.budget_stays) i;
+        stop = (sym h.stops) i;
+      }) in
       subst (IsSoFar steps before.entries r plan) is (record {
         number_is = so.number_is;
         low = so.low;

@@ -1,22 +1,31 @@
 -- A run that is under way, slot by slot.
-use Rattle.std.specs.Prelude.{ℕ, ◌≡◌, ◌+◌, List, [], ◌∷◌, ◌++◌, map, eqb, slice_get, slice_set, None, Some, option_map}
+use Rattle.std.specs.Prelude.{ℕ, ◌≡◌, ◌≢◌, ◌+◌, List, [], ◌∷◌, ◌++◌, map, eqb, slice_get, slice_set, None, Some, option_map}
 use Rattle.std.proofs.Common.{sym, ap, ◌∙◌, subst}
 use Rattle.std.proofs.lemmas.Bool.Decides.{eqb_tells}
 use Rattle.std.proofs.lemmas.List.{map-append, map-set}
 use Rattle.std.proofs.lemmas.Option.{same_Some, slice_get-map}
 use mathlib.Core.Logic.{inl, inr}
 use Rattle.rv_image.specs.declared.images.ImageParts.{ImageParts}
+use Rattle.rv_image.specs.declared.images.Link.{Link}
 use Rattle.cl_journal.specs.Journal.{Journal}
 use Rattle.cl_rank.specs.Turns.{AllStopped}
-use Rattle.cl_state.specs.Rank.{Rank}
+use Rattle.cl_calls.specs.declared.sites.Site.{Site}
+use Rattle.cl_state.specs.Rank.{Rank, site_of}
+use Rattle.cl_state.proofs.Moves.{told_at}
+use Rattle.cl_rank.specs.Deeds.{answer_of}
+use Rattle.cl_rank.specs.Sides.{KeysMove, place_of}
+use Rattle.cl_machine.specs.Boxes.{Box}
+use Rattle.cl_machine.specs.Parts.{PartsMove}
 use Rattle.cl_run.specs.Runs.{NoneIdles}
 use Rattle.cl_run.specs.declared.plans.Plan.{Plan}
 use Rattle.cl_machine.specs.declared.steps.Step.{Step}
 use Rattle.cl_machine.specs.Cluster.{Cluster, IsRun, IsStep, loaded_cluster}
-use Rattle.cl_run.specs.Driver.{IsStoppedAt, Station, Stops, TakesTurn}
+use Rattle.cl_run.specs.Driver.{Agree, IsStoppedAt, Station, Stops, TakesTurn}
+use Rattle.cl_run.specs.Keys.{HasKeysOf}
 use Rattle.cl_run.specs.Plans.{in_slot}
-use Rattle.cl_machine.specs.Product.{step_of}
-use Rattle.cl_run.specs.UnderWay.{IsSoFar, IsUnderWay, Round, cluster_of, shown}
+use Rattle.cl_machine.specs.Product.{BoxMoves, box_at, step_of}
+use Rattle.cl_run.specs.UnderWay.{AreBoxes, IsSoFar, IsUnderWay, Round, cluster_of, shown}
+use Rattle.cl_run.proofs.BoxSteps.{boxes_go, boxes_same}
 use Rattle.cl_run.proofs.Hubs.{HubPart, hub_part}
 use Rattle.cl_machine.proofs.Lists.{get-set_same, get-set_other}
 use Rattle.cl_run.proofs.Rounds.{more_done, one_turn_more, passed_over}
@@ -37,6 +46,9 @@ module _ (image : ImageParts) (plans : List Plan) (order : List ℕ) (ss : List 
   slot_passed hub stopped w = record {
     links_are = w.links_are;
     low = w.low;
+    sites = w.sites;
+    boxes = w.boxes;
+    are_boxes = w.are_boxes;
     steps = w.steps;
     run = w.run;
     none_idles = w.none_idles;
@@ -67,12 +79,32 @@ module _ (image : ImageParts) (plans : List Plan) (order : List ℕ) (ss : List 
     rank_there : slice_get (map (λ (x : Station). x.rank) ss) (in_slot order slot) ≡ Some s.rank
     rank_there = slice_get-map (λ (x : Station). x.rank) ss (in_slot order slot) ∙ ap (option_map (λ (x : Station). x.rank)) there
 
+    sites_then : t.rank.site ≡ s.rank.site
+        → ((q : ℕ) (x : Station) → slice_get ss q ≡ Some x → x.rank.site ≡ site_of image q)
+        → (q : ℕ) (x : Station) → slice_get (slice_set ss (in_slot order slot) t) q ≡ Some x
+        → x.rank.site ≡ site_of image q
+    sites_then stays sites q x at = elim (eqb_tells (in_slot order slot) q) [
+      | inl same ↦
+          let is : t ≡ x = same_Some t x
+          (sym (get-set_same ss (in_slot order slot) s t there)
+          ∙ ap (slice_get (slice_set ss (in_slot order slot) t)) same.1
+          ∙ at) in
+          ap (λ (y : Station). y.rank.site) (sym is)
+          ∙ stays
+          ∙ sites (in_slot order slot) s there
+          ∙ ap (site_of image) same.1
+      | inr other ↦ sites q x (sym (get-set_other ss (in_slot order slot) q t other.1) ∙ at)
+    ]
+
     -- a rank that isn't stopped stops
     pub slot_stopped : (before after : Journal) → Stops plan s before t after → IsUnderWay image plans order ss before slot
         → IsUnderWay image plans order (slice_set ss (in_slot order slot) t) after (slot + 1)
     slot_stopped before after h w = subst (λ hub. IsUnderWay image plans order (slice_set ss (in_slot order slot) t) hub (slot + 1)) (sym h.hub_stays) (record {
       links_are = w.links_are;
       low = w.low;
+      sites = sites_then (ap (λ (x : Rank). x.site) h.rank_stays) w.sites;
+      boxes = w.boxes;
+      are_boxes = boxes_same image ss (in_slot order slot) s t w.boxes there h.sides_stay w.are_boxes;
       steps = w.steps;
       run = subst (IsRun (loaded_cluster image) w.steps) same_cluster w.run;
       none_idles = w.none_idles;
@@ -82,12 +114,12 @@ module _ (image : ImageParts) (plans : List Plan) (order : List ℕ) (ss : List 
       each = each_then;
     })
       where
-        same_cluster : cluster_of image ss before ≡ cluster_of image (slice_set ss (in_slot order slot) t) before
+        same_cluster : cluster_of ss before w.boxes ≡ cluster_of (slice_set ss (in_slot order slot) t) before w.boxes
         same_cluster = λ i. record {
           ranks = (sym (ranks_then ∙ ap (slice_set (map (λ (x : Station). x.rank) ss) (in_slot order slot)) h.rank_stays
               ∙ set-same (map (λ (x : Station). x.rank) ss) (in_slot order slot) s.rank rank_there)) i;
           journal = shown before;
-          boxes = (loaded_cluster image).boxes;
+          boxes = w.boxes;
         }
 
         each_then : (q : ℕ) (p : Plan) (x : Station) → slice_get plans q ≡ Some p → slice_get (slice_set ss (in_slot order slot) t) q ≡ Some x → IsSoFar w.steps before.entries q p x
@@ -100,15 +132,24 @@ module _ (image : ImageParts) (plans : List Plan) (order : List ℕ) (ss : List 
           | inr other ↦ w.each q p x at_plan (sym (get-set_other ss (in_slot order slot) q t other.1) ∙ at)
         ]
 
-    -- a rank that isn't stopped takes a turn
-    pub slot_taken : (before after : Journal) → TakesTurn plan s before t after → IsUnderWay image plans order ss before slot
+    -- a rank that isn't stopped takes a turn; the keys of the box that it asked agree
+    pub slot_taken : (before after : Journal) → TakesTurn plan s before t after
+        → ((link : ℕ) (l : Link) → slice_get before.links link ≡ Some l → l.to ≢ l.from)
+        → HasKeysOf before.links (in_slot order slot) s.sides
+        → Agree before.links (slice_set ss (in_slot order slot) t) t.asked
+        → IsUnderWay image plans order ss before slot
         → IsUnderWay image plans order (slice_set ss (in_slot order slot) t) after (slot + 1)
-    slot_taken before after turn w = record {
+    slot_taken before after turn joined own_keys agree w = record {
       links_are = part.links_stay ∙ w.links_are;
       low = part.low w.low;
+      sites = sites_later;
+      boxes = boxes_later.0;
+      are_boxes = boxes_later.2;
       steps = w.steps ++ step_of turn.deed ∷ [];
-      run = run_more w.steps (loaded_cluster image) (cluster_of image ss before) (cluster_of image (slice_set ss (in_slot order slot) t) after) (step_of turn.deed) w.run goes;
-      none_idles = none_idles_more w.steps (loaded_cluster image) (cluster_of image ss before) (step_of turn.deed) w.none_idles w.run
+      run = run_more w.steps (loaded_cluster image) (cluster_of ss before w.boxes)
+          (cluster_of (slice_set ss (in_slot order slot) t) after boxes_later.0) (step_of turn.deed) w.run goes;
+      none_idles = none_idles_more w.steps (loaded_cluster image) (cluster_of ss before w.boxes) (step_of turn.deed)
+          w.none_idles w.run
           (λ rank at. subst (λ x. ¬ (AllStopped x)) (same_Some s.rank rank (sym rank_here ∙ at)) turn.runs);
       round = subst (λ takers. Round order (IsStoppedAt (slice_set ss (in_slot order slot) t)) 0 takers (slot + 1)) (sym (map-append (λ (e : Step). e.rank) w.steps (step_of turn.deed ∷ [])))
           (more_done order (IsStoppedAt ss) (IsStoppedAt (slice_set ss (in_slot order slot) t)) still 0 (map (λ (e : Step). e.rank) w.steps ++ turn.deed.rank ∷ []) (slot + 1)
@@ -127,10 +168,36 @@ module _ (image : ImageParts) (plans : List Plan) (order : List ℕ) (ss : List 
         rank_here = ap (slice_get (map (λ (x : Station). x.rank) ss)) is ∙ rank_there
 
         part : HubPart before after turn.deed
-        part = hub_part before after s.rank turn.deed turn.moves.2 turn.tells
+        part = hub_part before after turn.deed turn.tells
 
-        goes : IsStep (cluster_of image ss before) (step_of turn.deed) (cluster_of image (slice_set ss (in_slot order slot) t) after)
-        goes = case_of_deed (cluster_of image ss before) turn.deed.rank turn.deed.hart turn.deed.stamp turn.deed.act (cluster_of image (slice_set ss (in_slot order slot) t) after) (
+        sites_later : (q : ℕ) (x : Station) → slice_get (slice_set ss (in_slot order slot) t) q ≡ Some x
+            → x.rank.site ≡ site_of image q
+        sites_later = sites_then
+            (ap (λ (x : Rank). x.site) turn.moves.4
+            ∙ (told_at s.rank turn.deed.hart (answer_of turn.deed.act) turn.deed.stamp).site) w.sites
+
+        version_is : s.rank.site.version ≡ image.version
+        version_is = ap (λ (x : Site). x.version) (w.sites (in_slot order slot) s there)
+
+        boxes_later : (later : List Box)
+            × PartsMove BoxMoves box_at w.boxes turn.deed later
+            × AreBoxes image (slice_set ss (in_slot order slot) t) later
+        boxes_later =
+            boxes_go image
+            (subst (λ ls. (link : ℕ) (l : Link) → slice_get ls link ≡ Some l → l.to ≢ l.from) w.links_are joined)
+            ss (in_slot order slot) s t there
+            (λ q x at. ap (λ (y : Site). y.version) (sites_later q x at))
+            (subst (λ ls. HasKeysOf ls (in_slot order slot) s.sides) w.links_are own_keys)
+            w.boxes w.are_boxes turn.deed.act turn.deed.stamp
+            (subst (λ v. KeysMove v turn.deed.stamp turn.deed.act s.sides t.sides) version_is turn.keys)
+            turn.deed.rank turn.deed.hart
+            (subst (λ ls. Agree ls (slice_set ss (in_slot order slot) t) (place_of turn.deed.act)) w.links_are
+            (subst (Agree before.links (slice_set ss (in_slot order slot) t)) turn.asked_is agree))
+
+        goes : IsStep (cluster_of ss before w.boxes) (step_of turn.deed)
+            (cluster_of (slice_set ss (in_slot order slot) t) after boxes_later.0)
+        goes = case_of_deed (cluster_of ss before w.boxes) turn.deed.rank turn.deed.hart turn.deed.stamp turn.deed.act
+            (cluster_of (slice_set ss (in_slot order slot) t) after boxes_later.0) (
           (
             s.rank,
             t.rank,
@@ -139,7 +206,7 @@ module _ (image : ImageParts) (plans : List Plan) (order : List ℕ) (ss : List 
             ranks_then ∙ ap (λ k. slice_set (map (λ (x : Station). x.rank) ss) k t.rank) (sym is),
           ),
           part.journal_moves,
-          part.boxes_stay (loaded_cluster image).boxes,
+          boxes_later.1,
         )
 
         each_then : (q : ℕ) (p : Plan) (x : Station) → slice_get plans q ≡ Some p → slice_get (slice_set ss (in_slot order slot) t) q ≡ Some x

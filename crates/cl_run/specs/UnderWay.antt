@@ -30,8 +30,8 @@ Round order Done from (taker ∷ takers) to =
     × Round order Done (slot + 1) takers to
 
 -- rank number r after some steps, with these entries in the journal
-pub record IsSoFar (image : ImageParts) (steps : List Step) (entries : List Entry) (r : ℕ) (plan : Plan) (s : Station) : Type 0 where
-  pub site_is : s.rank.site ≡ site_of image r
+pub record IsSoFar (steps : List Step) (entries : List Entry) (r : ℕ) (plan : Plan) (s : Station) : Type 0 where
+  pub number_is : s.rank.site.number ≡ r
   pub low : s.rank.clock < 2 ^ 62
   pub budget_is : s.budget ≡ plan.budget
   pub in_budget : length s.events ≤ plan.budget
@@ -63,6 +63,7 @@ AreBoxes image ss boxes =
 pub record IsUnderWay (image : ImageParts) (plans : List Plan) (order : List ℕ) (ss : List Station) (hub : Journal) (slot : ℕ) : Type 0 where
   pub links_are : hub.links ≡ image.links
   pub low : clock_of hub < 2 ^ 62
+  pub sites : (r : ℕ) (s : Station) → slice_get ss r ≡ Some s → s.rank.site ≡ site_of image r
   pub steps : List Step
   pub boxes : List Box
   pub are_boxes : AreBoxes image ss boxes
@@ -70,4 +71,4 @@ pub record IsUnderWay (image : ImageParts) (plans : List Plan) (order : List ℕ
   pub none_idles : NoneIdles (loaded_cluster image) steps
   pub round : Round order (IsStoppedAt ss) 0 (map (λ (e : Step). e.rank) steps) slot
   pub each : (r : ℕ) (plan : Plan) (s : Station) → slice_get plans r ≡ Some plan → slice_get ss r ≡ Some s
-      → IsSoFar image steps hub.entries r plan s
+      → IsSoFar steps hub.entries r plan s
