@@ -5,5 +5,7 @@ pub mod Hubs
 pub mod Stations
 pub mod UnderWay
 pub mod Seats
+pub mod Joined
+pub mod Pairs
 pub mod Slots
 pub mod Ends

@@ -5,6 +5,7 @@ use Rattle.std.proofs.lemmas.List.{length-append, length-map, map-append}
 use Rattle.std.proofs.lemmas.Option.{same_Some, slice_get-map}
 use mathlib.Core.Logic.{inl, inr}
 use Rattle.rv_image.specs.declared.images.ImageParts.{ImageParts}
+use Rattle.part_channel.specs.Channels.{ChannelView}
 use Rattle.cl_state.specs.Rank.{below, loaded}
 use Rattle.cl_state.specs.Room.{rank_of}
 use Rattle.cl_run.specs.declared.plans.Plan.{Plan}
@@ -36,15 +37,17 @@ loaded_more image n seats after seat e before own =
     ∙ sym (map-append (loaded image) (below n) (n ∷ []))
     ∙ ap (λ k. map (loaded image) (below k)) (sym (add-one n))
 
-pub fresh_more : (image : ImageParts) (plans : List Plan) (n : ℕ) (seats after : List Seat) (seat : Seat) (plan : Plan) → after ≡ seats ++ seat ∷ []
-    → length seats ≡ n → slice_get plans n ≡ Some plan → AreFresh image plans seats → IsFresh image n plan seat → AreFresh image plans after
-fresh_more image plans n seats after seat plan e count planned before own q p x at_plan at =
+pub fresh_more : (image : ImageParts) (plans : List Plan) (channels : List ChannelView) (n : ℕ) (seats after : List Seat)
+    (seat : Seat) (plan : Plan) → after ≡ seats ++ seat ∷ [] → length seats ≡ n → slice_get plans n ≡ Some plan
+    → AreFresh image plans channels seats → IsFresh image channels n plan seat → AreFresh image plans channels after
+fresh_more image plans channels n seats after seat plan e count planned before own q p x at_plan at =
     elim (last_or_before seats seat x q (subst (λ xs. slice_get xs q ≡ Some x) e at)) [
       | inl old ↦ before q p x at_plan old
       | inr new ↦
           let place : n ≡ q = sym count ∙ sym new.0 in
           let plan_is : plan ≡ p = same_Some plan p (sym planned ∙ ap (slice_get plans) place ∙ at_plan) in
-          subst (λ k. IsFresh image k p x) place (subst (λ y. IsFresh image n y x) plan_is (subst (IsFresh image n plan) new.1 own))
+          subst (λ k. IsFresh image channels k p x) place
+          (subst (λ y. IsFresh image channels n y x) plan_is (subst (IsFresh image channels n plan) new.1 own))
     ]
 
 -- what was made of the seats so far is less than there are seats, where one follows

@@ -1,5 +1,5 @@
 -- What one slot of the order does.
-use Rattle.std.specs.Prelude.{ℕ, ◌≡◌, ◌<◌, ◌≤◌, ◌+◌, Bool, true, false, cond, List, [], ◌∷◌, length, map, slice_get, slice_set, Option, None, Some, is_some, sum_by, slice_index, ◌||◌}
+use Rattle.std.specs.Prelude.{ℕ, ◌≡◌, ◌<◌, ◌≤◌, ◌+◌, Bool, true, false, cond, List, [], ◌∷◌, length, map, slice_get, slice_set, Option, None, Some, is_some, sum_by, slice_index, ◌||◌, All}
 use Rattle.std.proofs.Common.{refl, sym, ap, ◌∙◌, subst, arith}
 use Rattle.std.proofs.lemmas.Bool.Decides.{eqb_tells}
 use Rattle.std.proofs.lemmas.List.{length-append, length-set, map-set}
@@ -9,53 +9,120 @@ use Rattle.std.proofs.lemmas.Bool.{false≢true}
 use borrow.Author.Count.{below_more}
 use mathlib.Core.Logic.{inl, inr}
 use Rattle.rv_image.specs.declared.images.ImageParts.{ImageParts}
+use Rattle.rv_image.specs.declared.images.Link.{Link}
+use Rattle.rv_image.specs.Image.{IsLink}
 use Rattle.cl_journal.specs.Journal.{Journal}
 use Rattle.cl_trace.specs.declared.events.Event.{Event}
 use Rattle.cl_rank.specs.Deeds.{event_of}
+use Rattle.cl_rank.specs.Sides.{AreChannelsOf}
 use Rattle.cl_rank.specs.declared.stops.Stop.{Stop}
 use Rattle.cl_run.specs.declared.driver.Driver.{Driver}
 use Rattle.cl_run.specs.declared.driver.Seat.{Seat}
 use Rattle.cl_run.specs.declared.plans.Plan.{Plan}
-use Rattle.cl_run.specs.Driver.{AreSeated, GoesOn, IsSeated, IsStoppedAt, SlotGoes, Station, left, left_of, station, stations}
+use Rattle.cl_run.specs.Driver.{Agree, AreJoined, AreSeated, GoesOn, IsJoined, IsSeated, IsStoppedAt, OneGoes, SlotGoes}
+use Rattle.cl_run.specs.Driver.{Station, left, left_of, station, stations}
+use Rattle.cl_run.specs.Keys.{HasKeysOf}
 use Rattle.cl_run.specs.Plans.{in_slot}
 use Rattle.cl_run.specs.UnderWay.{IsUnderWay}
 use Rattle.cl_machine.proofs.Lists.{get-set_same, get-set_other}
+use Rattle.cl_run.proofs.Joined.{goes_joined, link_at, links_stay}
 use Rattle.cl_run.proofs.Seats.{station_at}
 use Rattle.cl_run.proofs.UnderWay.{slot_passed, slot_stopped, slot_taken}
 
-stations_then : (old new : Driver) (r : ℕ) (seat : Seat) → new.seats.items ≡ slice_set old.seats.items r seat → stations new ≡ slice_set (stations old) r (station seat)
+stations_then : (old new : Driver) (r : ℕ) (seat : Seat) → new.seats.items ≡ slice_set old.seats.items r seat
+    → stations new ≡ slice_set (stations old) r (station seat)
 stations_then old new r seat e = ap (map station) e ∙ map-set station old.seats.items r seat
 
 module _ (plan : Plan) (r : ℕ) (old new : Driver) where
   -- the run goes on
-  pub slot_goes : (image : ImageParts) (plans : List Plan) (order : List ℕ) (slot : ℕ) (moved : Bool) → in_slot order slot ≡ r → slice_get plans r ≡ Some plan
-      → SlotGoes plan r old new moved → IsUnderWay image plans order (stations old) old.hub slot → IsUnderWay image plans order (stations new) new.hub (slot + 1)
-  slot_goes image plans order slot false at planned h w =
-      subst (λ (d : Driver). IsUnderWay image plans order (stations d) d.hub (slot + 1)) (sym h.0)
-      (slot_passed image plans order (stations old) slot old.hub (subst (IsStoppedAt (stations old)) (sym at) h.1) w)
-  slot_goes image plans order slot true at planned h w =
-      let there : slice_get (stations old) (in_slot order slot) ≡ Some (station h.0) = ap (slice_get (stations old)) at ∙ station_at old.seats.items r h.0 h.2 in
-      let planned_here : slice_get plans (in_slot order slot) ≡ Some plan = ap (slice_get plans) at ∙ planned in
-      let then_is : slice_set (stations old) (in_slot order slot) (station h.1) ≡ stations new =
-      ap (λ k. slice_set (stations old) k (station h.1)) at ∙ sym (stations_then old new r h.1 h.6) in
-      subst (λ ss. IsUnderWay image plans order ss new.hub (slot + 1)) then_is
-      (elim h.4 [
-        | inl turn ↦ slot_taken image plans order (stations old) slot (station h.0) (station h.1) plan there planned_here h.3 old.hub new.hub turn w
-        | inr stops ↦ slot_stopped image plans order (stations old) slot (station h.0) (station h.1) plan there planned_here h.3 old.hub new.hub stops w
-      ])
+  module _ (image : ImageParts) (plans : List Plan) (order : List ℕ) (slot : ℕ) (at : in_slot order slot ≡ r)
+      (planned : slice_get plans r ≡ Some plan) (seated : AreSeated plans old) where
+    one_goes : OneGoes plan r old new → IsUnderWay image plans order (stations old) old.hub slot
+        → IsUnderWay image plans order (stations new) new.hub (slot + 1)
+    one_goes h w =
+        let there_r = station_at old.seats.items r h.seat h.there in
+        let there : slice_get (stations old) (in_slot order slot) ≡ Some (station h.seat) =
+        ap (slice_get (stations old)) at ∙ there_r in
+        let planned_here : slice_get plans (in_slot order slot) ≡ Some plan = ap (slice_get plans) at ∙ planned in
+        let then_is : slice_set (stations old) (in_slot order slot) (station h.later) ≡ stations new =
+        ap (λ k. slice_set (stations old) k (station h.later)) at ∙ sym (stations_then old new r h.later h.seats_are) in
+        let apart = λ (link : ℕ) (l : Link) (e : slice_get old.hub.links link ≡ Some l).
+        (link_at (length old.seats.items) old.hub.links link l seated.joined.links e).differ in
+        let keys = subst (λ q. HasKeysOf old.hub.links q (station h.seat).sides) (sym at)
+        (seated.joined.each r (station h.seat) there_r).keys in
+        let agree = subst (λ ss. Agree old.hub.links ss (station h.later).asked) (sym then_is) h.agree in
+        subst (λ ss. IsUnderWay image plans order ss new.hub (slot + 1)) then_is
+        (elim h.goes [
+          | inl turn ↦ slot_taken image plans order (stations old) slot (station h.seat) (station h.later) plan there
+            planned_here h.runs old.hub new.hub turn apart keys agree w
+          | inr stops ↦ slot_stopped image plans order (stations old) slot (station h.seat) (station h.later) plan there
+            planned_here h.runs old.hub new.hub stops w
+        ])
+
+    pub slot_goes : (moved : Bool) → SlotGoes plan r old new moved
+        → IsUnderWay image plans order (stations old) old.hub slot
+        → IsUnderWay image plans order (stations new) new.hub (slot + 1)
+    slot_goes false h w =
+        subst (λ (d : Driver). IsUnderWay image plans order (stations d) d.hub (slot + 1)) (sym h.0)
+        (slot_passed image plans order (stations old) slot old.hub (subst (IsStoppedAt (stations old)) (sym at) h.1) w)
+    slot_goes true h w = one_goes h w
+
+  -- each rank stays joined
+  pub seats_joined : (seat later : Seat) → slice_get old.seats.items r ≡ Some seat
+      → GoesOn plan (station seat) old.hub (station later) new.hub
+      → AreChannelsOf (station seat).rank.site.version old.channels.items (station later).sides
+      → new.seats.items ≡ slice_set old.seats.items r later → new.channels.items ≡ old.channels.items
+      → AreJoined old → AreJoined new
+  seats_joined seat later at_seat goes channels seats_are channels_stay j =
+      let count : length new.seats.items ≡ length old.seats.items =
+      ap (λ (xs : List Seat). length xs) seats_are ∙ length-set old.seats.items r later in
+      let links_are : new.hub.links ≡ old.hub.links =
+      links_stay plan (station seat) (station later) old.hub new.hub goes in
+      let there = station_at old.seats.items r seat at_seat in
+      let then_is = stations_then old new r later seats_are in
+      record {
+        links = subst (All (IsLink (length new.seats.items))) (sym links_are)
+            (subst (λ n. All (IsLink n) old.hub.links) (sym count) j.links);
+        each = λ q x at.
+            subst (λ ls. IsJoined ls new.channels.items q x) (sym links_are)
+            (subst (λ cs. IsJoined old.hub.links cs q x) (sym channels_stay)
+            (elim (eqb_tells r q) [
+              | inl same ↦
+                  let later_is : station later ≡ x = same_Some (station later) x
+                  (sym (get-set_same (stations old) r (station seat) (station later) there)
+                  ∙ ap (slice_get (slice_set (stations old) r (station later))) same.1
+                  ∙ ap (λ ss. slice_get ss q) (sym then_is)
+                  ∙ at) in
+                  subst (λ k. IsJoined old.hub.links old.channels.items k x) same.1
+                  (subst (IsJoined old.hub.links old.channels.items r) later_is
+                  (goes_joined old.hub.links old.channels.items r plan (station seat) (station later) old.hub new.hub
+                  (j.each r (station seat) there) channels goes))
+              | inr other ↦ j.each q x
+                (sym (get-set_other (stations old) r q (station later) other.1)
+                ∙ ap (λ ss. slice_get ss q) (sym then_is)
+                ∙ at)
+            ]));
+      }
 
   -- each seat stays right
-  pub slot_seated : (plans : List Plan) (moved : Bool) → slice_get plans r ≡ Some plan → SlotGoes plan r old new moved → AreSeated plans old → AreSeated plans new
+  pub slot_seated : (plans : List Plan) (moved : Bool) → slice_get plans r ≡ Some plan → SlotGoes plan r old new moved
+      → AreSeated plans old → AreSeated plans new
   slot_seated plans false planned h a = subst (AreSeated plans) (sym h.0) a
   slot_seated plans true planned h a = record {
-    one_each = ap (λ (xs : List Seat). length xs) h.6 ∙ length-set old.seats.items r h.1 ∙ a.one_each;
+    one_each = ap (λ (xs : List Seat). length xs) h.seats_are ∙ length-set old.seats.items r h.later ∙ a.one_each;
     each = λ q p seat at_plan at. elim (eqb_tells r q) [
       | inl same ↦
-          let seat_is : h.1 ≡ seat = same_Some h.1 seat (sym (get-set_same old.seats.items r h.0 h.1 h.2) ∙ ap (slice_get (slice_set old.seats.items r h.1)) same.1 ∙ ap (λ xs. slice_get xs q) (sym h.6) ∙ at) in
+          let seat_is : h.later ≡ seat = same_Some h.later seat
+          (sym (get-set_same old.seats.items r h.seat h.later h.there)
+          ∙ ap (slice_get (slice_set old.seats.items r h.later)) same.1
+          ∙ ap (λ xs. slice_get xs q) (sym h.seats_are)
+          ∙ at) in
           let plan_is : plan ≡ p = same_Some plan p (sym planned ∙ ap (slice_get plans) same.1 ∙ at_plan) in
-          subst (IsSeated p) seat_is (subst (λ x. IsSeated x h.1) plan_is h.5)
-      | inr other ↦ a.each q p seat at_plan (sym (get-set_other old.seats.items r q h.1 other.1) ∙ ap (λ xs. slice_get xs q) (sym h.6) ∙ at)
+          subst (IsSeated p) seat_is (subst (λ x. IsSeated x h.later) plan_is h.seated)
+      | inr other ↦ a.each q p seat at_plan
+        (sym (get-set_other old.seats.items r q h.later other.1) ∙ ap (λ xs. slice_get xs q) (sym h.seats_are) ∙ at)
     ];
+    joined = seats_joined h.seat h.later h.there h.goes h.channels h.seats_are h.channels_stay a.joined;
   }
 
   -- a slot in which something was done leaves less
@@ -76,11 +143,12 @@ module _ (plan : Plan) (r : ℕ) (old new : Driver) where
   pub slot_left : (moved : Bool) → SlotGoes plan r old new moved → left new + cond moved 1 0 ≤ left old
   slot_left false h = omega (arith, ap left h.0)
   slot_left true h =
-      let at = station_at old.seats.items r h.0 h.2 in
-      let total = sum_by-set left_of (stations old) r (station h.1) (station h.0) (slice_get_within (stations old) r (station h.0) at) in
-      let here = ap left_of (get_or_from_slice_get (stations old) r (station h.0) (station h.0) at) in
-      let then_is = ap (sum_by left_of) (stations_then old new r h.1 h.6) in
-      omega (arith, total, here, then_is, less_of (station h.0) (station h.1) old.hub new.hub h.3 h.4)
+      let at = station_at old.seats.items r h.seat h.there in
+      let inside = slice_get_within (stations old) r (station h.seat) at in
+      let total = sum_by-set left_of (stations old) r (station h.later) (station h.seat) inside in
+      let here = ap left_of (get_or_from_slice_get (stations old) r (station h.seat) (station h.seat) at) in
+      let then_is = ap (sum_by left_of) (stations_then old new r h.later h.seats_are) in
+      omega (arith, total, here, then_is, less_of (station h.seat) (station h.later) old.hub new.hub h.runs h.goes)
 
 -- whether anything was done up to a place of the order, and there
 pub done_more : (plan : Plan) (old new : Driver) (order : List ℕ) (i : ℕ) (moved went : Bool) → SlotGoes plan (slice_index order i) old new went

@@ -158,11 +158,14 @@ impl Driver {
     fn agree(&mut self, rank: u8)
         requires there { rank < vec_len self.old.seats }
         requires joined { AreJoined self.old }
-        ensures same { self.new ≡ self.old }
+        ensures seats { self.new.seats.items ≡ self.old.seats.items }
+        ensures hub { self.new.hub ≡ self.old.hub }
+        ensures channels { self.new.channels.items ≡ self.old.channels.items }
         ensures agree { (s : Station) → slice_get (stations self.old) rank ≡ Some s
             → Agree self.old.hub.links (stations self.old) s.asked }
     {
-        let Some(place) = self.seats[rank as usize].rank.asked_box else {
+        let asked = self.seats[rank as usize].rank.asked_box;
+        let Some(place) = asked else {
             return;
         };
         let link = self.hub.links()[place.link as usize];

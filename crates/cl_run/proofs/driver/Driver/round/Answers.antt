@@ -32,7 +32,8 @@ loop-rank-preserved c =
       goes = λ image k start.
           let next : (k * length order + i) + 1 ≡ k * length order + (i + 1) = omega arith in
           subst (λ n. IsUnderWay image plans order (stations new) new.hub n) next
-          (slot_goes plan r old new image plans order (k * length order + i) went (ap (slice_index order) (mod-mul-add k (length order) i c.loop-rank-test.true)) planned goes
+          (slot_goes plan r old new image plans order (k * length order + i)
+          (ap (slice_index order) (mod-mul-add k (length order) i c.loop-rank-test.true)) planned kept.seated went goes
           (kept.goes image k start));
       done = λ quiet place below. done_more plan old new order i c.loop-rank.moved went goes kept.done (sym either ∙ quiet) place below;
       less = subst (λ b. left new + cond b 1 0 ≤ left c.args.self.now) (sym either)

@@ -1,8 +1,12 @@
-use Rattle.std.proofs.Common.{◌≡◌, ◌∙◌, refl, sym, ap, None}
+use Rattle.std.proofs.Common.{◌≡◌, ◌∙◌, refl, sym, ap, subst, map, None}
 use Rattle.std.proofs.lemmas.Option.{same_Some, slice_get_read}
 use Rattle.cl_run.specs.declared.driver.Seat.{Seat}
 use Rattle.cl_run.proofs.Seats.{no_stop, some_stop, station_at}
-use Rattle.cl_run.specs.Driver.{station}
+use Rattle.cl_machine.proofs.Lists.{get-set_same}
+use Rattle.cl_rank.specs.Sides.{AreChannelsOf}
+use Rattle.cl_run.specs.Driver.{Agree, GoesOn, station, stations}
+use Rattle.cl_run.proofs.Joined.{links_stay}
+use Rattle.cl_run.proofs.Slots.{seats_joined}
 use Rattle.cl_run.proofs.driver.Driver.slot.Goals as goal
 
 pub returns-then-is_some : goal.returns-then-is_some
@@ -19,13 +23,56 @@ turn-requires-clause-seated c =
     let seat = c.index_mut.result.now in
     c.requires.seated seat (slice_get_read seats.items _ c.args.rank seat seats.ok.0 c.requires.there c.index_mut.ensures.value)
 
-pub returns : goal.returns
-returns c =
+pub turn-requires-clause-channels : goal.turn-requires-clause-channels
+turn-requires-clause-channels c =
     let seats = c.args.self.now.seats in
     let seat = c.index_mut.result.now in
     let at = slice_get_read seats.items _ c.args.rank seat seats.ok.0 c.requires.there c.index_mut.ensures.value in
-    let first = slice_get_read seats.items _ c.args.rank c.index.result.now seats.ok.0 c.requires.there c.index.ensures in
+    let own = c.requires.joined.each c.args.rank (station seat) (station_at seats.items c.args.rank seat at) in
+    subst (λ cs. AreChannelsOf (station seat).rank.site.version cs (station seat).sides)
+    (sym c.as_slice-channels.ensures.value) own.over
+
+pub agree-requires-clause-joined : goal.agree-requires-clause-joined
+agree-requires-clause-joined c =
+    let driver = c.args.self.now in
+    let seats = driver.seats in
+    let seat = c.index_mut.result.now in
+    let later = c.turn.new.self in
+    let at = slice_get_read seats.items _ c.args.rank seat seats.ok.0 c.requires.there c.index_mut.ensures.value in
+    seats_joined c.args.plan.now c.args.rank driver _ seat later at c.turn.ensures.goes
+    (subst (λ cs. AreChannelsOf (station seat).rank.site.version cs (station later).sides)
+    c.as_slice-channels.ensures.value c.turn.ensures.channels)
+    refl refl c.requires.joined
+
+pub returns : goal.returns
+returns c =
+    let driver = c.args.self.now in
+    let seats = driver.seats in
+    let seat = c.index_mut.result.now in
+    let later = c.turn.new.self in
+    let goes = c.turn.ensures.goes in
+    let at = slice_get_read seats.items _ c.args.rank seat seats.ok.0 c.requires.there c.index_mut.ensures.value in
+    let first =
+    slice_get_read seats.items _ c.args.rank c.index.result.now seats.ok.0 c.requires.there c.index.ensures in
     let same : c.index.result.now ≡ seat = same_Some _ _ (sym first ∙ at) in
     let running : seat.stop ≡ None =
     ap (λ (s : Seat). s.stop) (sym same) ∙ no_stop c.index.result.now.stop (sym c.is_some.ensures ∙ c.if-is_some.false) in
-    (seat, c.turn.new.self, at, running, c.turn.ensures.goes, c.turn.ensures.seated, refl)
+    let later_at = get-set_same seats.items c.args.rank seat later at in
+    let agree = c.agree.ensures.agree (station later) (station_at _ c.args.rank later later_at) in
+    let links = links_stay c.args.plan.now (station seat) (station later) driver.hub c.turn.new.hub goes in
+    record {
+      seat = seat;
+      later = later;
+      there = at;
+      runs = running;
+      goes = subst (λ hub. GoesOn c.args.plan.now (station seat) driver.hub (station later) hub)
+          (sym c.agree.ensures.hub) goes;
+      seated = c.turn.ensures.seated;
+      channels = subst (λ cs. AreChannelsOf (station seat).rank.site.version cs (station later).sides)
+          c.as_slice-channels.ensures.value c.turn.ensures.channels;
+      seats_are = c.agree.ensures.seats;
+      channels_stay = c.agree.ensures.channels;
+      agree = subst (λ ls. Agree ls (stations c.agree.new.self) (station later).asked) links
+          (subst (λ ss. Agree c.turn.new.hub.links ss (station later).asked)
+          (ap (map station) (sym c.agree.ensures.seats)) agree);
+    }

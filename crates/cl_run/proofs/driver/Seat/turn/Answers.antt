@@ -1,6 +1,7 @@
 use Rattle.std.proofs.Common.{refl, ◌∙◌, ap, ◌%◌, ◌+◌}
 use Rattle.std.proofs.lemmas.List.{get_or_read}
 use mathlib.Core.Logic.{inl, inr}
+use Rattle.cl_rank.specs.Turns.{RankView}
 use Rattle.cl_run.proofs.driver.Seat.turn.Goals as goal
 
 pub returns-in-Ok-clause-goes : goal.returns-in-Ok-clause-goes
@@ -13,6 +14,8 @@ returns-in-Ok-clause-goes c =
       hart_is = turn.by ∙ get_or_read order.items c.args.self.now.next c.index-hart.result.now c.requires.seated.next_there c.index-hart.ensures 0;
       moves = turn.moves;
       tells = turn.tells;
+      keys = turn.keys;
+      asked_is = turn.box;
       runs = c.in-Ok.ensures.active.runs;
       turns_left = c.in-Ok.ensures.active.left;
       traced = turn.event;
@@ -30,8 +33,10 @@ returns-in-Err-clause-goes c =
       stop = c.in-Err.stop;
       holds = c.in-Err.ensures.stop;
       hub_stays = c.in-Err.ensures.hub;
-      rank_stays = c.in-Err.ensures.state;
-      events_stay = c.in-Err.ensures.events;
+      rank_stays = ap (λ (v : RankView). v.rank) c.in-Err.ensures.view;
+      events_stay = ap (λ (v : RankView). v.events) c.in-Err.ensures.view;
+      sides_stay = ap (λ (v : RankView). v.sides) c.in-Err.ensures.view;
+      asked_stays = ap (λ (v : RankView). v.asked_box) c.in-Err.ensures.view;
       next_stays = refl;
       budget_stays = c.turn_plain.ensures.budget;
       stops = refl;
