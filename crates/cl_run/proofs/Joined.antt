@@ -93,7 +93,7 @@ links_stay plan s t before after h = elim h [
 -- a rank that goes on has the keys of its links
 module _ (links : List Link) (channels : List ChannelView) (r : ℕ) (plan : Plan) (s t : Station)
     (before after : Journal) (j : IsJoined links channels r s)
-    (over : AreChannelsOf s.rank.site.version channels t.sides) where
+    (over : AreChannelsOf t.rank.site.version channels t.sides) where
   taken : TakesTurn plan s before t after → IsJoined links channels r t
   taken turn =
       let site_is : t.rank.site ≡ s.rank.site =
@@ -103,7 +103,7 @@ module _ (links : List Link) (channels : List ChannelView) (r : ℕ) (plan : Pla
         number_is = ap (λ (x : Site). x.number) site_is ∙ j.number_is;
         links_are = ap (λ (x : Site). x.links) site_is ∙ j.links_are;
         keys = keys_kept links r _ _ _ _ _ turn.keys j.keys;
-        over = subst (λ v. AreChannelsOf v channels t.sides) (ap (λ (x : Site). x.version) (sym site_is)) over;
+        over = over;
         asked = λ place e. place_there links r s.sides turn.deed.act place j.keys turn.keys.there (sym turn.asked_is ∙ e);
       }
 
@@ -112,7 +112,7 @@ module _ (links : List Link) (channels : List ChannelView) (r : ℕ) (plan : Pla
     number_is = ap (λ (x : Rank). x.site.number) h.rank_stays ∙ j.number_is;
     links_are = ap (λ (x : Rank). x.site.links) h.rank_stays ∙ j.links_are;
     keys = subst (HasKeysOf links r) (sym h.sides_stay) j.keys;
-    over = subst (λ v. AreChannelsOf v channels t.sides) (ap (λ (x : Rank). x.site.version) (sym h.rank_stays)) over;
+    over = over;
     asked = λ place e. j.asked place (sym h.asked_stays ∙ e);
   }
 

@@ -8,4 +8,6 @@ pub mod Seats
 pub mod Joined
 pub mod Pairs
 pub mod Slots
+pub mod Sides
+pub mod Wires
 pub mod Ends

@@ -1,5 +1,5 @@
 -- The two seats of a link.
-use Rattle.std.specs.Prelude.{ℕ, ◌≡◌, ◌<◌, ◌+◌, List, [], ◌∷◌, ◌++◌, length, map, get_or, slice_get, Some, option_map}
+use Rattle.std.specs.Prelude.{ℕ, ◌≡◌, ◌<◌, ◌+◌, List, [], ◌∷◌, ◌++◌, length, map, get_or, slice_get, Some}
 use Rattle.std.proofs.Common.{zero, suc, refl, sym, ap, ◌∙◌, subst, arith}
 use Rattle.std.proofs.lemmas.List.{length-append, length-map}
 use Rattle.std.proofs.lemmas.Option.{same_Some, slice_get-get_or}
@@ -7,9 +7,9 @@ use Rattle.rv_image.specs.declared.images.Link.{Link}
 use Rattle.part_box.specs.declared.view.Receiving.{Receiving}
 use Rattle.part_box.specs.declared.view.Sending.{Sending}
 use Rattle.part_channel.specs.Channels.{ChannelView}
-use Rattle.cl_rank.specs.declared.ranks.BoxPlace.{BoxPlace}
-use Rattle.cl_rank.specs.Ranks.{place_pair}
+use Rattle.cl_rank.specs.declared.sides.BoxPlace.{BoxPlace}
 use Rattle.cl_rank.specs.Sides.{AreChannelsOf, receiver_of, sender_of}
+use Rattle.cl_rank.specs.Views.{place_in}
 use Rattle.cl_run.specs.declared.driver.Driver.{Driver}
 use Rattle.cl_run.specs.Driver.{Agree, AreJoined, HaveKeys, KeysAgree, Station, station, stations}
 use Rattle.cl_run.specs.Keys.{AgreeOn}
@@ -83,7 +83,7 @@ module _ (driver : Driver) (joined : AreJoined driver) where
       → seat.rank.asked_box ≡ Some place → (place.link < length driver.hub.links) × (place.part < 16)
   asked_there rank seat place at e =
       (joined.each rank (station seat) (station_at driver.seats.items rank seat at)).asked (place.link, place.part)
-      (ap (option_map place_pair) e)
+      (ap place_in e)
 
   -- the two seats of a link have the keys of its boxes
   pub have_keys : (link part : ℕ) (l : Link) → slice_get driver.hub.links link ≡ Some l → part < 16
@@ -114,7 +114,7 @@ module _ (driver : Driver) (joined : AreJoined driver) where
       let s_is : station seat ≡ s =
       same_Some (station seat) s (sym (station_at driver.seats.items rank seat at) ∙ at_s) in
       let asked : Some (place.link, place.part) ≡ s.asked =
-      ap (option_map place_pair) (sym e) ∙ ap (λ (x : Station). x.asked) s_is in
+      ap place_in (sym e) ∙ ap (λ (x : Station). x.asked) s_is in
       subst (Agree driver.hub.links (stations driver)) asked
       (λ l' there. subst (λ (x : Link). KeysAgree (stations driver) x place.link place.part)
       (same_Some l l' (sym here ∙ there)) agree)

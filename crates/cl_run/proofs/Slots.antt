@@ -70,7 +70,7 @@ module _ (plan : Plan) (r : ℕ) (old new : Driver) where
   -- each rank stays joined
   pub seats_joined : (seat later : Seat) → slice_get old.seats.items r ≡ Some seat
       → GoesOn plan (station seat) old.hub (station later) new.hub
-      → AreChannelsOf (station seat).rank.site.version old.channels.items (station later).sides
+      → AreChannelsOf (station later).rank.site.version old.channels.items (station later).sides
       → new.seats.items ≡ slice_set old.seats.items r later → new.channels.items ≡ old.channels.items
       → AreJoined old → AreJoined new
   seats_joined seat later at_seat goes channels seats_are channels_stay j =

@@ -12,10 +12,10 @@ use Rattle.part_channel.specs.Settling.{IsLeft}
 use Rattle.part_phase.specs.Limits.{box_words}
 use Rattle.cl_journal.specs.Journal.{Journal}
 use Rattle.cl_rank.specs.Deeds.{Deed, RankMoves, event_of}
-use Rattle.cl_rank.specs.Ranks.{view_of}
 use Rattle.cl_rank.specs.Sides.{AreChannelsOf, KeysMove, Sides, place_of, receiver_of, sender_of, side_of}
 use Rattle.cl_rank.specs.Turns.{AllStopped, Answered, StopHolds, Tells}
 use Rattle.cl_rank.specs.declared.stops.Stop.{Stop}
+use Rattle.cl_rank.specs.Views.{view_of}
 use Rattle.cl_state.specs.Rank.{Rank, below, loaded}
 use Rattle.rv_image.specs.declared.images.ImageParts.{ImageParts}
 use Rattle.rv_image.specs.declared.images.Link.{Link}
@@ -151,7 +151,7 @@ pub record OneGoes (plan : Plan) (r : ℕ) (old new : Driver) : Type 0 where
   pub runs : seat.stop ≡ None
   pub goes : GoesOn plan (station seat) old.hub (station later) new.hub
   pub seated : IsSeated plan later
-  pub channels : AreChannelsOf (station seat).rank.site.version old.channels.items (station later).sides
+  pub channels : AreChannelsOf (station later).rank.site.version old.channels.items (station later).sides
   pub seats_are : new.seats.items ≡ slice_set old.seats.items r later
   pub channels_stay : new.channels.items ≡ old.channels.items
   pub agree : Agree old.hub.links (stations new) (station later).asked

@@ -80,7 +80,7 @@ impl Seat {
         requires channels { AreChannelsOf (station self.old).rank.site.version channels.now (station self.old).sides }
         ensures goes { GoesOn plan.now (station self.old) hub.old (station self.new) hub.new }
         ensures seated { IsSeated plan.now self.new }
-        ensures channels { AreChannelsOf (station self.old).rank.site.version channels.now (station self.new).sides }
+        ensures channels { AreChannelsOf (station self.new).rank.site.version channels.now (station self.new).sides }
     {
         let hart = plan.order[self.next];
         match self.rank.turn_plain(hub, channels, hart) {

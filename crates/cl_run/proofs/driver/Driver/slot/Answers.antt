@@ -40,7 +40,7 @@ agree-requires-clause-joined c =
     let later = c.turn.new.self in
     let at = slice_get_read seats.items _ c.args.rank seat seats.ok.0 c.requires.there c.index_mut.ensures.value in
     seats_joined c.args.plan.now c.args.rank driver _ seat later at c.turn.ensures.goes
-    (subst (λ cs. AreChannelsOf (station seat).rank.site.version cs (station later).sides)
+    (subst (λ cs. AreChannelsOf (station later).rank.site.version cs (station later).sides)
     c.as_slice-channels.ensures.value c.turn.ensures.channels)
     refl refl c.requires.joined
 
@@ -68,7 +68,7 @@ returns c =
       goes = subst (λ hub. GoesOn c.args.plan.now (station seat) driver.hub (station later) hub)
           (sym c.agree.ensures.hub) goes;
       seated = c.turn.ensures.seated;
-      channels = subst (λ cs. AreChannelsOf (station seat).rank.site.version cs (station later).sides)
+      channels = subst (λ cs. AreChannelsOf (station later).rank.site.version cs (station later).sides)
           c.as_slice-channels.ensures.value c.turn.ensures.channels;
       seats_are = c.agree.ensures.seats;
       channels_stay = c.agree.ensures.channels;
