@@ -10,4 +10,5 @@ pub mod Pairs
 pub mod Slots
 pub mod Sides
 pub mod Wires
+pub mod Leaves
 pub mod Ends

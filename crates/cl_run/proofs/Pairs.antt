@@ -72,7 +72,7 @@ module _ (seats : List Seat) (l : Link) (link part : ℕ) (x y : Seat)
       (agree s r (ap (λ (z : Station). sender_of z.sides link part) (sym from_is) ∙ sends)
       (ap (λ (z : Station). receiver_of z.sides link part) (sym to_is) ∙ receives))
 
-at_below : {X : Type 0} (xs : List X) (i : ℕ) → i < length xs → (x : X) × (slice_get xs i ≡ Some x)
+pub at_below : {X : Type 0} (xs : List X) (i : ℕ) → i < length xs → (x : X) × (slice_get xs i ≡ Some x)
 at_below [] i below = absurd (omega (arith, below))
 at_below (x ∷ xs) zero below = (x, refl)
 at_below (x ∷ xs) (suc i) below = at_below xs i (omega (arith, below))

@@ -8,7 +8,7 @@ pub run-requires-clause-seated : goal.run-requires-clause-seated
 run-requires-clause-seated c =
     let l = c.self.inside in
     let loaded = c.self.invariant.1 in
-    seated_at_start _ _ _ c.self.invariant.0 l.driver loaded.count_is loaded.fresh
+    seated_at_start l.image.now l.plans.now l.order.now c.self.invariant.0 l.driver loaded.loaded
 
 pub into_record-requires-clause-stopped : goal.into_record-requires-clause-stopped
 into_record-requires-clause-stopped c =
@@ -19,7 +19,7 @@ returns-clause-run c =
     let l = c.self.inside in
     let are = c.self.invariant.0 in
     let loaded = c.self.invariant.1 in
-    let start = under_way_at_start l.image.now l.plans.now l.order.now are l.driver loaded.ranks_are loaded.fresh loaded.links_are loaded.no_calls in
+    let start = under_way_at_start l.image.now l.plans.now l.order.now are l.driver loaded.loaded in
     let end = c.run.ensures.goes l.image.now start in
     subst (λ (s : Setup). IsOneRun s.image s.plans s.order c.into_record.result) c.self.view_is
     (one_run l.image.now l.plans.now l.order.now are c.run.new.self c.into_record.result c.into_record.ensures end.0 end.1 c.run.ensures.seated)
