@@ -54,7 +54,7 @@ use Rattle.cl_run.proofs.Seats.{station_at}
 use Rattle.cl_run.proofs.Wires.{new_keys, new_receiver_at, new_sender_at, over_channels}
 
 -- what stands at a number of what a function made of a list
-from_map : {X Y : Type 0} (f : X → Y) (xs : List X) (r : ℕ) (y : Y) → slice_get (map f xs) r ≡ Some y → (x : X) × (slice_get xs r ≡ Some x) × (f x ≡ y)
+pub from_map : {X Y : Type 0} (f : X → Y) (xs : List X) (r : ℕ) (y : Y) → slice_get (map f xs) r ≡ Some y → (x : X) × (slice_get xs r ≡ Some x) × (f x ≡ y)
 from_map f [] r y h = absurd (cc)
 from_map f (x ∷ xs) zero y h = (x, refl, same_Some (f x) y h)
 from_map f (x ∷ xs) (suc r) y h = from_map f xs r y h

@@ -11,4 +11,6 @@ pub mod Slots
 pub mod Sides
 pub mod Wires
 pub mod Leaves
+pub mod Links
 pub mod Ends
+pub mod Left

@@ -191,6 +191,10 @@ AreAllNew image channels all =
     (r : ℕ) (ends : Ends) → slice_get all r ≡ Some ends
     → AreNewEnds image.version image.links channels r (sides_in ends)
 
+-- a rank's ends of the links, as it leaves them
+abbrev pub ends_of : Seat → Ends
+ends_of seat = record { sends = seat.rank.sends; recvs = seat.rank.recvs }
+
 -- what the channel of a link is left with, by the keys of its two sides
 pub record IsLinkLeft (driver : Driver) (link : ℕ) (l : Link) (left_behind : List Settled) : Type 0 where
   pub from : Station

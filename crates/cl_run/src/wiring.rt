@@ -64,8 +64,9 @@ impl Wiring {
     {
         let parts = image.parts();
         let mut wiring = Wiring::new(alloc, parts.ranks, parts.version)?;
-        for link in parts.links.as_slice() {
-            wiring.add(alloc, parts.version, *link)?;
+        let links = parts.links.as_slice();
+        for number in 0..links.len() {
+            wiring.add(alloc, parts.version, links[number])?;
         }
         Ok(wiring)
     }

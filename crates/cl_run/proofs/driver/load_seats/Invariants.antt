@@ -1,13 +1,16 @@
-use Rattle.std.proofs.Common.{◌≡◌, map, vec_len}
+use Rattle.std.proofs.Common.{◌≡◌, ◌++◌, List, length, map, vec_len}
+use Rattle.part_channel.specs.Channels.{ChannelView}
 use Rattle.cl_state.specs.Rank.{below, loaded}
 use Rattle.cl_state.specs.Room.{rank_of}
-use Rattle.cl_run.specs.Driver.{AreFresh}
+use Rattle.cl_run.specs.Driver.{AreAllNew, AreFresh}
 use Rattle.cl_run.specs.declared.driver.Seat.{Seat}
 use Rattle.cl_run.proofs.driver.load_seats.Given as goal
 
-abbrev pub invariant-loop-rank : goal.invariant-loop-rank
-invariant-loop-rank l = record {
-  count : vec_len l.seats ≡ l.rank;
-  ranks : map (λ (seat : Seat). rank_of seat.rank.state) l.seats.items ≡ map (loaded l.image) (below l.rank);
-  fresh : AreFresh l.image l.plans l.seats.items;
+abbrev pub invariant-loop-own : goal.invariant-loop-own
+invariant-loop-own l = record {
+  rest : l.yielded ++ l.own-iterator.rest.items ≡ l.fn.ends.items;
+  count : vec_len l.seats ≡ length l.yielded;
+  ranks : map (λ (seat : Seat). rank_of seat.rank.state) l.seats.items ≡ map (loaded l.image) (below (vec_len l.seats));
+  fresh : (channels : List ChannelView) → AreAllNew l.image channels l.fn.ends.items
+      → AreFresh l.image l.plans channels l.seats.items;
 }

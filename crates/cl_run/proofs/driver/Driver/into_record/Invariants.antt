@@ -1,5 +1,6 @@
 use Rattle.std.proofs.Common.{◌≡◌, ◌≤◌, ◌++◌, length, map, Some, vec_capacity}
 use Rattle.cl_run.specs.declared.driver.Seat.{Seat}
+use Rattle.cl_run.specs.Driver.{ends_of}
 use Rattle.cl_run.proofs.driver.Driver.into_record.Given as goal
 
 abbrev pub invariant-loop-seat : goal.invariant-loop-seat
@@ -11,4 +12,6 @@ invariant-loop-seat l = record {
   traces_room : length l.fn.self.seats.items ≤ vec_capacity l.traces;
   ranks_room : length l.fn.self.seats.items ≤ vec_capacity l.ranks;
   stops_room : length l.fn.self.seats.items ≤ vec_capacity l.stops;
+  ends : l.ends.items ≡ map ends_of l.yielded;
+  ends_room : length l.fn.self.seats.items ≤ vec_capacity l.ends;
 }
