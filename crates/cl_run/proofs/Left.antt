@@ -1,7 +1,7 @@
 -- What the driver leaves of the links.
-use Rattle.std.specs.Prelude.{ℕ, ◌≡◌, ◌<◌, ◌≤◌, List, length, map, slice_get, Option, Some, None, option_map}
+use Rattle.std.specs.Prelude.{ℕ, ◌≡◌, ◌<◌, ◌≤◌, List, [], ◌∷◌, ◌++◌, length, map, slice_get, Option, Some, None, option_map}
 use Rattle.std.proofs.Common.{refl, sym, ap, ◌∙◌, subst, arith}
-use Rattle.std.proofs.lemmas.List.{length-map}
+use Rattle.std.proofs.lemmas.List.{append-nil, length-map}
 use Rattle.std.proofs.lemmas.Option.{same_Some, slice_get-map, slice_get_within}
 use Rattle.rv_image.specs.declared.images.ImageVersion.{ImageVersion}
 use Rattle.rv_image.specs.declared.images.Link.{Link}
@@ -35,6 +35,11 @@ some_recvs (Some x) part r e = (x, refl)
 ends_at : (seats : List Seat) (r : ℕ) (seat : Seat) → slice_get seats r ≡ Some seat
     → slice_get (map ends_of seats) r ≡ Some (ends_of seat)
 ends_at seats r seat at = slice_get-map ends_of seats r ∙ ap (option_map ends_of) at
+
+-- a list that is gone through
+pub all_yielded : {X : Type 0} (yielded rest all : List X) → yielded ++ rest ≡ all → length rest ≡ 0 → yielded ≡ all
+all_yielded yielded [] all whole none = sym (append-nil yielded) ∙ whole
+all_yielded yielded (x ∷ rest) all whole none = absurd (omega (arith, none))
 
 module _ (driver : Driver) (joined : AreJoined driver) where
   -- the sides of a link's channel, at the two seats of the link

@@ -4,7 +4,7 @@ use Rattle.std.specs.Prelude.{Bool, true, false, Option, Some, None, if◌then�
 use Rattle.std.proofs.Common.{refl, sym, ap, ◌∙◌, subst, arith, inl, inr}
 use Rattle.std.proofs.lemmas.Bool.{eq-eqb, ne_eqb}
 use Rattle.std.proofs.lemmas.Bool.Decides.{eqb_tells}
-use Rattle.std.proofs.lemmas.List.{append-nil, length-append}
+use Rattle.std.proofs.lemmas.List.{append-nil, length-append, length-set}
 use Rattle.std.proofs.lemmas.Option.{same_Some, slice_get_past, slice_get_within}
 use Rattle.rv_image.specs.declared.images.ImageVersion.{ImageVersion}
 use Rattle.rv_image.specs.declared.images.Link.{Link}
@@ -13,7 +13,10 @@ use Rattle.part_channel.specs.Receiving.{RecvView, new_recv_side}
 use Rattle.part_channel.specs.Sending.{SendView, new_send_side}
 use Rattle.part_phase.specs.Limits.{box_words}
 use Rattle.cl_rank.specs.Sides.{Sides, side_of}
-use Rattle.cl_run.specs.Wiring.{AreNewEnds, IsNewEnd}
+use Rattle.cl_machine.proofs.Lists.{get-set_other, get-set_same}
+use Rattle.cl_run.specs.declared.wiring.Ends.{Ends}
+use Rattle.cl_run.specs.declared.wiring.Wiring.{Wiring}
+use Rattle.cl_run.specs.Wiring.{AreNewEnds, IsNewEnd, IsWired, sides_in}
 
 side_more : {S : Type 0} (sides : List (ℕ × S)) (k link : ℕ) (s : S) → k ≢ link
     → side_of link (sides ++ (k, s) ∷ []) ≡ side_of link sides
@@ -127,3 +130,74 @@ module _ (version : ImageVersion) (links : List Link) (channels : List ChannelVi
             sym (ap (slice_get (channels ++ c ∷ [])) (sym one_each) ∙ get-last channels c) i,
           ))
           (long, wide, sends_last (l.from == rank) refl, recvs_last (l.to == rank) refl)
+
+-- where there is no link a rank has no ends
+pub no_ends : (version : ImageVersion) (channels : List ChannelView) (rank : ℕ) (ends : Ends) → channels ≡ []
+    → ends.sends.items ≡ [] → ends.recvs.items ≡ [] → AreNewEnds version [] channels rank (sides_in ends)
+no_ends version channels rank ends none no_sends no_recvs link =
+    subst (λ cs. IsNewEnd version rank None (slice_get cs link) (side_of link ends.sends.items) (side_of link ends.recvs.items))
+    (sym none)
+    (subst (λ xs. IsNewEnd version rank None None (side_of link xs) (side_of link ends.recvs.items)) (sym no_sends)
+    (subst (λ xs. IsNewEnd version rank None None None (side_of link xs)) (sym no_recvs) tt))
+
+-- one link more of a wiring: its two ranks get a side each
+module _ (version : ImageVersion) (links : List Link) (old new : Wiring) (l : Link) (c : ChannelView) (x y z w : Ends)
+    (wired : IsWired version (length old.ends.items) links old) (long : length c.boxes ≡ 16)
+    (wide : c.width ≡ box_words version) (differ : l.to ≢ l.from)
+    (channels : new.channels.items ≡ old.channels.items ++ c ∷ [])
+    (at_from : slice_get old.ends.items l.from ≡ Some x) (at_to : slice_get old.ends.items l.to ≡ Some z)
+    (ends : new.ends.items ≡ slice_set (slice_set old.ends.items l.from y) l.to w)
+    (y_sends : y.sends.items ≡ x.sends.items ++ (length links, new_send_side c.boxes) ∷ []) (y_recvs : y.recvs.items ≡ x.recvs.items)
+    (w_sends : w.sends.items ≡ z.sends.items) (w_recvs : w.recvs.items ≡ z.recvs.items ++ (length links, new_recv_side c.boxes) ∷ []) where
+  one : length old.channels.items ≡ length links
+  one = wired.channels_count
+
+  pub wired_more : IsWired version (length old.ends.items) (links ++ l ∷ []) new
+  wired_more = record {
+    channels_count = ap length channels ∙ length-append old.channels.items (c ∷ []) ∙ ap (λ n. n + 1) one
+        ∙ sym (length-append links (l ∷ []));
+    ends_count = ap length ends ∙ length-set (slice_set old.ends.items l.from y) l.to w ∙ length-set old.ends.items l.from y;
+    each = λ r e at.
+        subst (λ cs. AreNewEnds version (links ++ l ∷ []) cs r (sides_in e)) (sym channels)
+        (by_rank r e (ap (λ xs. slice_get xs r) (sym ends) ∙ at));
+  }
+    where
+      to_there : slice_get (slice_set old.ends.items l.from y) l.to ≡ Some z
+      to_there = get-set_other old.ends.items l.from l.to y (λ e. differ (sym e)) ∙ at_to
+
+      chosen : {X : Type 0} (a b : ℕ) (yes no : X) → a ≡ b → yes ≡ (if a == b then yes else no)
+      chosen a b yes no e = sym (ap (λ (k : Bool). if k then yes else no) (eq-eqb a b e))
+
+      other : {X : Type 0} (a b : ℕ) (yes no : X) → a ≢ b → no ≡ (if a == b then yes else no)
+      other a b yes no e = sym (ap (λ (k : Bool). if k then yes else no) (ne_eqb a b e))
+
+      by_rank : (r : ℕ) (e : Ends) → slice_get (slice_set (slice_set old.ends.items l.from y) l.to w) r ≡ Some e
+          → AreNewEnds version (links ++ l ∷ []) (old.channels.items ++ c ∷ []) r (sides_in e)
+      by_rank r e at = elim (eqb_tells l.to r) [
+        | inl to_r ↦
+            let e_is : w ≡ e = same_Some w e
+            (sym (get-set_same (slice_set old.ends.items l.from y) l.to z w to_there)
+            ∙ ap (slice_get (slice_set (slice_set old.ends.items l.from y) l.to w)) to_r.1 ∙ at) in
+            let ne : l.from ≢ r = λ f. differ (to_r.1 ∙ sym f) in
+            subst (λ (k : Ends). AreNewEnds version (links ++ l ∷ []) (old.channels.items ++ c ∷ []) r (sides_in k)) e_is
+            (one_more_end version links old.channels.items r (sides_in z) (sides_in w) l c one long wide
+            (w_sends ∙ other l.from r _ _ ne) (w_recvs ∙ chosen l.to r _ _ to_r.1)
+            (wired.each r z (ap (slice_get old.ends.items) (sym to_r.1) ∙ at_to)))
+        | inr to_ne ↦ elim (eqb_tells l.from r) [
+          | inl from_r ↦
+              let e_is : y ≡ e = same_Some y e
+              (sym (get-set_same old.ends.items l.from x y at_from)
+              ∙ ap (slice_get (slice_set old.ends.items l.from y)) from_r.1
+              ∙ sym (get-set_other (slice_set old.ends.items l.from y) l.to r w to_ne.1) ∙ at) in
+              subst (λ (k : Ends). AreNewEnds version (links ++ l ∷ []) (old.channels.items ++ c ∷ []) r (sides_in k)) e_is
+              (one_more_end version links old.channels.items r (sides_in x) (sides_in y) l c one long wide
+              (y_sends ∙ chosen l.from r _ _ from_r.1) (y_recvs ∙ other l.to r _ _ to_ne.1)
+              (wired.each r x (ap (slice_get old.ends.items) (sym from_r.1) ∙ at_from)))
+          | inr from_ne ↦
+              one_more_end version links old.channels.items r (sides_in e) (sides_in e) l c one long wide
+              (other l.from r _ _ from_ne.1) (other l.to r _ _ to_ne.1)
+              (wired.each r e
+              (sym (get-set_other old.ends.items l.from r y from_ne.1)
+              ∙ sym (get-set_other (slice_set old.ends.items l.from y) l.to r w to_ne.1) ∙ at))
+        ]
+      ]

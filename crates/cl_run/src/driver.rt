@@ -58,11 +58,12 @@ fn place_after(place: usize, count: usize) -> usize
 impl Seat {
     /// A rank as it is loaded, with its plan's budget and its ends of the links.
     fn load(alloc: Global, image: &Image, rank: u8, plan: &Plan, ends: Ends) -> Result<Seat, AllocError>
-        requires { (channels : List ChannelView)
+        requires joined { All (IsLink image.now.ranks) image.now.links }
+        requires ends { (channels : List ChannelView)
             × AreNewEnds image.now.version image.now.links channels rank (sides_in ends) }
-        ensures { (channels : List ChannelView)
+        ensures { IfOk result (λ seat. (channels : List ChannelView)
             → AreNewEnds image.now.version image.now.links channels rank (sides_in ends)
-            → IfOk result (IsFresh image.now channels rank plan.now) }
+            → IsFresh image.now channels rank plan.now seat) }
     {
         let Ends { sends, recvs } = ends;
         Ok(Seat {
@@ -95,13 +96,15 @@ impl Seat {
 /// All ranks as they are loaded, by their numbers, with these ends of the links.
 fn load_seats(alloc: Global, image: &Image, plans: &[Plan], ends: Vec<Ends>) -> Result<Vec<Seat>, AllocError>
     requires plans { length plans.now ≡ image.now.ranks }
+    requires few { image.now.ranks ≤ 8 }
+    requires joined { All (IsLink image.now.ranks) image.now.links }
     requires count { length ends.items ≡ image.now.ranks }
     requires ends { (channels : List ChannelView) × AreAllNew image.now channels ends.items }
     ensures count { IfOk result (λ seats. length seats.items ≡ image.now.ranks) }
     ensures ranks { IfOk result (λ seats. map (λ seat. rank_of seat.rank.state) seats.items
         ≡ map (loaded image.now) (below image.now.ranks)) }
-    ensures fresh { (channels : List ChannelView) → AreAllNew image.now channels ends.items
-        → IfOk result (λ seats. AreFresh image.now plans.now channels seats.items) }
+    ensures fresh { IfOk result (λ seats. (channels : List ChannelView) → AreAllNew image.now channels ends.items
+        → AreFresh image.now plans.now channels seats.items) }
 {
     let mut seats: Vec<Seat> = Vec::new(alloc);
     for own in ends {
@@ -144,6 +147,8 @@ impl Driver {
         requires { length plans.now ≡ image.now.ranks }
         ensures { IfOk result (IsDriver image.now plans.now) }
     {
+        // whoever asks for the parts knows that each link joins two ranks
+        let _parts = image.parts();
         let Wiring { channels, ends } = Wiring::of(alloc, image)?;
         let seats = load_seats(alloc, image, plans, ends)?;
         let hub = Hub::start(alloc, image)?;

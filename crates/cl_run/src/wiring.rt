@@ -1,8 +1,7 @@
 //! The channels of all links, and each rank's sides of them.
 
-ghost use Rattle.std.specs.Prelude.{◌≡◌, ◌<◌, ◌⊎◌, ◌∷◌, ◌++◌, [], All, IfOk, length};
+ghost use Rattle.std.specs.Prelude.{◌≡◌, ◌<◌, ◌∷◌, ◌++◌, List, [], IfOk, length};
 ghost use Rattle.rv_image.specs.Image.{IsLink};
-ghost use Rattle.part_phase.specs.Limits.{box_words as box_words_of};
 ghost use Rattle.cl_run.specs.Wiring.{IsWired};
 
 use part_channel::{Channel, RecvSide, SendSide};
@@ -17,6 +16,18 @@ pub(crate) struct Ends {
     pub recvs: Vec<(u8, RecvSide)>,
 }
 
+impl Ends {
+    /// No sides.
+    fn none(alloc: Global) -> Ends
+        ensures { (result.sends.items ≡ []) × (result.recvs.items ≡ []) }
+    {
+        Ends {
+            sends: Vec::new(alloc),
+            recvs: Vec::new(alloc),
+        }
+    }
+}
+
 /// The channels, by the numbers of their links, and the ends that each rank has of them, by its number.
 #[derive(Drop)]
 pub(crate) struct Wiring {
@@ -29,17 +40,12 @@ impl Wiring {
     fn new(alloc: Global, ranks: u8, version: ImageVersion) -> Result<Wiring, AllocError>
         ensures { IfOk result (IsWired version ranks []) }
     {
+        let channels = Vec::new(alloc);
         let mut ends = Vec::new(alloc);
         for _rank in 0..ranks {
-            ends.push(Ends {
-                sends: Vec::new(alloc),
-                recvs: Vec::new(alloc),
-            })?;
+            ends.push(Ends::none(alloc))?;
         }
-        Ok(Wiring {
-            channels: Vec::new(alloc),
-            ends,
-        })
+        Ok(Wiring { channels, ends })
     }
 
     /// One link more: a channel, and a side of it for each of the two ranks.

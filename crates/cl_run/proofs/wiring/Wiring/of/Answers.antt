@@ -1,0 +1,1 @@
+use Rattle.cl_run.proofs.wiring.Wiring.of.Goals as goal
