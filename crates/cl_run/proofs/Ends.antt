@@ -161,6 +161,8 @@ module _ (image : ImageParts) (plans : List Plan) (order : List ℕ) (are : AreP
             harts_there = subst (λ n. All (λ hart. hart < n) plan.order.items) (sym own.harts_are) is.is_order.there;
           };
       joined = record {
+        few = subst (λ (ls : List Link). length ls ≤ 32) (sym d.links_are) d.few_links;
+        one_each = d.channels_are ∙ ap (λ (ls : List Link). length ls) (sym d.links_are);
         links = subst (All (IsLink (length driver.seats.items))) (sym d.links_are)
             (subst (λ n. All (IsLink n) image.links) (sym d.count_is) d.joined);
         each = λ r s at.

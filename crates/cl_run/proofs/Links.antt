@@ -165,11 +165,11 @@ module _ (version : ImageVersion) (links : List Link) (old new : Wiring) (l : Li
       to_there : slice_get (slice_set old.ends.items l.from y) l.to ≡ Some z
       to_there = get-set_other old.ends.items l.from l.to y (λ e. differ (sym e)) ∙ at_to
 
-      chosen : {X : Type 0} (a b : ℕ) (yes no : X) → a ≡ b → yes ≡ (if a == b then yes else no)
-      chosen a b yes no e = sym (ap (λ (k : Bool). if k then yes else no) (eq-eqb a b e))
+      chosen : {X : Type 0} (a b : ℕ) (more same : X) → a ≡ b → more ≡ (if a == b then more else same)
+      chosen a b more same e = sym (ap (λ (k : Bool). if k then more else same) (eq-eqb a b e))
 
-      other : {X : Type 0} (a b : ℕ) (yes no : X) → a ≢ b → no ≡ (if a == b then yes else no)
-      other a b yes no e = sym (ap (λ (k : Bool). if k then yes else no) (ne_eqb a b e))
+      other : {X : Type 0} (a b : ℕ) (more same : X) → a ≢ b → same ≡ (if a == b then more else same)
+      other a b more same e = sym (ap (λ (k : Bool). if k then more else same) (ne_eqb a b e))
 
       by_rank : (r : ℕ) (e : Ends) → slice_get (slice_set (slice_set old.ends.items l.from y) l.to w) r ≡ Some e
           → AreNewEnds version (links ++ l ∷ []) (old.channels.items ++ c ∷ []) r (sides_in e)

@@ -11,6 +11,7 @@ use mathlib.Core.Logic.{inl, inr}
 use Rattle.rv_image.specs.declared.images.ImageParts.{ImageParts}
 use Rattle.rv_image.specs.declared.images.Link.{Link}
 use Rattle.rv_image.specs.Image.{IsLink}
+use Rattle.part_channel.specs.Channels.{ChannelView}
 use Rattle.cl_journal.specs.Journal.{Journal}
 use Rattle.cl_trace.specs.declared.events.Event.{Event}
 use Rattle.cl_rank.specs.Deeds.{event_of}
@@ -81,6 +82,9 @@ module _ (plan : Plan) (r : ℕ) (old new : Driver) where
       let there = station_at old.seats.items r seat at_seat in
       let then_is = stations_then old new r later seats_are in
       record {
+        few = subst (λ (ls : List Link). length ls ≤ 32) (sym links_are) j.few;
+        one_each = ap (λ (cs : List ChannelView). length cs) channels_stay ∙ j.one_each
+            ∙ ap (λ (ls : List Link). length ls) (sym links_are);
         links = subst (All (IsLink (length new.seats.items))) (sym links_are)
             (subst (λ n. All (IsLink n) old.hub.links) (sym count) j.links);
         each = λ q x at.

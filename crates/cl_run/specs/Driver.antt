@@ -100,8 +100,10 @@ pub record IsJoined (links : List Link) (channels : List ChannelView) (r : ℕ) 
   pub over : AreChannelsOf s.rank.site.version channels s.sides
   pub asked : (place : ℕ × ℕ) → s.asked ≡ Some place → (place.0 < length links) × (place.1 < 16)
 
--- each link joins two seats
+-- each link joins two seats, and has its channel
 pub record AreJoined (driver : Driver) : Type 0 where
+  pub few : length driver.hub.links ≤ 32
+  pub one_each : length driver.channels.items ≡ length driver.hub.links
   pub links : All (IsLink (length driver.seats.items)) driver.hub.links
   pub each : (r : ℕ) (s : Station) → slice_get (stations driver) r ≡ Some s
       → IsJoined driver.hub.links driver.channels.items r s

@@ -235,8 +235,6 @@ impl Driver {
     pub(crate) fn into_record(self, lists: Lists) -> Record
         requires stopped { All (λ seat. IsTrue (is_some seat.stop)) self.seats.items }
         requires joined { AreJoined self }
-        requires channels { length self.channels.items ≡ length self.hub.links }
-        requires few { length self.hub.links ≤ 32 }
         requires room { HaveRoom (length self.seats.items) (length self.hub.links) lists }
         ensures { IsRecordOf self result }
     {

@@ -5,70 +5,109 @@ ghost use Rattle.mp_types.specs.declared.requests.Request.{Request};
 ghost use Rattle.cl_state.specs.declared.asking.Ask.TheVariants as ask;
 ghost use Rattle.cl_state.specs.Asked.{asked};
 ghost use Rattle.cl_state.specs.Room.{rank_of};
+ghost use Rattle.cl_rank.specs.Sides.{AreChannelsOf};
 ghost use Rattle.cl_rank.specs.Turns.{AllStopped};
+ghost use Rattle.cl_rank.specs.Views.{view_of};
 ghost use Rattle.cl_trace.specs.declared.events.Kind.TheVariants as kind;
 ghost use Rattle.cluster_tests.specs.Turns.{EndsWith, Enters, IsReplied, LeavesOne, StoppedRows};
 
 use cl_journal::{Hub, HubFault};
 use cl_rank::{Desk, LockedDesk, Rank, Stop};
 use mp_types::{Reply, Request, Stamp};
+use part_channel::Channel;
 use std::sync::Wait;
 
 /// A rank whose budget is used stops with Budget, and with no other cause, as long as some hart isn't stopped.
-pub fn a_used_budget_stops(rank: &mut Rank, hub: &mut Hub, hart: u8) -> Result<(), Stop>
+pub fn a_used_budget_stops(
+    rank: &mut Rank,
+    hub: &mut Hub,
+    channels: &[Channel],
+    hart: u8,
+) -> Result<(), Stop>
+    requires own { AreChannelsOf rank.old.state.site.version channels.now (view_of rank.old).sides }
     requires hart { hart < vec_len rank.old.state.harts }
     requires runs { ¬ (AllStopped (rank_of rank.old.state)) }
     requires used { rank.old.budget ≡ length rank.old.trace.events }
     ensures { result ≡ Err Stop.Budget }
 {
-    rank.turn_plain(hub, hart)
+    rank.turn_plain(hub, channels, hart)
 }
 
 /// A rank whose harts are all stopped stops with AllEnded, and with no other cause, whatever is left of its budget.
-pub fn stopped_harts_stop_their_rank(rank: &mut Rank, hub: &mut Hub, hart: u8) -> Result<(), Stop>
+pub fn stopped_harts_stop_their_rank(
+    rank: &mut Rank,
+    hub: &mut Hub,
+    channels: &[Channel],
+    hart: u8,
+) -> Result<(), Stop>
+    requires own { AreChannelsOf rank.old.state.site.version channels.now (view_of rank.old).sides }
     requires hart { hart < vec_len rank.old.state.harts }
     requires stopped { AllStopped (rank_of rank.old.state) }
     ensures { result ≡ Err Stop.AllEnded }
 {
-    rank.turn_plain(hub, hart)
+    rank.turn_plain(hub, channels, hart)
 }
 
 /// A rank whose clock is 2^62 - 1 stops with that clock, where some hart isn't stopped and a turn is left.
-pub fn a_full_clock_stops(rank: &mut Rank, hub: &mut Hub, hart: u8) -> Result<(), Stop>
+pub fn a_full_clock_stops(
+    rank: &mut Rank,
+    hub: &mut Hub,
+    channels: &[Channel],
+    hart: u8,
+) -> Result<(), Stop>
+    requires own { AreChannelsOf rank.old.state.site.version channels.now (view_of rank.old).sides }
     requires hart { hart < vec_len rank.old.state.harts }
     requires runs { ¬ (AllStopped (rank_of rank.old.state)) }
     requires left { length rank.old.trace.events < rank.old.budget }
     requires full { rank.old.state.clock + 1 ≡ 2 ^ 62 }
     ensures { result ≡ Err (Stop.ClockFull rank.old.state.clock) }
 {
-    rank.turn_plain(hub, hart)
+    rank.turn_plain(hub, channels, hart)
 }
 
 /// A turn leaves one event: of its hart, with a stamp above the clock, which is the rank's clock from then on.
-pub fn a_turn_leaves_one_event(rank: &mut Rank, hub: &mut Hub, hart: u8) -> Result<(), Stop>
-    requires { hart < vec_len rank.old.state.harts }
+pub fn a_turn_leaves_one_event(
+    rank: &mut Rank,
+    hub: &mut Hub,
+    channels: &[Channel],
+    hart: u8,
+) -> Result<(), Stop>
+    requires own { AreChannelsOf rank.old.state.site.version channels.now (view_of rank.old).sides }
+    requires hart { hart < vec_len rank.old.state.harts }
     ensures { OnOk result (LeavesOne hart (rank_of rank.old.state) (rank_of rank.new.state) rank.old.trace.events rank.new.trace.events) }
 {
-    rank.turn_plain(hub, hart)
+    rank.turn_plain(hub, channels, hart)
 }
 
 /// A turn of a stopped hart is recorded as idle, and the hub isn't asked.
-pub fn a_stopped_hart_idles(rank: &mut Rank, hub: &mut Hub, hart: u8) -> Result<(), Stop>
+pub fn a_stopped_hart_idles(
+    rank: &mut Rank,
+    hub: &mut Hub,
+    channels: &[Channel],
+    hart: u8,
+) -> Result<(), Stop>
+    requires own { AreChannelsOf rank.old.state.site.version channels.now (view_of rank.old).sides }
     requires hart { hart < vec_len rank.old.state.harts }
     requires idles { asked (rank_of rank.old.state) hart ≡ ask.Idle }
     ensures recorded { OnOk result (EndsWith kind.Idle rank.old.trace.events rank.new.trace.events) }
     ensures hub { OnOk result (hub.new ≡ hub.old) }
 {
-    rank.turn_plain(hub, hart)
+    rank.turn_plain(hub, channels, hart)
 }
 
 /// A turn whose hart asks the hub enters one call, of that rank and hart at the rank's clock. Its event keeps the request
 /// and the reply, and has the call's stamp.
-pub fn a_call_is_entered(rank: &mut Rank, hub: &mut Hub, hart: u8) -> Result<(), Stop>
-    requires { hart < vec_len rank.old.state.harts }
+pub fn a_call_is_entered(
+    rank: &mut Rank,
+    hub: &mut Hub,
+    channels: &[Channel],
+    hart: u8,
+) -> Result<(), Stop>
+    requires own { AreChannelsOf rank.old.state.site.version channels.now (view_of rank.old).sides }
+    requires hart { hart < vec_len rank.old.state.harts }
     ensures { (request : Request) → asked (rank_of rank.old.state) hart ≡ ask.Hub request → OnOk result (Enters request hart (rank_of rank.old.state) rank.old.trace.events rank.new.trace.events hub.old hub.new) }
 {
-    rank.turn_plain(hub, hart)
+    rank.turn_plain(hub, channels, hart)
 }
 
 /// What is answered behind the lock was replied by a hub after some calls, to just this rank's request.

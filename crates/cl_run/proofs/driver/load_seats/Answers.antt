@@ -1,4 +1,4 @@
-use Rattle.std.proofs.Common.{◌≡◌, ◌∙◌, ◌+◌, ◌++◌, ◌∷◌, [], refl, sym, ap, subst, arith, length, map, vec_len, List}
+use Rattle.std.proofs.Common.{◌≡◌, ◌<◌, ◌∙◌, ◌+◌, ◌++◌, ◌∷◌, [], refl, sym, ap, subst, arith, length, map, vec_len, List}
 use Rattle.std.proofs.lemmas.List.{length-append}
 use Rattle.std.proofs.lemmas.Option.{slice_get_read, slice_get_within}
 use Rattle.cl_state.specs.Rank.{loaded}
@@ -31,7 +31,7 @@ loop-own-preserved c =
     let at = next_at l.yielded _ c.args.ends.items n c.in-Some.own _ l.invariant.rest c.in-Some.ensures.steps.0
     (c.len-rank.ensures ∙ l.invariant.count) in
     let inside = slice_get_within c.args.ends.items n c.in-Some.own at in
-    let below = omega (arith, inside, c.requires.count, c.requires.plans) in
+    let below : n < length c.args.plans.now = omega (arith, inside, c.requires.count, c.requires.plans) in
     let planned = slice_get_read c.args.plans.now _ n _ refl below c.index-plans-rank.is in
     let fresh = c.in_ok-seat.ensures c.requires.ends.0 (c.requires.ends.1 n c.in-Some.own at) in
     let count : vec_len c.push.new.self ≡ n + 1 = omega (arith, c.in_ok-push.ensures.len, c.len-rank.ensures) in

@@ -39,7 +39,7 @@ settle_all-boxes-requires-clause-ends c =
     let all = all_yielded l.yielded rest.items _ l.invariant.rest (sym rest.ok.0 ∙ c.in-None.ensures.steps.0) in
     subst (λ ls. MaySettle ls driver.channels.items l.ends.items) (sym c.links.ensures)
     (subst (MaySettle driver.hub.links driver.channels.items) (sym (l.invariant.ends ∙ ap (map ends_of) all))
-    (may_settle driver c.requires.joined c.requires.channels c.requires.few))
+    (may_settle driver c.requires.joined c.requires.joined.one_each c.requires.joined.few))
 
 pub returns : goal.returns
 returns c =
@@ -58,5 +58,5 @@ returns c =
       stops_are = l.invariant.stops ∙ ap (map (λ (seat : Seat). seat.stop)) all;
       journal_is = c.into_parts-journal.ensures.entries;
       boxes_count = settled.count;
-      boxes_are = links_left driver c.requires.joined boxes c.requires.channels settled;
+      boxes_are = links_left driver c.requires.joined boxes c.requires.joined.one_each settled;
     }

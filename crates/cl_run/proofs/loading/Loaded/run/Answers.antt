@@ -1,4 +1,6 @@
-use Rattle.std.proofs.Common.{subst}
+use Rattle.std.proofs.Common.{◌∙◌, List, length, subst, sym}
+use Rattle.rv_image.specs.declared.images.Link.{Link}
+use Rattle.cl_run.specs.Driver.{HaveRoom}
 use Rattle.cl_run.specs.Plans.{Setup}
 use Rattle.cl_run.specs.Runs.{IsOneRun}
 use Rattle.cl_run.proofs.Ends.{all_stopped, one_run, seated_at_start, under_way_at_start}
@@ -23,3 +25,14 @@ returns-clause-run c =
     let end = c.run.ensures.goes l.image.now start in
     subst (λ (s : Setup). IsOneRun s.image s.plans s.order c.into_record.result) c.self.view_is
     (one_run l.image.now l.plans.now l.order.now are c.run.new.self c.into_record.result c.into_record.ensures end.0 end.1 c.run.ensures.seated)
+
+pub into_record-requires-clause-room : goal.into_record-requires-clause-room
+into_record-requires-clause-room c =
+    let l = c.self.inside in
+    let are = c.self.invariant.0 in
+    let loaded = c.self.invariant.1 in
+    let start = under_way_at_start l.image.now l.plans.now l.order.now are l.driver loaded.loaded in
+    let end = c.run.ensures.goes l.image.now start in
+    let count = c.run.ensures.seated.one_each ∙ are.one_each in
+    subst (λ n. HaveRoom n (length c.run.new.self.hub.links) l.lists) (sym count)
+    (subst (λ (ls : List Link). HaveRoom l.image.now.ranks (length ls) l.lists) (sym end.1.links_are) loaded.room)
