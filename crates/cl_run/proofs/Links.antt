@@ -30,8 +30,8 @@ side_last [] k s none = ap (λ (b : Bool). if b then Some s else None) (eq-eqb k
 side_last (x ∷ sides) k s none =
     elim (eqb_tells x.0 k) [
       | inl same ↦ (
-        let bad = sym none ∙ ap (λ (b : Bool). if b then Some x.1 else side_of k sides) same.0 in absurd (cc)
-      )
+          let bad = sym none ∙ ap (λ (b : Bool). if b then Some x.1 else side_of k sides) same.0 in absurd (cc)
+          )
       | inr other ↦
           ap (λ (b : Bool). if b then Some x.1 else side_of k (sides ++ (k, s) ∷ [])) other.0
           ∙ side_last sides k s (sym (ap (λ (b : Bool). if b then Some x.1 else side_of k sides) other.0) ∙ none)

@@ -55,9 +55,9 @@ module _ (plan : Plan) (r : ℕ) (old new : Driver) where
         subst (λ ss. IsUnderWay image plans order ss new.hub (slot + 1)) then_is
         (elim h.goes [
           | inl turn ↦ slot_taken image plans order (stations old) slot (station h.seat) (station h.later) plan there
-            planned_here h.runs old.hub new.hub turn apart keys agree w
+              planned_here h.runs old.hub new.hub turn apart keys agree w
           | inr stops ↦ slot_stopped image plans order (stations old) slot (station h.seat) (station h.later) plan there
-            planned_here h.runs old.hub new.hub stops w
+              planned_here h.runs old.hub new.hub stops w
         ])
 
     pub slot_goes : (moved : Bool) → SlotGoes plan r old new moved
@@ -102,9 +102,9 @@ module _ (plan : Plan) (r : ℕ) (old new : Driver) where
                   (goes_joined old.hub.links old.channels.items r plan (station seat) (station later) old.hub new.hub
                   (j.each r (station seat) there) channels goes))
               | inr other ↦ j.each q x
-                (sym (get-set_other (stations old) r q (station later) other.1)
-                ∙ ap (λ ss. slice_get ss q) (sym then_is)
-                ∙ at)
+                  (sym (get-set_other (stations old) r q (station later) other.1)
+                  ∙ ap (λ ss. slice_get ss q) (sym then_is)
+                  ∙ at)
             ]));
       }
 
@@ -124,7 +124,7 @@ module _ (plan : Plan) (r : ℕ) (old new : Driver) where
           let plan_is : plan ≡ p = same_Some plan p (sym planned ∙ ap (slice_get plans) same.1 ∙ at_plan) in
           subst (IsSeated p) seat_is (subst (λ x. IsSeated x h.later) plan_is h.seated)
       | inr other ↦ a.each q p seat at_plan
-        (sym (get-set_other old.seats.items r q h.later other.1) ∙ ap (λ xs. slice_get xs q) (sym h.seats_are) ∙ at)
+          (sym (get-set_other old.seats.items r q h.later other.1) ∙ ap (λ xs. slice_get xs q) (sym h.seats_are) ∙ at)
     ];
     joined = seats_joined h.seat h.later h.there h.goes h.channels h.seats_are h.channels_stay a.joined;
   }

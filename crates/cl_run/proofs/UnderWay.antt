@@ -198,16 +198,16 @@ module _ (image : ImageParts) (plans : List Plan) (order : List ℕ) (ss : List 
             (cluster_of (slice_set ss (in_slot order slot) t) after boxes_later.0)
         goes = case_of_deed (cluster_of ss before w.boxes) turn.deed.rank turn.deed.hart turn.deed.stamp turn.deed.act
             (cluster_of (slice_set ss (in_slot order slot) t) after boxes_later.0) (
-          (
-            s.rank,
-            t.rank,
-            rank_here,
-            turn.moves,
-            ranks_then ∙ ap (λ k. slice_set (map (λ (x : Station). x.rank) ss) k t.rank) (sym is),
-          ),
-          part.journal_moves,
-          boxes_later.1,
-        )
+              (
+                s.rank,
+                t.rank,
+                rank_here,
+                turn.moves,
+                ranks_then ∙ ap (λ k. slice_set (map (λ (x : Station). x.rank) ss) k t.rank) (sym is),
+              ),
+              part.journal_moves,
+              boxes_later.1,
+            )
 
         each_then : (q : ℕ) (p : Plan) (x : Station) → slice_get plans q ≡ Some p → slice_get (slice_set ss (in_slot order slot) t) q ≡ Some x
             → IsSoFar (w.steps ++ step_of turn.deed ∷ []) after.entries q p x

@@ -45,9 +45,9 @@ module _ (version : ImageVersion) (rank : ℕ) where
           h.1,
         )
         | inr other ↦ (
-          let no = sym e ∙ h.2 ∙ ap (λ (b : Bool). if b then Some (new_send_side channel.boxes) else None) other.0 in
-          absurd (cc)
-        )
+            let no = sym e ∙ h.2 ∙ ap (λ (b : Bool). if b then Some (new_send_side channel.boxes) else None) other.0 in
+            absurd (cc)
+            )
       ]
   sends_end (Some link) None send recv s h e = absurd h
   sends_end None (Some channel) send recv s h e = absurd h
@@ -73,9 +73,9 @@ module _ (version : ImageVersion) (rank : ℕ) where
           h.1,
         )
         | inr other ↦ (
-          let no = sym e ∙ h.3 ∙ ap (λ (b : Bool). if b then Some (new_recv_side channel.boxes) else None) other.0 in
-          absurd (cc)
-        )
+            let no = sym e ∙ h.3 ∙ ap (λ (b : Bool). if b then Some (new_recv_side channel.boxes) else None) other.0 in
+            absurd (cc)
+            )
       ]
   recvs_end (Some link) None send recv r h e = absurd h
   recvs_end None (Some channel) send recv r h e = absurd h

@@ -57,7 +57,13 @@ fn place_after(place: usize, count: usize) -> usize
 
 impl Seat {
     /// A rank as it is loaded, with its plan's budget and its ends of the links.
-    fn load(alloc: Global, image: &Image, rank: u8, plan: &Plan, ends: Ends) -> Result<Seat, AllocError>
+    fn load(
+        alloc: Global,
+        image: &Image,
+        rank: u8,
+        plan: &Plan,
+        ends: Ends,
+    ) -> Result<Seat, AllocError>
         requires joined { All (IsLink image.now.ranks) image.now.links }
         requires ends { (channels : List ChannelView)
             × AreNewEnds image.now.version image.now.links channels rank (sides_in ends) }
@@ -94,7 +100,12 @@ impl Seat {
 }
 
 /// All ranks as they are loaded, by their numbers, with these ends of the links.
-fn load_seats(alloc: Global, image: &Image, plans: &[Plan], ends: Vec<Ends>) -> Result<Vec<Seat>, AllocError>
+fn load_seats(
+    alloc: Global,
+    image: &Image,
+    plans: &[Plan],
+    ends: Vec<Ends>,
+) -> Result<Vec<Seat>, AllocError>
     requires plans { length plans.now ≡ image.now.ranks }
     requires few { image.now.ranks ≤ 8 }
     requires joined { All (IsLink image.now.ranks) image.now.links }

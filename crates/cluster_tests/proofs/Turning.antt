@@ -110,7 +110,6 @@ by_call request hart old before after hub left stamp Act.Held h s t e = absurd (
 by_call request hart old before after hub left stamp Act.Idle h s t e = absurd (cc)
 
 module _ (hart : ℕ) (was is : RankView) (hub left : Journal) (turn : IsTurn Answered hart was is hub left) where
-
   -- the deed's hart and rank are those of the turn
   answers : (asks : Ask) → asked was.rank hart ≡ asks → Answers asks turn.deed.act
   answers asks e = subst (λ a. Answers a turn.deed.act) e (subst (λ h. Answers (asked was.rank h) turn.deed.act) turn.by turn.moves.2)
