@@ -7,7 +7,8 @@ use mathlib.Core.Logic.{inl, inr}
 use Rattle.cl_machine.proofs.Meshes.{TakeOf, MeshFull, MeshAct, Meshed}
 use Rattle.cl_rank.specs.Deeds.{Act, Deed}
 use Rattle.cl_machine.specs.Boxes.{Thing}
-use Rattle.cl_machine.specs.Joined.{Got, ShowsTake, got_for, got_of, made_for, made_more, made_of, shown, shown_for, thing_of}
+use Rattle.cl_machine.specs.Joined.{Got, ShowsTake, got_for, got_of, made_for, made_more, made_of, shown, shown_for}
+use Rattle.cl_machine.specs.Joined.{thing_of}
 
 abbrev pub IsSending : Act → Type 0
 IsSending (Act.Ready link part bytes) = ⊤

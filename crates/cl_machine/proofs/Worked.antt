@@ -17,7 +17,10 @@ use Rattle.cl_state.specs.Rows.{send}
 use Rattle.cl_state.proofs.Moves.{told_at}
 use Rattle.cl_machine.specs.Boxes.{Box, Thing, empty_box, box_number}
 use Rattle.cl_machine.specs.Cluster.{Cluster, IsStep}
-use Rattle.cl_machine.specs.Rows.{step, sender_called, sender_made, sender_done, receiver_missed, receiver_took, receiver_done, first_reply, one_call, second_reply, shared_start, shared_end, SharedRow, EarlyRow, receiving, sent_message, SendsFirst, ReceivesFirst, NothingSent, StampTooLow}
+use Rattle.cl_machine.specs.Rows.{step, sender_called, sender_made, sender_done, receiver_missed, receiver_took}
+use Rattle.cl_machine.specs.Rows.{receiver_done, first_reply, one_call, second_reply, shared_start, shared_end}
+use Rattle.cl_machine.specs.Rows.{SharedRow, EarlyRow, receiving, sent_message, SendsFirst, ReceivesFirst}
+use Rattle.cl_machine.specs.Rows.{NothingSent, StampTooLow}
 
 -- a told rank has its stamp, and as many harts
 there : (rank : Rank) (answer : Answer) (stamp : ℕ) → 0 < length rank.harts → 0 < length (told rank 0 answer stamp).harts

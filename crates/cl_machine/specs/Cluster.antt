@@ -1,5 +1,6 @@
 -- The written cluster machine, as a table: one case for each kind of event.
-use Rattle.std.specs.Prelude.{ℕ, ◌+◌, ◌*◌, ◌<◌, ◌^◌, max, List, [], ◌∷◌, ◌≡◌, ◌⊎◌, length, map, replicate, slice_get, slice_set, Some}
+use Rattle.std.specs.Prelude.{ℕ, ◌+◌, ◌*◌, ◌<◌, ◌^◌, max, List, [], ◌∷◌, ◌≡◌, ◌⊎◌, length, map, replicate, slice_get}
+use Rattle.std.specs.Prelude.{slice_set, Some}
 use Rattle.rv_image.specs.declared.images.ImageParts.{ImageParts}
 use Rattle.mp_types.specs.declared.requests.Request.{Request}
 use Rattle.cl_machine.specs.Journal.{Journal, empty_journal, reply_in, with_entry}

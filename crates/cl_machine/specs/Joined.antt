@@ -1,5 +1,6 @@
 -- What ranks that ran apart hand over, and the law of the order.
-use Rattle.std.specs.Prelude.{ℕ, suc, ◌+◌, ◌<◌, ◌/◌, List, [], ◌∷◌, ◌≡◌, ◌⊎◌, length, map, slice_get, Option, None, Some, ⊤}
+use Rattle.std.specs.Prelude.{ℕ, suc, ◌+◌, ◌<◌, ◌/◌, List, [], ◌∷◌, ◌≡◌, ◌⊎◌, length, map, slice_get, Option, None}
+use Rattle.std.specs.Prelude.{Some, ⊤}
 use Rattle.std.specs.List.{filter_map, cons_option, AllByRecursion}
 use Rattle.rv_image.specs.declared.images.ImageParts.{ImageParts}
 use Rattle.rv_image.specs.declared.images.Link.{Link}

@@ -1,6 +1,7 @@
 //! Worked rows: what runs of small clusters are, and what no run is.
 
-ghost use Rattle.cl_machine.specs.Rows.{EarlyRow, JoinedRow, NothingSent, ReceivesFirst, SendsFirst, SharedRow, StampTooLow};
+ghost use Rattle.cl_machine.specs.Rows.{EarlyRow, JoinedRow, NothingSent, ReceivesFirst, SendsFirst, SharedRow};
+ghost use Rattle.cl_machine.specs.Rows.{StampTooLow};
 
 /// Two ranks that share a box: a hub call, a look that misses, a partition made ready, taken and seen taken, a hub call.
 pub fn shares_a_box()

@@ -1,5 +1,6 @@
 -- A rank's turn as a step of the boxes: its deed moves the keys of one box at most, and these agree before and after.
-use Rattle.std.specs.Prelude.{ℕ, ◌≡◌, ◌≢◌, ◌<◌, ◌+◌, ◌*◌, ◌==◌, ◌&&◌, ◌⊎◌, List, length, slice_get, slice_set, Bool, true, false}
+use Rattle.std.specs.Prelude.{ℕ, ◌≡◌, ◌≢◌, ◌<◌, ◌+◌, ◌*◌, ◌==◌, ◌&&◌, ◌⊎◌, List, length, slice_get, slice_set, Bool}
+use Rattle.std.specs.Prelude.{true, false}
 use Rattle.std.specs.Prelude.{Option, Some, None, All, eqb}
 use Rattle.std.proofs.Common.{refl, sym, ap, ◌∙◌, subst, arith, inl, inr, ⊎_elim}
 use Rattle.std.proofs.lemmas.Bool.{eq-eqb, ne_eqb}

@@ -1,5 +1,6 @@
 -- What a hub's journal shows, and what a deed does to it.
-use Rattle.std.specs.Prelude.{ℕ, ◌≡◌, ◌<◌, ◌≤◌, ◌+◌, ◌^◌, ◌⊎◌, false, cond, List, [], ◌∷◌, ◌++◌, length, map, eqb, Option, None}
+use Rattle.std.specs.Prelude.{ℕ, ◌≡◌, ◌<◌, ◌≤◌, ◌+◌, ◌^◌, ◌⊎◌, false, cond, List, [], ◌∷◌, ◌++◌, length, map, eqb}
+use Rattle.std.specs.Prelude.{Option, None}
 use Rattle.std.specs.List.{cons_option}
 use Rattle.std.proofs.lemmas.Bool.{eq-eqb}
 use Rattle.cl_machine.proofs.Lists.{filter-keeps, filter-skips}

@@ -1,5 +1,6 @@
 -- What holds of one rank as a run goes on.
-use Rattle.std.specs.Prelude.{ℕ, zero, suc, ◌≡◌, ◌<◌, ◌≤◌, ◌+◌, ◌%◌, ◌^◌, ◌⊎◌, false, cond, List, [], ◌∷◌, ◌++◌, length, map, eqb, slice_get, slice_index, Option, None, Some, IfSome, is_some, All}
+use Rattle.std.specs.Prelude.{ℕ, zero, suc, ◌≡◌, ◌<◌, ◌≤◌, ◌+◌, ◌%◌, ◌^◌, ◌⊎◌, false, cond, List, [], ◌∷◌, ◌++◌}
+use Rattle.std.specs.Prelude.{length, map, eqb, slice_get, slice_index, Option, None, Some, IfSome, is_some, All}
 use Rattle.std.specs.List.{filter, filter_map}
 use Rattle.std.proofs.Common.{refl, sym, ap, ◌∙◌, subst, arith}
 use Rattle.std.proofs.Math.Nat.{mod-add-mod}

@@ -1,5 +1,6 @@
 -- The ends that ranks have before their first turn.
-use Rattle.std.specs.Prelude.{ℕ, zero, suc, ◌≡◌, ◌≢◌, ◌<◌, ◌≤◌, ◌+◌, ◌*◌, ◌==◌, List, [], ◌∷◌, ◌++◌, length, map, replicate, slice_get, slice_set}
+use Rattle.std.specs.Prelude.{ℕ, zero, suc, ◌≡◌, ◌≢◌, ◌<◌, ◌≤◌, ◌+◌, ◌*◌, ◌==◌, List, [], ◌∷◌, ◌++◌, length, map}
+use Rattle.std.specs.Prelude.{replicate, slice_get, slice_set}
 use Rattle.std.specs.Prelude.{Bool, true, false, Option, Some, None, option_map, if◌then◌else◌}
 use Rattle.std.proofs.Common.{refl, sym, ap, ◌∙◌, subst, arith, inl, inr}
 use Rattle.std.proofs.lemmas.Bool.{eq-eqb, ne_eqb}
@@ -18,7 +19,8 @@ use Rattle.part_channel.specs.Sending.{SendView, new_send_side}
 use Rattle.part_phase.specs.declared.phases.Phase.{Phase}
 use Rattle.part_phase.specs.Limits.{box_words}
 use Rattle.part_phase.specs.Phases.{first_phase, first_phases}
-use Rattle.cl_rank.specs.Sides.{AreChannelsOf, AreNewSides, HasReceiver, HasSender, PhaseFits, Sides, receiver_key, receiver_of, receiver_view}
+use Rattle.cl_rank.specs.Sides.{AreChannelsOf, AreNewSides, HasReceiver, HasSender, PhaseFits, Sides, receiver_key}
+use Rattle.cl_rank.specs.Sides.{receiver_of, receiver_view}
 use Rattle.cl_rank.specs.Sides.{sender_key, sender_of, sender_view, side_of}
 use Rattle.cl_run.specs.Keys.{HasKeysOf}
 use Rattle.cl_run.specs.Wiring.{AreNewEnds, IsNewEnd}

@@ -1,6 +1,7 @@
 //! The driver of a run on one thread.
 
-ghost use Rattle.std.specs.Prelude.{◌≡◌, ◌<◌, ◌+◌, ◌*◌, ◌%◌, ◌≤◌, ℕ, List, None, Some, All, IfOk, IsTrue, is_some, false, true};
+ghost use Rattle.std.specs.Prelude.{◌≡◌, ◌<◌, ◌+◌, ◌*◌, ◌%◌, ◌≤◌, ℕ, List, None, Some, All, IfOk, IsTrue, is_some};
+ghost use Rattle.std.specs.Prelude.{false, true};
 ghost use Rattle.std.specs.Prelude.{length, map, slice_get, slice_index, vec_len};
 ghost use Rattle.rv_image.specs.declared.images.ImageParts.{ImageParts};
 ghost use Rattle.rv_image.specs.Image.{IsLink};
@@ -8,7 +9,8 @@ ghost use Rattle.part_channel.specs.Channels.{ChannelView};
 ghost use Rattle.cl_state.specs.Rank.{below, loaded};
 ghost use Rattle.cl_state.specs.Room.{rank_of};
 ghost use Rattle.cl_rank.specs.Sides.{AreChannelsOf};
-ghost use Rattle.cl_run.specs.Driver.{Agree, AreAllNew, AreFresh, AreJoined, AreSeated, GoesOn, HaveKeys, HaveRoom, IsDriver};
+ghost use Rattle.cl_run.specs.Driver.{Agree, AreAllNew, AreFresh, AreJoined, AreSeated, GoesOn, HaveKeys, HaveRoom};
+ghost use Rattle.cl_run.specs.Driver.{IsDriver};
 ghost use Rattle.cl_run.specs.Driver.{IsFresh, KeysAgree};
 ghost use Rattle.cl_run.specs.Driver.{IsRecordOf, IsSeated, IsStoppedAt, SlotGoes, Station, left, station, stations};
 ghost use Rattle.cl_run.specs.UnderWay.{IsUnderWay};
