@@ -39,7 +39,8 @@ run_from_parts (d ∷ ds) old new ranks hub boxes =
 
 -- the journal's stamps rise
 pub journal_rises : (es : List Entry) (old new : Journal) → PartRun Enters old es new
-    → AllByRecursion (λ (e : Entry). old.clock < e.stamp) es × InOrder (λ (e : Entry). e.stamp) (λ (e : Entry). e.rank) es
+    → AllByRecursion (λ (e : Entry). old.clock < e.stamp) es
+    × InOrder (λ (e : Entry). e.stamp) (λ (e : Entry). e.rank) es
 journal_rises [] old new h = (tt, tt)
 journal_rises (e ∷ es) old new h =
     let rest = journal_rises es h.0 new h.2 in
@@ -47,10 +48,12 @@ journal_rises (e ∷ es) old new h =
     let up : old.clock < e.stamp = omega (arith, h.1.1) in
     ((up, below es rest.0), (before es rest.0, rest.1))
   where
-    below : (fs : List Entry) → AllByRecursion (λ (f : Entry). (h.0).clock < f.stamp) fs → AllByRecursion (λ (f : Entry). old.clock < f.stamp) fs
+    below : (fs : List Entry) → AllByRecursion (λ (f : Entry). (h.0).clock < f.stamp) fs
+        → AllByRecursion (λ (f : Entry). old.clock < f.stamp) fs
     below [] k = tt
     below (f ∷ fs) k = (omega (arith, k.0, h.1.1, ap (λ (c : Journal). c.clock) h.1.2), below fs k.1)
 
-    before : (fs : List Entry) → AllByRecursion (λ (f : Entry). (h.0).clock < f.stamp) fs → AllByRecursion (Before (λ (f : Entry). f.stamp) (λ (f : Entry). f.rank) e) fs
+    before : (fs : List Entry) → AllByRecursion (λ (f : Entry). (h.0).clock < f.stamp) fs
+        → AllByRecursion (Before (λ (f : Entry). f.stamp) (λ (f : Entry). f.rank) e) fs
     before [] k = tt
     before (f ∷ fs) k = (inl (omega (arith, k.0, ap (λ (c : Journal). c.clock) h.1.2)), before fs k.1)

@@ -55,7 +55,8 @@ get-length : {X : Type 0} (xs : List X) (x : X) → slice_get (xs ++ x ∷ []) (
 get-length [] x = refl
 get-length (y ∷ xs) x = get-length xs x
 
-gate_any : (p q : ℕ) (m : Thing) (made : List Thing) (got : List Got) → gate_stamp p (m ∷ made) got ≡ gate_stamp q (m ∷ made) got
+gate_any : (p q : ℕ) (m : Thing) (made : List Thing) (got : List Got)
+    → gate_stamp p (m ∷ made) got ≡ gate_stamp q (m ∷ made) got
 gate_any p q m made [] = refl
 gate_any p q m made (g ∷ got) = refl
 
@@ -73,7 +74,8 @@ no_take_first (d ∷ S) p x R h k = go d.act h (λ q g. no_take_first S q x R g 
 
 module _ (sender receiver : ℕ) (two : sender ≢ receiver) where
   head_of_two : (x : Deed) (K S R : List Deed) → Two sender receiver (x ∷ K) S R
-      → ((T : List Deed) × (S ≡ x ∷ T) × Two sender receiver K T R) ⊎ ((T : List Deed) × (R ≡ x ∷ T) × Two sender receiver K S T)
+      → ((T : List Deed) × (S ≡ x ∷ T) × Two sender receiver K T R) ⊎ ((T : List Deed) × (R ≡ x ∷ T)
+      × Two sender receiver K S T)
   head_of_two x K S R h =
       elim (eqb_tells x.rank sender) [
         | inl e ↦ inl (
@@ -96,7 +98,8 @@ module _ (sender receiver : ℕ) (two : sender ≢ receiver) where
             },
           )
           | inr f ↦
-              let none = sym (filter-keeps (λ (d : Deed). eqb d.rank x.rank) x K (eq-eqb x.rank x.rank refl)) ∙ h.others x.rank e.1 f.1 in
+              let none = sym (filter-keeps (λ (d : Deed). eqb d.rank x.rank) x K (eq-eqb x.rank x.rank refl))
+              ∙ h.others x.rank e.1 f.1 in
               absurd (cc)
         ]
       ]
@@ -107,15 +110,18 @@ module _ (sender receiver : ℕ) (two : sender ≢ receiver) where
   -- what K's box goes through from an empty box, and from a full one
   abbrev pub Runs : List Deed → Type 0
   Runs K =
-      (S R : List Deed) (old new : Box) → InOrder (λ (d : Deed). d.stamp) (λ (d : Deed). d.rank) K → Two sender receiver K S R
+      (S R : List Deed) (old new : Box) → InOrder (λ (d : Deed). d.stamp) (λ (d : Deed). d.rank) K
+      → Two sender receiver K S R
       → Meshed old.stamp S R → length old.made ≡ old.taken
       → new ≡ ended old (filter_map made_of S) (length R) (gate_stamp old.stamp (filter_map made_of S) (filter_map got_of R))
       → PartRun BoxMoves old K new
 
   abbrev pub Fulls : List Deed → Type 0
   Fulls K =
-      (S R : List Deed) (old new : Box) (m : Thing) → InOrder (λ (d : Deed). d.stamp) (λ (d : Deed). d.rank) K → Two sender receiver K S R
-      → MeshFull m S (λ q Q. Meshed q S Q) R → old.stamp ≡ m.stamp → slice_get old.made old.taken ≡ Some m → length old.made ≡ old.taken + 1
+      (S R : List Deed) (old new : Box) (m : Thing) → InOrder (λ (d : Deed). d.stamp) (λ (d : Deed). d.rank) K
+      → Two sender receiver K S R
+      → MeshFull m S (λ q Q. Meshed q S Q) R → old.stamp ≡ m.stamp → slice_get old.made old.taken ≡ Some m
+      → length old.made ≡ old.taken + 1
       → new ≡ ended old (filter_map made_of S) (length R) (gate_stamp 0 (m ∷ filter_map made_of S) (filter_map got_of R))
       → PartRun BoxMoves old K new
 
@@ -179,7 +185,8 @@ module _ (sender receiver : ℕ) (two : sender ≢ receiver) where
         | inr t ↦ let g = subst (MeshFull m S (λ q Q. Meshed q S Q)) t.1 mesh in takes t.0 t.1 t.2 g.2 x.act refl g.0
       ]
     where
-      not_yet : (T : List Deed) → S ≡ x ∷ T → (Q : List Deed) → of_rank (λ (d : Deed). d.rank) receiver K ≡ Q → MeshFull m S (λ q Q. Meshed q S Q) Q → ⊥
+      not_yet : (T : List Deed) → S ≡ x ∷ T → (Q : List Deed) → of_rank (λ (d : Deed). d.rank) receiver K ≡ Q
+          → MeshFull m S (λ q Q. Meshed q S Q) Q → ⊥
       not_yet T e [] f g = (cc)
       not_yet T e (y ∷ Q) f g =
           let late : y.stamp < x.stamp = (subst (AllByRecursion (λ (d : Deed). y.stamp < d.stamp)) e g.1).0 in
@@ -188,7 +195,8 @@ module _ (sender receiver : ℕ) (two : sender ≢ receiver) where
           (All-filter (Before (λ (d : Deed). d.stamp) (λ (d : Deed). d.rank) x) (λ (d : Deed). eqb d.rank receiver) K o.0)).0 in
           omega arith
 
-      takes : (T : List Deed) → R ≡ x ∷ T → Two sender receiver K S T → Meshed x.stamp S T → (a : Act) → x.act ≡ a → TakeOf m x.stamp a
+      takes : (T : List Deed) → R ≡ x ∷ T → Two sender receiver K S T → Meshed x.stamp S T → (a : Act) → x.act ≡ a
+          → TakeOf m x.stamp a
           → PartRun BoxMoves old (x ∷ K) new
       takes T e t rest (Act.Take link part gate bytes) f g =
           let mid : Box = record { made = old.made; taken = old.taken + 1; stamp = x.stamp } in
@@ -196,7 +204,12 @@ module _ (sender receiver : ℕ) (two : sender ≢ receiver) where
           let gs : filter_map got_of R ≡ got ∷ filter_map got_of T =
           ap (filter_map got_of) e ∙ ap (λ a. cons_option (got_for x.stamp a) (filter_map got_of T)) f in (
             mid,
-            subst (λ a. BoxActs old x.stamp a mid) (sym f) (here ∙ (λ i. Some (record { stamp = sym stamp i; bytes = sym g.1 i })), g.0 ∙ sym stamp, refl),
+            subst (λ a. BoxActs old x.stamp a mid) (sym f) (
+              here
+                  ∙ (λ i. Some (record { stamp = sym stamp i; bytes = sym g.1 i })),
+              g.0 ∙ sym stamp,
+              refl,
+            ),
             runs S T mid new o.1 t rest same
                 (end
                 ∙ (λ i. ended old (filter_map made_of S) (length (e i)) (gate_stamp 0 (m ∷ filter_map made_of S) (gs i)))

@@ -31,7 +31,8 @@ module _ {S D : Type 0} (Move : S → D → S → Type 0) (at : D → Option ℕ
 
   -- the first event moves its part, and what is left is each part's again
   step_at : (k : Option ℕ) (old new : List S) (d : D) (ds : List D)
-      → ((i : ℕ) → PartRunAt Move (slice_get old i) (cond (is_part i k) (d ∷ own at i ds) (own at i ds)) (slice_get new i))
+      → ((i : ℕ)
+      → PartRunAt Move (slice_get old i) (cond (is_part i k) (d ∷ own at i ds) (own at i ds)) (slice_get new i))
       → (mid : List S) × PartsMoveAt Move k old d mid × EachPartRuns Move at mid ds new
   step_at None old new d ds h = (old, refl, h)
   step_at (Some k) old new d ds h =

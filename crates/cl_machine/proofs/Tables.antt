@@ -22,7 +22,8 @@ set-same [] k x h = refl
 set-same (y ∷ xs) zero x h = (let e : y ≡ x = (cc) in ap (λ z. z ∷ xs) (sym e))
 set-same (y ∷ xs) (suc k) x h = ap (λ zs. y ∷ zs) (set-same xs k x h)
 
-whole : (a : Cluster) (ranks : List Rank) (journal : Journal) (boxes : List Box) → a.ranks ≡ ranks → a.journal ≡ journal → a.boxes ≡ boxes
+whole : (a : Cluster) (ranks : List Rank) (journal : Journal) (boxes : List Box) → a.ranks ≡ ranks
+    → a.journal ≡ journal → a.boxes ≡ boxes
     → a ≡ record { ranks = ranks; journal = journal; boxes = boxes }
 whole a ranks journal boxes p q r = λ i. record { ranks = p i; journal = q i; boxes = r i }
 
@@ -35,7 +36,8 @@ journal_of a b e = ap (λ (x : Cluster). x.journal) e
 boxes_of : (a b : Cluster) → a ≡ b → a.boxes ≡ b.boxes
 boxes_of a b e = ap (λ (x : Cluster). x.boxes) e
 
-pub case_of_deed : (old : Cluster) (r h n : ℕ) (a : Act) (new : Cluster) → Goes old (record { rank = r; hart = h; stamp = n; act = a }) new
+pub case_of_deed : (old : Cluster) (r h n : ℕ) (a : Act) (new : Cluster)
+    → Goes old (record { rank = r; hart = h; stamp = n; act = a }) new
     → IsStep old (record { rank = r; hart = h; stamp = n; kind = kind_of a }) new
 case_of_deed old r h n a new g =
     ((g.0).0, (g.0).2, (g.0).3.0, (g.0).3.1, by_act a (g.0).3.2 (g.0).3.3 ((g.0).4 ∙ ap (slice_set old.ranks r) (g.0).3.4) g.1 g.2)
@@ -43,7 +45,8 @@ case_of_deed old r h n a new g =
     s : Rank
     s = (g.0).0
 
-    by_act : (a : Act) → Answers (asked s h) a → IsStamp s.clock a n → new.ranks ≡ slice_set old.ranks r (told s h (answer_of a) n)
+    by_act : (a : Act) → Answers (asked s h) a → IsStamp s.clock a n
+        → new.ranks ≡ slice_set old.ranks r (told s h (answer_of a) n)
         → JournalMoves old.journal (entry_of (record { rank = r; hart = h; stamp = n; act = a })) new.journal
         → PartsMove BoxMoves box_at old.boxes (record { rank = r; hart = h; stamp = n; act = a }) new.boxes
         → CaseOf old (record { rank = r; hart = h; stamp = n; kind = kind_of a }) s (kind_of a) new
@@ -93,17 +96,20 @@ case_of_deed old r h n a new g =
       boxes.3.0,
       stamp ∙ ap (λ g. max s.clock g + 1) boxes.3.1,
       whole new _ _ _ ranks journal
-          (boxes.4 ∙ ap (slice_set old.boxes (box_number link part)) boxes.3.2 ∙ set-same old.boxes (box_number link part) boxes.0 boxes.2),
+          (boxes.4 ∙ ap (slice_set old.boxes (box_number link part)) boxes.3.2
+          ∙ set-same old.boxes (box_number link part) boxes.0 boxes.2),
     )
 
-deed_of_case : (old : Cluster) (r h n : ℕ) (k : Kind) (new : Cluster) → IsStep old (record { rank = r; hart = h; stamp = n; kind = k }) new
+deed_of_case : (old : Cluster) (r h n : ℕ) (k : Kind) (new : Cluster)
+    → IsStep old (record { rank = r; hart = h; stamp = n; kind = k }) new
     → (a : Act) × (kind_of a ≡ k) × Goes old (record { rank = r; hart = h; stamp = n; act = a }) new
 deed_of_case old r h n k new g = by_kind k g.4
   where
     s : Rank
     s = g.0
 
-    rank_part : (a : Act) → Answers (asked s h) a → IsStamp s.clock a n → new.ranks ≡ slice_set old.ranks r (told s h (answer_of a) n)
+    rank_part : (a : Act) → Answers (asked s h) a → IsStamp s.clock a n
+        → new.ranks ≡ slice_set old.ranks r (told s h (answer_of a) n)
         → PartsMove RankMoves rank_at old.ranks (record { rank = r; hart = h; stamp = n; act = a }) new.ranks
     rank_part a asks stamp ranks = (s, told s h (answer_of a) n, g.1, (g.2, g.3, asks, stamp, refl), ranks)
 
@@ -172,7 +178,8 @@ held_once a b xs ys e p q =
     let thing = sym p ∙ (λ i. slice_get (e i).made (e i).taken) ∙ q in
     let one = same_Some _ _ thing in ap (λ (x : Thing). x.bytes) one
 
-case_once : (old : Cluster) (e : Step) (k : Kind) (s : Rank) (a b : Cluster) → CaseOf old e s k a → CaseOf old e s k b → a ≡ b
+case_once : (old : Cluster) (e : Step) (k : Kind) (s : Rank) (a b : Cluster) → CaseOf old e s k a
+    → CaseOf old e s k b → a ≡ b
 case_once old e Kind.Plain s a b p q = p.2 ∙ sym q.2
 case_once old e Kind.Local s a b p q = p.2 ∙ sym q.2
 case_once old e Kind.Held s a b p q = p.2 ∙ sym q.2
@@ -190,7 +197,8 @@ case_once old e Kind.Ready s a b p q =
     let part : p.1 ≡ q.1 = (cc (p.4, q.4)) in
     let bytes : p.2 ≡ q.2 = (cc (p.4, q.4)) in
     let here : p.3 ≡ q.3 = same_Some _ _ (sym p.5 ∙ (λ i. slice_get old.boxes (box_number (link i) (part i))) ∙ q.5) in
-    p.8 ∙ (λ i. with_box old e s Answer.Alone (box_number (link i) (part i)) (with_made (here i) e.stamp (bytes i))) ∙ sym q.8
+    p.8 ∙ (λ i. with_box old e s Answer.Alone (box_number (link i) (part i)) (with_made (here i) e.stamp (bytes i)))
+    ∙ sym q.8
 case_once old e Kind.Take s a b p q =
     let link : p.0 ≡ q.0 = (cc (p.4, q.4)) in
     let part : p.1 ≡ q.1 = (cc (p.4, q.4)) in
@@ -211,10 +219,12 @@ one_end old a b (e ∷ es) p q =
     let same = step_once old e p.0 q.0 p.1 q.1 in one_end q.0 a b es (subst (λ c. IsRun c es a) same p.2) q.2
 
 -- a run and one step more
-pub run_more : (es : List Step) (old mid new : Cluster) (e : Step) → IsRun old es mid → IsStep mid e new → IsRun old (es ++ e ∷ []) new
+pub run_more : (es : List Step) (old mid new : Cluster) (e : Step) → IsRun old es mid → IsStep mid e new
+    → IsRun old (es ++ e ∷ []) new
 run_more [] old mid new e r s = (new, subst (λ c. IsStep c e new) r s, refl)
 run_more (x ∷ es) old mid new e r s = (r.0, r.1, run_more es r.0 mid new e r.2 s)
 
-pub run_less : (es : List Step) (old new : Cluster) (e : Step) → IsRun old (es ++ e ∷ []) new → (mid : Cluster) × IsRun old es mid × IsStep mid e new
+pub run_less : (es : List Step) (old new : Cluster) (e : Step) → IsRun old (es ++ e ∷ []) new → (mid : Cluster)
+    × IsRun old es mid × IsStep mid e new
 run_less [] old new e r = (old, refl, subst (IsStep old e) (sym r.2) r.1)
 run_less (x ∷ es) old new e r = let h = run_less es r.0 new e r.2 in (h.0, (r.0, r.1, h.1), h.2)

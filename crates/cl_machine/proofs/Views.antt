@@ -33,12 +33,14 @@ abbrev pub FreedAsTaken : ℕ → List Deed → List Got → Type 0
 FreedAsTaken n [] got = ⊤
 FreedAsTaken n (d ∷ ds) got = FreedShows n got d.act × FreedAsTaken (made_more n d.act) ds got
 
-pub freed_from_shown : (ds : List Deed) (n : ℕ) (got : List Got) → AllByRecursion (ShowsTake got) (shown n ds) → FreedAsTaken n ds got
+pub freed_from_shown : (ds : List Deed) (n : ℕ) (got : List Got) → AllByRecursion (ShowsTake got) (shown n ds)
+    → FreedAsTaken n ds got
 freed_from_shown [] n got h = tt
 freed_from_shown (d ∷ ds) n got h = go d.act h (λ m k. freed_from_shown ds m got k)
   where
     go : (a : Act) → AllByRecursion (ShowsTake got) (cons_option (shown_for n a) (shown (made_more n a) ds))
-        → ((m : ℕ) → AllByRecursion (ShowsTake got) (shown m ds) → FreedAsTaken m ds got) → FreedShows n got a × FreedAsTaken (made_more n a) ds got
+        → ((m : ℕ) → AllByRecursion (ShowsTake got) (shown m ds) → FreedAsTaken m ds got) → FreedShows n got a
+        × FreedAsTaken (made_more n a) ds got
     go (Act.Freed link part gate) k rest = (k.0, rest n k.1)
     go (Act.Ready link part bytes) k rest = (tt, rest (n + 1) k)
     go _ k rest = (tt, rest n k)
@@ -59,7 +61,8 @@ pub record Left (p n : ℕ) (S R : List Deed) (made : List Thing) (got whole : L
   pub one_more : (length made ≡ length got) ⊎ (length made ≡ length got + 1)
   pub front : (k : ℕ) (g : Got) → slice_get got k ≡ Some g → slice_get made k ≡ Some (thing_of g)
   pub taken_after : (k : ℕ) (g : Got) → slice_get got k ≡ Some g → g.stamp < g.take
-  pub made_after : (k : ℕ) (g : Got) (m : Thing) → slice_get got k ≡ Some g → slice_get made (suc k) ≡ Some m → g.take < m.stamp
+  pub made_after : (k : ℕ) (g : Got) (m : Thing) → slice_get got k ≡ Some g → slice_get made (suc k) ≡ Some m
+      → g.take < m.stamp
   pub freed : FreedAsTaken n S whole
   pub here : (k : ℕ) (g : Got) → n ≡ k + 1 → slice_get whole k ≡ Some g → g.take ≡ p
   pub there : (j : ℕ) → slice_get whole (n + j) ≡ slice_get got j
@@ -71,7 +74,9 @@ got_cases : (R : List Deed) → AllByRecursion (λ (d : Deed). IsTaking d.act) R
 got_cases [] h = inl refl
 got_cases (t ∷ Q) h = go t.act refl h.0
   where
-    go : (a : Act) → t.act ≡ a → IsTaking a → (t ∷ Q ≡ []) ⊎ ((u : Deed) × (P : List Deed) × (g : Got) × (t ∷ Q ≡ u ∷ P) × (got_of u ≡ Some g) × (g.take ≡ u.stamp)
+    go : (a : Act) → t.act ≡ a → IsTaking a
+        → (t ∷ Q ≡ []) ⊎ ((u : Deed) × (P : List Deed) × (g : Got) × (t ∷ Q ≡ u ∷ P) × (got_of u ≡ Some g)
+        × (g.take ≡ u.stamp)
         × ((m : Thing) → thing_of g ≡ m → g.stamp < g.take → TakeOf m u.stamp u.act))
     go (Act.Take link part gate bytes) e k =
         inr (
@@ -87,7 +92,8 @@ got_cases (t ∷ Q) h = go t.act refl h.0
     go _ e k = absurd k
 
 -- nothing follows a thing that wasn't taken
-nothing_left : (S : List Deed) (n : ℕ) (whole : List Got) → AllByRecursion (λ (d : Deed). IsSending d.act) S → filter_map made_of S ≡ []
+nothing_left : (S : List Deed) (n : ℕ) (whole : List Got) → AllByRecursion (λ (d : Deed). IsSending d.act) S
+    → filter_map made_of S ≡ []
     → FreedAsTaken (n + 1) S whole → slice_get whole n ≡ None → S ≡ []
 nothing_left [] n whole s h f none = refl
 nothing_left (d ∷ S) n whole s h f none = go d.act refl s.0 f.0
@@ -102,9 +108,12 @@ nothing_left (d ∷ S) n whole s h f none = go d.act refl s.0 f.0
     go _ e k g = absurd k
 
 -- after a Take at t the sender's next event is above t, and so are all
-above : (S : List Deed) (n t : ℕ) (made : List Thing) (whole : List Got) (g : Got) → g.take ≡ t → slice_get whole n ≡ Some g
-    → AllByRecursion (λ (d : Deed). IsSending d.act) S → AllByRecursion (λ (d : Deed). GateBelow d.stamp d.act) S → Rises S
-    → filter_map made_of S ≡ made → ((m : Thing) → slice_get made 0 ≡ Some m → t < m.stamp) → FreedAsTaken (n + 1) S whole
+above : (S : List Deed) (n t : ℕ) (made : List Thing) (whole : List Got) (g : Got) → g.take ≡ t
+    → slice_get whole n ≡ Some g
+    → AllByRecursion (λ (d : Deed). IsSending d.act) S → AllByRecursion (λ (d : Deed). GateBelow d.stamp d.act) S
+    → Rises S
+    → filter_map made_of S ≡ made → ((m : Thing) → slice_get made 0 ≡ Some m → t < m.stamp)
+    → FreedAsTaken (n + 1) S whole
     → AllByRecursion (λ (d : Deed). t < d.stamp) S
 above [] n t made whole g same is s b r made_is next f = tt
 above (d ∷ S) n t made whole g same is s b r made_is next f =
@@ -113,7 +122,8 @@ above (d ∷ S) n t made whole g same is s b r made_is next f =
     go : (a : Act) → d.act ≡ a → IsSending a → GateBelow d.stamp a → FreedShows (n + 1) whole a → t < d.stamp
     go (Act.Ready link part bytes) e k l h =
         next (record { stamp = d.stamp; bytes = bytes })
-        (ap (λ ms. slice_get ms 0) (sym made_is) ∙ ap (λ a. slice_get (cons_option (made_for d.stamp a) (filter_map made_of S)) 0) e)
+        (ap (λ ms. slice_get ms 0) (sym made_is)
+        ∙ ap (λ a. slice_get (cons_option (made_for d.stamp a) (filter_map made_of S)) 0) e)
     go (Act.Freed link part gate) e k l h =
         let at : n ≡ h.0 = omega (arith, h.2) in
         let two : Some g ≡ Some h.1 = sym is ∙ ap (slice_get whole) at ∙ h.3 in
@@ -121,13 +131,15 @@ above (d ∷ S) n t made whole g same is s b r made_is next f =
         omega (arith, h.4, l)
     go _ e k l h = absurd k
 
-    more : (T : List Deed) → t < d.stamp → AllByRecursion (λ (x : Deed). d.stamp < x.stamp) T → AllByRecursion (λ (x : Deed). t < x.stamp) T
+    more : (T : List Deed) → t < d.stamp → AllByRecursion (λ (x : Deed). d.stamp < x.stamp) T
+        → AllByRecursion (λ (x : Deed). t < x.stamp) T
     more [] up h = tt
     more (x ∷ T) up h = (omega (arith, up, h.0), more T up h.1)
 
 -- what is left after a thing was made and taken
 next_left : (p n : ℕ) (d t : Deed) (S Q R : List Deed) (made : List Thing) (got whole : List Got) (m : Thing) (g : Got) → Left p n (d ∷ S) R made got whole
-    → R ≡ t ∷ Q → made ≡ m ∷ filter_map made_of S → got ≡ g ∷ filter_map got_of Q → g.take ≡ t.stamp → slice_get whole n ≡ Some g
+    → R ≡ t ∷ Q → made ≡ m ∷ filter_map made_of S → got ≡ g ∷ filter_map got_of Q → g.take ≡ t.stamp
+    → slice_get whole n ≡ Some g
     → FreedAsTaken (n + 1) S whole → Left t.stamp (n + 1) S Q (filter_map made_of S) (filter_map got_of Q) whole
 next_left p n d t S Q R made got whole m g h r ms gs at is freed =
     let lm = ap length ms in let lg = ap length gs in
@@ -139,9 +151,11 @@ next_left p n d t S Q R made got whole m g h r ms gs at is freed =
       rises = h.rises.1;
       gates = h.gates.1;
       one_more = elim h.one_more [ inl e ↦ inl (omega (arith, e, lm, lg)) | inr e ↦ inr (omega (arith, e, lm, lg)) ];
-      front = λ k x e. sym (ap (λ xs. slice_get xs (suc k)) ms) ∙ h.front (suc k) x (ap (λ xs. slice_get xs (suc k)) gs ∙ e);
+      front = λ k x e. sym (ap (λ xs. slice_get xs (suc k)) ms)
+          ∙ h.front (suc k) x (ap (λ xs. slice_get xs (suc k)) gs ∙ e);
       taken_after = λ k x e. h.taken_after (suc k) x (ap (λ xs. slice_get xs (suc k)) gs ∙ e);
-      made_after = λ k x y e f. h.made_after (suc k) x y (ap (λ xs. slice_get xs (suc k)) gs ∙ e) (ap (λ xs. slice_get xs (suc (suc k))) ms ∙ f);
+      made_after = λ k x y e f. h.made_after (suc k) x y (ap (λ xs. slice_get xs (suc k)) gs
+          ∙ e) (ap (λ xs. slice_get xs (suc (suc k))) ms ∙ f);
       freed = freed;
       here = λ k x e f.
           let same : n ≡ k = omega (arith, e) in
@@ -154,14 +168,16 @@ next_left p n d t S Q R made got whole m g h r ms gs at is freed =
     shift a b = omega arith
 
 -- a got thing stands at the front
-first_got : (R Q : List Deed) (t : Deed) (got : List Got) (g : Got) → filter_map got_of R ≡ got → R ≡ t ∷ Q → got_of t ≡ Some g → got ≡ g ∷ filter_map got_of Q
+first_got : (R Q : List Deed) (t : Deed) (got : List Got) (g : Got) → filter_map got_of R ≡ got → R ≡ t ∷ Q
+    → got_of t ≡ Some g → got ≡ g ∷ filter_map got_of Q
 first_got R Q t got g is e pick = sym is ∙ ap (filter_map got_of) e ∙ ap (λ o. cons_option o (filter_map got_of Q)) pick
 
 no_length : {X : Type 0} (xs : List X) → length xs ≡ 0 → xs ≡ []
 no_length [] h = refl
 no_length (x ∷ xs) h = absurd (omega (arith, h))
 
-pub meshed : (S R : List Deed) (p n : ℕ) (made : List Thing) (got whole : List Got) → Left p n S R made got whole → Meshed p S R
+pub meshed : (S R : List Deed) (p n : ℕ) (made : List Thing) (got whole : List Got) → Left p n S R made got whole
+    → Meshed p S R
 meshed [] R p n made got whole h =
     elim (got_cases R h.taking) [
       | inl e ↦ e
@@ -174,11 +190,13 @@ meshed [] R p n made got whole h =
 meshed (d ∷ S) R p n made got whole h =
     go d.act refl h.sending.0 (λ Q q k ms gs. meshed S Q q k ms gs whole)
   where
-    go : (a : Act) → d.act ≡ a → IsSending a → ((Q : List Deed) (q k : ℕ) (ms : List Thing) (gs : List Got) → Left q k S Q ms gs whole → Meshed q S Q)
+    go : (a : Act) → d.act ≡ a → IsSending a
+        → ((Q : List Deed) (q k : ℕ) (ms : List Thing) (gs : List Got) → Left q k S Q ms gs whole → Meshed q S Q)
         → MeshAct p d.stamp a S (λ q Q. Meshed q S Q) R
     go (Act.Ready link part bytes) e s next =
         let m : Thing = record { stamp = d.stamp; bytes = bytes } in
-        let ms : made ≡ m ∷ filter_map made_of S = sym h.made_is ∙ ap (λ a. cons_option (made_for d.stamp a) (filter_map made_of S)) e in
+        let ms : made ≡ m ∷ filter_map made_of S = sym h.made_is
+        ∙ ap (λ a. cons_option (made_for d.stamp a) (filter_map made_of S)) e in
         let freed : FreedAsTaken (n + 1) S whole = subst (λ a. FreedAsTaken (made_more n a) S whole) e h.freed.1 in
         let plain : n ≡ n + 0 = omega arith in
         elim (got_cases R h.taking) [
@@ -190,7 +208,8 @@ meshed (d ∷ S) R p n made got whole h =
               (ap (slice_get whole) plain ∙ h.there 0 ∙ ap (λ xs. slice_get xs 0) none))
           | inr c ↦
               let gs = first_got R c.1 c.0 got c.2 h.got_is c.3 c.4 in
-              let is : slice_get whole n ≡ Some c.2 = ap (slice_get whole) plain ∙ h.there 0 ∙ ap (λ xs. slice_get xs 0) gs in
+              let is : slice_get whole n ≡ Some c.2 = ap (slice_get whole) plain ∙ h.there 0
+              ∙ ap (λ xs. slice_get xs 0) gs in
               let get : slice_get got 0 ≡ Some c.2 = ap (λ xs. slice_get xs 0) gs in
               let seen : Some m ≡ Some (thing_of c.2) = sym (ap (λ xs. slice_get xs 0) ms) ∙ h.front 0 c.2 get in
               let same : thing_of c.2 ≡ m = (cc) in

@@ -23,7 +23,8 @@ use Rattle.cl_machine.specs.Rows.{SharedRow, EarlyRow, receiving, sent_message, 
 use Rattle.cl_machine.specs.Rows.{NothingSent, StampTooLow}
 
 -- a told rank has its stamp, and as many harts
-there : (rank : Rank) (answer : Answer) (stamp : ℕ) → 0 < length rank.harts → 0 < length (told rank 0 answer stamp).harts
+there : (rank : Rank) (answer : Answer) (stamp : ℕ) → 0 < length rank.harts
+    → 0 < length (told rank 0 answer stamp).harts
 there rank answer stamp h = let same = (told_at rank 0 answer stamp).harts in omega arith
 
 pub shared : SharedRow
@@ -158,7 +159,8 @@ early links sender receiver bytes first second stamp new looks h =
     let asks : asked receiver 0 ≡ Ask.Look c.0 c.1 = ap (λ s. asked s 0) same ∙ c.4 in
     let link : 0 ≡ c.0 = (cc (asks, looks)) in
     let part : 0 ≡ c.1 = (cc (asks, looks)) in
-    let empty : empty_box ≡ c.3 = same_Some _ _ ((λ i. slice_get (empty_box ∷ []) (box_number (link i) (part i))) ∙ c.5) in
+    let empty : empty_box ≡ c.3 = same_Some _ _ ((λ i. slice_get (empty_box ∷ []) (box_number (link i) (part i)))
+    ∙ c.5) in
     let none = ap (λ (b : Box). slice_get b.made b.taken) empty ∙ c.6 in absurd (cc)
 
 pub sends_first : SendsFirst
@@ -200,7 +202,8 @@ nothing_sent stamp new h =
     let same : receiving ≡ h.0 = same_Some _ _ h.1 in
     let asks : Ask.Hub (request.Recv true 0 (Some 0) (Some 7)) ≡ Ask.Hub c.0 = ap (λ s. asked s 0) same ∙ c.1 in
     let same_request : request.Recv true 0 (Some 0) (Some 7) ≡ c.0 = (cc) in
-    let replies : reply.Got sent_message ≡ reply.Posted 1 false = c.2 ∙ sym (ap (reply_in (empty_journal []) 1) same_request) in absurd (cc)
+    let replies : reply.Got sent_message ≡ reply.Posted 1 false = c.2
+    ∙ sym (ap (reply_in (empty_journal []) 1) same_request) in absurd (cc)
 
 pub stamp_too_low : StampTooLow
 stamp_too_low new h =

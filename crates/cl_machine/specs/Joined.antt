@@ -45,9 +45,12 @@ link_of links box = slice_get links (box / 16)
 
 -- a rank makes and sees freed only where it is the sender, and takes only where it is the receiver
 abbrev pub OnItsSide : List Link → ℕ → Act → Type 0
-OnItsSide links rank (Act.Ready link part bytes) = (l : Link) × (slice_get links link ≡ Some l) × (part < 16) × (l.from ≡ rank)
-OnItsSide links rank (Act.Freed link part gate) = (l : Link) × (slice_get links link ≡ Some l) × (part < 16) × (l.from ≡ rank)
-OnItsSide links rank (Act.Take link part gate bytes) = (l : Link) × (slice_get links link ≡ Some l) × (part < 16) × (l.to ≡ rank)
+OnItsSide links rank (Act.Ready link part bytes) = (l : Link) × (slice_get links link ≡ Some l) × (part < 16)
+    × (l.from ≡ rank)
+OnItsSide links rank (Act.Freed link part gate) = (l : Link) × (slice_get links link ≡ Some l) × (part < 16)
+    × (l.from ≡ rank)
+OnItsSide links rank (Act.Take link part gate bytes) = (l : Link) × (slice_get links link ≡ Some l) × (part < 16)
+    × (l.to ≡ rank)
 OnItsSide links rank _ = ⊤
 
 -- the number of things made once this act is done
@@ -89,7 +92,8 @@ pub record BoxJoined (links : List Link) (b : ℕ) (deeds : ℕ → List Deed) (
   pub one_more : (length made ≡ length got) ⊎ (length made ≡ length got + 1)
   pub front : (k : ℕ) (g : Got) → slice_get got k ≡ Some g → slice_get made k ≡ Some (thing_of g)
   pub taken_after : (k : ℕ) (g : Got) → slice_get got k ≡ Some g → g.stamp < g.take
-  pub made_after : (k : ℕ) (g : Got) (m : Thing) → slice_get got k ≡ Some g → slice_get made (suc k) ≡ Some m → g.take < m.stamp
+  pub made_after : (k : ℕ) (g : Got) (m : Thing) → slice_get got k ≡ Some g → slice_get made (suc k) ≡ Some m
+      → g.take < m.stamp
   pub freed : AllByRecursion (ShowsTake got) loaded
   -- what is left in the box
   pub end : final ≡ record { made = made; taken = length got; stamp = gate_stamp 0 made got }
@@ -101,7 +105,8 @@ BoxJoinedAt links b deeds None (Some new) = ⊥
 BoxJoinedAt links b deeds (Some old) None = ⊥
 
 -- each rank alone, the journal, and each box. The deeds of rank r are deeds r
-pub record Joined (links : List Link) (start final : Cluster) (deeds : ℕ → List Deed) (entries : List Entry) : Type 0 where
+pub record Joined (links : List Link) (start final : Cluster) (deeds : ℕ
+    → List Deed) (entries : List Entry) : Type 0 where
   -- each rank's deeds lead it, alone, from its start to its end, and touch boxes on its own side only
   pub ranks : (r : ℕ) → PartRunAt RankMoves (slice_get start.ranks r) (deeds r) (slice_get final.ranks r)
   pub sides : (r : ℕ) → AllByRecursion (λ (d : Deed). OnItsSide links r d.act) (deeds r)

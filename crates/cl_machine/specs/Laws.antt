@@ -26,5 +26,6 @@ ComesAfter (Some last) e = Before (λ (e : Step). e.stamp) (λ (e : Step). e.ran
 -- with e behind it a run in order stays one just where e is a step of the cluster that was reached and comes after the step before it
 abbrev pub StepByStep : Type 0
 StepByStep =
-    (start end : Cluster) (es : List Step) (e : Step) → IsRun start es end → InOrder (λ (e : Step). e.stamp) (λ (e : Step). e.rank) es
+    (start end : Cluster) (es : List Step) (e : Step) → IsRun start es end
+    → InOrder (λ (e : Step). e.stamp) (λ (e : Step). e.rank) es
     → (IsGood start (es ++ e ∷ []) ↔ (((new : Cluster) × IsStep end e new) × ComesAfter (last_or None es) e))

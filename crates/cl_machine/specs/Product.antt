@@ -32,7 +32,8 @@ JournalMoves old (Some entry) new = Enters old entry new
 -- a box's part of a step
 abbrev pub BoxActs : Box → ℕ → Act → Box → Type 0
 BoxActs old stamp (Act.Ready link part bytes) new = IsEmpty old × (new ≡ with_made old stamp bytes)
-BoxActs old stamp (Act.Take link part gate bytes) new = Holds old bytes × (gate ≡ old.stamp) × (new ≡ with_taken old stamp)
+BoxActs old stamp (Act.Take link part gate bytes) new = Holds old bytes × (gate ≡ old.stamp)
+    × (new ≡ with_taken old stamp)
 BoxActs old stamp (Act.Freed link part gate) new = IsEmpty old × (gate ≡ old.stamp) × (new ≡ old)
 BoxActs old stamp _ new = ⊥
 

@@ -169,4 +169,5 @@ NothingSent = (stamp : ℕ) (new : Cluster) → IsStep meeting (step 1 stamp (Ki
 
 -- a call whose stamp leaves out the hub's clock is no step: after the send at 9 the receive has 10, and not its own clock's 9
 abbrev pub StampTooLow : Type 0
-StampTooLow = (new : Cluster) → IsRun meeting (step 0 9 (Kind.Hub (reply.Posted 1 true)) ∷ step 1 9 (Kind.Hub (reply.Got sent_message)) ∷ []) new → ⊥
+StampTooLow = (new : Cluster)
+    → IsRun meeting (step 0 9 (Kind.Hub (reply.Posted 1 true)) ∷ step 1 9 (Kind.Hub (reply.Got sent_message)) ∷ []) new → ⊥

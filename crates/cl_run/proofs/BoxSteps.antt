@@ -158,7 +158,8 @@ module _ (image : ImageParts) (joined : (link : ℕ) (l : Link) → slice_get im
             | inl equal ↦ elim (eqb_tells part part') [
               | inr apart ↦ absurd (let bad = sym both.1 ∙ apart.0 in (cc))
               | inl is ↦
-                  let l_is : h.l ≡ l' = same_Some h.l l' (sym h.link_there ∙ ap (slice_get image.links) equal.1 ∙ at) in (
+                  let l_is : h.l ≡ l' = same_Some h.l l' (sym h.link_there ∙ ap (slice_get image.links) equal.1
+                  ∙ at) in (
                     h.from,
                     h.to,
                     ap (λ (x : Link). slice_get (slice_set ss r t) x.from) (sym l_is) ∙ h.from_there,

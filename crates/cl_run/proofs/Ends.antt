@@ -55,16 +55,19 @@ use Rattle.cl_run.proofs.Seats.{station_at}
 use Rattle.cl_run.proofs.Wires.{new_keys, new_receiver_at, new_sender_at, over_channels}
 
 -- what stands at a number of what a function made of a list
-pub from_map : {X Y : Type 0} (f : X → Y) (xs : List X) (r : ℕ) (y : Y) → slice_get (map f xs) r ≡ Some y → (x : X) × (slice_get xs r ≡ Some x) × (f x ≡ y)
+pub from_map : {X Y : Type 0} (f : X → Y) (xs : List X) (r : ℕ) (y : Y) → slice_get (map f xs) r ≡ Some y → (x : X)
+    × (slice_get xs r ≡ Some x) × (f x ≡ y)
 from_map f [] r y h = absurd (cc)
 from_map f (x ∷ xs) zero y h = (x, refl, same_Some (f x) y h)
 from_map f (x ∷ xs) (suc r) y h = from_map f xs r y h
 
-planned : (image : ImageParts) (plans : List Plan) (order : List ℕ) (r : ℕ) (plan : Plan) → ArePlans image plans order → slice_get plans r ≡ Some plan → IsPlan image.harts plan
+planned : (image : ImageParts) (plans : List Plan) (order : List ℕ) (r : ℕ) (plan : Plan)
+    → ArePlans image plans order → slice_get plans r ≡ Some plan → IsPlan image.harts plan
 planned image plans order r plan are at =
     subst (IsPlan image.harts) (get_or_from_slice_get plans r plan plan at) (are.are_plans r plan (slice_get_within plans r plan at))
 
-rank_of_run : (steps : List Step) (entries : List Entry) (r : ℕ) (plan : Plan) (s : Station) (stop : Stop) → IsSoFar steps entries r plan s → s.stop ≡ Some stop
+rank_of_run : (steps : List Step) (entries : List Entry) (r : ℕ) (plan : Plan) (s : Station) (stop : Stop)
+    → IsSoFar steps entries r plan s → s.stop ≡ Some stop
     → IsRankOf steps entries r plan s.events s.rank stop
 rank_of_run steps entries r plan s stop so e = record {
   steps_are = so.steps_are;
@@ -104,7 +107,8 @@ joined_there (x ∷ xs) (y ∷ ys) (suc i) z e = joined_there xs ys i z e
 
 get-replicate : {X : Type 0} (n i : ℕ) (x : X) → i < n → slice_get (replicate n x) i ≡ Some x
 get-replicate n i x below =
-    slice_get-get_or (replicate n x) i x (omega (arith, below, length-replicate n x)) ∙ ap Some (get_or-replicate n i x x below)
+    slice_get-get_or (replicate n x) i x (omega (arith, below, length-replicate n x))
+    ∙ ap Some (get_or-replicate n i x x below)
 
 module _ (image : ImageParts) (plans : List Plan) (order : List ℕ) (are : ArePlans image plans order) (driver : Driver) where
   start_station : ℕ → Plan → Sides → Station
@@ -240,7 +244,8 @@ module _ (image : ImageParts) (plans : List Plan) (order : List ℕ) (are : AreP
     }
 
   -- each rank stands in the order, so all are stopped
-  pub all_stopped : AreSeated plans driver → ((place : ℕ) → place < length order → IsStoppedAt (stations driver) (slice_index order place))
+  pub all_stopped : AreSeated plans driver
+      → ((place : ℕ) → place < length order → IsStoppedAt (stations driver) (slice_index order place))
       → All (λ (seat : Seat). IsTrue (is_some seat.stop)) driver.seats.items
   all_stopped seated done k d there =
       let named = are.misses_none k (omega (arith, there, seated.one_each, are.one_each)) in
@@ -321,15 +326,19 @@ module _ (image : ImageParts) (plans : List Plan) (order : List ℕ) (are : AreP
           none_idles = w.none_idles;
           round = goes_round order (IsStoppedAt (stations driver)) 0 (map (λ (e : Step). e.rank) w.steps) slot w.round;
           plans_count = are.one_each;
-          traces_count = ap (λ (xs : List TraceView). length xs) is.traces_are ∙ length-map driver.seats.items (λ (seat : Seat). seat.rank.trace) ∙ count;
-          ranks_count = ap (λ (xs : List RankState). length xs) is.ranks_are ∙ length-map driver.seats.items (λ (seat : Seat). seat.rank.state) ∙ count;
-          stops_count = sym (length-map left.stops.items (λ (stop : Stop). Some stop)) ∙ ap (λ (xs : List (Option Stop)). length xs) is.stops_are
+          traces_count = ap (λ (xs : List TraceView). length xs) is.traces_are
+              ∙ length-map driver.seats.items (λ (seat : Seat). seat.rank.trace) ∙ count;
+          ranks_count = ap (λ (xs : List RankState). length xs) is.ranks_are
+              ∙ length-map driver.seats.items (λ (seat : Seat). seat.rank.state) ∙ count;
+          stops_count = sym (length-map left.stops.items (λ (stop : Stop). Some stop))
+              ∙ ap (λ (xs : List (Option Stop)). length xs) is.stops_are
               ∙ length-map driver.seats.items (λ (seat : Seat). seat.stop) ∙ count;
           each = λ r plan trace state stop at_plan at_trace at_state at_stop.
               let a = from_map (λ (seat : Seat). seat.rank.trace) driver.seats.items r trace (ap (λ xs. slice_get xs r) (sym is.traces_are) ∙ at_trace) in
               let b = from_map (λ (seat : Seat). seat.rank.state) driver.seats.items r state (ap (λ xs. slice_get xs r) (sym is.ranks_are) ∙ at_state) in
               let c = from_map (λ (seat : Seat). seat.stop) driver.seats.items r (Some stop)
-              (ap (λ xs. slice_get xs r) (sym is.stops_are) ∙ slice_get-map Some left.stops.items r ∙ ap (option_map Some) at_stop) in
+              (ap (λ xs. slice_get xs r) (sym is.stops_are) ∙ slice_get-map Some left.stops.items r
+              ∙ ap (option_map Some) at_stop) in
               let state_is : rank_of (a.0).rank.state ≡ rank_of state =
               ap (λ (seat : Seat). rank_of seat.rank.state) (same_Some a.0 b.0 (sym a.1 ∙ b.1)) ∙ ap rank_of b.2 in
               let stop_is : (a.0).stop ≡ Some stop = ap (λ (seat : Seat). seat.stop) (same_Some a.0 c.0 (sym a.1 ∙ c.1)) ∙ c.2 in

@@ -21,7 +21,8 @@ use Rattle.cl_run.specs.Runs.{is_hub}
 use Rattle.cl_run.specs.UnderWay.{shown}
 
 -- a call of the hub enters one entry of the cluster's journal
-pub enters : (before after : Journal) (rank hart clock : ℕ) (request : Request) (told : Reply × ℕ) → Calls before after rank hart clock request told
+pub enters : (before after : Journal) (rank hart clock : ℕ) (request : Request) (told : Reply × ℕ)
+    → Calls before after rank hart clock request told
     → Enters (shown before) (entry rank hart clock request told) (shown after)
 unfolding reply_in
 enters before after rank hart clock request told c = (
@@ -47,27 +48,33 @@ pub record HubPart (before after : Journal) (d : Deed) : Type 0 where
   pub of_others : (r : ℕ) → eqb d.rank r ≡ false → entries_by r (listed (entry_of d)) ≡ []
   pub requests_are : map (λ (e : Entry). e.request) (listed (entry_of d)) ≡ listed (request_of d.act)
   pub count_is : length (cond (is_hub (kind_of d.act)) (event_of d ∷ []) []) ≡ length (listed (entry_of d))
-  pub few : length (entries_by d.rank before.entries) ≤ 1048576 → length (entries_by d.rank before.entries) + length (listed (entry_of d)) ≤ 1048576
+  pub few : length (entries_by d.rank before.entries) ≤ 1048576
+      → length (entries_by d.rank before.entries) + length (listed (entry_of d)) ≤ 1048576
   pub low : clock_of before < 2 ^ 62 → clock_of after < 2 ^ 62
   -- the clock rises where a call was made
   pub rises : (after ≡ before) ⊎ (clock_of before < clock_of after)
 
-quiet : (before after : Journal) (d : Deed) → after ≡ before → entry_of d ≡ None → request_of d.act ≡ None → is_hub (kind_of d.act) ≡ false
+quiet : (before after : Journal) (d : Deed) → after ≡ before → entry_of d ≡ None → request_of d.act ≡ None
+    → is_hub (kind_of d.act) ≡ false
     → HubPart before after d
 quiet before after d same none nothing no_hub = record {
   journal_moves = subst (λ o. JournalMoves (shown before) o (shown after)) (sym none) (ap shown same);
   links_stay = ap (λ (j : Journal). j.links) same;
-  entries_are = ap (λ (j : Journal). j.entries) same ∙ sym (append-nil before.entries) ∙ ap (λ (o : Option Entry). before.entries ++ listed o) (sym none);
+  entries_are = ap (λ (j : Journal). j.entries) same ∙ sym (append-nil before.entries)
+      ∙ ap (λ (o : Option Entry). before.entries ++ listed o) (sym none);
   own = ap (λ (o : Option Entry). entries_by d.rank (listed o)) none ∙ ap (λ (o : Option Entry). listed o) (sym none);
   of_others = λ r _. ap (λ (o : Option Entry). entries_by r (listed o)) none;
-  requests_are = ap (λ (o : Option Entry). map (λ (e : Entry). e.request) (listed o)) none ∙ ap (λ (o : Option Request). listed o) (sym nothing);
-  count_is = ap (λ b. length (cond b (event_of d ∷ []) [])) no_hub ∙ ap (λ (o : Option Entry). length (listed o)) (sym none);
+  requests_are = ap (λ (o : Option Entry). map (λ (e : Entry). e.request) (listed o)) none
+      ∙ ap (λ (o : Option Request). listed o) (sym nothing);
+  count_is = ap (λ b. length (cond b (event_of d ∷ []) [])) no_hub
+      ∙ ap (λ (o : Option Entry). length (listed o)) (sym none);
   few = λ h. subst (λ (o : Option Entry). length (entries_by d.rank before.entries) + length (listed o) ≤ 1048576) (sym none) (omega (arith, h));
   low = λ h. subst (λ j. clock_of j < 2 ^ 62) (sym same) h;
   rises = inl same;
 }
 
-called : (before after : Journal) (rank hart stamp clock : ℕ) (request : Request) (reply : Reply) → Calls before after rank hart clock request (reply, stamp)
+called : (before after : Journal) (rank hart stamp clock : ℕ) (request : Request) (reply : Reply)
+    → Calls before after rank hart clock request (reply, stamp)
     → HubPart before after (record { rank = rank; hart = hart; stamp = stamp; act = Act.Hub clock request reply })
 called before after rank hart stamp clock request reply c =
     let e : Entry = entry rank hart clock request (reply, stamp) in

@@ -54,7 +54,8 @@ pub place_there : (links : List Link) (r : ℕ) (sides : Sides) (a : Act) (place
     → HasKey sides a → place_of a ≡ Some place → (place.0 < length links) × (place.1 < 16)
 place_there links r sides a place h has e = go a has e
   where
-    sending : (link part : ℕ) → (s : Sending) × (sender_of sides link part ≡ Some s) → (link < length links) × (part < 16)
+    sending : (link part : ℕ) → (s : Sending) × (sender_of sides link part ≡ Some s) → (link < length links)
+        × (part < 16)
     sending link part k = let l = h.sends_own link part k.0 k.1 in (slice_get_within links link l.0 l.1, l.2)
 
     receiving : (link part : ℕ) → (s : Receiving) × (receiver_of sides link part ≡ Some s)
@@ -104,7 +105,8 @@ module _ (links : List Link) (channels : List ChannelView) (r : ℕ) (plan : Pla
         links_are = ap (λ (x : Site). x.links) site_is ∙ j.links_are;
         keys = keys_kept links r _ _ _ _ _ turn.keys j.keys;
         over = over;
-        asked = λ place e. place_there links r s.sides turn.deed.act place j.keys turn.keys.there (sym turn.asked_is ∙ e);
+        asked = λ place e. place_there links r s.sides turn.deed.act place j.keys turn.keys.there (sym turn.asked_is
+            ∙ e);
       }
 
   stopped : Stops plan s before t after → IsJoined links channels r t

@@ -48,7 +48,8 @@ first_bytes w words rest other le =
     ∙ ap (take (8 * w)) (sym (append_assoc front back other) ∙ ap (λ xs. xs ++ other) (sym whole))
 
 -- words past the width spell nothing
-left_bytes : (version : ImageVersion) (words : List ℕ) → bytes_in version (take (box_words version) words) ≡ bytes_in version words
+left_bytes : (version : ImageVersion) (words : List ℕ)
+    → bytes_in version (take (box_words version) words) ≡ bytes_in version words
 left_bytes version words =
     ⊎_elim (λ few. ap (bytes_in version) (take-all (box_words version) words (omega (arith, few))))
     (λ many. first_bytes (box_words version) words _ _ (omega (arith, many)))

@@ -77,18 +77,22 @@ module _ (version : ImageVersion) (links : List Link) (channels : List ChannelVi
       sends_other : (b : Bool) → (l.from == rank) ≡ b → (link : ℕ) → link ≢ length links
           → side_of link new.sends ≡ side_of link old.sends
       sends_other true e link ne =
-          ap (side_of link) (sends ∙ ap (λ (b : Bool). if b then old.sends ++ (length links, new_send_side c.boxes) ∷ [] else old.sends) e)
+          ap (side_of link) (sends
+          ∙ ap (λ (b : Bool). if b then old.sends ++ (length links, new_send_side c.boxes) ∷ [] else old.sends) e)
           ∙ side_more old.sends (length links) link (new_send_side c.boxes) (λ x. ne (sym x))
       sends_other false e link ne =
-          ap (side_of link) (sends ∙ ap (λ (b : Bool). if b then old.sends ++ (length links, new_send_side c.boxes) ∷ [] else old.sends) e)
+          ap (side_of link) (sends
+          ∙ ap (λ (b : Bool). if b then old.sends ++ (length links, new_send_side c.boxes) ∷ [] else old.sends) e)
 
       recvs_other : (b : Bool) → (l.to == rank) ≡ b → (link : ℕ) → link ≢ length links
           → side_of link new.recvs ≡ side_of link old.recvs
       recvs_other true e link ne =
-          ap (side_of link) (recvs ∙ ap (λ (b : Bool). if b then old.recvs ++ (length links, new_recv_side c.boxes) ∷ [] else old.recvs) e)
+          ap (side_of link) (recvs
+          ∙ ap (λ (b : Bool). if b then old.recvs ++ (length links, new_recv_side c.boxes) ∷ [] else old.recvs) e)
           ∙ side_more old.recvs (length links) link (new_recv_side c.boxes) (λ x. ne (sym x))
       recvs_other false e link ne =
-          ap (side_of link) (recvs ∙ ap (λ (b : Bool). if b then old.recvs ++ (length links, new_recv_side c.boxes) ∷ [] else old.recvs) e)
+          ap (side_of link) (recvs
+          ∙ ap (λ (b : Bool). if b then old.recvs ++ (length links, new_recv_side c.boxes) ∷ [] else old.recvs) e)
 
       none_yet : (side_of (length links) old.sends ≡ None) × (side_of (length links) old.recvs ≡ None)
       none_yet =
@@ -156,7 +160,8 @@ module _ (version : ImageVersion) (links : List Link) (old new : Wiring) (l : Li
   wired_more = record {
     channels_count = ap length channels ∙ length-append old.channels.items (c ∷ []) ∙ ap (λ n. n + 1) one
         ∙ sym (length-append links (l ∷ []));
-    ends_count = ap length ends ∙ length-set (slice_set old.ends.items l.from y) l.to w ∙ length-set old.ends.items l.from y;
+    ends_count = ap length ends ∙ length-set (slice_set old.ends.items l.from y) l.to w
+        ∙ length-set old.ends.items l.from y;
     each = λ r e at.
         subst (λ cs. AreNewEnds version (links ++ l ∷ []) cs r (sides_in e)) (sym channels)
         (by_rank r e (ap (λ xs. slice_get xs r) (sym ends) ∙ at));

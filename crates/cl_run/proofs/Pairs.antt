@@ -106,7 +106,8 @@ module _ (driver : Driver) (joined : AreJoined driver) where
       )
 
   -- the keys agree of the box that a rank asked last
-  pub agree_asked : (rank : ℕ) (seat : Seat) (place : BoxPlace) (l : Link) → slice_get driver.seats.items rank ≡ Some seat
+  pub agree_asked : (rank : ℕ) (seat : Seat) (place : BoxPlace) (l : Link)
+      → slice_get driver.seats.items rank ≡ Some seat
       → seat.rank.asked_box ≡ Some place → slice_get driver.hub.links place.link ≡ Some l
       → KeysAgree (stations driver) l place.link place.part
       → (s : Station) → slice_get (stations driver) rank ≡ Some s → Agree driver.hub.links (stations driver) s.asked

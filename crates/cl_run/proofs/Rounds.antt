@@ -9,7 +9,8 @@ use Rattle.cl_run.specs.Rounds.{GoesRound}
 use Rattle.cl_run.specs.UnderWay.{Round}
 
 module _ (order : List ℕ) where
-  pub goes_round : (Done : ℕ → Type 0) (from : ℕ) (takers : List ℕ) (to : ℕ) → Round order Done from takers to → GoesRound order from takers
+  pub goes_round : (Done : ℕ → Type 0) (from : ℕ) (takers : List ℕ) (to : ℕ) → Round order Done from takers to
+      → GoesRound order from takers
   goes_round Done from [] to h = tt
   goes_round Done from (taker ∷ takers) to h =
       (h.0, h.1, h.2, (λ passed low high. (h.3 passed low high).0), goes_round Done (h.0 + 1) takers to h.4)
@@ -39,7 +40,8 @@ module _ (order : List ℕ) where
   passed_over Done from (taker ∷ takers) to d h = (h.0, h.1, h.2, h.3, passed_over Done (h.0 + 1) takers to d h.4)
 
   -- one who isn't done takes a slot
-  pub one_turn_more : (Done : ℕ → Type 0) (from : ℕ) (takers : List ℕ) (to taker : ℕ) → in_slot order to ≡ taker → (Done taker → ⊥)
+  pub one_turn_more : (Done : ℕ → Type 0) (from : ℕ) (takers : List ℕ) (to taker : ℕ) → in_slot order to ≡ taker
+      → (Done taker → ⊥)
       → Round order Done from takers to → Round order Done from (takers ++ taker ∷ []) (to + 1)
   one_turn_more Done from [] to taker here running h = (
     to,

@@ -24,12 +24,14 @@ no_stop (Some stop) h = absurd (cc)
 no_stop None h = refl
 
 -- what stands at a number of the stations is the station of the seat there
-pub station_at : (seats : List Seat) (r : ℕ) (seat : Seat) → slice_get seats r ≡ Some seat → slice_get (map station seats) r ≡ Some (station seat)
+pub station_at : (seats : List Seat) (r : ℕ) (seat : Seat) → slice_get seats r ≡ Some seat
+    → slice_get (map station seats) r ≡ Some (station seat)
 station_at seats r seat h = slice_get-map station seats r ∙ ap (option_map station) h
 
 -- one seat more of those that are loaded
 pub loaded_more : (image : ImageParts) (n : ℕ) (seats after : List Seat) (seat : Seat) → after ≡ seats ++ seat ∷ []
-    → map (λ (x : Seat). rank_of x.rank.state) seats ≡ map (loaded image) (below n) → rank_of seat.rank.state ≡ loaded image n
+    → map (λ (x : Seat). rank_of x.rank.state) seats ≡ map (loaded image) (below n)
+    → rank_of seat.rank.state ≡ loaded image n
     → map (λ (x : Seat). rank_of x.rank.state) after ≡ map (loaded image) (below (n + 1))
 loaded_more image n seats after seat e before own =
     ap (map (λ (x : Seat). rank_of x.rank.state)) e

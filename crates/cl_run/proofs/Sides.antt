@@ -77,7 +77,8 @@ kept_sends were now link recvs f x y at others same kept r was at_was =
           let is : x ≡ h.0 = same_Some x h.0 (sym at ∙ ap (slice_get now) here.1 ∙ h.1) in (
             y,
             ap (slice_get (slice_set now f y)) (sym here.1) ∙ get-set_same now f x y at,
-            (λ k low. others k (λ e. omega (arith, low, e)) ∙ ap (λ (z : Ends). side_of k z.sends.items) is ∙ h.2 k (omega (arith, low))),
+            (λ k low. others k (λ e. omega (arith, low, e)) ∙ ap (λ (z : Ends). side_of k z.sends.items) is
+                ∙ h.2 k (omega (arith, low))),
             (λ k low. ap (side_of k) same ∙ ap (λ (z : Ends). side_of k z.recvs.items) is ∙ h.3 k low),
           )
       | inr other ↦ (h.0, get-set_other now f r y other.1 ∙ h.1, (λ k low. h.2 k (omega (arith, low))), h.3)
@@ -95,7 +96,8 @@ kept_recvs were now sends link f x y at others same kept r was at_was =
             y,
             ap (slice_get (slice_set now f y)) (sym here.1) ∙ get-set_same now f x y at,
             (λ k low. ap (side_of k) same ∙ ap (λ (z : Ends). side_of k z.sends.items) is ∙ h.2 k low),
-            (λ k low. others k (λ e. omega (arith, low, e)) ∙ ap (λ (z : Ends). side_of k z.recvs.items) is ∙ h.3 k (omega (arith, low))),
+            (λ k low. others k (λ e. omega (arith, low, e)) ∙ ap (λ (z : Ends). side_of k z.recvs.items) is
+                ∙ h.3 k (omega (arith, low))),
           )
       | inr other ↦ (h.0, get-set_other now f r y other.1 ∙ h.1, h.2, (λ k low. h.3 k (omega (arith, low))))
     ]
@@ -155,7 +157,8 @@ module _ (links : List Link) (channels : List ChannelView) (ends : List Ends) (n
         | inr last ↦
             let here : n ≡ link = count ∙ sym last.0 in
             let ch_is : channel ≡ ch = same_Some channel ch (sym at ∙ ap (slice_get channels) here ∙ at_ch) in
-            subst (λ k. (sides : AreSidesOf links ends k ch) × IsLeft ch.width sides.sends.keys sides.receives.keys lf) here
+            subst (λ k. (sides : AreSidesOf links ends k ch)
+            × IsLeft ch.width sides.sends.keys sides.receives.keys lf) here
             (subst (λ c. (sides : AreSidesOf links ends n c) × IsLeft c.width sides.sends.keys sides.receives.keys lf) ch_is
             (own, subst (IsLeft channel.width own.sends.keys own.receives.keys) last.1 is))
       ]

@@ -131,10 +131,12 @@ module _ (plan : Plan) (r : ℕ) (old new : Driver) where
   }
 
   -- a slot in which something was done leaves less
-  less_of : (s t : Station) (before after : Journal) → s.stop ≡ None → GoesOn plan s before t after → left_of t + 1 ≤ left_of s
+  less_of : (s t : Station) (before after : Journal) → s.stop ≡ None → GoesOn plan s before t after
+      → left_of t + 1 ≤ left_of s
   less_of s t before after runs h = elim h [
     | inl turn ↦
-        let n : length t.events ≡ length s.events + 1 = ap (λ (es : List Event). length es) turn.traced ∙ length-append s.events (event_of turn.deed ∷ []) in
+        let n : length t.events ≡ length s.events + 1 = ap (λ (es : List Event). length es) turn.traced
+        ∙ length-append s.events (event_of turn.deed ∷ []) in
         let a : ◌≡◌ {A = ℕ} (cond (is_some t.stop) 0 1) 1 = ap {B = ℕ} (λ (o : Option Stop). cond (is_some o) 0 1) turn.goes_on in
         let b : ◌≡◌ {A = ℕ} (cond (is_some s.stop) 0 1) 1 = ap {B = ℕ} (λ (o : Option Stop). cond (is_some o) 0 1) runs in
         omega (arith, n, a, b, turn.turns_left, turn.budget_stays)
@@ -156,7 +158,8 @@ module _ (plan : Plan) (r : ℕ) (old new : Driver) where
       omega (arith, total, here, then_is, less_of (station h.seat) (station h.later) old.hub new.hub h.runs h.goes)
 
 -- whether anything was done up to a place of the order, and there
-pub done_more : (plan : Plan) (old new : Driver) (order : List ℕ) (i : ℕ) (moved went : Bool) → SlotGoes plan (slice_index order i) old new went
+pub done_more : (plan : Plan) (old new : Driver) (order : List ℕ) (i : ℕ) (moved went : Bool)
+    → SlotGoes plan (slice_index order i) old new went
     → (moved ≡ false → (place : ℕ) → place < i → IsStoppedAt (stations old) (slice_index order place))
     → (moved || went) ≡ false → (place : ℕ) → place < i + 1 → IsStoppedAt (stations new) (slice_index order place)
 done_more plan old new order i true went h done e = absurd (false≢true (sym e))
@@ -165,7 +168,8 @@ done_more plan old new order i false false h done e =
     subst (λ d. (place : ℕ) → place < i + 1 → IsStoppedAt (stations d) (slice_index order place)) (sym h.0)
     (below_more (λ place. IsStoppedAt (stations old) (slice_index order place)) i (done refl) h.1)
 
-pub less_more : (first then_left last : ℕ) (moved went : Bool) → then_left + cond moved 1 0 ≤ first → last + cond went 1 0 ≤ then_left → last + cond (moved || went) 1 0 ≤ first
+pub less_more : (first then_left last : ℕ) (moved went : Bool) → then_left + cond moved 1 0 ≤ first
+    → last + cond went 1 0 ≤ then_left → last + cond (moved || went) 1 0 ≤ first
 less_more first then_left last true true p q = omega (arith, p, q)
 less_more first then_left last true false p q = omega (arith, p, q)
 less_more first then_left last false true p q = omega (arith, p, q)

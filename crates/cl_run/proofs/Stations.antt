@@ -34,16 +34,19 @@ use Rattle.cl_run.proofs.Hubs.{HubPart, hub_part, listed}
 use Rattle.cl_machine.proofs.Lists.{filter-keeps, filter-skips}
 
 -- an element of a list with one more
-pub last_or_before : {X : Type 0} (xs : List X) (x y : X) (n : ℕ) → slice_get (xs ++ x ∷ []) n ≡ Some y → (slice_get xs n ≡ Some y) ⊎ ((n ≡ length xs) × (x ≡ y))
+pub last_or_before : {X : Type 0} (xs : List X) (x y : X) (n : ℕ) → slice_get (xs ++ x ∷ []) n ≡ Some y
+    → (slice_get xs n ≡ Some y) ⊎ ((n ≡ length xs) × (x ≡ y))
 last_or_before [] x y zero h = inr (refl, same_Some x y h)
 last_or_before [] x y (suc n) h = absurd (cc)
 last_or_before (z ∷ xs) x y zero h = inl h
 last_or_before (z ∷ xs) x y (suc n) h = elim (last_or_before xs x y n h) [ inl e ↦ inl e | inr e ↦ inr (ap suc e.0, e.1) ]
 
-entries_more : (r : ℕ) (before after : List Entry) (more : List Entry) → after ≡ before ++ more → entries_by r after ≡ entries_by r before ++ entries_by r more
+entries_more : (r : ℕ) (before after : List Entry) (more : List Entry) → after ≡ before ++ more
+    → entries_by r after ≡ entries_by r before ++ entries_by r more
 entries_more r before after more e = ap (entries_by r) e ∙ filter-append (is_by r) before more
 
-hub_calls_more : (es : List Event) (e : Event) → hub_calls (es ++ e ∷ []) ≡ hub_calls es + length (cond (is_hub e.kind) (e ∷ []) [])
+hub_calls_more : (es : List Event) (e : Event)
+    → hub_calls (es ++ e ∷ []) ≡ hub_calls es + length (cond (is_hub e.kind) (e ∷ []) [])
 hub_calls_more es e =
     ap (λ (xs : List Event). length xs) (filter-append (λ (x : Event). is_hub x.kind) es (e ∷ []))
     ∙ length-append (filter (λ (x : Event). is_hub x.kind) es) (filter (λ (x : Event). is_hub x.kind) (e ∷ []))
@@ -82,7 +85,8 @@ module _ (steps : List Step) (before after : Journal) (r : ℕ) (plan : Plan) (s
       ∙ ap (λ es. entries_by r before.entries ++ es) (subst (λ q. entries_by q (listed (entry_of d)) ≡ listed (entry_of d)) is part.own)
 
   few : length (entries_by r before.entries) + length (listed (entry_of d)) ≤ 1048576
-  few = subst (λ q. length (entries_by q before.entries) ≤ 1048576 → length (entries_by q before.entries) + length (listed (entry_of d)) ≤ 1048576) is part.few so.few_calls
+  few = subst (λ q. length (entries_by q before.entries) ≤ 1048576
+      → length (entries_by q before.entries) + length (listed (entry_of d)) ≤ 1048576) is part.few so.few_calls
 
   longer : length t.events ≡ length s.events + 1
   longer = ap (λ (es : List Event). length es) turn.traced ∙ length-append s.events (event_of turn.deed ∷ [])
@@ -93,7 +97,8 @@ module _ (steps : List Step) (before after : Journal) (r : ℕ) (plan : Plan) (s
   pub after_turn : IsSoFar (steps ++ step_of turn.deed ∷ []) after.entries r plan t
   unfolding d
   after_turn = record {
-    number_is = ap (λ (x : Rank). x.site.number) turn.moves.4 ∙ ap (λ site. site.number) (told_at s.rank d.hart (answer_of d.act) d.stamp).site ∙ so.number_is;
+    number_is = ap (λ (x : Rank). x.site.number) turn.moves.4
+        ∙ ap (λ site. site.number) (told_at s.rank d.hart (answer_of d.act) d.stamp).site ∙ so.number_is;
     low = subst (λ n. n < 2 ^ 62) (sym (clock_moved s.rank t.rank d turn.moves)) turn.moves.1;
     budget_is = turn.budget_stays ∙ so.budget_is;
     in_budget = omega (arith, turn.turns_left, so.budget_is, longer);
@@ -138,7 +143,8 @@ module _ (steps : List Step) (before after : Journal) (r : ℕ) (plan : Plan) (s
       ∙ append-nil (entries_by r before.entries)
 
   -- a full clock of the hub stays the last one
-  same_cause : (stop : Stop) → HasCause plan s.rank s.events before.entries stop → HasCause plan s.rank s.events after.entries stop
+  same_cause : (stop : Stop) → HasCause plan s.rank s.events before.entries stop
+      → HasCause plan s.rank s.events after.entries stop
   same_cause Stop.AllEnded h = h
   same_cause Stop.Budget h = h
   same_cause Stop.Memory h = h
@@ -158,11 +164,13 @@ module _ (steps : List Step) (before after : Journal) (r : ℕ) (plan : Plan) (s
     ],
   )
 
-  same_causes : (o : Option Stop) → IfSome o (HasCause plan s.rank s.events before.entries) → IfSome o (HasCause plan s.rank s.events after.entries)
+  same_causes : (o : Option Stop) → IfSome o (HasCause plan s.rank s.events before.entries)
+      → IfSome o (HasCause plan s.rank s.events after.entries)
   same_causes None h = tt
   same_causes (Some stop) h = same_cause stop h
 
-  pub after_others_turn : IsSoFar steps before.entries r plan s → IsSoFar (steps ++ step_of d ∷ []) after.entries r plan s
+  pub after_others_turn : IsSoFar steps before.entries r plan s
+      → IsSoFar (steps ++ step_of d ∷ []) after.entries r plan s
   after_others_turn so = record {
     number_is = so.number_is;
     low = so.low;
@@ -185,16 +193,19 @@ module _ (steps : List Step) (before after : Journal) (r : ℕ) (plan : Plan) (s
 module _ (steps : List Step) (before : Journal) (r : ℕ) (plan : Plan) (s t : Station) (so : IsSoFar steps before.entries r plan s)
     (below : clock_of before < 2 ^ 62) where
   -- the place in the plan is that of the turn that comes next
-  next_hart : (hart : ℕ) → hart ≡ slice_index plan.order.items s.next → hart ≡ in_slot plan.order.items (length s.events)
+  next_hart : (hart : ℕ) → hart ≡ slice_index plan.order.items s.next
+      → hart ≡ in_slot plan.order.items (length s.events)
   next_hart hart is = is ∙ ap (slice_index plan.order.items) so.next_is
 
-  asks : (hart : ℕ) (f : HubFault) (after : Journal) → hart ≡ slice_index plan.order.items s.next → Refuses Answered hart s.rank before after f → AsksHub plan s.rank s.events
+  asks : (hart : ℕ) (f : HubFault) (after : Journal) → hart ≡ slice_index plan.order.items s.next
+      → Refuses Answered hart s.rank before after f → AsksHub plan s.rank s.events
   asks hart f after is refused = (refused.0, ap (asked s.rank) (sym (next_hart hart is)) ∙ refused.1)
 
   has_turn : IsActive s.rank (length s.events) s.budget → HasTurn plan s.rank s.events
   has_turn active = record { runs = active.runs; left = omega (arith, active.left, so.budget_is); low = active.low }
 
-  own_cause : (stop : Stop) → IsCause s.rank (length s.events) s.budget stop → HasCause plan s.rank s.events before.entries stop
+  own_cause : (stop : Stop) → IsCause s.rank (length s.events) s.budget stop
+      → HasCause plan s.rank s.events before.entries stop
   own_cause Stop.AllEnded h = h
   own_cause Stop.Budget h = (h.0, h.1 ∙ so.budget_is)
   own_cause Stop.Memory h = has_turn h

@@ -78,7 +78,8 @@ module _ (image : ImageParts) (plans : List Plan) (order : List ℕ) (ss : List 
     ranks_then = map-set (λ (x : Station). x.rank) ss (in_slot order slot) t
 
     rank_there : slice_get (map (λ (x : Station). x.rank) ss) (in_slot order slot) ≡ Some s.rank
-    rank_there = slice_get-map (λ (x : Station). x.rank) ss (in_slot order slot) ∙ ap (option_map (λ (x : Station). x.rank)) there
+    rank_there = slice_get-map (λ (x : Station). x.rank) ss (in_slot order slot)
+        ∙ ap (option_map (λ (x : Station). x.rank)) there
 
     sites_then : t.rank.site ≡ s.rank.site
         → ((q : ℕ) (x : Station) → slice_get ss q ≡ Some x → x.rank.site ≡ site_of image q)
@@ -98,7 +99,8 @@ module _ (image : ImageParts) (plans : List Plan) (order : List ℕ) (ss : List 
     ]
 
     -- a rank that isn't stopped stops
-    pub slot_stopped : (before after : Journal) → Stops plan s before t after → IsUnderWay image plans order ss before slot
+    pub slot_stopped : (before after : Journal) → Stops plan s before t after
+        → IsUnderWay image plans order ss before slot
         → IsUnderWay image plans order (slice_set ss (in_slot order slot) t) after (slot + 1)
     slot_stopped before after h w = subst (λ hub. IsUnderWay image plans order (slice_set ss (in_slot order slot) t) hub (slot + 1)) (sym h.hub_stays) (record {
       links_are = w.links_are;
@@ -123,10 +125,12 @@ module _ (image : ImageParts) (plans : List Plan) (order : List ℕ) (ss : List 
           boxes = w.boxes;
         }
 
-        each_then : (q : ℕ) (p : Plan) (x : Station) → slice_get plans q ≡ Some p → slice_get (slice_set ss (in_slot order slot) t) q ≡ Some x → IsSoFar w.steps before.entries q p x
+        each_then : (q : ℕ) (p : Plan) (x : Station) → slice_get plans q ≡ Some p
+            → slice_get (slice_set ss (in_slot order slot) t) q ≡ Some x → IsSoFar w.steps before.entries q p x
         each_then q p x at_plan at = elim (eqb_tells (in_slot order slot) q) [
           | inl same ↦
-              let is : t ≡ x = same_Some t x (sym (get-set_same ss (in_slot order slot) s t there) ∙ ap (slice_get (slice_set ss (in_slot order slot) t)) same.1 ∙ at) in
+              let is : t ≡ x = same_Some t x (sym (get-set_same ss (in_slot order slot) s t there)
+              ∙ ap (slice_get (slice_set ss (in_slot order slot) t)) same.1 ∙ at) in
               let p_is : plan ≡ p = same_Some plan p (sym planned ∙ ap (slice_get plans) same.1 ∙ at_plan) in
               let so = w.each q p s at_plan (ap (slice_get ss) (sym same.1) ∙ there) in
               subst (IsSoFar w.steps before.entries q p) is (after_stop w.steps before q p s t so w.low after (subst (λ y. Stops y s before t after) p_is h))
@@ -210,11 +214,13 @@ module _ (image : ImageParts) (plans : List Plan) (order : List ℕ) (ss : List 
               boxes_later.1,
             )
 
-        each_then : (q : ℕ) (p : Plan) (x : Station) → slice_get plans q ≡ Some p → slice_get (slice_set ss (in_slot order slot) t) q ≡ Some x
+        each_then : (q : ℕ) (p : Plan) (x : Station) → slice_get plans q ≡ Some p
+            → slice_get (slice_set ss (in_slot order slot) t) q ≡ Some x
             → IsSoFar (w.steps ++ step_of turn.deed ∷ []) after.entries q p x
         each_then q p x at_plan at = elim (eqb_tells (in_slot order slot) q) [
           | inl same ↦
-              let is : t ≡ x = same_Some t x (sym (get-set_same ss (in_slot order slot) s t there) ∙ ap (slice_get (slice_set ss (in_slot order slot) t)) same.1 ∙ at) in
+              let is : t ≡ x = same_Some t x (sym (get-set_same ss (in_slot order slot) s t there)
+              ∙ ap (slice_get (slice_set ss (in_slot order slot) t)) same.1 ∙ at) in
               let p_is : plan ≡ p = same_Some plan p (sym planned ∙ ap (slice_get plans) same.1 ∙ at_plan) in
               let so = w.each q p s at_plan (ap (slice_get ss) (sym same.1) ∙ there) in
               subst (IsSoFar (w.steps ++ step_of turn.deed ∷ []) after.entries q p) is

@@ -177,11 +177,13 @@ module _ (version : ImageVersion) (links : List Link) (channels : List ChannelVi
   receiver_at (b ∷ boxes) zero below = refl
   receiver_at (b ∷ boxes) (suc part) below = receiver_at boxes part (omega (arith, below))
 
-  some_sends : (o : Option SendView) (part : ℕ) (s : Sending) → sender_key o part ≡ Some s → (x : SendView) × (o ≡ Some x)
+  some_sends : (o : Option SendView) (part : ℕ) (s : Sending) → sender_key o part ≡ Some s → (x : SendView)
+      × (o ≡ Some x)
   some_sends None part s e = absurd (cc)
   some_sends (Some x) part s e = (x, refl)
 
-  some_recvs : (o : Option RecvView) (part : ℕ) (r : Receiving) → receiver_key o part ≡ Some r → (x : RecvView) × (o ≡ Some x)
+  some_recvs : (o : Option RecvView) (part : ℕ) (r : Receiving) → receiver_key o part ≡ Some r → (x : RecvView)
+      × (o ≡ Some x)
   some_recvs None part r e = absurd (cc)
   some_recvs (Some x) part r e = (x, refl)
 

@@ -27,7 +27,8 @@ Round order Done from (taker ∷ takers) to =
     (slot : ℕ)
     × (from ≤ slot)
     × (in_slot order slot ≡ taker)
-    × ((passed : ℕ) → from ≤ passed → passed < slot → All (λ later. later ≢ in_slot order passed) (taker ∷ takers) × Done (in_slot order passed))
+    × ((passed : ℕ) → from ≤ passed → passed < slot → All (λ later. later ≢ in_slot order passed) (taker ∷ takers)
+    × Done (in_slot order passed))
     × Round order Done (slot + 1) takers to
 
 -- rank number r after some steps, with these entries in the journal

@@ -40,10 +40,12 @@ loop-own-preserved c =
       rest = seam_more l.yielded _ c.args.ends.items c.in-Some.own _ l.invariant.rest c.in-Some.ensures.steps.0;
       count = omega (arith, c.in_ok-push.ensures.len, l.invariant.count, length-append l.yielded (c.in-Some.own ∷ []));
       ranks = loaded_more c.args.image.now n seats.items c.push.new.self.items seat items
-          (l.invariant.ranks ∙ ap (λ k. map (loaded c.args.image.now) (below_of k)) (sym c.len-rank.ensures)) fresh.rank_is
+          (l.invariant.ranks
+          ∙ ap (λ k. map (loaded c.args.image.now) (below_of k)) (sym c.len-rank.ensures)) fresh.rank_is
           ∙ ap (λ k. map (loaded c.args.image.now) (below_of k)) (sym count);
       fresh = λ channels all.
           fresh_more c.args.image.now c.args.plans.now channels n seats.items c.push.new.self.items seat
-          c.index-plans-rank.result items (sym seats.ok.0 ∙ sym c.len-rank.ensures) planned (l.invariant.fresh channels all)
+          c.index-plans-rank.result items (sym seats.ok.0
+          ∙ sym c.len-rank.ensures) planned (l.invariant.fresh channels all)
           (c.in_ok-seat.ensures channels (all n c.in-Some.own at));
     }

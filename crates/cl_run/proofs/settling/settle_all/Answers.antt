@@ -118,7 +118,8 @@ settle-requires-clause-sender c =
     let x_is : x ≡ from.0 = same_Some x from.0 (sym at_x ∙ from.1) in
     let send_is : c.take_side-send.result ≡ (own links c.args.channels.items c.args.ends.items n c.in-Some.channel c.requires.ends at).sends =
     same_Some _ _ (sym c.take_side-send.ensures.side ∙ ap (λ (e : Ends). side_of n e.sends.items) x_is ∙ from.2) in
-    ap (λ (s : SendView). map sender_box s.keys) send_is ∙ (own links c.args.channels.items c.args.ends.items n c.in-Some.channel c.requires.ends at).sends_own
+    ap (λ (s : SendView). map sender_box s.keys) send_is
+    ∙ (own links c.args.channels.items c.args.ends.items n c.in-Some.channel c.requires.ends at).sends_own
 
 pub settle-requires-clause-receiver : goal.settle-requires-clause-receiver
 settle-requires-clause-receiver c =
@@ -148,7 +149,8 @@ settle-requires-clause-receiver c =
     let z_is : z ≡ to.0 = same_Some z to.0 (sym at_z ∙ to.1) in
     let recv_is : c.take_side-recv.result ≡ (own links c.args.channels.items c.args.ends.items n c.in-Some.channel c.requires.ends at).receives =
     same_Some _ _ (sym c.take_side-recv.ensures.side ∙ ap (λ (e : Ends). side_of n e.recvs.items) z_is ∙ to.2) in
-    ap (λ (r : RecvView). map receiver_box r.keys) recv_is ∙ (own links c.args.channels.items c.args.ends.items n c.in-Some.channel c.requires.ends at).receives_own
+    ap (λ (r : RecvView). map receiver_box r.keys) recv_is
+    ∙ (own links c.args.channels.items c.args.ends.items n c.in-Some.channel c.requires.ends at).receives_own
 
 pub loop-channel-preserved : goal.loop-channel-preserved
 loop-channel-preserved c =
@@ -190,7 +192,8 @@ loop-channel-preserved c =
     c.settle.ensures.settled) in
     record {
       rest = seam_more l.yielded _ c.args.channels.items c.in-Some.channel _ l.invariant.rest c.in-Some.ensures.steps.0;
-      count = more ∙ ap (λ k. k + 1) (boxes_n ∙ l.invariant.count) ∙ sym (length-append l.yielded (c.in-Some.channel ∷ []));
+      count = more ∙ ap (λ k. k + 1) (boxes_n ∙ l.invariant.count)
+          ∙ sym (length-append l.yielded (c.in-Some.channel ∷ []));
       room = omega (arith, l.invariant.room, c.push_reserved.ensures.capacity);
       kept = subst (λ k. Kept c.args.ends.items (slice_set then_now (slice_index_or links n none).to e) k k) (sym more)
           (kept_recvs c.args.ends.items then_now (n + 1) n (slice_index_or links n none).to z e at_z

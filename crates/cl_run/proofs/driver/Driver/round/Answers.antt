@@ -36,7 +36,8 @@ loop-rank-preserved c =
           (slot_goes plan r old new image plans order (k * length order + i)
           (ap (slice_index order) (mod-mul-add k (length order) i c.loop-rank-test.true)) planned kept.seated went goes
           (kept.goes image k start));
-      done = λ quiet place below. done_more plan old new order i c.loop-rank.moved went goes kept.done (sym either ∙ quiet) place below;
+      done = λ quiet place below. done_more plan old new order i c.loop-rank.moved went goes kept.done (sym either
+          ∙ quiet) place below;
       less = subst (λ b. left new + cond b 1 0 ≤ left c.args.self.now) (sym either)
           (less_more (left c.args.self.now) (left old) (left new) c.loop-rank.moved went kept.less (slot_left plan r old new went goes));
     }

@@ -56,7 +56,8 @@ returns c =
     slice_get_read seats.items _ c.args.rank c.index.result.now seats.ok.0 c.requires.there c.index.ensures in
     let same : c.index.result.now ≡ seat = same_Some _ _ (sym first ∙ at) in
     let running : seat.stop ≡ None =
-    ap (λ (s : Seat). s.stop) (sym same) ∙ no_stop c.index.result.now.stop (sym c.is_some.ensures ∙ c.if-is_some.false) in
+    ap (λ (s : Seat). s.stop) (sym same)
+    ∙ no_stop c.index.result.now.stop (sym c.is_some.ensures ∙ c.if-is_some.false) in
     let later_at = get-set_same seats.items c.args.rank seat later at in
     let agree = c.agree.ensures.agree (station later) (station_at _ c.args.rank later later_at) in
     let links = links_stay c.args.plan.now (station seat) (station later) driver.hub c.turn.new.hub goes in

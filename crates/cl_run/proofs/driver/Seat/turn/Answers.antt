@@ -11,7 +11,8 @@ returns-in-Ok-clause-goes c =
     inl (record {
       deed = turn.deed;
       rank_is = turn.rank;
-      hart_is = turn.by ∙ get_or_read order.items c.args.self.now.next c.index-hart.result.now c.requires.seated.next_there c.index-hart.ensures 0;
+      hart_is = turn.by
+          ∙ get_or_read order.items c.args.self.now.next c.index-hart.result.now c.requires.seated.next_there c.index-hart.ensures 0;
       moves = turn.moves;
       tells = turn.tells;
       keys = turn.keys;
@@ -19,7 +20,8 @@ returns-in-Ok-clause-goes c =
       runs = c.in-Ok.ensures.active.runs;
       turns_left = c.in-Ok.ensures.active.left;
       traced = turn.event;
-      next_is = c.place_after-self.ensures.place ∙ ap (λ n. (c.args.self.now.next + 1) % n) (c.len.ensures ∙ order.ok.0);
+      next_is = c.place_after-self.ensures.place
+          ∙ ap (λ n. (c.args.self.now.next + 1) % n) (c.len.ensures ∙ order.ok.0);
       budget_stays = c.turn_plain.ensures.budget;
       goes_on = c.requires.running;
     })

@@ -27,7 +27,8 @@ returns c = λ links wired.
     let at_to = sym (get-set_other ends.items l.from l.to y (λ e. c.requires.link.differ (sym e)))
     ∙ slice_get_read _ _ l.to z (sym (length-set ends.items l.from y)) c.requires.link.to_there c.index_mut-2.ensures.value in
     wired_more c.args.version links old _ l channel x y z w wired long
-    (c.in_ok-channel.ensures.wide ∙ c.box_words.ensures) c.requires.link.differ c.in_ok-push.ensures.items at_from at_to refl
+    (c.in_ok-channel.ensures.wide
+    ∙ c.box_words.ensures) c.requires.link.differ c.in_ok-push.ensures.items at_from at_to refl
     (c.in_ok-push-2.ensures.items
     ∙ (λ i. x.sends.items ++ (number i, c.in_ok-channel.ensures.sends i) ∷ [])) refl refl
     (c.in_ok-push-3.ensures.items
