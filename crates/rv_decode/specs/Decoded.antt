@@ -2,9 +2,11 @@
 -- (RISC-V Unprivileged ISA 20191213, chapter 24).
 use Rattle.std.specs.Prelude.{ℕ, ◌==◌, ◌&&◌, Bool, Option, List, [], ◌∷◌, ◌++◌, map, find}
 use Rattle.rv_decode.specs.Fields.{opcode, rd, funct3, rs1, rs2, funct7, imm_i, imm_s, imm_b, imm_u, imm_j}
-use Rattle.rv_decode.specs.Table.{upper_row, branch_row, load_row, store_row, imm_row, shift_row, arith_row, jal_row, jalr_row, fence_row, ecall_word, ebreak_word, shift_amount, above_amount}
+use Rattle.rv_decode.specs.Table.{upper_row, branch_row, load_row, store_row, imm_row, shift_row, arith_row, jal_row}
+use Rattle.rv_decode.specs.Table.{jalr_row, fence_row, ecall_word, ebreak_word, shift_amount, above_amount}
 use Rattle.rv_decode.specs.declared.instruction.Instr.{Instr}
-use Rattle.rv_decode.specs.declared.instruction.Instr.TheVariants.{Upper, Jal, Jalr, Branch, Load, Store, Imm, Shift, Arith, Fence, Ecall, Ebreak}
+use Rattle.rv_decode.specs.declared.instruction.Instr.TheVariants.{Upper, Jal, Jalr, Branch, Load, Store, Imm, Shift}
+use Rattle.rv_decode.specs.declared.instruction.Instr.TheVariants.{Arith, Fence, Ecall, Ebreak}
 use Rattle.rv_decode.specs.declared.instruction.UpperOp.{UpperOp}
 use Rattle.rv_decode.specs.declared.instruction.UpperOp.TheVariants.{Lui, Auipc}
 use Rattle.rv_decode.specs.declared.instruction.BranchOp.{BranchOp}
@@ -18,7 +20,10 @@ use Rattle.rv_decode.specs.declared.instruction.ImmOp.TheVariants.{Addi, Slti, S
 use Rattle.rv_decode.specs.declared.instruction.ShiftOp.{ShiftOp}
 use Rattle.rv_decode.specs.declared.instruction.ShiftOp.TheVariants.{Slli, Srli, Srai, Slliw, Srliw, Sraiw}
 use Rattle.rv_decode.specs.declared.instruction.ArithOp.{ArithOp}
-use Rattle.rv_decode.specs.declared.instruction.ArithOp.TheVariants.{Add, Sll, Slt, Sltu, Xor, Srl, Or, And, Sub, Sra, Mul, Mulh, Mulhsu, Mulhu, Div, Divu, Rem, Remu, Addw, Sllw, Srlw, Subw, Sraw, Mulw, Divw, Divuw, Remw, Remuw}
+use Rattle.rv_decode.specs.declared.instruction.ArithOp.TheVariants.{Add, Sll, Slt, Sltu, Xor, Srl, Or, And, Sub, Sra}
+use Rattle.rv_decode.specs.declared.instruction.ArithOp.TheVariants.{Mul, Mulh, Mulhsu, Mulhu, Div, Divu, Rem, Remu}
+use Rattle.rv_decode.specs.declared.instruction.ArithOp.TheVariants.{Addw, Sllw, Srlw, Subw, Sraw, Mulw, Divw, Divuw}
+use Rattle.rv_decode.specs.declared.instruction.ArithOp.TheVariants.{Remw, Remuw}
 
 -- whether two rows are the same
 abbrev pub same_pair : ℕ × ℕ → ℕ × ℕ → Bool
@@ -65,7 +70,9 @@ abbrev pub shifts : List ShiftOp
 shifts = Slli ∷ Srli ∷ Srai ∷ Slliw ∷ Srliw ∷ Sraiw ∷ []
 
 abbrev pub ariths : List ArithOp
-ariths = Add ∷ Sub ∷ Sll ∷ Slt ∷ Sltu ∷ Xor ∷ Srl ∷ Sra ∷ Or ∷ And ∷ Addw ∷ Subw ∷ Sllw ∷ Srlw ∷ Sraw ∷ Mul ∷ Mulh ∷ Mulhsu ∷ Mulhu ∷ Div ∷ Divu ∷ Rem ∷ Remu ∷ Mulw ∷ Divw ∷ Divuw ∷ Remw ∷ Remuw ∷ []
+ariths =
+    Add ∷ Sub ∷ Sll ∷ Slt ∷ Sltu ∷ Xor ∷ Srl ∷ Sra ∷ Or ∷ And ∷ Addw ∷ Subw ∷ Sllw ∷ Srlw ∷ Sraw ∷ Mul ∷ Mulh ∷ Mulhsu
+    ∷ Mulhu ∷ Div ∷ Divu ∷ Rem ∷ Remu ∷ Mulw ∷ Divw ∷ Divuw ∷ Remw ∷ Remuw ∷ []
 
 -- each instruction of the table, with the operands that the word's fields spell
 abbrev pub readings : ℕ → List Instr

@@ -36,10 +36,12 @@ abbrev pub imm_s : ℕ → ℤ
 imm_s word = signed 12 (bits word 31 25 * 2 ^ 5 + bits word 11 7)
 
 abbrev pub imm_b : ℕ → ℤ
-imm_b word = signed 13 (bits word 31 31 * 2 ^ 12 + bits word 7 7 * 2 ^ 11 + bits word 30 25 * 2 ^ 5 + bits word 11 8 * 2)
+imm_b word =
+    signed 13 (bits word 31 31 * 2 ^ 12 + bits word 7 7 * 2 ^ 11 + bits word 30 25 * 2 ^ 5 + bits word 11 8 * 2)
 
 abbrev pub imm_u : ℕ → ℤ
 imm_u word = signed 32 (bits word 31 12 * 2 ^ 12)
 
 abbrev pub imm_j : ℕ → ℤ
-imm_j word = signed 21 (bits word 31 31 * 2 ^ 20 + bits word 19 12 * 2 ^ 12 + bits word 20 20 * 2 ^ 11 + bits word 30 21 * 2)
+imm_j word =
+    signed 21 (bits word 31 31 * 2 ^ 20 + bits word 19 12 * 2 ^ 12 + bits word 20 20 * 2 ^ 11 + bits word 30 21 * 2)

@@ -4,3 +4,4 @@ pub mod Table
 pub mod Decoded
 pub mod Text
 pub mod Worked
+pub mod Written

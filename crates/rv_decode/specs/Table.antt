@@ -3,7 +3,8 @@ use Rattle.std.specs.Prelude.{◌≡◌, ℕ, ◌+◌, ◌-◌, ◌*◌, ◌^◌
 use Rattle.std.specs.Int.{w32, cast_unsigned}
 use Rattle.rv_decode.specs.Fields.{bits, opcode, rd, funct3, rs1, rs2, funct7, imm_i, imm_s, imm_b, imm_u, imm_j}
 use Rattle.rv_decode.specs.declared.instruction.Instr.{Instr}
-use Rattle.rv_decode.specs.declared.instruction.Instr.TheVariants.{Upper, Jal, Jalr, Branch, Load, Store, Imm, Shift, Arith, Fence, Ecall, Ebreak}
+use Rattle.rv_decode.specs.declared.instruction.Instr.TheVariants.{Upper, Jal, Jalr, Branch, Load, Store, Imm, Shift}
+use Rattle.rv_decode.specs.declared.instruction.Instr.TheVariants.{Arith, Fence, Ecall, Ebreak}
 use Rattle.rv_decode.specs.declared.instruction.UpperOp.{UpperOp}
 use Rattle.rv_decode.specs.declared.instruction.UpperOp.TheVariants.{Lui, Auipc}
 use Rattle.rv_decode.specs.declared.instruction.BranchOp.{BranchOp}
@@ -17,7 +18,10 @@ use Rattle.rv_decode.specs.declared.instruction.ImmOp.TheVariants.{Addi, Slti, S
 use Rattle.rv_decode.specs.declared.instruction.ShiftOp.{ShiftOp}
 use Rattle.rv_decode.specs.declared.instruction.ShiftOp.TheVariants.{Slli, Srli, Srai, Slliw, Srliw, Sraiw}
 use Rattle.rv_decode.specs.declared.instruction.ArithOp.{ArithOp}
-use Rattle.rv_decode.specs.declared.instruction.ArithOp.TheVariants.{Add, Sll, Slt, Sltu, Xor, Srl, Or, And, Sub, Sra, Mul, Mulh, Mulhsu, Mulhu, Div, Divu, Rem, Remu, Addw, Sllw, Srlw, Subw, Sraw, Mulw, Divw, Divuw, Remw, Remuw}
+use Rattle.rv_decode.specs.declared.instruction.ArithOp.TheVariants.{Add, Sll, Slt, Sltu, Xor, Srl, Or, And, Sub, Sra}
+use Rattle.rv_decode.specs.declared.instruction.ArithOp.TheVariants.{Mul, Mulh, Mulhsu, Mulhu, Div, Divu, Rem, Remu}
+use Rattle.rv_decode.specs.declared.instruction.ArithOp.TheVariants.{Addw, Sllw, Srlw, Subw, Sraw, Mulw, Divw, Divuw}
+use Rattle.rv_decode.specs.declared.instruction.ArithOp.TheVariants.{Remw, Remuw}
 
 -- upper immediates: opcode
 abbrev pub upper_row : UpperOp → ℕ
@@ -140,18 +144,21 @@ abbrev pub HasFunct7 : ℕ → ℕ × ℕ × ℕ → Type 0
 HasFunct7 word row = (opcode word ≡ row.0) × (funct3 word ≡ row.1) × (funct7 word ≡ row.2)
 
 abbrev pub HasShift : ℕ → ShiftOp → Type 0
-HasShift word op = (opcode word ≡ (shift_row op).0) × (funct3 word ≡ (shift_row op).1) × (above_amount op word ≡ (shift_row op).2)
+HasShift word op =
+    (opcode word ≡ (shift_row op).0) × (funct3 word ≡ (shift_row op).1) × (above_amount op word ≡ (shift_row op).2)
 
 -- the word stands for the instruction: it has its row, and the operands are those of its fields
 abbrev pub IsWordOf : ℕ → Instr → Type 0
 IsWordOf word (Upper op d imm) = (opcode word ≡ upper_row op) × (d ≡ rd word) × (imm ≡ imm_u word)
 IsWordOf word (Jal d off) = (opcode word ≡ jal_row) × (d ≡ rd word) × (off ≡ imm_j word)
 IsWordOf word (Jalr d s off) = HasFunct3 word jalr_row × (d ≡ rd word) × (s ≡ rs1 word) × (off ≡ imm_i word)
-IsWordOf word (Branch op s t off) = HasFunct3 word (branch_row op) × (s ≡ rs1 word) × (t ≡ rs2 word) × (off ≡ imm_b word)
+IsWordOf word (Branch op s t off) =
+    HasFunct3 word (branch_row op) × (s ≡ rs1 word) × (t ≡ rs2 word) × (off ≡ imm_b word)
 IsWordOf word (Load op d s off) = HasFunct3 word (load_row op) × (d ≡ rd word) × (s ≡ rs1 word) × (off ≡ imm_i word)
 IsWordOf word (Store op s t off) = HasFunct3 word (store_row op) × (s ≡ rs1 word) × (t ≡ rs2 word) × (off ≡ imm_s word)
 IsWordOf word (Imm op d s imm) = HasFunct3 word (imm_row op) × (d ≡ rd word) × (s ≡ rs1 word) × (imm ≡ imm_i word)
-IsWordOf word (Shift op d s amount) = HasShift word op × (d ≡ rd word) × (s ≡ rs1 word) × (amount ≡ shift_amount op word)
+IsWordOf word (Shift op d s amount) =
+    HasShift word op × (d ≡ rd word) × (s ≡ rs1 word) × (amount ≡ shift_amount op word)
 IsWordOf word (Arith op d s t) = HasFunct7 word (arith_row op) × (d ≡ rd word) × (s ≡ rs1 word) × (t ≡ rs2 word)
 IsWordOf word Fence = HasFunct3 word fence_row
 IsWordOf word Ecall = word ≡ ecall_word
@@ -188,21 +195,29 @@ abbrev pub i_type : ℕ × ℕ → ℕ → ℕ → ℤ → ℕ
 i_type row d s imm = imm_bits imm 11 0 * 2 ^ 20 + s * 2 ^ 15 + row.1 * 2 ^ 12 + d * 2 ^ 7 + row.0
 
 abbrev pub s_type : ℕ × ℕ → ℕ → ℕ → ℤ → ℕ
-s_type row s t imm = imm_bits imm 11 5 * 2 ^ 25 + t * 2 ^ 20 + s * 2 ^ 15 + row.1 * 2 ^ 12 + imm_bits imm 4 0 * 2 ^ 7 + row.0
+s_type row s t imm =
+    imm_bits imm 11 5 * 2 ^ 25 + t * 2 ^ 20 + s * 2 ^ 15 + row.1 * 2 ^ 12 + imm_bits imm 4 0 * 2 ^ 7 + row.0
 
 abbrev pub b_type : ℕ × ℕ → ℕ → ℕ → ℤ → ℕ
-b_type row s t imm = imm_bits imm 12 12 * 2 ^ 31 + imm_bits imm 10 5 * 2 ^ 25 + t * 2 ^ 20 + s * 2 ^ 15 + row.1 * 2 ^ 12 + imm_bits imm 4 1 * 2 ^ 8 + imm_bits imm 11 11 * 2 ^ 7 + row.0
+b_type row s t imm =
+    imm_bits imm 12 12 * 2 ^ 31 + imm_bits imm 10 5 * 2 ^ 25 + t * 2 ^ 20 + s * 2 ^ 15 + row.1 * 2 ^ 12
+    + imm_bits imm 4 1 * 2 ^ 8 + imm_bits imm 11 11 * 2 ^ 7 + row.0
 
 abbrev pub u_type : ℕ → ℕ → ℤ → ℕ
 u_type row d imm = imm_bits imm 31 12 * 2 ^ 12 + d * 2 ^ 7 + row
 
 abbrev pub j_type : ℕ → ℕ → ℤ → ℕ
-j_type row d imm = imm_bits imm 20 20 * 2 ^ 31 + imm_bits imm 10 1 * 2 ^ 21 + imm_bits imm 11 11 * 2 ^ 20 + imm_bits imm 19 12 * 2 ^ 12 + d * 2 ^ 7 + row
+j_type row d imm =
+    imm_bits imm 20 20 * 2 ^ 31 + imm_bits imm 10 1 * 2 ^ 21 + imm_bits imm 11 11 * 2 ^ 20 + imm_bits imm 19 12 * 2 ^ 12
+    + d * 2 ^ 7 + row
 
 abbrev pub shift_type : ShiftOp → ℕ → ℕ → ℕ → ℕ
-shift_type op d s amount = (shift_row op).2 * 2 ^ (20 + amount_bits op) + amount * 2 ^ 20 + s * 2 ^ 15 + (shift_row op).1 * 2 ^ 12 + d * 2 ^ 7 + (shift_row op).0
+shift_type op d s amount =
+    (shift_row op).2 * 2 ^ (20 + amount_bits op) + amount * 2 ^ 20 + s * 2 ^ 15 + (shift_row op).1 * 2 ^ 12 + d * 2 ^ 7
+    + (shift_row op).0
 
--- the word that is written for an instruction that fits: its only word, but for fence, whose is `fence iorw, iorw` (2.7)
+-- the word that is written for an instruction that fits: its only word, but for fence, whose is `fence iorw, iorw`
+-- (2.7)
 unfoldable pub written_word : Instr → ℕ
 written_word (Upper op d imm) = u_type (upper_row op) d imm
 written_word (Jal d off) = j_type jal_row d off

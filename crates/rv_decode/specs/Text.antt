@@ -3,7 +3,8 @@ use Rattle.std.specs.Prelude.{ℕ, ◌/◌, ◌^◌, ℤ, List, [], ◌∷◌, �
 use Rattle.std.specs.Int.{w32, cast_unsigned}
 use Rattle.std.specs.Fmt.{decimal, signed_decimal, digits}
 use Rattle.rv_decode.specs.declared.instruction.Instr.{Instr}
-use Rattle.rv_decode.specs.declared.instruction.Instr.TheVariants.{Upper, Jal, Jalr, Branch, Load, Store, Imm, Shift, Arith, Fence, Ecall, Ebreak}
+use Rattle.rv_decode.specs.declared.instruction.Instr.TheVariants.{Upper, Jal, Jalr, Branch, Load, Store, Imm, Shift}
+use Rattle.rv_decode.specs.declared.instruction.Instr.TheVariants.{Arith, Fence, Ecall, Ebreak}
 use Rattle.rv_decode.specs.declared.instruction.UpperOp.{UpperOp}
 use Rattle.rv_decode.specs.declared.instruction.UpperOp.TheVariants.{Lui, Auipc}
 use Rattle.rv_decode.specs.declared.instruction.BranchOp.{BranchOp}
@@ -17,7 +18,10 @@ use Rattle.rv_decode.specs.declared.instruction.ImmOp.TheVariants.{Addi, Slti, S
 use Rattle.rv_decode.specs.declared.instruction.ShiftOp.{ShiftOp}
 use Rattle.rv_decode.specs.declared.instruction.ShiftOp.TheVariants.{Slli, Srli, Srai, Slliw, Srliw, Sraiw}
 use Rattle.rv_decode.specs.declared.instruction.ArithOp.{ArithOp}
-use Rattle.rv_decode.specs.declared.instruction.ArithOp.TheVariants.{Add, Sll, Slt, Sltu, Xor, Srl, Or, And, Sub, Sra, Mul, Mulh, Mulhsu, Mulhu, Div, Divu, Rem, Remu, Addw, Sllw, Srlw, Subw, Sraw, Mulw, Divw, Divuw, Remw, Remuw}
+use Rattle.rv_decode.specs.declared.instruction.ArithOp.TheVariants.{Add, Sll, Slt, Sltu, Xor, Srl, Or, And, Sub, Sra}
+use Rattle.rv_decode.specs.declared.instruction.ArithOp.TheVariants.{Mul, Mulh, Mulhsu, Mulhu, Div, Divu, Rem, Remu}
+use Rattle.rv_decode.specs.declared.instruction.ArithOp.TheVariants.{Addw, Sllw, Srlw, Subw, Sraw, Mulw, Divw, Divuw}
+use Rattle.rv_decode.specs.declared.instruction.ArithOp.TheVariants.{Remw, Remuw}
 
 -- the mnemonics
 abbrev pub upper_name : UpperOp → List ℕ
@@ -120,11 +124,13 @@ abbrev pub instr_text : Instr → List ℕ
 instr_text (Upper op d imm) = statement_text (upper_name op) (register_text d ∷ upper_text imm ∷ [])
 instr_text (Jal d off) = statement_text (codes "jal") (register_text d ∷ signed_decimal off ∷ [])
 instr_text (Jalr d s off) = statement_text (codes "jalr") (register_text d ∷ address_text off s ∷ [])
-instr_text (Branch op s t off) = statement_text (branch_name op) (register_text s ∷ register_text t ∷ signed_decimal off ∷ [])
+instr_text (Branch op s t off) =
+    statement_text (branch_name op) (register_text s ∷ register_text t ∷ signed_decimal off ∷ [])
 instr_text (Load op d s off) = statement_text (load_name op) (register_text d ∷ address_text off s ∷ [])
 instr_text (Store op s t off) = statement_text (store_name op) (register_text t ∷ address_text off s ∷ [])
 instr_text (Imm op d s imm) = statement_text (imm_name op) (register_text d ∷ register_text s ∷ signed_decimal imm ∷ [])
-instr_text (Shift op d s amount) = statement_text (shift_name op) (register_text d ∷ register_text s ∷ decimal amount ∷ [])
+instr_text (Shift op d s amount) =
+    statement_text (shift_name op) (register_text d ∷ register_text s ∷ decimal amount ∷ [])
 instr_text (Arith op d s t) = statement_text (arith_name op) (register_text d ∷ register_text s ∷ register_text t ∷ [])
 instr_text Fence = codes "fence"
 instr_text Ecall = codes "ecall"

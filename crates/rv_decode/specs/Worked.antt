@@ -5,7 +5,8 @@ use Rattle.rv_decode.specs.Fields.{bits, signed, imm_i, imm_s, imm_b, imm_u, imm
 use Rattle.rv_decode.specs.Table.{IsWordOf, written_word}
 use Rattle.rv_decode.specs.Decoded.{decoded}
 use Rattle.rv_decode.specs.Text.{instr_text}
-use Rattle.rv_decode.specs.declared.instruction.Instr.TheVariants.{Upper, Jal, Jalr, Branch, Store, Imm, Shift, Arith, Fence, Ecall}
+use Rattle.rv_decode.specs.declared.instruction.Instr.TheVariants.{Upper, Jal, Jalr, Branch, Store, Imm, Shift, Arith}
+use Rattle.rv_decode.specs.declared.instruction.Instr.TheVariants.{Fence, Ecall}
 use Rattle.rv_decode.specs.declared.instruction.UpperOp.TheVariants.{Lui}
 use Rattle.rv_decode.specs.declared.instruction.BranchOp.TheVariants.{Beq}
 use Rattle.rv_decode.specs.declared.instruction.StoreOp.TheVariants.{Sd}
@@ -69,7 +70,8 @@ unfolding written_word
 written_jal = refl
 
 -- the two words of li x5, 2147483647
-pub decoded_li : (decoded 0x800002b7 ≡ Some (Upper Lui 5 (negsuc 0x7fffffff))) × (decoded 0xfff2829b ≡ Some (Imm Addiw 5 5 (negsuc 0)))
+pub decoded_li : (decoded 0x800002b7 ≡ Some (Upper Lui 5 (negsuc 0x7fffffff)))
+    × (decoded 0xfff2829b ≡ Some (Imm Addiw 5 5 (negsuc 0)))
 unfolding decoded
 decoded_li = (refl, refl)
 

@@ -1,7 +1,9 @@
 //! From words to instructions.
 ghost use Rattle.std.specs.Prelude.{◌≡◌, ◌↔◌, IsNone, IfSome, find};
-ghost use Rattle.rv_decode.specs.Decoded.{decoded, same_pair, same_triple, branches, loads, stores, imms, shifts, ariths};
-ghost use Rattle.rv_decode.specs.Fields.{imm_i as imm_i_of, imm_s as imm_s_of, imm_b as imm_b_of, imm_u as imm_u_of, imm_j as imm_j_of, bits};
+ghost use Rattle.rv_decode.specs.Decoded.{decoded, same_pair, same_triple, branches, loads, stores, imms, shifts};
+ghost use Rattle.rv_decode.specs.Decoded.{ariths};
+ghost use Rattle.rv_decode.specs.Fields.{imm_i as imm_i_of, imm_s as imm_s_of, imm_b as imm_b_of, imm_u as imm_u_of};
+ghost use Rattle.rv_decode.specs.Fields.{imm_j as imm_j_of, bits};
 ghost use Rattle.rv_decode.specs.Table.{IsWordOf, Fits, branch_row, load_row, store_row, imm_row, shift_row, arith_row};
 ghost use Rattle.rv_decode.specs.declared.instruction.Instr.{Instr};
 

@@ -2,7 +2,9 @@
 ghost use Rattle.std.specs.Prelude.{◌≡◌, ℕ, ◌⊎◌, ◌<◌, ◌+◌, ◌*◌, ◌^◌, ◌↔◌, IsTrue, Some, pos, ◌≤ℤ◌, int_rem};
 ghost use Rattle.rv_decode.specs.Decoded.{decoded};
 ghost use Rattle.rv_decode.specs.Fields.{bits, imm_i, imm_s, imm_b, imm_u, imm_j};
-ghost use Rattle.rv_decode.specs.Table.{IsWordOf, HasFunct3, HasFunct7, Fits, IsSigned, amount_bits, written_word, r_type as r_word, i_type as i_word, s_type as s_word, b_type as b_word, u_type as u_word, j_type as j_word, shift_type as shift_word};
+ghost use Rattle.rv_decode.specs.Table.{IsWordOf, HasFunct3, HasFunct7, Fits, IsSigned, amount_bits, written_word};
+ghost use Rattle.rv_decode.specs.Table.{r_type as r_word, i_type as i_word, s_type as s_word, b_type as b_word};
+ghost use Rattle.rv_decode.specs.Table.{u_type as u_word, j_type as j_word, shift_type as shift_word};
 ghost use Rattle.rv_decode.specs.declared.instruction.Instr.TheVariants.{Shift, Fence};
 
 use crate::instruction::{Instr, ShiftOp};
@@ -10,8 +12,8 @@ use crate::register::Reg;
 
 impl Instr {
     /// Whether the format holds the instruction's immediate, offset or amount, so that a word stands for it: `imm` of
-    /// `Upper` a multiple of 4096; `off` of `Jal` even, -2^20 to 2^20 - 2; `off` of `Branch` even, -4096 to 4094; the other
-    /// immediates and offsets -2048 to 2047; `amount` below 64, that of a W shift below 32.
+    /// `Upper` a multiple of 4096; `off` of `Jal` even, -2^20 to 2^20 - 2; `off` of `Branch` even, -4096 to 4094; the
+    /// other immediates and offsets -2048 to 2047; `amount` below 64, that of a W shift below 32.
     pub fn fits(&self) -> bool
         ensures { IsTrue result ↔ Fits self.now }
     {

@@ -2,14 +2,14 @@
 use crate::register::Reg;
 
 /// Instructions with an upper immediate (2.4).
-#[derive(Clone, Copy, PartialEq, Eq, Debug, Drop)]
+#[derive(Clone, Copy, Drop)]
 pub enum UpperOp {
     Lui,
     Auipc,
 }
 
 /// Conditional branches (2.5).
-#[derive(Clone, Copy, PartialEq, Eq, Debug, Drop)]
+#[derive(Clone, Copy, Drop)]
 pub enum BranchOp {
     Beq,
     Bne,
@@ -20,7 +20,7 @@ pub enum BranchOp {
 }
 
 /// Loads (2.6 and 5.3).
-#[derive(Clone, Copy, PartialEq, Eq, Debug, Drop)]
+#[derive(Clone, Copy, Drop)]
 pub enum LoadOp {
     Lb,
     Lh,
@@ -32,7 +32,7 @@ pub enum LoadOp {
 }
 
 /// Stores (2.6 and 5.3).
-#[derive(Clone, Copy, PartialEq, Eq, Debug, Drop)]
+#[derive(Clone, Copy, Drop)]
 pub enum StoreOp {
     Sb,
     Sh,
@@ -41,7 +41,7 @@ pub enum StoreOp {
 }
 
 /// Operations on a register and an immediate (2.4 and 5.2).
-#[derive(Clone, Copy, PartialEq, Eq, Debug, Drop)]
+#[derive(Clone, Copy, Drop)]
 pub enum ImmOp {
     Addi,
     Slti,
@@ -53,7 +53,7 @@ pub enum ImmOp {
 }
 
 /// Shifts of a register by an amount in the word (5.2). Those that end in w shift 32 bits.
-#[derive(Clone, Copy, PartialEq, Eq, Debug, Drop)]
+#[derive(Clone, Copy, Drop)]
 pub enum ShiftOp {
     Slli,
     Srli,
@@ -64,7 +64,7 @@ pub enum ShiftOp {
 }
 
 /// Operations on two registers (2.4, 5.2 and chapter 7). Those that end in w take 32 bits of each.
-#[derive(Clone, Copy, PartialEq, Eq, Debug, Drop)]
+#[derive(Clone, Copy, Drop)]
 pub enum ArithOp {
     Add,
     Sub,
@@ -99,7 +99,7 @@ pub enum ArithOp {
 /// One instruction. Immediates and offsets are the signed numbers that the instruction adds or compares, in bytes where
 /// they are offsets; the one of `Upper` is a multiple of 4096 (`lui x5, 0xa7` has 0xa7000). An instruction need not fit
 /// its word: see `Instr::fits`.
-#[derive(Clone, Copy, PartialEq, Eq, Debug, Drop)]
+#[derive(Clone, Copy, Drop)]
 pub enum Instr {
     /// `op rd, imm / 4096`
     Upper {

@@ -1,6 +1,8 @@
 //! The text of an instruction.
 ghost use Rattle.std.specs.Prelude.{◌≡◌, IfOk, Some, string_bytes};
-ghost use Rattle.rv_decode.specs.Text.{instr_text, register_text, upper_name, branch_name, load_name, store_name, imm_name, shift_name, arith_name};
+ghost use Rattle.rv_decode.specs.Written.{operand_texts, written};
+ghost use Rattle.rv_decode.specs.Text.{instr_text, operands_text, register_text, upper_name, branch_name, load_name};
+ghost use Rattle.rv_decode.specs.Text.{store_name, imm_name, shift_name, arith_name};
 
 use crate::instruction::{ArithOp, BranchOp, ImmOp, Instr, LoadOp, ShiftOp, StoreOp, UpperOp};
 use crate::register::Reg;
@@ -139,56 +141,91 @@ impl fmt::Display for Reg {
     }
 }
 
-impl fmt::Display for Instr {
-    ghost output = { λ i. Some (instr_text i) };
+/// What stands behind a mnemonic.
+#[derive(Clone, Copy)]
+enum Operands {
+    Nothing,
+    /// `x5, 0xa7`
+    Upper(Reg, u32),
+    /// `x1, -4`
+    Target(Reg, i32),
+    /// `x5, -8(x2)`
+    Address(Reg, i32, Reg),
+    /// `x5, x0, -1`
+    Number(Reg, Reg, i32),
+    /// `x5, x6, x7`
+    Registers(Reg, Reg, Reg),
+}
+
+impl fmt::Display for Operands {
+    ghost output = { λ operands. Some (operands_text (operand_texts operands)) };
 
     fn fmt<W: fmt::Write>(&self, f: &mut fmt::Formatter<W>) -> fmt::Result {
         match *self {
+            Operands::Nothing => Ok(()),
+            Operands::Upper(rd, field) => write!(f, "{rd}, 0x{field:x}"),
+            Operands::Target(rd, off) => write!(f, "{rd}, {off}"),
+            Operands::Address(rd, off, rs1) => write!(f, "{rd}, {off}({rs1})"),
+            Operands::Number(rd, rs1, number) => write!(f, "{rd}, {rs1}, {number}"),
+            Operands::Registers(rd, rs1, rs2) => write!(f, "{rd}, {rs1}, {rs2}"),
+        }
+    }
+}
+
+/// A mnemonic and its operands.
+#[derive(Clone, Copy)]
+struct Statement {
+    name: &'static str,
+    operands: Operands,
+}
+
+impl Instr {
+    /// The mnemonic and the operands that an instruction is written with.
+    fn statement(&self) -> Statement
+        ensures { written result ≡ instr_text self.now }
+    {
+        let (name, operands) = match *self {
             Instr::Upper { op, rd, imm } => {
-                let name = op.mnemonic();
-                let field = imm.cast_unsigned() / 0x1000;
-                write!(f, "{name} {rd}, 0x{field:x}")
+                (
+                    op.mnemonic(),
+                    Operands::Upper(rd, imm.cast_unsigned() / 0x1000),
+                )
             }
-            Instr::Jal { rd, off } => write!(f, "jal {rd}, {off}"),
-            Instr::Jalr { rd, rs1, off } => write!(f, "jalr {rd}, {off}({rs1})"),
-            Instr::Branch { op, rs1, rs2, off } => {
-                let name = op.mnemonic();
-                write!(f, "{name} {rs1}, {rs2}, {off}")
-            }
-            Instr::Load { op, rd, rs1, off } => {
-                let name = op.mnemonic();
-                write!(f, "{name} {rd}, {off}({rs1})")
-            }
-            Instr::Store { op, rs1, rs2, off } => {
-                let name = op.mnemonic();
-                write!(f, "{name} {rs2}, {off}({rs1})")
-            }
-            Instr::Imm { op, rd, rs1, imm } => {
-                let name = op.mnemonic();
-                write!(f, "{name} {rd}, {rs1}, {imm}")
-            }
+            Instr::Jal { rd, off } => ("jal", Operands::Target(rd, off)),
+            Instr::Jalr { rd, rs1, off } => ("jalr", Operands::Address(rd, off, rs1)),
+            Instr::Branch { op, rs1, rs2, off } => (op.mnemonic(), Operands::Number(rs1, rs2, off)),
+            Instr::Load { op, rd, rs1, off } => (op.mnemonic(), Operands::Address(rd, off, rs1)),
+            Instr::Store { op, rs1, rs2, off } => (op.mnemonic(), Operands::Address(rs2, off, rs1)),
+            Instr::Imm { op, rd, rs1, imm } => (op.mnemonic(), Operands::Number(rd, rs1, imm)),
             Instr::Shift {
                 op,
                 rd,
                 rs1,
                 amount,
-            } => {
-                let name = op.mnemonic();
-                write!(f, "{name} {rd}, {rs1}, {amount}")
-            }
-            Instr::Arith { op, rd, rs1, rs2 } => {
-                let name = op.mnemonic();
-                write!(f, "{name} {rd}, {rs1}, {rs2}")
-            }
-            Instr::Fence => write!(f, "fence"),
-            Instr::Ecall => write!(f, "ecall"),
-            Instr::Ebreak => write!(f, "ebreak"),
+            } => { (op.mnemonic(), Operands::Number(rd, rs1, i32::from(amount))) }
+            Instr::Arith { op, rd, rs1, rs2 } => (op.mnemonic(), Operands::Registers(rd, rs1, rs2)),
+            Instr::Fence => ("fence", Operands::Nothing),
+            Instr::Ecall => ("ecall", Operands::Nothing),
+            Instr::Ebreak => ("ebreak", Operands::Nothing),
+        };
+        Statement { name, operands }
+    }
+}
+
+impl fmt::Display for Instr {
+    ghost output = { λ i. Some (instr_text i) };
+
+    fn fmt<W: fmt::Write>(&self, f: &mut fmt::Formatter<W>) -> fmt::Result {
+        let Statement { name, operands } = self.statement();
+        match operands {
+            Operands::Nothing => write!(f, "{name}"),
+            _ => write!(f, "{name} {operands}"),
         }
     }
 }
 
-/// The instruction's text in a new string, as the assembler reads it: `addi x5, x0, -1`, `lui x5, 0xa7`, `sd x5, -8(x2)`,
-/// `beq x5, x6, 8` (targets are offsets in bytes). The only error is want of memory.
+/// The instruction's text in a new string, as the assembler reads it: `addi x5, x0, -1`, `lui x5, 0xa7`,
+/// `sd x5, -8(x2)`, `beq x5, x6, 8` (targets are offsets in bytes). The only error is want of memory.
 pub fn print_instr(alloc: Global, instr: &Instr) -> Result<String, AllocError>
     ensures text { IfOk result (λ text. string_bytes text ≡ instr_text instr.now) }
 {

@@ -2,7 +2,7 @@
 use std::marker::Model;
 
 /// The number of an integer register, from 0 to 31: `Reg::new(5)` is x5. Contracts see the number.
-#[derive(Clone, Copy, PartialEq, Eq, Debug, Drop)]
+#[derive(Clone, Copy, Drop)]
 pub struct Reg(u8);
 
 impl Model for Reg {

@@ -1,6 +1,7 @@
 //! The fixed columns of the instruction table, for encoding.
 ghost use Rattle.std.specs.Prelude.{◌≡◌, ◌<◌, ◌+◌, ◌^◌};
-ghost use Rattle.rv_decode.specs.Table.{upper_row, branch_row, load_row, store_row, imm_row, shift_row, arith_row, amount_bits};
+ghost use Rattle.rv_decode.specs.Table.{upper_row, branch_row, load_row, store_row, imm_row, shift_row, arith_row};
+ghost use Rattle.rv_decode.specs.Table.{amount_bits};
 
 use crate::instruction::{ArithOp, BranchOp, ImmOp, LoadOp, ShiftOp, StoreOp, UpperOp};
 

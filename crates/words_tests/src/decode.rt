@@ -42,6 +42,22 @@ pub fn word_arithmetic_is_read() -> Option<Instr>
     decode(0x0073_02bb)
 }
 
+/// A word of the control registers is no instruction: 00001073 would be `csrrw x0, 0, x0`.
+#[tactic(auto, unfolding(rv_decode::specs::Decoded::decoded))]
+pub fn csr_word_is_no_instruction() -> Option<Instr>
+    ensures { result ≡ None }
+{
+    decode(0x0000_1073)
+}
+
+/// Words are shifted by less than 32: 0202929b would be `slliw x5, x5, 32`.
+#[tactic(auto, unfolding(rv_decode::specs::Decoded::decoded))]
+pub fn word_shift_with_bit_25_is_no_instruction() -> Option<Instr>
+    ensures { result ≡ None }
+{
+    decode(0x0202_929b)
+}
+
 /// A fence is one whatever its other fields say: 0ff2828f has registers set, which the manual reserves.
 #[tactic(auto, unfolding(rv_decode::specs::Decoded::decoded))]
 pub fn fence_with_registers_is_a_fence() -> Option<Instr>
