@@ -13,7 +13,7 @@ fn is_escape_byte(b: u8) -> bool
 }
 
 /// What a byte of a string does.
-#[derive(Clone, Copy, Debug)]
+#[derive(Clone, Copy)]
 pub enum QuoteStep {
     End,
     Bad,

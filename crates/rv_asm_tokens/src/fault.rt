@@ -7,7 +7,7 @@ use std::alloc::{AllocError, AllocFailed};
 use thiserror::Error;
 
 /// What is wrong. It prints as its name, with its number behind a space.
-#[derive(Clone, Copy, Debug, PartialEq, Eq, Error)]
+#[derive(Clone, Copy, Debug, Error)]
 pub enum AsmFaultKind {
     /// 1: a character, a number or a string that is no token.
     #[error("Token")]
@@ -40,7 +40,7 @@ pub enum AsmFaultKind {
 }
 
 /// The first fault of a source, and the line where it stands: from 1, or 0 for a fault of the whole source.
-#[derive(Clone, Copy, Debug, PartialEq, Eq, Error)]
+#[derive(Clone, Copy, Debug, Error)]
 #[error("line {line}: {kind}")]
 pub struct AsmFault {
     /// The line's number.

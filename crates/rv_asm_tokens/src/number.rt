@@ -4,7 +4,7 @@ ghost use Rattle.std.specs.Prelude.{◌≡◌, ◌≤ℤ◌, ◌<ℤ◌, ◌^◌
 ghost use Rattle.rv_asm_tokens.specs.Lexeme.{number_value};
 
 /// A number between -2^64 and 2^64, as its sign and magnitude. Tokens have those from -2^63 to 2^64 - 1.
-#[derive(Clone, Copy, Debug)]
+#[derive(Clone, Copy)]
 pub struct Number {
     pub negative: bool,
     pub magnitude: u64,

@@ -4,7 +4,8 @@ ghost use Rattle.std.specs.Prelude.{◌≡◌, ◌≤◌, ◌+◌, ◌∷◌, If
 ghost use Rattle.std.specs.Option.{option_map};
 ghost use Rattle.rv_asm_tokens.specs.Fault.{Gives, Is};
 ghost use Rattle.rv_asm_tokens.specs.Lexeme.{lexeme_of, lexemes_of};
-ghost use Rattle.rv_asm_tokens.specs.Scan.{is_name_byte, word_length, sign, sign_front, number_front, negative_front, name_front, text_front, front_at, tokens_of};
+ghost use Rattle.rv_asm_tokens.specs.Scan.{is_name_byte, word_length, sign, sign_front, number_front, negative_front};
+ghost use Rattle.rv_asm_tokens.specs.Scan.{name_front, text_front, front_at, tokens_of};
 ghost use Rattle.rv_asm_tokens.specs.FrontView.{front_view, LiesIn};
 
 use crate::digits::magnitude_of;
@@ -15,7 +16,7 @@ use crate::token::Token;
 use std::alloc::Global;
 
 /// What stands at a byte.
-#[derive(Clone, Copy, Debug)]
+#[derive(Clone, Copy)]
 pub enum Front<'a> {
     Comment,
     Blank,

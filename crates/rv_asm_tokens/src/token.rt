@@ -3,7 +3,7 @@
 use crate::number::Number;
 
 /// A token of a line; its bytes stand in the source.
-#[derive(Clone, Copy, Debug)]
+#[derive(Clone, Copy)]
 pub enum Token<'a> {
     /// Letters, digits, `_`, `.` and `$`, not beginning with a digit.
     Name(&'a [u8]),

@@ -3,14 +3,17 @@
 use Rattle.std.specs.Prelude.{◌≡◌, ℕ, ◌+◌, ◌-◌, ◌%◌, ◌==◌, if◌then◌else◌, ℤ, pos, ◌+ℤ◌, MatchOption, Option, Some, None}
 use Rattle.rv_decode.specs.Table.{IsWordOf}
 use Rattle.rv_decode.specs.declared.instruction.Instr.{Instr}
-use Rattle.rv_decode.specs.declared.instruction.Instr.TheVariants.{Upper, Jal, Jalr, Branch, Load, Store, Imm, Shift, Arith, Fence, Ecall, Ebreak}
+use Rattle.rv_decode.specs.declared.instruction.Instr.TheVariants.{Upper, Jal, Jalr, Branch, Load, Store, Imm, Shift}
+use Rattle.rv_decode.specs.declared.instruction.Instr.TheVariants.{Arith, Fence, Ecall, Ebreak}
 use Rattle.rv_decode.specs.declared.instruction.LoadOp.{LoadOp}
 use Rattle.rv_memory.specs.Memory.{Memory, value_at}
 use Rattle.rv_memory.specs.Access.{size_of, load_trap, store_trap, stored, word_at}
 use Rattle.rv_memory.specs.declared.fault.Cause.{Cause}
-use Rattle.rv_memory.specs.declared.fault.Cause.TheVariants.{InstructionMisaligned, InstructionAccess, IllegalInstruction, Breakpoint}
+use Rattle.rv_memory.specs.declared.fault.Cause.TheVariants.{InstructionMisaligned, InstructionAccess}
+use Rattle.rv_memory.specs.declared.fault.Cause.TheVariants.{IllegalInstruction, Breakpoint}
 use Rattle.rv_hart.specs.Numbers.{in_64}
-use Rattle.rv_hart.specs.Results.{upper_result, arith_result, imm_result, shift_result, is_taken, load_width, load_result, store_width}
+use Rattle.rv_hart.specs.Results.{upper_result, arith_result, imm_result, shift_result, is_taken, load_width}
+use Rattle.rv_hart.specs.Results.{load_result, store_width}
 use Rattle.rv_hart.specs.State.{State, read, write, at_pc, in_mode}
 use Rattle.rv_hart.specs.declared.state.Did.{Did}
 use Rattle.rv_hart.specs.declared.state.Did.TheVariants.{Plain, Call, Break, Trap}
@@ -48,7 +51,8 @@ gives d value s m = plain (at_pc (write s d value) (next s)) m
 
 -- a jump: rd gets the next instruction's address, unless the target isn't a multiple of 4 (2.5)
 unfoldable pub jumps : ℕ → ℕ → State → Memory → After
-jumps d target s m = if (target % 4 == 0) then plain (at_pc (write s d (next s)) target) m else trapped InstructionMisaligned s m
+jumps d target s m =
+    if (target % 4 == 0) then plain (at_pc (write s d (next s)) target) m else trapped InstructionMisaligned s m
 
 -- a branch that is taken (2.5)
 unfoldable pub branches : ℕ → State → Memory → After
@@ -64,13 +68,14 @@ abbrev pub stores : Option Cause → Memory → State → Memory → After
 stores None new s m = plain (at_pc s (next s)) new
 stores (Some cause) new s m = trapped cause s m
 
--- the effect of an instruction: computations 2.4 and 5.2, jumps and branches 2.5, loads and stores 2.6 and 5.3, fence 2.7,
--- ecall (left to the caller) and ebreak 2.8
+-- the effect of an instruction: computations 2.4 and 5.2, jumps and branches 2.5, loads and stores 2.6 and 5.3, fence
+-- 2.7, ecall (left to the caller) and ebreak 2.8
 abbrev pub after : Instr → State → Memory → After
 after (Upper op d imm) s m = gives d (upper_result op s.pc imm) s m
 after (Jal d off) s m = jumps d (offset s.pc off) s m
 after (Jalr d r off) s m = jumps d (even (offset (read s r) off)) s m
-after (Branch op r t off) s m = if is_taken op (read s r) (read s t) then branches (offset s.pc off) s m else plain (at_pc s (next s)) m
+after (Branch op r t off) s m =
+    if is_taken op (read s r) (read s t) then branches (offset s.pc off) s m else plain (at_pc s (next s)) m
 after (Load op d r off) s m =
     let address = offset (read s r) off in
     loads (load_trap m address (size_of (load_width op))) op d address s m

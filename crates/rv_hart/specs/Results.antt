@@ -1,6 +1,7 @@
 -- What each instruction computes, in whole numbers that are reduced at the end (RISC-V Unprivileged ISA 20191213).
 -- `a` and `b` are what rs1 and rs2 read.
-use Rattle.std.specs.Prelude.{ℕ, ◌+◌, ◌-◌, ◌*◌, ◌/◌, ◌%◌, ◌^◌, ◌==◌, nat_lt, if◌then◌else◌, ℤ, pos, ◌+ℤ◌, ◌-ℤ◌, ◌*ℤ◌, int_lt, int_div, int_rem, bit_and, bit_or, bit_xor, Bool, not}
+use Rattle.std.specs.Prelude.{ℕ, ◌+◌, ◌-◌, ◌*◌, ◌/◌, ◌%◌, ◌^◌, ◌==◌, nat_lt, if◌then◌else◌, ℤ, pos, ◌+ℤ◌, ◌-ℤ◌, ◌*ℤ◌}
+use Rattle.std.specs.Prelude.{int_lt, int_div, int_rem, bit_and, bit_or, bit_xor, Bool, not}
 use Rattle.rv_decode.specs.Fields.{signed}
 use Rattle.rv_decode.specs.declared.instruction.UpperOp.{UpperOp}
 use Rattle.rv_decode.specs.declared.instruction.UpperOp.TheVariants.{Lui, Auipc}
@@ -15,7 +16,10 @@ use Rattle.rv_decode.specs.declared.instruction.ImmOp.TheVariants.{Addi, Slti, S
 use Rattle.rv_decode.specs.declared.instruction.ShiftOp.{ShiftOp}
 use Rattle.rv_decode.specs.declared.instruction.ShiftOp.TheVariants.{Slli, Srli, Srai, Slliw, Srliw, Sraiw}
 use Rattle.rv_decode.specs.declared.instruction.ArithOp.{ArithOp}
-use Rattle.rv_decode.specs.declared.instruction.ArithOp.TheVariants.{Add, Sub, Sll, Slt, Sltu, Xor, Srl, Sra, Or, And, Addw, Subw, Sllw, Srlw, Sraw, Mul, Mulh, Mulhsu, Mulhu, Div, Divu, Rem, Remu, Mulw, Divw, Divuw, Remw, Remuw}
+use Rattle.rv_decode.specs.declared.instruction.ArithOp.TheVariants.{Add, Sub, Sll, Slt, Sltu, Xor, Srl, Sra, Or, And}
+use Rattle.rv_decode.specs.declared.instruction.ArithOp.TheVariants.{Addw, Subw, Sllw, Srlw, Sraw, Mul, Mulh, Mulhsu}
+use Rattle.rv_decode.specs.declared.instruction.ArithOp.TheVariants.{Mulhu, Div, Divu, Rem, Remu, Mulw, Divw, Divuw}
+use Rattle.rv_decode.specs.declared.instruction.ArithOp.TheVariants.{Remw, Remuw}
 use Rattle.rv_memory.specs.declared.memory.Width.{Width}
 use Rattle.rv_memory.specs.declared.memory.Width.TheVariants.{Byte, Half, Word, Double}
 use Rattle.rv_hart.specs.Numbers.{floor, signed_64, low_32, signed_32, in_64, in_32}

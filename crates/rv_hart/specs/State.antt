@@ -14,7 +14,8 @@ read state number = if (number == 0) then 0 else slice_index state.regs number
 
 -- a write to a register: one to x0 is dropped
 abbrev pub write : State → ℕ → ℕ → State
-write state number value = record state { regs = if (number == 0) then state.regs else slice_set state.regs number value }
+write state number value =
+    record state { regs = if (number == 0) then state.regs else slice_set state.regs number value }
 
 -- the state at another pc
 abbrev pub at_pc : State → ℕ → State
@@ -31,4 +32,5 @@ fresh pc = record { regs = replicate 32 0; pc = pc; mode = Running }
 -- a hart as its rank is loaded: x2 is the end of its own 4,096 bytes of stack, x10 its number, x11 the rank's, and the
 -- pc is the program's entry
 abbrev pub start_state : ℕ → ℕ → ℕ → ℕ → State
-start_state entry memory_size hart rank = write (write (write (fresh entry) 2 (memory_size - 4096 * hart)) 10 hart) 11 rank
+start_state entry memory_size hart rank =
+    write (write (write (fresh entry) 2 (memory_size - 4096 * hart)) 10 hart) 11 rank

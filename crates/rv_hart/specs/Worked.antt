@@ -58,10 +58,12 @@ unfolding load_result
 lw_extends_the_sign = refl
 
 -- jalr x1, 0(x1) at pc 4: x1 is read before it is written, and not written where the target is misaligned
-pub jalr_by_its_own_link : after (Jalr 1 1 (pos 0)) (write (fresh 4) 1 8) small ≡ plain (at_pc (write (fresh 4) 1 8) 8) small
+pub jalr_by_its_own_link : after (Jalr 1 1 (pos 0)) (write (fresh 4) 1 8) small
+    ≡ plain (at_pc (write (fresh 4) 1 8) 8) small
 unfolding Rattle.rv_hart.specs.Effect.jumps
 jalr_by_its_own_link = refl
 
-pub jalr_to_a_half : after (Jalr 1 1 (pos 0)) (write (fresh 4) 1 6) small ≡ trapped InstructionMisaligned (write (fresh 4) 1 6) small
+pub jalr_to_a_half : after (Jalr 1 1 (pos 0)) (write (fresh 4) 1 6) small
+    ≡ trapped InstructionMisaligned (write (fresh 4) 1 6) small
 unfolding Rattle.rv_hart.specs.Effect.jumps
 jalr_to_a_half = refl

@@ -3,7 +3,8 @@ ghost use Rattle.std.specs.Prelude.{ℤ, pos, ◌≡◌, ◌≢◌, ◌+◌, ◌
 ghost use Rattle.rv_decode.specs.Fields.{signed as signed_of};
 ghost use Rattle.rv_decode.specs.Table.{amount_bits};
 ghost use Rattle.rv_hart.specs.Numbers.{modulo, floor, signed_64, low_32, signed_32, in_64, in_32};
-ghost use Rattle.rv_hart.specs.Results.{upper_result, arith_result, imm_result, shift_result, is_taken as taken_of, load_width as load_width_of, store_width as store_width_of, load_result};
+ghost use Rattle.rv_hart.specs.Results.{upper_result, arith_result, imm_result, shift_result, is_taken as taken_of};
+ghost use Rattle.rv_hart.specs.Results.{load_width as load_width_of, store_width as store_width_of, load_result};
 ghost use Rattle.rv_memory.specs.Access.{size_of};
 
 use rv_decode::{ArithOp, BranchOp, ImmOp, LoadOp, ShiftOp, StoreOp, UpperOp};
@@ -158,6 +159,13 @@ fn product(a: i64, b: i64) -> i128
     a as i128 * b as i128
 }
 
+#[inline(always)]
+fn mixed_product(a: i64, b: u64) -> i128
+    ensures { result ≡ a *ℤ pos b }
+{
+    a as i128 * b as i128
+}
+
 /// The upper 64 bits.
 #[inline(always)]
 fn high(value: i128) -> u64
@@ -177,7 +185,7 @@ fn mulh(a: u64, b: u64) -> u64
 fn mulhsu(a: u64, b: u64) -> u64
     ensures { result ≡ in_64 (floor (signed_64 a *ℤ pos b) (2 ^ 64)) }
 {
-    high(signed(a) as i128 * b as i128)
+    high(mixed_product(signed(a), b))
 }
 
 #[inline(always)]

@@ -4,7 +4,7 @@ use rv_memory::Cause;
 use std::marker::Model;
 
 /// What a waiting hart waits for.
-#[derive(Clone, Copy, PartialEq, Eq, Debug, Drop)]
+#[derive(Clone, Copy, Drop)]
 pub enum Wait {
     /// The end of the post of this number, which it made.
     Post(u64),
@@ -13,7 +13,7 @@ pub enum Wait {
 }
 
 /// What a hart does with its next turn.
-#[derive(Clone, Copy, PartialEq, Eq, Debug, Drop)]
+#[derive(Clone, Copy, Drop)]
 pub enum Mode {
     /// It does the instruction at its pc.
     Running,
@@ -26,7 +26,7 @@ pub enum Mode {
 }
 
 /// What a step was.
-#[derive(Clone, Copy, PartialEq, Eq, Debug, Drop)]
+#[derive(Clone, Copy, Drop)]
 pub enum Did {
     /// An instruction with its whole effect.
     Plain,

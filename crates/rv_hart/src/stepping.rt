@@ -2,7 +2,8 @@
 ghost use Rattle.std.specs.Prelude.{◌≡◌, IsOk, IfOk};
 ghost use Rattle.rv_decode.specs.Table.{Fits};
 ghost use Rattle.rv_decode.specs.declared.instruction.Instr.TheVariants.{Branch, Load, Store};
-ghost use Rattle.rv_hart.specs.Effect.{After, after, IsStep, gives, jumps, branches, next as next_of, offset as offset_of};
+ghost use Rattle.rv_hart.specs.Effect.{After, after, IsStep, gives, jumps, branches, next as next_of};
+ghost use Rattle.rv_hart.specs.Effect.{offset as offset_of};
 ghost use Rattle.rv_hart.specs.State.{at_pc, in_mode};
 ghost use Rattle.rv_hart.specs.Stepped.{stepped};
 ghost use Rattle.rv_hart.specs.declared.state.Mode.TheVariants.{Running, Trapped};
@@ -91,7 +92,8 @@ fn branch(hart: &mut Hart, target: u64) -> Did
 /// Takes a branch, or goes on to the next instruction.
 #[inline(always)]
 fn branch_by(hart: &mut Hart, op: BranchOp, rs1: Reg, rs2: Reg, off: i32) -> Did
-    ensures { (m : Memory) → record { did = result; state = hart.new; memory = m } ≡ after (Branch op rs1 rs2 off) hart.old m }
+    ensures { (m : Memory) → record { did = result; state = hart.new; memory = m }
+        ≡ after (Branch op rs1 rs2 off) hart.old m }
 {
     if results::is_taken(op, hart.get(rs1), hart.get(rs2)) {
         let target = offset(hart.pc(), off);
@@ -103,7 +105,8 @@ fn branch_by(hart: &mut Hart, op: BranchOp, rs1: Reg, rs2: Reg, off: i32) -> Did
 
 #[inline(always)]
 fn load(hart: &mut Hart, memory: &RankMemory, op: LoadOp, rd: Reg, rs1: Reg, off: i32) -> Did
-    ensures { record { did = result; state = hart.new; memory = memory.now } ≡ after (Load op rd rs1 off) hart.old memory.now }
+    ensures { record { did = result; state = hart.new; memory = memory.now }
+        ≡ after (Load op rd rs1 off) hart.old memory.now }
 {
     let address = offset(hart.get(rs1), off);
     match memory.load(address, results::load_width(op)) {
@@ -122,7 +125,9 @@ fn store(
     off: i32,
 ) -> Result<Did, AllocError>
     ensures takes_no_memory { IsOk result }
-    ensures effect { IfOk result (λ did. record { did = did; state = hart.new; memory = memory.new } ≡ after (Store op rs1 rs2 off) hart.old memory.old) }
+    ensures effect { IfOk result
+        (λ did. record { did = did; state = hart.new; memory = memory.new }
+        ≡ after (Store op rs1 rs2 off) hart.old memory.old) }
 {
     let address = offset(hart.get(rs1), off);
     match memory.store(address, results::store_width(op), hart.get(rs2)) {
@@ -147,7 +152,8 @@ fn stop_at_ebreak(hart: &mut Hart) -> Did
 fn execute(hart: &mut Hart, memory: &mut RankMemory, instr: &Instr) -> Result<Did, AllocError>
     requires { Fits instr.now }
     ensures takes_no_memory { IsOk result }
-    ensures effect { IfOk result (λ did. record { did = did; state = hart.new; memory = memory.new } ≡ after instr.now hart.old memory.old) }
+    ensures effect { IfOk result
+        (λ did. record { did = did; state = hart.new; memory = memory.new } ≡ after instr.now hart.old memory.old) }
 {
     match *instr {
         Instr::Upper { op, rd, imm } => {
@@ -188,17 +194,21 @@ fn execute(hart: &mut Hart, memory: &mut RankMemory, instr: &Instr) -> Result<Di
     }
 }
 
-/// One step of a running hart: the instruction whose word stands at the pc, with its whole effect, or the trap. An ECALL
-/// is answered as `Call` and left to the caller. No step answers an `Err` today: the memory has all its bytes. What the step
-/// leaves is what the table's relation allows, and the relation allows nothing else.
+/// One step of a running hart: the instruction whose word stands at the pc, with its whole effect, or the trap. An
+/// ECALL is answered as `Call` and left to the caller. No step answers an `Err` today: the memory has all its bytes.
+/// What the step leaves is what the table's relation allows, and the relation allows nothing else.
 #[inline(always)]
 #[tactic(auto, unfolding(crate::specs::Stepped::stepped))]
 pub fn step(hart: &mut Hart, memory: &mut RankMemory) -> Result<Did, AllocError>
     requires { hart.old.mode ≡ Running }
     ensures takes_no_memory { IsOk result }
-    ensures effect { IfOk result (λ did. record { did = did; state = hart.new; memory = memory.new } ≡ stepped hart.old memory.old) }
-    ensures table { IfOk result (λ did. IsStep hart.old memory.old record { did = did; state = hart.new; memory = memory.new }) }
-    ensures only { IfOk result (λ did. (end : After) → IsStep hart.old memory.old end → end ≡ record { did = did; state = hart.new; memory = memory.new }) }
+    ensures effect { IfOk result
+        (λ did. record { did = did; state = hart.new; memory = memory.new } ≡ stepped hart.old memory.old) }
+    ensures table { IfOk result
+        (λ did. IsStep hart.old memory.old record { did = did; state = hart.new; memory = memory.new }) }
+    ensures only { IfOk result
+        (λ did. (end : After) → IsStep hart.old memory.old end
+        → end ≡ record { did = did; state = hart.new; memory = memory.new }) }
 {
     let Some(word) = memory.text_word(hart.pc()) else {
         return Ok(trap(hart, Cause::InstructionAccess));

@@ -1,4 +1,5 @@
--- The definitions that contracts cite: what an image is, the names of its symbols, its text, what bytes are read as, all tests in their order, and worked values of them.
+-- The definitions that contracts cite: what an image is, the names of its symbols, its text, what bytes are read as,
+-- all tests in their order, and worked values of them.
 pub mod Names
 pub mod Image
 pub mod Text

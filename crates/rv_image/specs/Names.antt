@@ -14,7 +14,9 @@ is_digit byte = is_within 48 57 byte
 
 -- a letter, a digit, `_`, `.` or `$`
 abbrev pub is_name_byte : ℕ → Bool
-is_name_byte byte = is_within 97 122 byte || (is_within 65 90 byte || (is_digit byte || ((byte == 95) || ((byte == 46) || (byte == 36)))))
+is_name_byte byte =
+    is_within 97 122 byte
+    || (is_within 65 90 byte || (is_digit byte || ((byte == 95) || ((byte == 46) || (byte == 36)))))
 
 -- the first byte of a name is no digit
 abbrev pub begins_with_digit : List ℕ → Bool
@@ -25,7 +27,8 @@ begins_with_digit (byte ∷ bytes) = is_digit byte
 abbrev pub is_symbol_name : List ℕ → Bool
 is_symbol_name name = is_within 1 31 (length name) && (list_all is_name_byte name && not (begins_with_digit name))
 
--- whether a name stands before another: at the first byte that differs it has the lower one, or it ends where the other goes on
+-- whether a name stands before another: at the first byte that differs it has the lower one, or it ends where the other
+-- goes on
 abbrev pub name_before : List ℕ → List ℕ → Bool
 name_before earlier later = is_lt (slice_cmp nat_cmp earlier later)
 

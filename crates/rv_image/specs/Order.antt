@@ -1,5 +1,7 @@
--- The tests of all parts of an image's bytes as one table in their order, and the law that reading answers its first failing row.
-use Rattle.std.specs.Prelude.{◌≡◌, ℕ, zero, suc, ◌+◌, ◌*◌, List, [], ◌∷◌, ◌++◌, length, take, drop, Bool, not, ◌&&◌, Option, Some, None, Result, Ok, Err, nat_lt, nat_le, ◌==◌, flat_map}
+-- The tests of all parts of an image's bytes as one table in their order, and the law that reading answers its first
+-- failing row.
+use Rattle.std.specs.Prelude.{◌≡◌, ℕ, zero, suc, ◌+◌, ◌*◌, List, [], ◌∷◌, ◌++◌, length, take, drop, Bool, not, ◌&&◌}
+use Rattle.std.specs.Prelude.{Option, Some, None, Result, Ok, Err, nat_lt, nat_le, ◌==◌, flat_map}
 use Rattle.std.specs.List.{range_with_len}
 use Rattle.std.specs.Int.{w32}
 use Rattle.rv_image.specs.declared.faults.ImageFault.{ImageFault}
@@ -36,7 +38,8 @@ comm_start bytes (suc before) = comm_start bytes before + 1 + byte_at (comm_star
 
 -- the communicators, numbered from 1
 abbrev pub comms_tests : List ℕ → Header → List (Bool × ImageFault)
-comms_tests bytes h = flat_map (λ before. comm_tests bytes h.ranks (before + 1) (comm_start bytes before)) (range_with_len 0 h.comms)
+comms_tests bytes h =
+    flat_map (λ before. comm_tests bytes h.ranks (before + 1) (comm_start bytes before)) (range_with_len 0 h.comms)
 
 -- link n, which begins at `start`: the rank that it leads from, and another one that it leads to
 abbrev pub link_tests : List ℕ → ℕ → ℕ → ℕ → List (Bool × ImageFault)
@@ -44,7 +47,10 @@ link_tests bytes ranks n start =
     is_there bytes start
     ∷ (nat_lt (byte_at start bytes) ranks, faults.Link n)
     ∷ is_there bytes (start + 1)
-    ∷ (nat_lt (byte_at (start + 1) bytes) ranks && not (byte_at (start + 1) bytes == byte_at start bytes), faults.Link n)
+    ∷ (
+      nat_lt (byte_at (start + 1) bytes) ranks && not (byte_at (start + 1) bytes == byte_at start bytes),
+      faults.Link n,
+    )
     ∷ []
 
 -- the links, two bytes each, numbered from 0; the first begins at `start`
@@ -62,8 +68,8 @@ parts_tests bytes h start =
 abbrev pub name_at : List ℕ → ℕ → List ℕ
 name_at bytes start = take (byte_at (start + 4) bytes) (drop (start + 5) bytes)
 
--- symbol n, which begins at `start`, behind one of the name `last`: 5 bytes, the length, the name's bytes, and then the name,
--- its place in the order, and the address
+-- symbol n, which begins at `start`, behind one of the name `last`: 5 bytes, the length, the name's bytes, and then the
+-- name, its place in the order, and the address
 abbrev pub symbol_tests : List ℕ → ℕ → ℕ → List ℕ → ℕ → List (Bool × ImageFault)
 symbol_tests bytes memory n last start =
     (nat_le (start + 5) (length bytes), Short (length bytes))
@@ -77,7 +83,8 @@ symbol_tests bytes memory n last start =
 -- where a symbol begins that has so many before it, the first at `first`; with all of them before, where the image ends
 abbrev pub symbol_start : List ℕ → ℕ → ℕ → ℕ
 symbol_start bytes first zero = first
-symbol_start bytes first (suc before) = symbol_start bytes first before + 5 + byte_at (symbol_start bytes first before + 4) bytes
+symbol_start bytes first (suc before) =
+    symbol_start bytes first before + 5 + byte_at (symbol_start bytes first before + 4) bytes
 
 -- the name before that of a symbol; no bytes for the first
 abbrev pub name_ahead : List ℕ → ℕ → ℕ → List ℕ
@@ -86,7 +93,9 @@ name_ahead bytes first (suc before) = name_at bytes (symbol_start bytes first be
 
 -- the symbols, numbered from 0; the first begins at `first`
 abbrev pub symbols_tests : List ℕ → Header → ℕ → List (Bool × ImageFault)
-symbols_tests bytes h first = flat_map (λ n. symbol_tests bytes h.memory n (name_ahead bytes first n) (symbol_start bytes first n)) (range_with_len 0 h.symbols)
+symbols_tests bytes h first =
+    flat_map (λ n. symbol_tests bytes h.memory n (name_ahead bytes first n) (symbol_start bytes first n))
+    (range_with_len 0 h.symbols)
 
 -- nothing behind the end
 abbrev pub end_tests : List ℕ → ℕ → List (Bool × ImageFault)

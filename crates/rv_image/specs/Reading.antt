@@ -1,10 +1,13 @@
 -- What bytes are read as: the image whose text they are, or the first fault in the order of the tests.
-use Rattle.std.specs.Prelude.{◌≡◌, ℕ, zero, suc, ◌+◌, ◌-◌, ◌*◌, ◌%◌, List, [], ◌∷◌, ◌++◌, length, take, drop, Bool, not, ◌&&◌, Option, Some, None, Result, Ok, Err, nat_lt, nat_le, nat_eq, ◌==◌, if◌then◌else◌, slice_index, codes, MatchResult, IsOk, ⊤}
+use Rattle.std.specs.Prelude.{◌≡◌, ℕ, zero, suc, ◌+◌, ◌-◌, ◌*◌, ◌%◌, List, [], ◌∷◌, ◌++◌, length, take, drop, Bool, not}
+use Rattle.std.specs.Prelude.{◌&&◌, Option, Some, None, Result, Ok, Err, nat_lt, nat_le, nat_eq, ◌==◌, if◌then◌else◌}
+use Rattle.std.specs.Prelude.{slice_index, codes, MatchResult, IsOk, ⊤}
 use Rattle.std.specs.List.{starts_with, list_any}
 use Rattle.std.specs.Int.{Width, w16, w32, byte_len, from_le_bytes}
 use Rattle.rv_image.specs.declared.faults.ImageFault.{ImageFault}
 use Rattle.rv_image.specs.declared.faults.ImageFault.TheVariants as faults
-use Rattle.rv_image.specs.declared.faults.ImageFault.TheVariants.{Magic, Version, Short, Long, Limit, Text, Comm, Memory}
+use Rattle.rv_image.specs.declared.faults.ImageFault.TheVariants.{Magic, Version, Short, Long, Limit, Text, Comm}
+use Rattle.rv_image.specs.declared.faults.ImageFault.TheVariants.{Memory}
 use Rattle.rv_image.specs.declared.header.Header.{Header}
 use Rattle.rv_image.specs.declared.images.ImageVersion.{ImageVersion}
 use Rattle.rv_image.specs.declared.images.ImageVersion.TheVariants.{One, Two}
@@ -90,7 +93,8 @@ abbrev pub next_bytes : ℕ → ℕ → List ℕ → Result (List ℕ × List �
 next_bytes n total bytes = if nat_lt (length bytes) n then Err (Short total) else Ok (take n bytes, drop n bytes)
 
 -- count steps, each from what is read so far and the bytes that are left
-unfoldable pub repeated : {A : Type 0} → (A → List ℕ → Result (A × List ℕ) ImageFault) → ℕ → A → List ℕ → Result (A × List ℕ) ImageFault
+unfoldable pub repeated : {A : Type 0} → (A → List ℕ → Result (A × List ℕ) ImageFault) → ℕ → A → List ℕ
+    → Result (A × List ℕ) ImageFault
 repeated step zero done bytes = Ok (done, bytes)
 repeated step (suc count) done bytes = do
   next ← step done bytes
@@ -144,19 +148,24 @@ last_name (symbol ∷ symbols) = last_name symbols
 
 -- a symbol whose name is one and stands behind the last one, and whose address is in the memory or at its end
 abbrev pub is_next_symbol : ℕ → List ℕ → Symbol → Bool
-is_next_symbol memory last symbol = is_symbol_name symbol.name && (name_before last symbol.name && nat_le symbol.address memory)
+is_next_symbol memory last symbol =
+    is_symbol_name symbol.name && (name_before last symbol.name && nat_le symbol.address memory)
 
 -- the name of symbol n, of so many bytes, and the tests of the symbol as a whole
 abbrev pub named_at : ℕ → ℕ → ℕ → List ℕ → ℕ → ℕ → List ℕ → Result (Symbol × List ℕ) ImageFault
 named_at total memory n last address size bytes = do
   name ← next_bytes size total bytes
-  if is_next_symbol memory last (record { name = name.0; address = address }) then Ok (record { name = name.0; address = address }, name.1) else Err (faults.Symbol n)
+  if is_next_symbol memory last (record { name = name.0; address = address })
+      then Ok (record { name = name.0; address = address }, name.1)
+      else Err (faults.Symbol n)
 
 -- symbol n: its address and how long its name is, 5 bytes that are asked for together, and the name
 unfoldable pub symbol_at : ℕ → ℕ → ℕ → List ℕ → List ℕ → Result (Symbol × List ℕ) ImageFault
 symbol_at total memory n last bytes = do
   front ← next_bytes 5 total bytes
-  if is_within 1 31 (byte_at 4 front.0) then named_at total memory n last (number_at w32 0 front.0) (byte_at 4 front.0) front.1 else Err (faults.Symbol n)
+  if is_within 1 31 (byte_at 4 front.0)
+      then named_at total memory n last (number_at w32 0 front.0) (byte_at 4 front.0) front.1
+      else Err (faults.Symbol n)
 
 -- one more symbol; they are numbered from 0
 abbrev pub next_symbol : ℕ → ℕ → List Symbol → List ℕ → Result (List Symbol × List ℕ) ImageFault
@@ -172,7 +181,20 @@ body_at total h bytes = do
   text ← next_bytes h.text_length total links.1
   init ← next_bytes h.init_length total text.1
   symbols ← repeated (next_symbol total h.memory) h.symbols [] init.1
-  if length symbols.1 == 0 then Ok (record { version = h.version; ranks = h.ranks; harts = h.harts; memory = h.memory; entry = h.entry; text = text.0; init = init.0; comms = comms.0; links = links.0; symbols = symbols.0 }) else Err (Long (total - length symbols.1))
+  if length symbols.1 == 0
+      then Ok (record {
+        version = h.version;
+        ranks = h.ranks;
+        harts = h.harts;
+        memory = h.memory;
+        entry = h.entry;
+        text = text.0;
+        init = init.0;
+        comms = comms.0;
+        links = links.0;
+        symbols = symbols.0;
+      })
+      else Err (Long (total - length symbols.1))
 
 -- ---- all of it
 

@@ -38,7 +38,9 @@ header_text image =
 
 -- what stands behind the header
 abbrev pub body_text : ImageParts → List ℕ
-body_text image = flat_map comm_text image.comms ++ (flat_map link_text image.links ++ (image.text ++ (image.init ++ flat_map symbol_text image.symbols)))
+body_text image =
+    flat_map comm_text image.comms
+    ++ (flat_map link_text image.links ++ (image.text ++ (image.init ++ flat_map symbol_text image.symbols)))
 
 -- all of the image's bytes
 unfoldable pub image_text : ImageParts → List ℕ

@@ -1,5 +1,6 @@
 -- Worked values of the definitions: the image of the program `hi`, one with a symbol, and inputs that are none.
-use Rattle.std.specs.Prelude.{◌≡◌, ℕ, List, [], ◌∷◌, ◌++◌, take, Option, Some, None, Err, true, false, slice_set, codes, map, refl}
+use Rattle.std.specs.Prelude.{◌≡◌, ℕ, List, [], ◌∷◌, ◌++◌, take, Option, Some, None, Err, true, false, slice_set, codes}
+use Rattle.std.specs.Prelude.{map, refl}
 use Rattle.std.specs.List.{range_with_len}
 use Rattle.rv_image.specs.declared.faults.ImageFault.{ImageFault}
 use Rattle.rv_image.specs.declared.faults.ImageFault.TheVariants as faults
@@ -92,12 +93,17 @@ unfolding image_tests body_tests header_at image_text header_text
 nine_ranks = refl
 
 -- two ranks, and a communicator that has rank 0 twice
-pub a_rank_twice : first_fault (image_tests (image_text (record hi { ranks = 2; comms = (0 ∷ 0 ∷ []) ∷ [] }))) ≡ Some (Comm 1)
+pub a_rank_twice : first_fault (image_tests (image_text (record hi { ranks = 2; comms = (0 ∷ 0 ∷ []) ∷ [] })))
+    ≡ Some (Comm 1)
 unfolding image_tests body_tests header_at image_text header_text
 a_rank_twice = refl
 
 -- two ranks, a link from 0 to 1, and one from 1 to 1
-pub a_link_to_itself : first_fault (image_tests (image_text (record hi { ranks = 2; links = record { from = 0; to = 1 } ∷ record { from = 1; to = 1 } ∷ [] }))) ≡ Some (faults.Link 1)
+pub a_link_to_itself : first_fault (image_tests (image_text (record hi {
+  ranks = 2;
+  links = record { from = 0; to = 1 }
+      ∷ record { from = 1; to = 1 } ∷ [];
+}))) ≡ Some (faults.Link 1)
 unfolding image_tests body_tests header_at image_text header_text
 a_link_to_itself = refl
 
@@ -184,7 +190,8 @@ unfolding image_tests body_tests header_at image_text header_text
 all_rows_of_go_hold = refl
 
 -- each prefix of it that has the 28 bytes of the header is short
-pub prefixes_of_go_are_short : map (λ n. first_fault (image_tests (take n (image_text go)))) (range_with_len 28 11) ≡ map (λ n. Some (Short n)) (range_with_len 28 11)
+pub prefixes_of_go_are_short : map (λ n. first_fault (image_tests (take n (image_text go)))) (range_with_len 28 11)
+    ≡ map (λ n. Some (Short n)) (range_with_len 28 11)
 unfolding image_tests body_tests header_at image_text header_text
 prefixes_of_go_are_short = refl
 
@@ -193,7 +200,8 @@ unfolding image_tests body_tests header_at image_text header_text
 a_symbol_in_version_1 = refl
 
 -- 1,025 is 0x401
-pub a_symbol_too_many : first_fault (image_tests (slice_set (slice_set (image_text go) 26 1) 27 4)) ≡ Some (Limit 26 1025)
+pub a_symbol_too_many : first_fault (image_tests (slice_set (slice_set (image_text go) 26 1) 27 4))
+    ≡ Some (Limit 26 1025)
 unfolding image_tests body_tests header_at image_text header_text
 a_symbol_too_many = refl
 
@@ -201,7 +209,8 @@ pub names_in_the_order_of_their_bytes : fault_with (symbol (codes "aa") 0 ∷ sy
 unfolding image_tests body_tests header_at image_text header_text
 names_in_the_order_of_their_bytes = refl
 
-pub names_in_the_order_of_their_lengths : fault_with (symbol (codes "b") 0 ∷ symbol (codes "aa") 0 ∷ []) ≡ Some (faults.Symbol 1)
+pub names_in_the_order_of_their_lengths : fault_with (symbol (codes "b") 0 ∷ symbol (codes "aa") 0 ∷ [])
+    ≡ Some (faults.Symbol 1)
 unfolding image_tests body_tests header_at image_text header_text
 names_in_the_order_of_their_lengths = refl
 
@@ -226,12 +235,18 @@ unfolding image_tests body_tests header_at image_text header_text
 an_address_above_the_memory = refl
 
 -- a length of 0 in the last of 5 bytes is a fault, and one that isn't there is missed
-pub a_length_that_is_missed : first_fault (image_tests (take 36 (image_text (record go { symbols = symbol [] 0 ∷ [] })))) ≡ Some (Short 36)
+pub a_length_that_is_missed : first_fault (image_tests (take 36 (image_text (record go {
+  symbols = symbol [] 0
+      ∷ [];
+})))) ≡ Some (Short 36)
 unfolding image_tests body_tests header_at image_text header_text
 a_length_that_is_missed = refl
 
 -- a byte more behind a symbol that is none: the symbol comes first
-pub a_symbol_before_a_byte_more : first_fault (image_tests (image_text (record go { symbols = symbol (codes "9") 0 ∷ [] }) ++ 0 ∷ [])) ≡ Some (faults.Symbol 0)
+pub a_symbol_before_a_byte_more : first_fault (image_tests (image_text (record go {
+  symbols = symbol (codes "9") 0
+      ∷ [];
+}) ++ 0 ∷ [])) ≡ Some (faults.Symbol 0)
 unfolding image_tests body_tests header_at image_text header_text
 a_symbol_before_a_byte_more = refl
 

@@ -10,7 +10,7 @@ use thiserror::Error;
 ///
 /// It is printed as its name and its numbers, one blank before each, as `Limit 6 9`. Offsets are those of the
 /// format's table in docs/FORMATS.md.
-#[derive(Clone, Copy, Debug, Drop, PartialEq, Eq, Error)]
+#[derive(Clone, Copy, Debug, Drop, Error)]
 pub enum ImageFault {
     /// 1: the first four bytes aren't `RVMC`.
     #[error("Magic")]
@@ -36,8 +36,8 @@ pub enum ImageFault {
     /// 8: a link doesn't join two different ranks of the image. Carries its number, from 0.
     #[error("Link {0}")]
     Link(usize),
-    /// 10: a symbol's name is none, or isn't above the last one, or its address is above the memory. Carries its number,
-    /// from 0.
+    /// 10: a symbol's name is none, or isn't above the last one, or its address is above the memory. Carries its
+    /// number, from 0.
     #[error("Symbol {0}")]
     Symbol(usize),
     /// 9: memory ran out. It says nothing of the bytes.

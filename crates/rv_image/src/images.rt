@@ -6,7 +6,7 @@ use crate::lists::{Comms, Links, Segment, SymbolName, Symbols};
 use std::marker::Model;
 
 /// The version of the format in which an image is written.
-#[derive(Clone, Copy, Debug, PartialEq, Eq)]
+#[derive(Clone, Copy)]
 pub enum ImageVersion {
     /// 1: without symbols.
     One,
@@ -15,7 +15,7 @@ pub enum ImageVersion {
 }
 
 /// A link for partitioned transfers: from one rank to another.
-#[derive(Clone, Copy, Debug, PartialEq, Eq)]
+#[derive(Clone, Copy)]
 pub struct Link {
     /// The sending rank.
     pub from: u8,
@@ -24,7 +24,7 @@ pub struct Link {
 }
 
 /// A named address.
-#[derive(Debug, Drop)]
+#[derive(Drop)]
 pub struct Symbol {
     /// The name: 1 to 31 letters, digits, `_`, `.` and `$`, of which the first is no digit.
     pub name: SymbolName,
@@ -33,7 +33,7 @@ pub struct Symbol {
 }
 
 /// What an image is made of. It becomes an [`Image`] where it keeps the limits.
-#[derive(Debug, Drop)]
+#[derive(Drop)]
 pub struct ImageParts {
     /// The version in which it is written.
     pub version: ImageVersion,
@@ -58,7 +58,7 @@ pub struct ImageParts {
 }
 
 /// An image that loads: parts that keep the limits. Contracts see its parts.
-#[derive(Debug, Drop)]
+#[derive(Drop)]
 pub struct Image {
     parts: ImageParts,
 }

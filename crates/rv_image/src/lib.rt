@@ -1,8 +1,8 @@
 //! The bytes of a program, and back: an image is what every rank of a cluster loads.
 //!
 //! An [`Image`] keeps every limit of the format, so whoever holds one need not test it again. [`read_image`] and
-//! [`write_image`] go between an image and its one text of bytes, which docs/FORMATS.md lays out field by field. An image
-//! is of version 1, or of version 2, which has symbols, and is written in its own.
+//! [`write_image`] go between an image and its one text of bytes, which docs/FORMATS.md lays out field by field. An
+//! image is of version 1, or of version 2, which has symbols, and is written in its own.
 #![tactic(auto)]
 
 mod faults;

@@ -6,7 +6,7 @@ use crate::images::{Link, Symbol};
 use std::marker::Model;
 
 /// Bytes that are loaded one after the other: the text, or the initial data. Contracts see a list of numbers.
-#[derive(Debug, Drop)]
+#[derive(Drop)]
 pub struct Segment {
     bytes: Vec<u8>,
 }
@@ -36,7 +36,7 @@ impl Segment {
 }
 
 /// The ranks of a communicator, in the order of their positions. Contracts see a list of numbers.
-#[derive(Debug, Drop)]
+#[derive(Drop)]
 pub struct Members {
     ranks: Vec<u8>,
 }
@@ -66,7 +66,7 @@ impl Members {
 }
 
 /// Communicators, numbered from 1. Contracts see a list of lists of ranks.
-#[derive(Debug, Drop)]
+#[derive(Drop)]
 pub struct Comms {
     comms: Vec<Members>,
 }
@@ -96,7 +96,7 @@ impl Comms {
 }
 
 /// Links, numbered from 0. Contracts see a list of links.
-#[derive(Debug, Drop)]
+#[derive(Drop)]
 pub struct Links {
     links: Vec<Link>,
 }
@@ -127,7 +127,7 @@ impl Links {
 }
 
 /// The bytes of a symbol's name. Contracts see a list of numbers.
-#[derive(Debug, Drop)]
+#[derive(Drop)]
 pub struct SymbolName {
     bytes: Vec<u8>,
 }
@@ -157,7 +157,7 @@ impl SymbolName {
 }
 
 /// Symbols, numbered from 0. Contracts see a list of symbols.
-#[derive(Debug, Drop)]
+#[derive(Drop)]
 pub struct Symbols {
     symbols: Vec<Symbol>,
 }

@@ -34,8 +34,8 @@ pub fn is_symbol_name(name: &[u8]) -> bool
     are_name_bytes(name) && !name[0].is_ascii_digit()
 }
 
-/// Whether a name stands before another in the order of their bytes: at the first byte that differs it has the lower one,
-/// or it ends where the other goes on.
+/// Whether a name stands before another in the order of their bytes: at the first byte that differs it has the lower
+/// one, or it ends where the other goes on.
 pub fn name_before(earlier: &[u8], later: &[u8]) -> bool
     ensures { result ≡ names.name_before earlier.now later.now }
 {

@@ -5,7 +5,10 @@ ghost use Rattle.rv_image.specs.declared.faults.ImageFault.{ImageFault};
 ghost use Rattle.rv_image.specs.declared.images.ImageParts.{ImageParts};
 ghost use Rattle.rv_image.specs.Image.{IsImage};
 ghost use Rattle.rv_image.specs.Text.{image_text};
-ghost use Rattle.rv_image.specs.Reading.{GivesBy, rest_of, AnswersBy, Answers, Accepts, next_byte, next_bytes, first_fault, number_tests, header_tests, repeated, is_new_rank, next_member, comm_at, next_comm, link_at, next_link, is_next_symbol, symbol_at, next_symbol, body_at, reading};
+ghost use Rattle.rv_image.specs.Reading.{GivesBy, rest_of, AnswersBy, Answers, Accepts, next_byte, next_bytes};
+ghost use Rattle.rv_image.specs.Reading.{first_fault, number_tests, header_tests, repeated, is_new_rank, next_member};
+ghost use Rattle.rv_image.specs.Reading.{comm_at, next_comm, link_at, next_link, is_next_symbol, symbol_at};
+ghost use Rattle.rv_image.specs.Reading.{next_symbol, body_at, reading};
 
 use crate::faults::ImageFault;
 use crate::header::{HEADER_LENGTH, Header, header_fault, header_of, u32_at};
@@ -14,8 +17,9 @@ use crate::lists::{Comms, Links, Members, Segment, SymbolName, Symbols};
 use crate::names::{is_symbol_name, name_before};
 use std::alloc::Global;
 
-// Below, `total` is the length of the whole input, which Short carries, and `bytes` what is left of it. What is handed no
-// allocator answers just what is read, value or fault. All tests stand there, and are done before anything is copied.
+// Below, `total` is the length of the whole input, which Short carries, and `bytes` what is left of it. What is handed
+// no allocator answers just what is read, value or fault. All tests stand there, and are done before anything is
+// copied.
 
 /// The next byte and what follows.
 fn take_byte(total: usize, bytes: &[u8]) -> Result<(u8, &[u8]), ImageFault>
@@ -175,7 +179,8 @@ fn take_symbol<'a>(
     last: &[u8],
     bytes: &'a [u8],
 ) -> Result<(&'a [u8], u32, &'a [u8]), ImageFault>
-    ensures { GivesBy (λ x. (record { name = x.0.now; address = x.1 }, x.2.now)) result (symbol_at total memory n last.now bytes.now) }
+    ensures { GivesBy (λ x. (record { name = x.0.now; address = x.1 }, x.2.now)) result
+        (symbol_at total memory n last.now bytes.now) }
 {
     let (front, rest) = take_bytes(5, total, bytes)?;
     let size = front[4];
@@ -293,8 +298,8 @@ fn parts_of(alloc: Global, bytes: &[u8]) -> Result<ImageParts, ImageFault>
 /// The image whose text the bytes are, or the first fault in the order of the tests, which
 /// [`first_fault_law`](crate::laws::first_fault_law) has as one table.
 ///
-/// [`ImageFault::Memory`] is answered only for the bytes of an image, and only where memory ran out: its text, its initial
-/// data and its lists are copied. Bytes that are no image get their fault without any memory.
+/// [`ImageFault::Memory`] is answered only for the bytes of an image, and only where memory ran out: its text, its
+/// initial data and its lists are copied. Bytes that are no image get their fault without any memory.
 pub fn read_image(alloc: Global, bytes: &[u8]) -> Result<Image, ImageFault>
     // What is read is spelled so, byte for byte.
     ensures found { IfOk result (λ image. bytes.now ≡ image_text image) }

@@ -1,6 +1,7 @@
 -- What a load, a store, a fetch and a range of bytes answer
 -- (RISC-V Unprivileged ISA 20191213, 2.6 Load and Store Instructions; the traps are the emulator's).
-use Rattle.std.specs.Prelude.{ℕ, ◌+◌, ◌%◌, ◌==◌, nat_le, nat_lt, if◌then◌else◌, length, Option, Some, None, Bool, not, ◌&&◌, ◌||◌, IsTrue}
+use Rattle.std.specs.Prelude.{ℕ, ◌+◌, ◌%◌, ◌==◌, nat_le, nat_lt, if◌then◌else◌, length, Option, Some, None, Bool, not}
+use Rattle.std.specs.Prelude.{◌&&◌, ◌||◌, IsTrue}
 use Rattle.rv_memory.specs.Memory.{Memory, value_at, bytes_of, with_bytes}
 use Rattle.rv_memory.specs.declared.fault.Cause.{Cause}
 use Rattle.rv_memory.specs.declared.fault.Cause.TheVariants.{LoadMisaligned, LoadAccess, StoreMisaligned, StoreAccess}

@@ -1,7 +1,9 @@
 -- The numbers of the causes, as in the register mcause (RISC-V Privileged ISA, Machine Cause Register).
 use Rattle.std.specs.Prelude.{ℕ}
 use Rattle.rv_memory.specs.declared.fault.Cause.{Cause}
-use Rattle.rv_memory.specs.declared.fault.Cause.TheVariants.{InstructionMisaligned, InstructionAccess, IllegalInstruction, Breakpoint, LoadMisaligned, LoadAccess, StoreMisaligned, StoreAccess}
+use Rattle.rv_memory.specs.declared.fault.Cause.TheVariants.{InstructionMisaligned, InstructionAccess}
+use Rattle.rv_memory.specs.declared.fault.Cause.TheVariants.{IllegalInstruction, Breakpoint, LoadMisaligned, LoadAccess}
+use Rattle.rv_memory.specs.declared.fault.Cause.TheVariants.{StoreMisaligned, StoreAccess}
 
 abbrev pub cause_number : Cause → ℕ
 cause_number InstructionMisaligned = 0

@@ -8,7 +8,8 @@ pub record Memory : Type 0 where
   pub bytes : List ℕ
   pub text : ℕ
 
--- the value of `count` bytes at an address, lowest first: byte address + i times 256 ^ i, summed over each i below the count
+-- the value of `count` bytes at an address, lowest first: byte address + i times 256 ^ i, summed over each i below the
+-- count
 abbrev pub value_at : List ℕ → ℕ → ℕ → ℕ
 value_at bytes address zero = 0
 value_at bytes address (suc i) = value_at bytes address i + slice_index bytes (address + i) * 256 ^ i
@@ -36,6 +37,8 @@ init_start text = next_multiple_of (length text) 16
 -- a rank's memory when it is loaded: the text, the initial data, and zeros elsewhere
 abbrev pub loaded_memory : ℕ → List ℕ → List ℕ → Memory
 loaded_memory size text init = record {
-  bytes = text ++ replicate (init_start text - length text) 0 ++ init ++ replicate (size - (init_start text + length init)) 0;
+  bytes =
+      text ++ replicate (init_start text - length text) 0 ++ init
+      ++ replicate (size - (init_start text + length init)) 0;
   text = length text;
 }

@@ -15,7 +15,8 @@ bytes_of_a_half = refl
 pub data_behind_eight_bytes : init_start (replicate 8 0) ≡ 16
 data_behind_eight_bytes = refl
 
-pub text_zeros_data_zeros : loaded_memory 20 (0x13 ∷ 0 ∷ 0 ∷ 0 ∷ []) (0x81 ∷ 0x82 ∷ []) ≡ record { bytes = (0x13 ∷ replicate 15 0) ++ (0x81 ∷ 0x82 ∷ 0 ∷ 0 ∷ []); text = 4 }
+pub text_zeros_data_zeros : loaded_memory 20 (0x13 ∷ 0 ∷ 0 ∷ 0 ∷ []) (0x81 ∷ 0x82 ∷ [])
+    ≡ record { bytes = (0x13 ∷ replicate 15 0) ++ (0x81 ∷ 0x82 ∷ 0 ∷ 0 ∷ []); text = 4 }
 text_zeros_data_zeros = refl
 
 -- 64 bytes of memory with 8 of text

@@ -1,4 +1,5 @@
-//! The memory of a rank: bytes that every hart of the rank loads and stores, the first of them a text that is only read.
+//! The memory of a rank: bytes that every hart of the rank loads and stores, the first of them a text that is only
+//! read.
 #![tactic(auto)]
 
 pub mod fault;

@@ -1,7 +1,10 @@
 //! The bytes of a rank, with their loads, stores, fetches and ranges.
-ghost use Rattle.std.specs.Prelude.{◌≡◌, ◌≢◌, ◌↔◌, ◌+◌, ◌-◌, ◌%◌, ◌^◌, ◌<◌, ◌≤◌, ◌++◌, length, replicate, cond, IsOk, IfOk, OnOk, OnErr, MatchOption};
-ghost use Rattle.rv_memory.specs.Access.{size_of, load_trap, store_trap, stored, word_at, is_readable, is_writable, IsReadable, IsWritable};
-ghost use Rattle.rv_memory.specs.Memory.{Memory, value_at, bytes_of, bytes_at, overwritten, with_bytes, init_start, loaded_memory};
+ghost use Rattle.std.specs.Prelude.{◌≡◌, ◌≢◌, ◌↔◌, ◌+◌, ◌-◌, ◌%◌, ◌^◌, ◌<◌, ◌≤◌, ◌++◌, length, replicate, cond, IsOk};
+ghost use Rattle.std.specs.Prelude.{IfOk, OnOk, OnErr, MatchOption};
+ghost use Rattle.rv_memory.specs.Access.{size_of, load_trap, store_trap, stored, word_at, is_readable, is_writable};
+ghost use Rattle.rv_memory.specs.Access.{IsReadable, IsWritable};
+ghost use Rattle.rv_memory.specs.Memory.{Memory, value_at, bytes_of, bytes_at, overwritten, with_bytes, init_start};
+ghost use Rattle.rv_memory.specs.Memory.{loaded_memory};
 
 use crate::fault::{BytesFault, Cause, StoreFault};
 use std::alloc::{AllocError, Global};
@@ -35,7 +38,8 @@ impl Model for RankMemory {
 
     ghost view = { λ m. record { bytes = m.bytes.items; text = m.text } };
 
-    ghost invariant = { λ m. (m.text ≤ length m.bytes.items) × (4096 ≤ length m.bytes.items) × (length m.bytes.items ≤ 2 ^ 20) };
+    ghost invariant = { λ m. (m.text ≤ length m.bytes.items) × (4096 ≤ length m.bytes.items)
+        × (length m.bytes.items ≤ 2 ^ 20) };
 }
 
 /// Bytes, 8 at most, with zeros behind them.
@@ -69,7 +73,8 @@ fn put(bytes: &mut [u8], at: usize, new: &[u8])
     bytes[at..at + new.len()].copy_from_slice(new);
 }
 
-/// Puts the lowest `count` bytes of a value, 8 at most, from a place on. With a constant count it compiles to one store.
+/// Puts the lowest `count` bytes of a value, 8 at most, from a place on. With a constant count it compiles to one
+/// store.
 #[inline(always)]
 fn put_value(bytes: &mut [u8], at: usize, value: u64, count: usize)
     requires inside { at + count ≤ length bytes.old }
@@ -133,7 +138,8 @@ impl RankMemory {
     pub fn load(&self, address: u64, width: Width) -> Result<u64, Cause>
         ensures value { IfOk result (λ value. value ≡ value_at self.now.bytes address (size_of width)) }
         ensures bound { IfOk result (λ value. value < 256 ^ size_of width) }
-        ensures trap { MatchOption (load_trap self.now address (size_of width)) (IsOk result) (λ cause. result ≡ Err cause) }
+        ensures trap { MatchOption (load_trap self.now address (size_of width)) (IsOk result)
+            (λ cause. result ≡ Err cause) }
     {
         match width {
             Width::Byte => self.load_bytes(address, 1),
@@ -166,7 +172,8 @@ impl RankMemory {
     #[inline(always)]
     pub fn store(&mut self, address: u64, width: Width, value: u64) -> Result<(), StoreFault>
         ensures stored { OnOk result (self.new ≡ stored self.old address (size_of width) value) }
-        ensures trap { MatchOption (store_trap self.old address (size_of width)) (IsOk result) (λ cause. result ≡ Err (StoreFault.Trap cause)) }
+        ensures trap { MatchOption (store_trap self.old address (size_of width)) (IsOk result)
+            (λ cause. result ≡ Err (StoreFault.Trap cause)) }
         ensures unchanged { OnErr result (self.new ≡ self.old) }
         ensures takes_no_memory { result ≢ Err StoreFault.Memory }
     {
@@ -184,7 +191,8 @@ impl RankMemory {
         requires some { 0 < size }
         requires most { size ≤ 8 }
         ensures stored { OnOk result (self.new ≡ stored self.old address size value) }
-        ensures trap { MatchOption (store_trap self.old address size) (IsOk result) (λ cause. result ≡ Err (StoreFault.Trap cause)) }
+        ensures trap { MatchOption (store_trap self.old address size) (IsOk result)
+            (λ cause. result ≡ Err (StoreFault.Trap cause)) }
         ensures unchanged { OnErr result (self.new ≡ self.old) }
         ensures takes_no_memory { result ≢ Err StoreFault.Memory }
     {
@@ -237,8 +245,8 @@ impl RankMemory {
         &self.bytes[at..at + most]
     }
 
-    /// A copy of `count` bytes from an address on. `Range` where one isn't in the memory, `Memory` where there is none for
-    /// the copy. Zero bytes are right at any address, and take no memory.
+    /// A copy of `count` bytes from an address on. `Range` where one isn't in the memory, `Memory` where there is none
+    /// for the copy. Zero bytes are right at any address, and take no memory.
     pub fn read_bytes(&self, alloc: Global, address: u64, count: u64) -> Result<Vec<u8>, BytesFault>
         ensures read { IfOk result (λ bytes. bytes.items ≡ bytes_at self.now address count) }
         ensures range { (result ≡ Err BytesFault.Range) ↔ ¬ (IsReadable self.now address count) }
