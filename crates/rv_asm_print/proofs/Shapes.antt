@@ -4,9 +4,13 @@ use Rattle.rv_asm_tokens.specs.Fault.{if_some}
 use Rattle.rv_decode.specs.Text.{register_text}
 use Rattle.rv_asm_statements.specs.declared.filled.Filled.{Filled}
 use Rattle.rv_asm_statements.specs.declared.rows.Shape.TheVariants.{Nothing, RegRegReg, RegNumber, RegRegNumber, RegPlace, RegTarget, RegRegTarget}
-use Rattle.rv_asm_statements.specs.Arguments.{word, value, place}
-use Rattle.rv_asm_statements.specs.Shapes.{at_number, filled, with_register, filled_by}
+use Rattle.rv_asm_statements.specs.Arguments.{Argument, word, value, place}
+use Rattle.rv_asm_statements.specs.Shapes.{at_number, filled, filled_by, register_of}
 use Rattle.rv_asm_print.proofs.Operands.{named}
+
+-- what is made with a register, if an operand is one
+abbrev with_register : Argument → (ℕ → Option Filled) → Option Filled
+with_register a f = if_some (register_of a) None f
 
 with_named : (n : ℕ) (f : ℕ → Option Filled) → n < 32 → with_register (word (register_text n)) f ≡ f n
 with_named n f small = ap (λ (o : Option ℕ). if_some o None f) (named n small)

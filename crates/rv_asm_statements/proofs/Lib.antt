@@ -1,3 +1,4 @@
 pub mod Walks
 pub mod OtherCounts
 pub mod Commas
+pub mod RegisterNumbers

@@ -1,5 +1,6 @@
 -- The directives: their names, and what each makes of its operands.
-use Rattle.std.specs.Prelude.{ℕ, ℤ, pos, List, [], ◌∷◌, ◌++◌, codes, Bool, true, false, Option, Some, None, Result, Ok, Err, if◌then◌else◌}
+use Rattle.std.specs.Prelude.{ℕ, ℤ, pos, List, [], ◌∷◌, ◌++◌, codes, Bool, true, false, Option, Some, None, Result, Ok}
+use Rattle.std.specs.Prelude.{Err, if◌then◌else◌}
 use Rattle.std.specs.Option.{option_map}
 use Rattle.std.specs.Ordering.{int_eq}
 use Rattle.rv_image.specs.Names.{is_symbol_name}
@@ -15,7 +16,9 @@ use Rattle.rv_asm_statements.specs.declared.directives.Directive.TheVariants as 
 use Rattle.rv_asm_statements.specs.declared.directives.Width.{Width}
 use Rattle.rv_asm_statements.specs.declared.directives.Width.TheVariants.{Byte, Half, Word, Double}
 use Rattle.rv_asm_statements.specs.declared.directive_rows.Form.{Form}
-use Rattle.rv_asm_statements.specs.declared.directive_rows.Form.TheVariants.{Ranks, Harts, Memory, Zero, Align, Entry, Global, Comm, Link, Text, Data, Items, String, StringAndZero}
+use Rattle.rv_asm_statements.specs.declared.directive_rows.Form.TheVariants.{Ranks, Harts, Memory, Zero, Align, Entry}
+use Rattle.rv_asm_statements.specs.declared.directive_rows.Form.TheVariants.{Global, Comm, Link, Text, Data, Items}
+use Rattle.rv_asm_statements.specs.declared.directive_rows.Form.TheVariants.{String, StringAndZero}
 use Rattle.rv_asm_statements.specs.Arguments.{Argument, word, value, quoted}
 use Rattle.rv_asm_statements.specs.Limits.{limited}
 use Rattle.rv_asm_statements.specs.Shapes.{at_number, at_label, number_of}
@@ -81,7 +84,11 @@ abbrev pub only_symbol : List Argument → Option (List ℕ)
 only_symbol xs = if_some (only_name xs) None (λ w. if is_symbol_name w then Some w else None)
 
 abbrev pub alignment_of : ℤ → Option Alignment
-alignment_of z = if int_eq z (pos 1) then Some One else (if int_eq z (pos 2) then Some Two else (if int_eq z (pos 4) then Some Four else (if int_eq z (pos 8) then Some Eight else (if int_eq z (pos 16) then Some Sixteen else None))))
+alignment_of z =
+    if int_eq z (pos 1) then Some One
+    else (if int_eq z (pos 2) then Some Two
+    else (if int_eq z (pos 4) then Some Four
+    else (if int_eq z (pos 8) then Some Eight else (if int_eq z (pos 16) then Some Sixteen else None))))
 
 -- ---- directives
 
@@ -118,7 +125,9 @@ directive_by StringAndZero xs = option_map (λ bytes. directive.Bytes (bytes ++ 
 
 -- the directive of a name and its operands, which may not be operands at all
 unfoldable pub directive_of : List ℕ → Option (List Argument) → Result Directive AsmFaultKind
-directive_of w operands = wanted (if_some (first_given (beside w) directives) None (λ form. if_some operands None (directive_by form))) kinds.Directive
+directive_of w operands =
+    wanted (if_some (first_given (beside w) directives) None (λ form. if_some operands None (directive_by form)))
+    kinds.Directive
 
 -- a directive that keeps a name, numbers, items or bytes, which asks for memory: no other does
 abbrev pub holds : Directive → Bool

@@ -15,4 +15,5 @@ natural_of (negsuc n) = None
 
 -- the number that an integer is, if it keeps the limits
 unfoldable pub limited : ℕ → ℕ → ℕ → ℤ → Option ℕ
-limited least most step z = if_some (natural_of z) None (λ n. if nat_le least n && (nat_le n most && (n % step == 0)) then Some n else None)
+limited least most step z =
+    if_some (natural_of z) None (λ n. if nat_le least n && (nat_le n most && (n % step == 0)) then Some n else None)

@@ -13,7 +13,9 @@ use Rattle.rv_asm_statements.specs.Walk.{first_given}
 
 -- what a row makes of operands, if it is the mnemonic's and takes them
 unfoldable pub row_use : List ℕ → List Argument → Row → Option Use
-row_use w xs row = if bytes_eq row.name w then option_map (λ f. record { template = row.template; filled = f }) (filled_by row.shape xs) else None
+row_use w xs row =
+    if bytes_eq row.name w then option_map (λ f. record { template = row.template; filled = f }) (filled_by row.shape xs)
+    else None
 
 -- what the first row that takes the operands makes of them
 abbrev pub use_of : List ℕ → List Argument → Option Use
@@ -28,7 +30,8 @@ is_mnemonic w = is_some (first_given (row_named w) rows)
 
 -- the instruction of a mnemonic and its operands, which may not be operands at all
 unfoldable pub instruction_of : List ℕ → Option (List Argument) → Result Use AsmFaultKind
-instruction_of w operands = wanted (if_some operands None (λ xs. use_of w xs)) (if is_mnemonic w then kinds.Operand else kinds.Mnemonic)
+instruction_of w operands =
+    wanted (if_some operands None (λ xs. use_of w xs)) (if is_mnemonic w then kinds.Operand else kinds.Mnemonic)
 
 -- an instruction that names a label, whose copy asks for memory: nothing else of an instruction does
 abbrev pub has_label : Result Use AsmFaultKind → Bool

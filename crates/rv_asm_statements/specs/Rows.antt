@@ -6,9 +6,14 @@ use Rattle.rv_decode.specs.declared.instruction.LoadOp.TheVariants.{Lb, Lh, Lw, 
 use Rattle.rv_decode.specs.declared.instruction.StoreOp.TheVariants.{Sb, Sh, Sw, Sd}
 use Rattle.rv_decode.specs.declared.instruction.ImmOp.TheVariants.{Addi, Slti, Sltiu, Xori, Ori, Andi, Addiw}
 use Rattle.rv_decode.specs.declared.instruction.ShiftOp.TheVariants.{Slli, Srli, Srai, Slliw, Srliw, Sraiw}
-use Rattle.rv_decode.specs.declared.instruction.ArithOp.TheVariants.{Add, Sub, Sll, Slt, Sltu, Xor, Srl, Sra, Or, And, Addw, Subw, Sllw, Srlw, Sraw, Mul, Mulh, Mulhsu, Mulhu, Div, Divu, Rem, Remu, Mulw, Divw, Divuw, Remw, Remuw}
+use Rattle.rv_decode.specs.declared.instruction.ArithOp.TheVariants.{Add, Sub, Sll, Slt, Sltu, Xor, Srl, Sra, Or, And}
+use Rattle.rv_decode.specs.declared.instruction.ArithOp.TheVariants.{Addw, Subw, Sllw, Srlw, Sraw, Mul, Mulh, Mulhsu}
+use Rattle.rv_decode.specs.declared.instruction.ArithOp.TheVariants.{Mulhu, Div, Divu, Rem, Remu, Mulw, Divw, Divuw}
+use Rattle.rv_decode.specs.declared.instruction.ArithOp.TheVariants.{Remw, Remuw}
 use Rattle.rv_asm_statements.specs.declared.rows.Shape.{Shape}
-use Rattle.rv_asm_statements.specs.declared.rows.Shape.TheVariants.{Nothing, Orders, Reg, RegReg, RegRegReg, RegNumber, RegRegNumber, RegPlace, Target, RegTarget, RegRegTarget, RegLabel}
+use Rattle.rv_asm_statements.specs.declared.rows.Shape.TheVariants.{Nothing, Orders, Reg, RegReg, RegRegReg, RegNumber}
+use Rattle.rv_asm_statements.specs.declared.rows.Shape.TheVariants.{RegRegNumber, RegPlace, Target, RegTarget}
+use Rattle.rv_asm_statements.specs.declared.rows.Shape.TheVariants.{RegRegTarget, RegLabel}
 use Rattle.rv_asm_statements.specs.declared.rows.Slot.TheVariants.{First, Second, Third, Zero, Link}
 use Rattle.rv_asm_statements.specs.declared.rows.Amount.TheVariants.{Written, Given}
 use Rattle.rv_asm_statements.specs.declared.rows.Template.{Template}

@@ -1,11 +1,14 @@
 -- The operands of an instruction, by the shape that its mnemonic asks for.
 use Rattle.std.specs.Prelude.{ℕ, ℤ, pos, List, [], ◌∷◌, codes, Bool, false, ◌&&◌, Option, Some, None, if◌then◌else◌}
+use Rattle.std.specs.Option.{option_map}
 use Rattle.std.specs.Str.{bytes_eq}
 use Rattle.rv_asm_tokens.specs.Fault.{if_some}
 use Rattle.rv_asm_statements.specs.declared.filled.Target.{Target as Goal}
 use Rattle.rv_asm_statements.specs.declared.filled.Filled.{Filled}
 use Rattle.rv_asm_statements.specs.declared.rows.Shape.{Shape}
-use Rattle.rv_asm_statements.specs.declared.rows.Shape.TheVariants.{Nothing, Orders, Reg, RegReg, RegRegReg, RegNumber, RegRegNumber, RegPlace, Target, RegTarget, RegRegTarget, RegLabel}
+use Rattle.rv_asm_statements.specs.declared.rows.Shape.TheVariants.{Nothing, Orders, Reg, RegReg, RegRegReg, RegNumber}
+use Rattle.rv_asm_statements.specs.declared.rows.Shape.TheVariants.{RegRegNumber, RegPlace, Target, RegTarget}
+use Rattle.rv_asm_statements.specs.declared.rows.Shape.TheVariants.{RegRegTarget, RegLabel}
 use Rattle.rv_asm_statements.specs.Arguments.{Argument, word, value, sum, place}
 use Rattle.rv_asm_statements.specs.Registers.{register_named}
 
@@ -27,7 +30,7 @@ target_of _ = None
 abbrev pub filled : ℕ → ℕ → ℕ → Goal → Filled
 filled a b c t = record { first = a; second = b; third = c; target = t }
 
--- the register, number, address or label that an operand is, if it is one
+-- the register, the number, the register of an address, or the label that an operand is, if it is one
 abbrev pub register_of : Argument → Option ℕ
 register_of (word w) = register_named w
 register_of _ = None
@@ -36,8 +39,13 @@ abbrev pub number_of : Argument → Option ℤ
 number_of (value z) = Some z
 number_of _ = None
 
-abbrev pub offset_of : Argument → Option ℤ
-offset_of (place z w) = Some z
+-- a number alone, and the one before the register of an address
+abbrev pub value_of : Argument → Option Goal
+value_of (value z) = Some (at_number z)
+value_of _ = None
+
+abbrev pub offset_of : Argument → Option Goal
+offset_of (place z w) = Some (at_number z)
 offset_of _ = None
 
 abbrev pub base_of : Argument → Option ℕ
@@ -48,66 +56,68 @@ abbrev pub label_of : Argument → Option Goal
 label_of (word w) = Some (at_label w (pos 0))
 label_of _ = None
 
--- what is made with it
-abbrev pub with_register : Argument → (ℕ → Option Filled) → Option Filled
-with_register a f = if_some (register_of a) None f
+-- registers and a target, if each is there: what a shape lacks is x0, or 0
+abbrev pub filled_if : Option ℕ → Option ℕ → Option ℕ → Option Goal → Option Filled
+filled_if first second third goal =
+    if_some first None (λ a. if_some second None (λ b. if_some third None (λ c. option_map (filled a b c) goal)))
 
-abbrev pub with_number : Argument → (ℤ → Option Filled) → Option Filled
-with_number a f = if_some (number_of a) None f
+abbrev pub no_register : Option ℕ
+no_register = Some 0
 
-abbrev pub with_target : Argument → (Goal → Option Filled) → Option Filled
-with_target a f = if_some (target_of a) None f
+abbrev pub no_target : Option Goal
+no_target = Some (at_number (pos 0))
 
 abbrev pub is_all_orders : Argument → Bool
 is_all_orders (word w) = bytes_eq w (codes "iorw")
 is_all_orders _ = false
 
 abbrev pub nothing_at : List Argument → Option Filled
-nothing_at [] = Some (filled 0 0 0 (at_number (pos 0)))
+nothing_at [] = filled_if no_register no_register no_register no_target
 nothing_at _ = None
 
 abbrev pub orders_at : List Argument → Option Filled
-orders_at (a ∷ b ∷ []) = if is_all_orders a && is_all_orders b then Some (filled 0 0 0 (at_number (pos 0))) else None
+orders_at (a ∷ b ∷ []) =
+    if is_all_orders a && is_all_orders b then filled_if no_register no_register no_register no_target else None
 orders_at _ = None
 
 abbrev pub reg_at : List Argument → Option Filled
-reg_at (a ∷ []) = with_register a (λ r. Some (filled r 0 0 (at_number (pos 0))))
+reg_at (a ∷ []) = filled_if (register_of a) no_register no_register no_target
 reg_at _ = None
 
 abbrev pub reg_reg_at : List Argument → Option Filled
-reg_reg_at (a ∷ b ∷ []) = with_register a (λ r. with_register b (λ s. Some (filled r s 0 (at_number (pos 0)))))
+reg_reg_at (a ∷ b ∷ []) = filled_if (register_of a) (register_of b) no_register no_target
 reg_reg_at _ = None
 
 abbrev pub reg_reg_reg_at : List Argument → Option Filled
-reg_reg_reg_at (a ∷ b ∷ c ∷ []) = with_register a (λ r. with_register b (λ s. with_register c (λ t. Some (filled r s t (at_number (pos 0))))))
+reg_reg_reg_at (a ∷ b ∷ c ∷ []) = filled_if (register_of a) (register_of b) (register_of c) no_target
 reg_reg_reg_at _ = None
 
 abbrev pub reg_number_at : List Argument → Option Filled
-reg_number_at (a ∷ n ∷ []) = with_register a (λ r. with_number n (λ z. Some (filled r 0 0 (at_number z))))
+reg_number_at (a ∷ n ∷ []) = filled_if (register_of a) no_register no_register (value_of n)
 reg_number_at _ = None
 
 abbrev pub reg_reg_number_at : List Argument → Option Filled
-reg_reg_number_at (a ∷ b ∷ n ∷ []) = with_register a (λ r. with_register b (λ s. with_number n (λ z. Some (filled r s 0 (at_number z)))))
+reg_reg_number_at (a ∷ b ∷ n ∷ []) = filled_if (register_of a) (register_of b) no_register (value_of n)
 reg_reg_number_at _ = None
 
 abbrev pub reg_place_at : List Argument → Option Filled
-reg_place_at (a ∷ p ∷ []) = with_register a (λ r. if_some (offset_of p) None (λ z. if_some (base_of p) None (λ s. Some (filled r s 0 (at_number z)))))
+reg_place_at (a ∷ p ∷ []) = filled_if (register_of a) (base_of p) no_register (offset_of p)
 reg_place_at _ = None
 
 abbrev pub only_target_at : List Argument → Option Filled
-only_target_at (t ∷ []) = with_target t (λ goal. Some (filled 0 0 0 goal))
+only_target_at (t ∷ []) = filled_if no_register no_register no_register (target_of t)
 only_target_at _ = None
 
 abbrev pub reg_target_at : List Argument → Option Filled
-reg_target_at (a ∷ t ∷ []) = with_register a (λ r. with_target t (λ goal. Some (filled r 0 0 goal)))
+reg_target_at (a ∷ t ∷ []) = filled_if (register_of a) no_register no_register (target_of t)
 reg_target_at _ = None
 
 abbrev pub reg_reg_target_at : List Argument → Option Filled
-reg_reg_target_at (a ∷ b ∷ t ∷ []) = with_register a (λ r. with_register b (λ s. with_target t (λ goal. Some (filled r s 0 goal))))
+reg_reg_target_at (a ∷ b ∷ t ∷ []) = filled_if (register_of a) (register_of b) no_register (target_of t)
 reg_reg_target_at _ = None
 
 abbrev pub reg_label_at : List Argument → Option Filled
-reg_label_at (a ∷ w ∷ []) = with_register a (λ r. if_some (label_of w) None (λ goal. Some (filled r 0 0 goal)))
+reg_label_at (a ∷ w ∷ []) = filled_if (register_of a) no_register no_register (label_of w)
 reg_label_at _ = None
 
 -- the operands that a shape finds in those that are there

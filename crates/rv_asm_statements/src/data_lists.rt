@@ -7,7 +7,7 @@ use crate::values::Integer;
 use std::marker::Model;
 
 /// The numbers of a communicator. Contracts see a list of integers.
-#[derive(Debug, Drop)]
+#[derive(Drop)]
 pub struct Integers {
     numbers: Vec<Integer>,
 }
@@ -37,7 +37,7 @@ impl Integers {
 }
 
 /// The items of a line of data: numbers, and labels with nothing behind them. Contracts see a list of targets.
-#[derive(Debug, Drop)]
+#[derive(Drop)]
 pub struct Items {
     targets: Vec<Target>,
 }
@@ -68,7 +68,7 @@ impl Items {
 }
 
 /// The bytes of a string. Contracts see a list of numbers.
-#[derive(Debug, Drop)]
+#[derive(Drop)]
 pub struct Bytes {
     bytes: Vec<u8>,
 }

@@ -13,7 +13,11 @@ ghost use Rattle.rv_asm_statements.specs.Read.{read_target};
 ghost use Rattle.rv_asm_statements.specs.Shapes.{number_of};
 ghost use Rattle.rv_asm_statements.specs.Walk.{all_given, beside, first_given};
 ghost use Rattle.rv_asm_statements.specs.DirectiveRowView.{directive_row_view};
-ghost use Rattle.rv_asm_statements.specs.Directives.{only_number as number_alone, only_name as name_alone, only_symbol as symbol_alone, only_text as text_alone, takes_labels as width_takes_labels, item_of, some_given, limited_number, link_of, directive_alone, only_alignment, directive_by, is_kept, keeps, directive_of};
+ghost use Rattle.rv_asm_statements.specs.Directives.{only_number as number_alone, only_name as name_alone};
+ghost use Rattle.rv_asm_statements.specs.Directives.{only_symbol as symbol_alone, only_text as text_alone};
+ghost use Rattle.rv_asm_statements.specs.Directives.{takes_labels as width_takes_labels, item_of, some_given};
+ghost use Rattle.rv_asm_statements.specs.Directives.{limited_number, link_of, directive_alone, only_alignment};
+ghost use Rattle.rv_asm_statements.specs.Directives.{directive_by, is_kept, keeps, directive_of};
 
 use crate::data_lists::{Bytes, Integers, Items};
 use crate::directive_rows::{DIRECTIVES, DirectiveRow, Form};
@@ -241,7 +245,8 @@ fn data(
     operands: &[Operand<'_>],
 ) -> Result<Option<Directive>, AllocError>
     ensures value { IfOk result (λ found. found ≡ directive_by (forms.Items width) (map argument_view operands.now)) }
-    ensures memory { IsErr result → IsTrue (is_kept (directive_by (forms.Items width) (map argument_view operands.now))) }
+    ensures memory { IsErr result
+        → IsTrue (is_kept (directive_by (forms.Items width) (map argument_view operands.now))) }
 {
     if are_items(width, operands) {
         let found = items(alloc, width, operands)?;
@@ -268,7 +273,8 @@ fn string(alloc: Global, operands: &[Operand<'_>]) -> Result<Option<Directive>, 
 #[tactic(auto, unfolding(crate::specs::Directives::directive_by))]
 fn string_and_zero(alloc: Global, operands: &[Operand<'_>]) -> Result<Option<Directive>, AllocError>
     ensures value { IfOk result (λ found. found ≡ directive_by forms.StringAndZero (map argument_view operands.now)) }
-    ensures memory { IsErr result → IsTrue (is_kept (directive_by forms.StringAndZero (map argument_view operands.now))) }
+    ensures memory { IsErr result
+        → IsTrue (is_kept (directive_by forms.StringAndZero (map argument_view operands.now))) }
 {
     match only_text(operands) {
         None => Ok(None),
@@ -332,7 +338,8 @@ pub fn directive(
     operands: &Option<Vec<Operand<'_>>>,
 ) -> Result<Directive, AsmFaultKind>
     ensures value { Gives (λ found. found) result (directive_of name.now (option_map arguments_view operands.now)) }
-    ensures memory { result ≡ Err kinds.Memory → IsTrue (keeps (directive_of name.now (option_map arguments_view operands.now))) }
+    ensures memory { result ≡ Err kinds.Memory
+        → IsTrue (keeps (directive_of name.now (option_map arguments_view operands.now))) }
 {
     let Some(form) = form_in(&DIRECTIVES, name) else {
         return Err(AsmFaultKind::Directive);

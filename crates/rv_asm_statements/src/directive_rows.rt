@@ -3,7 +3,7 @@
 use crate::directives::Width;
 
 /// What a directive is, and so which operands stand behind its name.
-#[derive(Clone, Copy, Debug)]
+#[derive(Clone, Copy)]
 pub enum Form {
     /// One number, within limits.
     Ranks,
@@ -30,7 +30,7 @@ pub enum Form {
 }
 
 /// A directive's name, which begins with a dot, and what it is.
-#[derive(Clone, Copy, Debug)]
+#[derive(Clone, Copy)]
 pub struct DirectiveRow {
     pub name: &'static [u8],
     pub form: Form,

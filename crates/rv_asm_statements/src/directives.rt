@@ -5,7 +5,7 @@ use crate::limited::Limited;
 use crate::values::{Integer, Label};
 
 /// How many bytes an item of data takes: 1, 2, 4 or 8.
-#[derive(Clone, Copy, Debug)]
+#[derive(Clone, Copy)]
 pub enum Width {
     Byte,
     Half,
@@ -14,7 +14,7 @@ pub enum Width {
 }
 
 /// To how many bytes data is aligned: 1, 2, 4, 8 or 16.
-#[derive(Clone, Copy, Debug)]
+#[derive(Clone, Copy)]
 pub enum Alignment {
     One,
     Two,
@@ -24,7 +24,7 @@ pub enum Alignment {
 }
 
 /// A directive with its operands, whose numbers keep the limits of the line.
-#[derive(Debug, Drop)]
+#[derive(Drop)]
 pub enum Directive {
     /// `.ranks n`
     Ranks(Limited<1, 8, 1>),

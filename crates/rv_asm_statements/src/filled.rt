@@ -9,14 +9,14 @@ use rv_decode::Reg;
 use std::alloc::{AllocError, Global};
 
 /// Where a branch goes or what an immediate is: a number, or a label and a number behind it.
-#[derive(Debug, Drop)]
+#[derive(Drop)]
 pub struct Target {
     pub label: Option<Label>,
     pub number: Integer,
 }
 
 /// The registers in the order in which they stand, and the number or target. What a shape lacks is x0 or 0.
-#[derive(Debug, Drop)]
+#[derive(Drop)]
 pub struct Filled {
     pub first: Reg,
     pub second: Reg,
@@ -25,7 +25,7 @@ pub struct Filled {
 }
 
 /// A target whose label still stands in the source.
-#[derive(Clone, Copy, Debug)]
+#[derive(Clone, Copy)]
 pub struct TargetRef<'a> {
     pub label: Option<&'a [u8]>,
     pub number: Number,
@@ -49,7 +49,7 @@ impl TargetRef<'_> {
 }
 
 /// The operands of an instruction whose label still stands in the source.
-#[derive(Clone, Copy, Debug)]
+#[derive(Clone, Copy)]
 pub struct FilledRef<'a> {
     pub first: Reg,
     pub second: Reg,

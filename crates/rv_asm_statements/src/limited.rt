@@ -19,7 +19,7 @@ fn natural(number: Number) -> Option<u64>
 }
 
 /// A number from `LEAST` to `MOST`, which is a multiple of `STEP`. Contracts see the number.
-#[derive(Clone, Copy, Debug)]
+#[derive(Clone, Copy)]
 pub struct Limited<const LEAST: u32, const MOST: u32, const STEP: u32> {
     number: u32,
 }

@@ -7,8 +7,10 @@ ghost use Rattle.std.specs.Option.{option_map};
 ghost use Rattle.rv_asm_statements.specs.Arguments.{argument_view, arguments_view};
 ghost use Rattle.rv_asm_statements.specs.Walk.{first_given};
 ghost use Rattle.rv_asm_statements.specs.RowView.{row_view};
+ghost use Rattle.rv_asm_statements.specs.Rows.{rows};
 ghost use Rattle.rv_asm_statements.specs.Read.{read_use};
-ghost use Rattle.rv_asm_statements.specs.Mnemonics.{row_use, row_named, instruction_of, has_label};
+ghost use Rattle.rv_asm_statements.specs.Mnemonics.{row_use, row_named, instruction_of, has_label, use_of as use_meant};
+ghost use Rattle.rv_asm_statements.specs.Mnemonics.{is_mnemonic as is_mnemonic_meant};
 
 use crate::filled::{Filled, FilledRef};
 use crate::operand_list::Operand;
@@ -18,14 +20,14 @@ use rv_asm_tokens::AsmFaultKind;
 use std::alloc::Global;
 
 /// A mnemonic's instruction and the operands of the source.
-#[derive(Debug, Drop)]
+#[derive(Drop)]
 pub struct Use {
     pub template: Template,
     pub filled: Filled,
 }
 
 /// A mnemonic's instruction and the operands of the source, whose label still stands there.
-#[derive(Clone, Copy, Debug)]
+#[derive(Clone, Copy)]
 pub struct UseRef<'a> {
     pub template: Template,
     pub filled: FilledRef<'a>,
@@ -50,7 +52,8 @@ fn use_of_row<'a>(name: &[u8], operands: &[Operand<'a>], row: &Row) -> Option<Us
 }
 
 fn use_in<'a>(table: &[Row], name: &[u8], operands: &[Operand<'a>]) -> Option<UseRef<'a>>
-    ensures { option_map read_use result ≡ first_given (row_use name.now (map argument_view operands.now)) (map row_view table.now) }
+    ensures { option_map read_use result
+        ≡ first_given (row_use name.now (map argument_view operands.now)) (map row_view table.now) }
 {
     for row in table {
         if let Some(found) = use_of_row(name, operands, row) {
@@ -71,6 +74,27 @@ fn has_row(table: &[Row], name: &[u8]) -> bool
     false
 }
 
+/// The table of rows.
+fn table() -> &'static [Row]
+    ensures { map row_view result.now ≡ rows }
+{
+    &ROWS
+}
+
+/// What the first row that takes the operands makes of them.
+fn use_of<'a>(name: &[u8], operands: &[Operand<'a>]) -> Option<UseRef<'a>>
+    ensures { option_map read_use result ≡ use_meant name.now (map argument_view operands.now) }
+{
+    use_in(table(), name, operands)
+}
+
+/// Whether a row has the name.
+fn is_mnemonic(name: &[u8]) -> bool
+    ensures { result ≡ is_mnemonic_meant name.now }
+{
+    has_row(table(), name)
+}
+
 /// The instruction of a mnemonic and its operands, which are None where no operands stand there.
 ///
 /// `Mnemonic` where there is no such mnemonic, `Operand` where it does not take these operands, and `Memory`
@@ -82,17 +106,18 @@ pub fn instruction(
     operands: &Option<Vec<Operand<'_>>>,
 ) -> Result<Use, AsmFaultKind>
     ensures value { Gives (λ found. found) result (instruction_of name.now (option_map arguments_view operands.now)) }
-    ensures memory { result ≡ Err kinds.Memory → IsTrue (has_label (instruction_of name.now (option_map arguments_view operands.now))) }
+    ensures memory { result ≡ Err kinds.Memory
+        → IsTrue (has_label (instruction_of name.now (option_map arguments_view operands.now))) }
 {
     if let Some(operands) = operands {
-        if let Some(found) = use_in(&ROWS, name, operands) {
+        if let Some(found) = use_of(name, operands) {
             return Ok(Use {
                 template: found.template,
                 filled: found.filled.copied(alloc)?,
             });
         }
     }
-    if has_row(&ROWS, name) {
+    if is_mnemonic(name) {
         Err(AsmFaultKind::Operand)
     } else {
         Err(AsmFaultKind::Mnemonic)

@@ -1,15 +1,16 @@
 //! What stands between the commas of a statement.
 
-ghost use Rattle.std.specs.Prelude.{◌≡◌, IfOk};
+ghost use Rattle.std.specs.Prelude.{◌≡◌, ◌∷◌, [], IfOk};
 ghost use Rattle.std.specs.Option.{option_map};
 ghost use Rattle.rv_asm_tokens.specs.Lexeme.{lexeme_of, lexemes_of};
-ghost use Rattle.rv_asm_statements.specs.Arguments.{arguments_view, argument_view, argument_of, arguments_of, is_comma as is_comma_meant};
+ghost use Rattle.rv_asm_statements.specs.Arguments.{arguments_view, argument_view, argument_of, arguments_of};
+ghost use Rattle.rv_asm_statements.specs.Arguments.{is_comma as is_comma_meant};
 
 use rv_asm_tokens::{Number, Token};
 use std::alloc::{AllocError, Global};
 
 /// An operand, in the forms in which one can stand.
-#[derive(Clone, Copy, Debug)]
+#[derive(Clone, Copy)]
 pub enum Operand<'a> {
     /// A register, a label, or another name.
     Name(&'a [u8]),
@@ -22,13 +23,23 @@ pub enum Operand<'a> {
     Place(Number, &'a [u8]),
 }
 
+/// A token that is an operand by itself.
+fn lone_operand<'a>(token: &Token<'a>) -> Option<Operand<'a>>
+    ensures { option_map argument_view result ≡ argument_of (lexeme_of token.now ∷ []) }
+{
+    match *token {
+        Token::Name(name) => Some(Operand::Name(name)),
+        Token::Number(number) => Some(Operand::Number(number)),
+        Token::Text(text) => Some(Operand::Text(text)),
+        _ => None,
+    }
+}
+
 fn single_operand<'a>(tokens: &[Token<'a>]) -> Option<Operand<'a>>
     ensures { option_map argument_view result ≡ argument_of (lexemes_of tokens.now) }
 {
     match tokens {
-        [Token::Name(name)] => Some(Operand::Name(name)),
-        [Token::Number(number)] => Some(Operand::Number(*number)),
-        [Token::Text(text)] => Some(Operand::Text(text)),
+        [token] => lone_operand(token),
         [Token::Name(name), Token::Plus, Token::Number(number)] => Some(Operand::Sum(
             name, *number,
         )),

@@ -99,10 +99,18 @@ fn number_in(table: &[RegisterName], name: &[u8]) -> Option<u8>
     None
 }
 
-/// The register of a name: `x0` to `x31`, or `zero`, `ra`, `sp`, `gp`, `tp`, `t0` to `t6`, `s0` to `s11`, `fp`, `a0` to `a7`.
+fn number_of(name: &[u8]) -> Option<u8>
+    ensures { result ≡ register_named name.now }
+{
+    number_in(&REGISTERS, name)
+}
+
+/// The register of a name: `x0` to `x31`, or `zero`, `ra`, `sp`, `gp`, `tp`, `t0` to `t6`, `s0` to `s11`, `fp`, `a0` to
+/// `a7`.
+#[tactic(auto, using(crate::proofs::RegisterNumbers::register_small))]
 pub fn register(name: &[u8]) -> Option<Reg>
     ensures { result ≡ register_named name.now }
 {
-    let number = number_in(&REGISTERS, name)?;
+    let number = number_of(name)?;
     Some(Reg::new(number))
 }

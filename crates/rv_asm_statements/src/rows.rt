@@ -3,7 +3,7 @@
 use rv_decode::{ArithOp, BranchOp, ImmOp, LoadOp, ShiftOp, StoreOp, UpperOp};
 
 /// Which operands stand behind a mnemonic, in order.
-#[derive(Clone, Copy, Debug)]
+#[derive(Clone, Copy)]
 pub enum Shape {
     Nothing,
     /// `iorw, iorw`
@@ -22,7 +22,7 @@ pub enum Shape {
 }
 
 /// Which register stands in a field of the instruction: an operand, x0, or x1.
-#[derive(Clone, Copy, Debug)]
+#[derive(Clone, Copy)]
 pub enum Slot {
     First,
     Second,
@@ -32,14 +32,14 @@ pub enum Slot {
 }
 
 /// The immediate: the operand's number, or one of the mnemonic's own.
-#[derive(Clone, Copy, Debug)]
+#[derive(Clone, Copy)]
 pub enum Amount {
     Written,
     Given(i8),
 }
 
 /// The instruction of a mnemonic, its registers in the order of rd, rs1 and rs2.
-#[derive(Clone, Copy, Debug)]
+#[derive(Clone, Copy)]
 pub enum Template {
     Upper(UpperOp, Slot),
     Jal(Slot),
@@ -60,7 +60,7 @@ pub enum Template {
 }
 
 /// One mnemonic with the operands that it takes. A mnemonic that takes two kinds of operands has two rows.
-#[derive(Clone, Copy, Debug)]
+#[derive(Clone, Copy)]
 pub struct Row {
     pub name: &'static [u8],
     pub shape: Shape,

@@ -1,11 +1,16 @@
 //! The operands of an instruction, by the shape that its mnemonic asks for.
 
-ghost use Rattle.std.specs.Prelude.{◌≡◌, map, pos};
+ghost use Rattle.std.specs.Prelude.{◌≡◌, map, pos, Some};
 ghost use Rattle.std.specs.Option.{option_map};
 ghost use Rattle.rv_asm_tokens.specs.Lexeme.{number_value};
 ghost use Rattle.rv_asm_statements.specs.Arguments.{argument_view};
 ghost use Rattle.rv_asm_statements.specs.Read.{read_filled, read_target};
-ghost use Rattle.rv_asm_statements.specs.Shapes.{at_number, at_label, register_of, number_of, offset_of, base_of, label_of, is_all_orders, target_of, filled as filled_with, nothing_at, orders_at, reg_at, reg_reg_at, reg_reg_reg_at, reg_number_at, reg_reg_number_at, reg_place_at, only_target_at, reg_target_at, reg_reg_target_at, reg_label_at, filled_by};
+ghost use Rattle.rv_asm_statements.specs.Shapes.{at_number, at_label, register_of, number_of, value_of, offset_of};
+ghost use Rattle.rv_asm_statements.specs.Shapes.{base_of, label_of, is_all_orders, target_of, filled_if, filled_by};
+ghost use Rattle.rv_asm_statements.specs.Shapes.{nothing_at, orders_at, reg_at, reg_reg_at, reg_reg_reg_at};
+ghost use Rattle.rv_asm_statements.specs.Shapes.{reg_number_at};
+ghost use Rattle.rv_asm_statements.specs.Shapes.{reg_reg_number_at, reg_place_at, only_target_at, reg_target_at};
+ghost use Rattle.rv_asm_statements.specs.Shapes.{reg_reg_target_at, reg_label_at};
 
 use crate::filled::{FilledRef, TargetRef};
 use crate::operand_list::Operand;
@@ -61,11 +66,20 @@ pub fn number_in(operand: &Operand<'_>) -> Option<Number>
     }
 }
 
-fn offset_in(operand: &Operand<'_>) -> Option<Number>
-    ensures { option_map number_value result ≡ offset_of (argument_view operand.now) }
+fn value_in(operand: &Operand<'_>) -> Option<TargetRef<'static>>
+    ensures { option_map read_target result ≡ value_of (argument_view operand.now) }
 {
     match operand {
-        Operand::Place(number, _) => Some(*number),
+        Operand::Number(number) => Some(number_target(*number)),
+        _ => None,
+    }
+}
+
+fn offset_in(operand: &Operand<'_>) -> Option<TargetRef<'static>>
+    ensures { option_map read_target result ≡ offset_of (argument_view operand.now) }
+{
+    match operand {
+        Operand::Place(number, _) => Some(number_target(*number)),
         _ => None,
     }
 }
@@ -97,28 +111,42 @@ fn names_all_orders(operand: &Operand<'_>) -> bool
     }
 }
 
-fn none() -> Reg
-    ensures { result ≡ 0 }
+/// x0, in place of a register that a shape lacks.
+fn no_register() -> Option<Reg>
+    ensures { result ≡ Some 0 }
 {
-    Reg::new(0)
+    Some(Reg::new(0))
 }
 
-fn registers_alone(first: Reg, second: Reg, third: Reg) -> FilledRef<'static>
-    ensures { read_filled result ≡ filled_with first second third (at_number (pos 0)) }
+/// 0, in place of a target that a shape lacks.
+fn no_target() -> Option<TargetRef<'static>>
+    ensures { option_map read_target result ≡ Some (at_number (pos 0)) }
 {
-    FilledRef {
-        first,
-        second,
-        third,
-        target: number_target(ZERO),
-    }
+    Some(number_target(ZERO))
+}
+
+/// Registers and a target, if each is there.
+fn all_of(
+    first: Option<Reg>,
+    second: Option<Reg>,
+    third: Option<Reg>,
+    target: Option<TargetRef<'_>>,
+) -> Option<FilledRef<'_>>
+    ensures { option_map read_filled result ≡ filled_if first second third (option_map read_target target.entry) }
+{
+    Some(FilledRef {
+        first: first?,
+        second: second?,
+        third: third?,
+        target: target?,
+    })
 }
 
 fn nothing(operands: &[Operand<'_>]) -> Option<FilledRef<'static>>
     ensures { option_map read_filled result ≡ nothing_at (map argument_view operands.now) }
 {
     match operands {
-        [] => Some(registers_alone(none(), none(), none())),
+        [] => all_of(no_register(), no_register(), no_register(), no_target()),
         _ => None,
     }
 }
@@ -129,7 +157,7 @@ fn orders(operands: &[Operand<'_>]) -> Option<FilledRef<'static>>
     match operands {
         [before, after] => {
             if names_all_orders(before) && names_all_orders(after) {
-                Some(registers_alone(none(), none(), none()))
+                all_of(no_register(), no_register(), no_register(), no_target())
             } else {
                 None
             }
@@ -142,10 +170,7 @@ fn reg(operands: &[Operand<'_>]) -> Option<FilledRef<'static>>
     ensures { option_map read_filled result ≡ reg_at (map argument_view operands.now) }
 {
     match operands {
-        [a] => {
-            let first = register_in(a)?;
-            Some(registers_alone(first, none(), none()))
-        }
+        [a] => all_of(register_in(a), no_register(), no_register(), no_target()),
         _ => None,
     }
 }
@@ -154,11 +179,7 @@ fn reg_reg(operands: &[Operand<'_>]) -> Option<FilledRef<'static>>
     ensures { option_map read_filled result ≡ reg_reg_at (map argument_view operands.now) }
 {
     match operands {
-        [a, b] => {
-            let first = register_in(a)?;
-            let second = register_in(b)?;
-            Some(registers_alone(first, second, none()))
-        }
+        [a, b] => all_of(register_in(a), register_in(b), no_register(), no_target()),
         _ => None,
     }
 }
@@ -167,12 +188,7 @@ fn reg_reg_reg(operands: &[Operand<'_>]) -> Option<FilledRef<'static>>
     ensures { option_map read_filled result ≡ reg_reg_reg_at (map argument_view operands.now) }
 {
     match operands {
-        [a, b, c] => {
-            let first = register_in(a)?;
-            let second = register_in(b)?;
-            let third = register_in(c)?;
-            Some(registers_alone(first, second, third))
-        }
+        [a, b, c] => all_of(register_in(a), register_in(b), register_in(c), no_target()),
         _ => None,
     }
 }
@@ -181,16 +197,7 @@ fn reg_number(operands: &[Operand<'_>]) -> Option<FilledRef<'static>>
     ensures { option_map read_filled result ≡ reg_number_at (map argument_view operands.now) }
 {
     match operands {
-        [a, n] => {
-            let first = register_in(a)?;
-            let number = number_in(n)?;
-            Some(FilledRef {
-                first,
-                second: none(),
-                third: none(),
-                target: number_target(number),
-            })
-        }
+        [a, n] => all_of(register_in(a), no_register(), no_register(), value_in(n)),
         _ => None,
     }
 }
@@ -199,17 +206,7 @@ fn reg_reg_number(operands: &[Operand<'_>]) -> Option<FilledRef<'static>>
     ensures { option_map read_filled result ≡ reg_reg_number_at (map argument_view operands.now) }
 {
     match operands {
-        [a, b, n] => {
-            let first = register_in(a)?;
-            let second = register_in(b)?;
-            let number = number_in(n)?;
-            Some(FilledRef {
-                first,
-                second,
-                third: none(),
-                target: number_target(number),
-            })
-        }
+        [a, b, n] => all_of(register_in(a), register_in(b), no_register(), value_in(n)),
         _ => None,
     }
 }
@@ -218,17 +215,12 @@ fn reg_place(operands: &[Operand<'_>]) -> Option<FilledRef<'static>>
     ensures { option_map read_filled result ≡ reg_place_at (map argument_view operands.now) }
 {
     match operands {
-        [a, place] => {
-            let first = register_in(a)?;
-            let number = offset_in(place)?;
-            let second = base_in(place)?;
-            Some(FilledRef {
-                first,
-                second,
-                third: none(),
-                target: number_target(number),
-            })
-        }
+        [a, place] => all_of(
+            register_in(a),
+            base_in(place),
+            no_register(),
+            offset_in(place),
+        ),
         _ => None,
     }
 }
@@ -237,15 +229,7 @@ fn only_target<'a>(operands: &[Operand<'a>]) -> Option<FilledRef<'a>>
     ensures { option_map read_filled result ≡ only_target_at (map argument_view operands.now) }
 {
     match operands {
-        [goal] => {
-            let target = target_at(goal)?;
-            Some(FilledRef {
-                first: none(),
-                second: none(),
-                third: none(),
-                target,
-            })
-        }
+        [goal] => all_of(no_register(), no_register(), no_register(), target_at(goal)),
         _ => None,
     }
 }
@@ -254,16 +238,12 @@ fn reg_target<'a>(operands: &[Operand<'a>]) -> Option<FilledRef<'a>>
     ensures { option_map read_filled result ≡ reg_target_at (map argument_view operands.now) }
 {
     match operands {
-        [a, goal] => {
-            let first = register_in(a)?;
-            let target = target_at(goal)?;
-            Some(FilledRef {
-                first,
-                second: none(),
-                third: none(),
-                target,
-            })
-        }
+        [a, goal] => all_of(
+            register_in(a),
+            no_register(),
+            no_register(),
+            target_at(goal),
+        ),
         _ => None,
     }
 }
@@ -272,17 +252,12 @@ fn reg_reg_target<'a>(operands: &[Operand<'a>]) -> Option<FilledRef<'a>>
     ensures { option_map read_filled result ≡ reg_reg_target_at (map argument_view operands.now) }
 {
     match operands {
-        [a, b, goal] => {
-            let first = register_in(a)?;
-            let second = register_in(b)?;
-            let target = target_at(goal)?;
-            Some(FilledRef {
-                first,
-                second,
-                third: none(),
-                target,
-            })
-        }
+        [a, b, goal] => all_of(
+            register_in(a),
+            register_in(b),
+            no_register(),
+            target_at(goal),
+        ),
         _ => None,
     }
 }
@@ -291,16 +266,12 @@ fn reg_label<'a>(operands: &[Operand<'a>]) -> Option<FilledRef<'a>>
     ensures { option_map read_filled result ≡ reg_label_at (map argument_view operands.now) }
 {
     match operands {
-        [a, label] => {
-            let first = register_in(a)?;
-            let target = label_in(label)?;
-            Some(FilledRef {
-                first,
-                second: none(),
-                third: none(),
-                target,
-            })
-        }
+        [a, label] => all_of(
+            register_in(a),
+            no_register(),
+            no_register(),
+            label_in(label),
+        ),
         _ => None,
     }
 }

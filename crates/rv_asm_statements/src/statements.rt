@@ -1,10 +1,11 @@
 //! A line's statement.
 
-ghost use Rattle.std.specs.Prelude.{◌≡◌, Err, IsTrue};
+ghost use Rattle.std.specs.Prelude.{◌≡◌, ◌∷◌, Err, IsTrue, Some};
 ghost use Rattle.rv_asm_tokens.specs.declared.fault.AsmFaultKind.TheVariants as kinds;
 ghost use Rattle.rv_asm_tokens.specs.Fault.{Gives};
-ghost use Rattle.rv_asm_tokens.specs.Lexeme.{lexemes_of};
-ghost use Rattle.rv_asm_statements.specs.Statements.{begins_with_dot as is_directive_name, begins_with_name, statement_of};
+ghost use Rattle.rv_asm_tokens.specs.Lexeme.{lexemes_of, name};
+ghost use Rattle.rv_asm_statements.specs.Statements.{begins_with_dot as is_directive_name, begins_with_name};
+ghost use Rattle.rv_asm_statements.specs.Statements.{statement_of};
 
 use crate::directive_forms::directive;
 use crate::directives::Directive;
@@ -15,7 +16,7 @@ use rv_asm_tokens::{AsmFaultKind, Token};
 use std::alloc::Global;
 
 /// What stands at an address: the label of a line, or its statement.
-#[derive(Debug, Drop)]
+#[derive(Drop)]
 pub enum Statement {
     Label(Label),
     Instruction(Use),
@@ -26,6 +27,23 @@ fn begins_with_dot(name: &[u8]) -> bool
     ensures { result ≡ is_directive_name name.now }
 {
     matches!(name, [b'.', ..])
+}
+
+/// The directive or the instruction of a name and what stands behind it.
+#[tactic(auto, unfolding(crate::specs::Statements::statement_of))]
+fn named_statement(
+    alloc: Global,
+    word: &[u8],
+    rest: &[Token<'_>],
+) -> Result<Statement, AsmFaultKind>
+    ensures { Gives Some result (statement_of (name word.now ∷ lexemes_of rest.now)) }
+{
+    let list = operands(alloc, rest)?;
+    if begins_with_dot(word) {
+        Ok(Statement::Directive(directive(alloc, word, &list)?))
+    } else {
+        Ok(Statement::Instruction(instruction(alloc, word, &list)?))
+    }
 }
 
 /// The statement that follows a line's labels, if there is one.
@@ -43,16 +61,7 @@ pub fn parse_statement(
 {
     match tokens {
         [] => Ok(None),
-        [Token::Name(name), rest @ ..] => {
-            let list = operands(alloc, rest)?;
-            if begins_with_dot(name) {
-                let found = directive(alloc, name, &list)?;
-                Ok(Some(Statement::Directive(found)))
-            } else {
-                let found = instruction(alloc, name, &list)?;
-                Ok(Some(Statement::Instruction(found)))
-            }
-        }
+        [Token::Name(word), rest @ ..] => Ok(Some(named_statement(alloc, word, rest)?)),
         _ => Err(AsmFaultKind::Mnemonic),
     }
 }

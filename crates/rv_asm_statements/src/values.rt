@@ -5,7 +5,7 @@ use std::alloc::{AllocError, Global};
 use std::marker::Model;
 
 /// A name. Contracts see its bytes.
-#[derive(Debug, Drop)]
+#[derive(Drop)]
 pub struct Label {
     bytes: Vec<u8>,
 }
@@ -38,7 +38,7 @@ impl Label {
 }
 
 /// A number between -2^64 and 2^64. Contracts see the integer.
-#[derive(Debug, Drop)]
+#[derive(Drop)]
 pub struct Integer {
     number: Number,
 }

@@ -1,0 +1,14 @@
+use Rattle.std.proofs.Common.{map, sym, arith}
+use Rattle.std.proofs.lemmas.List.{length-map}
+use Rattle.rv_asm_statements.specs.Arguments.{argument_view}
+use Rattle.rv_asm_statements.proofs.OtherCounts.{reg_number_at-other}
+use Rattle.rv_asm_statements.proofs.shapes.reg_number.Goals as goal
+use Rattle.rv_asm_statements.proofs.shapes.reg_number.Goals.{in_default-via-then-operands-lt2, in_default-via-else-operands-lt2+else-operands-lt3}
+
+pub returns-in_default : goal.returns-in_default
+returns-in_default c =
+    let xs = c.args.operands.now in
+    elim c.in_default.branch [
+      | in_default-via-then-operands-lt2 w ↦ sym (reg_number_at-other (map argument_view xs) (λ same. grind (arith, length-map xs argument_view)))
+      | in_default-via-else-operands-lt2+else-operands-lt3 w ↦ sym (reg_number_at-other (map argument_view xs) (λ same. grind (arith, length-map xs argument_view)))
+    ]
