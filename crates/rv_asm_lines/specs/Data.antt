@@ -1,5 +1,6 @@
 -- What directives come to in the second pass: bytes, communicators and links.
-use Rattle.std.specs.Prelude.{ℕ, ◌-◌, ◌*◌, ◌^◌, ℤ, pos, negsuc, neg_ℤ, List, [], ◌∷◌, ◌++◌, length, replicate, take, Result, Ok, Err, if◌then◌else◌}
+use Rattle.std.specs.Prelude.{ℕ, ◌-◌, ◌*◌, ◌^◌, ℤ, pos, negsuc, neg_ℤ, List, [], ◌∷◌, ◌++◌, length, replicate, take}
+use Rattle.std.specs.Prelude.{Result, Ok, Err, if◌then◌else◌}
 use Rattle.std.specs.Int.{w128, to_le_bytes, cast_unsigned}
 use Rattle.rv_image.specs.declared.images.Link.{Link}
 use Rattle.rv_image.specs.Reading.{is_within, is_new_rank}
@@ -25,12 +26,14 @@ low_bytes n z = take n (to_le_bytes w128 (cast_unsigned w128 z))
 
 -- an item: its number, or the address of its label
 unfoldable pub item_bytes : List (List ℕ × ℕ) → Width → Goal → Result (List ℕ) AsmFaultKind
-item_bytes labels width item = offset_of labels 0 item >>= λ z. item_ranged (width_bytes width) z >>= λ y. Ok (low_bytes (width_bytes width) y)
+item_bytes labels width item =
+    offset_of labels 0 item >>= λ z. item_ranged (width_bytes width) z >>= λ y. Ok (low_bytes (width_bytes width) y)
 
 -- items, from left to right
 unfoldable pub items_bytes : List (List ℕ × ℕ) → Width → List Goal → Result (List ℕ) AsmFaultKind
 items_bytes labels width [] = Ok []
-items_bytes labels width (item ∷ items) = item_bytes labels width item >>= λ bytes. items_bytes labels width items >>= λ more. Ok (bytes ++ more)
+items_bytes labels width (item ∷ items) =
+    item_bytes labels width item >>= λ bytes. items_bytes labels width items >>= λ more. Ok (bytes ++ more)
 
 -- the bytes of a directive at a place of its part
 unfoldable pub directive_bytes : List (List ℕ × ℕ) → ℕ → Directive → Result (List ℕ) AsmFaultKind
@@ -62,4 +65,5 @@ members_of ranks zs = if is_within 1 8 (length zs) then members_from ranks [] zs
 
 -- a link: two ranks, one not the other
 unfoldable pub link_of : ℕ → ℤ → ℤ → Result Link AsmFaultKind
-link_of ranks a b = new_rank ranks [] a >>= λ from. new_rank ranks (from ∷ []) b >>= λ to. Ok (record { from = from; to = to })
+link_of ranks a b =
+    new_rank ranks [] a >>= λ from. new_rank ranks (from ∷ []) b >>= λ to. Ok (record { from = from; to = to })

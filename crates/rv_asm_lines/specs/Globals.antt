@@ -1,5 +1,6 @@
 -- The names of `.globl`: each once, in byte order; and the symbols that they make.
-use Rattle.std.specs.Prelude.{ℕ, List, Option, Some, None, Bool, false, not, Result, Ok, Err, nat_lt, length, if◌then◌else◌}
+use Rattle.std.specs.Prelude.{ℕ, List, Option, Some, None, Bool, false, not, Result, Ok, Err, nat_lt, length}
+use Rattle.std.specs.Prelude.{if◌then◌else◌}
 use Rattle.std.specs.BTreeSet.{insert_key}
 use Rattle.std.specs.Cmp.Lexicographic.{slice_cmp}
 use Rattle.std.specs.List.{filter_map, list_any}

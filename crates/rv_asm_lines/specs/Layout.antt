@@ -1,5 +1,6 @@
 -- The first pass: where each label and statement of a source stands.
-use Rattle.std.specs.Prelude.{ℕ, ◌+◌, List, [], ◌∷◌, ◌++◌, map, Option, Some, None, Result, Ok, Err, is_some, nat_lt, if◌then◌else◌}
+use Rattle.std.specs.Prelude.{ℕ, ◌+◌, List, [], ◌∷◌, ◌++◌, map, Option, Some, None, Result, Ok, Err, is_some, nat_lt}
+use Rattle.std.specs.Prelude.{if◌then◌else◌}
 use Rattle.std.specs.Str.{bytes_eq}
 use Rattle.std.specs.Str.Lines.{lines}
 use Rattle.rv_asm_tokens.specs.declared.fault.AsmFault.{AsmFault}
@@ -24,7 +25,8 @@ use Rattle.rv_asm_lines.specs.Parts.{address, length_of, may_stand, part_after}
 abbrev pub Labels : Type 0
 Labels = List (List ℕ × Place)
 
--- the lines so far: how long the parts are, the part that follows, the fields, the names of `.globl`, the labels, and what stands where
+-- the lines so far: how long the parts are, the part that follows, the fields, the names of `.globl`, the labels, and
+-- what stands where
 pub record Layout : Type 0 where
   pub text : ℕ
   pub init : ℕ
@@ -71,7 +73,8 @@ added _ _ k = 0
 
 -- a label of a line: it stands where the line's statement will
 abbrev pub with_label : ℕ → Layout → List ℕ → Layout
-with_label n s w = record s { labels = s.labels ++ (w, next_place s) ∷ []; items = s.items ++ item_at n (next_place s) (Label w) ∷ [] }
+with_label n s w =
+    record s { labels = s.labels ++ (w, next_place s) ∷ []; items = s.items ++ item_at n (next_place s) (Label w) ∷ [] }
 
 -- one more statement at the end of its part, and the fields and the names of `.globl` behind it
 abbrev pub with_item : ℕ → Layout → Statement → Fields → List (List ℕ) → Layout
@@ -87,17 +90,22 @@ with_item n s stated f names = record {
 
 -- the labels that a line begins with, and what follows them
 unfoldable pub labels_at : ℕ → Layout → List Lexeme → Result (Layout × List Lexeme) AsmFaultKind
-labels_at n s (name w ∷ colon ∷ rest) = if is_some (place_in w s.labels) then Err kinds.LabelTwice else labels_at n (with_label n s w) rest
+labels_at n s (name w ∷ colon ∷ rest) =
+    if is_some (place_in w s.labels) then Err kinds.LabelTwice else labels_at n (with_label n s w) rest
 labels_at n s ts = Ok (s, ts)
 
 -- a statement's length, and the name of a `.globl`, tested last
 abbrev pub fitted : ℕ → Layout → Statement → Fields → Result Layout AsmFaultKind
-fitted n s stated f = if nat_lt most_bytes (at_end s + length_of (at_end s) stated) then Err kinds.Limit else (globals_behind stated s.globals >>= λ names. Ok (with_item n s stated f names))
+fitted n s stated f =
+    if nat_lt most_bytes (at_end s + length_of (at_end s) stated) then Err kinds.Limit
+    else (globals_behind stated s.globals >>= λ names. Ok (with_item n s stated f names))
 
 -- the statement of a line, if it has one
 unfoldable pub placed : ℕ → Layout → Option Statement → Result Layout AsmFaultKind
 placed n s None = Ok s
-placed n s (Some stated) = if may_stand s.part stated then (fields_behind stated s.fields >>= λ f. fitted n s stated f) else Err kinds.Directive
+placed n s (Some stated) =
+    if may_stand s.part stated then (fields_behind stated s.fields >>= λ f. fitted n s stated f)
+    else Err kinds.Directive
 
 -- one more line: its tokens, then its labels, then its statement
 unfoldable pub line_step : ℕ → Layout → List ℕ → Result Layout AsmFaultKind

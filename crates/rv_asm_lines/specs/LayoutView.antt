@@ -15,7 +15,16 @@ abbrev pub names_view : BTreeSet (Vec ℕ) → List (List ℕ)
 names_view names = map (λ w. w.items) names.keys
 
 abbrev pub layout_view : Kept → Layout
-layout_view s = record { text = s.text; init = s.init; part = s.part; fields = s.fields; globals = names_view s.globals; labels = labels_view s.labels.entries; items = s.items.items }
+layout_view s =
+    record {
+      text = s.text;
+      init = s.init;
+      part = s.part;
+      fields = s.fields;
+      globals = names_view s.globals;
+      labels = labels_view s.labels.entries;
+      items = s.items.items;
+    }
 
 -- the labels of the code with their addresses
 abbrev pub addresses_view : Kept → List (List ℕ × ℕ)

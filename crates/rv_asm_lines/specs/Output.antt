@@ -1,5 +1,6 @@
 -- The second pass: the bytes of each statement, the entry, the communicators and the links.
-use Rattle.std.specs.Prelude.{ℕ, ◌%◌, List, [], ◌∷◌, ◌++◌, codes, Bool, ◌&&◌, not, Option, Some, None, Result, Ok, Err, nat_lt, ◌==◌, if◌then◌else◌}
+use Rattle.std.specs.Prelude.{ℕ, ◌%◌, List, [], ◌∷◌, ◌++◌, codes, Bool, ◌&&◌, not, Option, Some, None, Result, Ok, Err}
+use Rattle.std.specs.Prelude.{nat_lt, ◌==◌, if◌then◌else◌}
 use Rattle.std.specs.List.{flat_map}
 use Rattle.std.specs.Int.{w32, to_le_bytes}
 use Rattle.std.specs.Str.{bytes_eq}
@@ -48,7 +49,9 @@ with_entry end at o = if is_text_address end at then Ok (record o { entry = Some
 
 -- the label `_start` is the entry where no `.entry` is
 unfoldable pub label_step : Layout → List ℕ → Place → Output → Result Output AsmFaultKind
-label_step s w p o = if bytes_eq w (codes "_start") && not s.fields.has_entry then with_entry s.text (address s.text p.part p.at) o else Ok o
+label_step s w p o =
+    if bytes_eq w (codes "_start") && not s.fields.has_entry then with_entry s.text (address s.text p.part p.at) o
+    else Ok o
 
 -- the text with the instructions of a mnemonic and its operands at an address
 unfoldable pub with_use : List (List ℕ × ℕ) → ℕ → Use → List ℕ → Result (List ℕ) AsmFaultKind
@@ -61,16 +64,21 @@ with_bytes Data bytes o = record o { init = o.init ++ bytes }
 
 -- the entry, a symbol, whose label has to be there, a communicator, a link, or bytes
 unfoldable pub directive_step : Layout → Place → Directive → Output → Result Output AsmFaultKind
-directive_step s p (directive.Entry w) o = wanted (address_in w (addresses s.text s.labels)) kinds.LabelMissing >>= λ at. with_entry s.text at o
-directive_step s p (directive.Global w) o = wanted (address_in w (addresses s.text s.labels)) kinds.LabelMissing >>= λ at. Ok o
-directive_step s p (directive.Comm ranks) o = members_of (ranks_of s.fields) ranks >>= λ members. Ok (record o { comms = o.comms ++ members ∷ [] })
-directive_step s p (directive.Link from to) o = link_of (ranks_of s.fields) from to >>= λ link. Ok (record o { links = o.links ++ link ∷ [] })
+directive_step s p (directive.Entry w) o =
+    wanted (address_in w (addresses s.text s.labels)) kinds.LabelMissing >>= λ at. with_entry s.text at o
+directive_step s p (directive.Global w) o =
+    wanted (address_in w (addresses s.text s.labels)) kinds.LabelMissing >>= λ at. Ok o
+directive_step s p (directive.Comm ranks) o =
+    members_of (ranks_of s.fields) ranks >>= λ members. Ok (record o { comms = o.comms ++ members ∷ [] })
+directive_step s p (directive.Link from to) o =
+    link_of (ranks_of s.fields) from to >>= λ link. Ok (record o { links = o.links ++ link ∷ [] })
 directive_step s p d o = directive_bytes (addresses s.text s.labels) p.at d >>= λ bytes. Ok (with_bytes p.part bytes o)
 
 -- one more statement, with the layout that the first pass ended with
 unfoldable pub stated_step : Layout → Place → Statement → Output → Result Output AsmFaultKind
 stated_step s p (Label w) o = label_step s w p o
-stated_step s p (Instruction u) o = with_use (addresses s.text s.labels) p.at u o.text >>= λ text. Ok (record o { text = text })
+stated_step s p (Instruction u) o =
+    with_use (addresses s.text s.labels) p.at u o.text >>= λ text. Ok (record o { text = text })
 stated_step s p (Directed d) o = directive_step s p d o
 
 abbrev pub item_step : Layout → Item → Output → Result Output AsmFaultKind

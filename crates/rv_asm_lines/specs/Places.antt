@@ -1,5 +1,6 @@
 -- Where everything stands: laws above the two passes.
-use Rattle.std.specs.Prelude.{◌≡◌, ℕ, ◌+◌, ◌<◌, ◌^◌, List, [], ◌∷◌, ◌++◌, take, drop, length, sum_by, IfSome, slice_get, true, Option, Some, None, Result, Ok, Err}
+use Rattle.std.specs.Prelude.{◌≡◌, ℕ, ◌+◌, ◌<◌, ◌^◌, List, [], ◌∷◌, ◌++◌, take, drop, length, sum_by, IfSome, slice_get}
+use Rattle.std.specs.Prelude.{true, Option, Some, None, Result, Ok, Err}
 use Rattle.std.specs.List.{filter_map}
 use Rattle.std.specs.Int.{w32, from_le_bytes}
 use Rattle.rv_decode.specs.declared.instruction.Instr.{Instr}
@@ -35,7 +36,8 @@ stated_label place _ = None
 abbrev pub label_place : Item → Option (List ℕ × Place)
 label_place i = stated_label i.place i.statement
 
--- each item stands in its part at the sum of the lengths of those before it, the parts end behind the last, and a label is where it stands
+-- each item stands in its part at the sum of the lengths of those before it, the parts end behind the last, and a label
+-- is where it stands
 pub record IsPlaced (s : Layout) : Type 0 where
   pub addresses : (k : ℕ) → IfSome (slice_get s.items k) (λ i. i.place.at ≡ total i.place.part (take k s.items))
   pub text_end : s.text ≡ total Text s.items
@@ -44,7 +46,9 @@ pub record IsPlaced (s : Layout) : Type 0 where
 
 -- lines that follow leave a label where it stands: only the text's length can move it
 abbrev pub LabelsStay : Type 0
-LabelsStay = (before after : List (List ℕ)) (s t : Layout) → lines_from 1 empty_layout before ≡ Ok s → lines_from 1 empty_layout (before ++ after) ≡ Ok t
+LabelsStay =
+    (before after : List (List ℕ)) (s t : Layout) → lines_from 1 empty_layout before ≡ Ok s
+    → lines_from 1 empty_layout (before ++ after) ≡ Ok t
     → (w : List ℕ) (place : Place) → place_in w s.labels ≡ Some place → place_in w t.labels ≡ Some place
 
 -- ---- the text and the data
@@ -67,7 +71,9 @@ part_of Data text init = init
 abbrev pub StandsIn : List (List ℕ × ℕ) → List ℕ → List ℕ → Place → Statement → Type 0
 StandsIn labels text init p (Label w) = Unit {0}
 StandsIn labels text init p (Instruction u) = IfRight (instrs_of labels p.at u.template u.filled) (Decodes text p.at)
-StandsIn labels text init p (Directed d) = IfRight (directive_bytes labels p.at d) (λ bytes. take (length bytes) (drop p.at (part_of p.part text init)) ≡ bytes)
+StandsIn labels text init p (Directed d) =
+    IfRight (directive_bytes labels p.at d)
+    (λ bytes. take (length bytes) (drop p.at (part_of p.part text init)) ≡ bytes)
 
 -- each item stands in a text and data at its place
 abbrev pub HoldCode : List (List ℕ × ℕ) → List ℕ → List ℕ → List Item → Type 0
@@ -95,7 +101,10 @@ abbrev pub AreSound : List (List ℕ × ℕ) → List Item → Type 0
 AreSound labels [] = Unit {0}
 AreSound labels (i ∷ items) = IsSound labels i.place.at i.statement × AreSound labels items
 
--- each item may stand in its part, and stands where the ones before it end, the first behind so many bytes of text and data
+-- each item may stand in its part, and stands where the ones before it end, the first behind so many bytes of text and
+-- data
 abbrev pub Follow : ℕ → ℕ → List Item → Type 0
 Follow text init [] = Unit {0}
-Follow text init (i ∷ items) = (i.place.at ≡ end_of i.place.part text init) × (may_stand i.place.part i.statement ≡ true) × Follow (text + length_in Text i) (init + length_in Data i) items
+Follow text init (i ∷ items) =
+    (i.place.at ≡ end_of i.place.part text init) × (may_stand i.place.part i.statement ≡ true)
+    × Follow (text + length_in Text i) (init + length_in Data i) items

@@ -1,5 +1,6 @@
 -- The instructions of a mnemonic and its operands (RISC-V Unprivileged ISA 20191213, chapter 25).
-use Rattle.std.specs.Prelude.{ℕ, ◌-◌, ◌*◌, ◌^◌, ℤ, pos, negsuc, ◌+ℤ◌, ◌-ℤ◌, ◌*ℤ◌, List, [], ◌∷◌, map, length, Bool, ◌&&◌, Option, Some, None, Result, Ok, Err, int_le, int_rem, if◌then◌else◌}
+use Rattle.std.specs.Prelude.{ℕ, ◌-◌, ◌*◌, ◌^◌, ℤ, pos, negsuc, ◌+ℤ◌, ◌-ℤ◌, ◌*ℤ◌, List, [], ◌∷◌, map, length, Bool}
+use Rattle.std.specs.Prelude.{◌&&◌, Option, Some, None, Result, Ok, Err, int_le, int_rem, if◌then◌else◌}
 use Rattle.std.specs.Ordering.{int_eq}
 use Rattle.std.specs.Int.{int_div_euclid, int_rem_euclid}
 use Rattle.std.specs.Str.{bytes_eq}
@@ -43,7 +44,8 @@ ranged low high z = if is_between low high z then Ok z else Err (kinds.Range z)
 
 -- an even number within two bounds
 unfoldable pub even_ranged : ℤ → ℤ → ℤ → Result ℤ AsmFaultKind
-even_ranged low high z = if is_between low high z && int_eq (int_rem z (pos 2)) (pos 0) then Ok z else Err (kinds.Range z)
+even_ranged low high z =
+    if is_between low high z && int_eq (int_rem z (pos 2)) (pos 0) then Ok z else Err (kinds.Range z)
 
 -- an immediate of 12 bits
 abbrev pub imm_12 : ℤ → Result ℤ AsmFaultKind
@@ -134,6 +136,10 @@ load_immediate d z =
 abbrev pub imm_32 : ℤ → Result ℤ AsmFaultKind
 imm_32 z = ranged (negsuc 2147483647) (pos 2147483647) z
 
+-- the same, of a number that has to fit
+abbrev pub load_number : ℕ → ℤ → Result (List Instr) AsmFaultKind
+load_number d z = imm_32 z >>= λ n. Ok (load_immediate d n)
+
 -- `la d, label`
 abbrev pub load_address : ℕ → ℤ → List Instr
 load_address d z = lui_high d z ∷ instr.Imm Addi d d (low_part z) ∷ []
@@ -149,25 +155,34 @@ unfoldable pub instrs_of : List (List ℕ × ℕ) → ℕ → Template → Fille
 instrs_of labels at (template.Upper op d) o = single (upper_of op (register_at d o) o.target.number)
 instrs_of labels at (template.Jal d) o = offset_of labels at o.target >>= λ n. single (jal_of (register_at d o) n)
 instrs_of labels at (template.Jalr d s n) o = single (jalr_of (register_at d o) (register_at s o) (number_at n o))
-instrs_of labels at (template.Branch op s t) o = offset_of labels at o.target >>= λ n. single (branch_of op (register_at s o) (register_at t o) n)
+instrs_of labels at (template.Branch op s t) o =
+    offset_of labels at o.target >>= λ n. single (branch_of op (register_at s o) (register_at t o) n)
 instrs_of labels at (template.Load op d s) o = single (load_of op (register_at d o) (register_at s o) o.target.number)
 instrs_of labels at (template.Store op s t) o = single (store_of op (register_at s o) (register_at t o) o.target.number)
 instrs_of labels at (template.Imm op d s n) o = single (imm_of op (register_at d o) (register_at s o) (number_at n o))
 instrs_of labels at (template.Shift op d s) o = single (shift_of op (register_at d o) (register_at s o) o.target.number)
-instrs_of labels at (template.Arith op d s t) o = Ok (one (instr.Arith op (register_at d o) (register_at s o) (register_at t o)))
+instrs_of labels at (template.Arith op d s t) o =
+    Ok (one (instr.Arith op (register_at d o) (register_at s o) (register_at t o)))
 instrs_of labels at template.Fence o = Ok (one instr.Fence)
 instrs_of labels at template.Ecall o = Ok (one instr.Ecall)
 instrs_of labels at template.Ebreak o = Ok (one instr.Ebreak)
-instrs_of labels at (template.LoadImmediate d) o = imm_32 o.target.number >>= λ z. Ok (load_immediate (register_at d o) z)
-instrs_of labels at (template.LoadAddress d) o = offset_of labels 0 o.target >>= λ a. Ok (load_address (register_at d o) a)
+instrs_of labels at (template.LoadImmediate d) o = load_number (register_at d o) o.target.number
+instrs_of labels at (template.LoadAddress d) o =
+    offset_of labels 0 o.target >>= λ a. Ok (load_address (register_at d o) a)
+
+-- the words of instructions
+abbrev pub all_words : Result (List Instr) AsmFaultKind → Result (List ℕ) AsmFaultKind
+all_words instrs = instrs >>= λ is. Ok (map written_word is)
 
 -- the words of a template and its operands, at an address
 abbrev pub words_of : List (List ℕ × ℕ) → ℕ → Template → Filled → Result (List ℕ) AsmFaultKind
-words_of labels at t o = instrs_of labels at t o >>= λ is. Ok (map written_word is)
+words_of labels at t o = all_words (instrs_of labels at t o)
 
 -- how many instructions: li takes one or two by its number, two where that is out of range
 abbrev pub count_of : Template → Filled → ℕ
-count_of (template.LoadImmediate d) o = if is_between (negsuc 2147483647) (pos 2147483647) o.target.number then length (load_immediate 0 o.target.number) else 2
+count_of (template.LoadImmediate d) o =
+    if is_between (negsuc 2147483647) (pos 2147483647) o.target.number then length (load_immediate 0 o.target.number)
+    else 2
 count_of (template.LoadAddress d) o = 2
 count_of _ o = 1
 

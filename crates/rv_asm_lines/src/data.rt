@@ -104,7 +104,8 @@ pub fn put_directive(
     bytes: &mut Vec<u8>,
 ) -> Result<(), AsmFaultKind>
     ensures { MatchResult result
-        (λ _. appended bytes.old.items (directive_bytes (addresses_view layout.now) at directive.now) ≡ Ok bytes.new.items)
+        (λ _. appended bytes.old.items (directive_bytes (addresses_view layout.now) at directive.now)
+        ≡ Ok bytes.new.items)
         (λ e. Fails e (directive_bytes (addresses_view layout.now) at directive.now)) }
 {
     match directive {

@@ -13,7 +13,8 @@ ghost use Rattle.rv_asm_lines.specs.Places.{AllWritten, IfRight};
 ghost use Rattle.rv_asm_lines.specs.Output.{with_use};
 
 use crate::layout::Layout;
-use crate::resolved::{Words, words_of};
+use crate::resolved::words_of;
+use crate::words::Words;
 use rv_asm_statements::Use;
 use rv_asm_tokens::AsmFaultKind;
 use std::alloc::AllocError;
@@ -45,8 +46,10 @@ pub fn put_use(
     ensures text { MatchResult result
         (λ _. with_use (addresses_view layout.now) at found.now text.old.items ≡ Ok text.new.items)
         (λ e. Fails e (with_use (addresses_view layout.now) at found.now text.old.items)) }
-    ensures memory { result ≡ Err kinds.Memory → NoFault (with_use (addresses_view layout.now) at found.now text.old.items) }
-    ensures written { OnOk result (IfRight (instrs_of (addresses_view layout.now) at found.now.template found.now.filled) AllWritten) }
+    ensures memory { result ≡ Err kinds.Memory
+        → NoFault (with_use (addresses_view layout.now) at found.now text.old.items) }
+    ensures written { OnOk result
+        (IfRight (instrs_of (addresses_view layout.now) at found.now.template found.now.filled) AllWritten) }
 {
     let words = words_of(layout, at, found.template, &found.filled)?;
     put_words(text, &words)?;

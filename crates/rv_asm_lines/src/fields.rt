@@ -2,13 +2,15 @@
 
 ghost use Rattle.std.specs.Prelude.{◌≡◌, ◌≤◌, ◌%◌, MatchResult, Ok, Err};
 ghost use Rattle.rv_asm_tokens.specs.Fault.{Is};
-ghost use Rattle.rv_asm_lines.specs.Fields.{ranks_of as ranks_meant, harts_of as harts_meant, memory_of as memory_meant, one_more as counted, fields_after, fields_behind};
+ghost use Rattle.rv_asm_lines.specs.Fields.{ranks_of as ranks_meant, harts_of as harts_meant};
+ghost use Rattle.rv_asm_lines.specs.Fields.{memory_of as memory_meant, one_more as counted, fields_after};
+ghost use Rattle.rv_asm_lines.specs.Fields.{fields_behind};
 
 use rv_asm_statements::{Directive, Limited, Statement};
 use rv_asm_tokens::AsmFaultKind;
 
 /// The directives so far that say something of the whole image.
-#[derive(Clone, Copy, Debug)]
+#[derive(Clone, Copy)]
 pub struct Fields {
     pub ranks: Option<Limited<1, 8, 1>>,
     pub harts: Option<Limited<1, 4, 1>>,

@@ -1,11 +1,15 @@
 //! Instructions of registers and a number, which has to fit: else `Range`.
 
-ghost use Rattle.std.specs.Prelude.{◌≡◌, ◌≤ℤ◌, ◌-◌, ◌^◌, IfOk, pos, negsuc};
-ghost use Rattle.rv_decode.specs.Table.{Fits, amount_bits};
+ghost use Rattle.std.specs.Prelude.{◌≡◌, ◌≤ℤ◌, ◌-◌, ◌^◌, IfOk, OnOk, pos, negsuc};
+ghost use Rattle.rv_decode.specs.Table.{amount_bits};
 ghost use Rattle.rv_asm_tokens.specs.Fault.{Is};
-ghost use Rattle.rv_asm_lines.specs.Resolved.{imm_12, upper_of, jal_of, jalr_of, branch_of, load_of, store_of, imm_of, shift_of};
+ghost use Rattle.rv_asm_lines.specs.Places.{AllWritten, IfRight};
+ghost use Rattle.rv_asm_lines.specs.WordsView.{words_list};
+ghost use Rattle.rv_asm_lines.specs.Resolved.{imm_12, upper_of, jal_of, jalr_of, branch_of, load_of, store_of, imm_of};
+ghost use Rattle.rv_asm_lines.specs.Resolved.{all_words, shift_of, single};
 
 use crate::offsets::{even_within, upper_immediate, within};
+use crate::words::{Words, one};
 use rv_asm_tokens::AsmFaultKind;
 use rv_decode::{BranchOp, ImmOp, Instr, LoadOp, Reg, ShiftOp, StoreOp, UpperOp};
 
@@ -30,78 +34,78 @@ fn greatest_amount(op: ShiftOp) -> i32
 }
 
 /// `lui` or `auipc`, of a number of 20 bits.
-pub fn upper(op: UpperOp, rd: Reg, number: i128) -> Result<Instr, AsmFaultKind>
-    ensures value { Is (λ instr. instr) result (upper_of op rd number) }
-    ensures fits { IfOk result (λ instr. Fits instr) }
+pub fn upper(op: UpperOp, rd: Reg, number: i128) -> Result<Words, AsmFaultKind>
+    ensures value { Is words_list result (all_words (single (upper_of op rd number))) }
+    ensures written { OnOk result (IfRight (single (upper_of op rd number)) AllWritten) }
 {
     let imm = upper_immediate(within(0, 1_048_575, number)?);
-    Ok(Instr::Upper { op, rd, imm })
+    Ok(one(Instr::Upper { op, rd, imm }))
 }
 
 /// `jal`, by an even offset of 21 bits with a sign.
-pub fn jal(rd: Reg, offset: i128) -> Result<Instr, AsmFaultKind>
-    ensures value { Is (λ instr. instr) result (jal_of rd offset) }
-    ensures fits { IfOk result (λ instr. Fits instr) }
+pub fn jal(rd: Reg, offset: i128) -> Result<Words, AsmFaultKind>
+    ensures value { Is words_list result (all_words (single (jal_of rd offset))) }
+    ensures written { OnOk result (IfRight (single (jal_of rd offset)) AllWritten) }
 {
     let off = even_within(-1_048_576, 1_048_575, offset)?;
-    Ok(Instr::Jal { rd, off })
+    Ok(one(Instr::Jal { rd, off }))
 }
 
 /// `jalr`.
-pub fn jalr(rd: Reg, rs1: Reg, offset: i128) -> Result<Instr, AsmFaultKind>
-    ensures value { Is (λ instr. instr) result (jalr_of rd rs1 offset) }
-    ensures fits { IfOk result (λ instr. Fits instr) }
+pub fn jalr(rd: Reg, rs1: Reg, offset: i128) -> Result<Words, AsmFaultKind>
+    ensures value { Is words_list result (all_words (single (jalr_of rd rs1 offset))) }
+    ensures written { OnOk result (IfRight (single (jalr_of rd rs1 offset)) AllWritten) }
 {
     let off = immediate(offset)?;
-    Ok(Instr::Jalr { rd, rs1, off })
+    Ok(one(Instr::Jalr { rd, rs1, off }))
 }
 
 /// A branch, by an even offset of 13 bits with a sign.
-pub fn branch(op: BranchOp, rs1: Reg, rs2: Reg, offset: i128) -> Result<Instr, AsmFaultKind>
-    ensures value { Is (λ instr. instr) result (branch_of op rs1 rs2 offset) }
-    ensures fits { IfOk result (λ instr. Fits instr) }
+pub fn branch(op: BranchOp, rs1: Reg, rs2: Reg, offset: i128) -> Result<Words, AsmFaultKind>
+    ensures value { Is words_list result (all_words (single (branch_of op rs1 rs2 offset))) }
+    ensures written { OnOk result (IfRight (single (branch_of op rs1 rs2 offset)) AllWritten) }
 {
     let off = even_within(-4096, 4095, offset)?;
-    Ok(Instr::Branch { op, rs1, rs2, off })
+    Ok(one(Instr::Branch { op, rs1, rs2, off }))
 }
 
 /// A load.
-pub fn load(op: LoadOp, rd: Reg, rs1: Reg, offset: i128) -> Result<Instr, AsmFaultKind>
-    ensures value { Is (λ instr. instr) result (load_of op rd rs1 offset) }
-    ensures fits { IfOk result (λ instr. Fits instr) }
+pub fn load(op: LoadOp, rd: Reg, rs1: Reg, offset: i128) -> Result<Words, AsmFaultKind>
+    ensures value { Is words_list result (all_words (single (load_of op rd rs1 offset))) }
+    ensures written { OnOk result (IfRight (single (load_of op rd rs1 offset)) AllWritten) }
 {
     let off = immediate(offset)?;
-    Ok(Instr::Load { op, rd, rs1, off })
+    Ok(one(Instr::Load { op, rd, rs1, off }))
 }
 
 /// A store.
-pub fn store(op: StoreOp, rs1: Reg, rs2: Reg, offset: i128) -> Result<Instr, AsmFaultKind>
-    ensures value { Is (λ instr. instr) result (store_of op rs1 rs2 offset) }
-    ensures fits { IfOk result (λ instr. Fits instr) }
+pub fn store(op: StoreOp, rs1: Reg, rs2: Reg, offset: i128) -> Result<Words, AsmFaultKind>
+    ensures value { Is words_list result (all_words (single (store_of op rs1 rs2 offset))) }
+    ensures written { OnOk result (IfRight (single (store_of op rs1 rs2 offset)) AllWritten) }
 {
     let off = immediate(offset)?;
-    Ok(Instr::Store { op, rs1, rs2, off })
+    Ok(one(Instr::Store { op, rs1, rs2, off }))
 }
 
 /// An operation with an immediate.
-pub fn imm(op: ImmOp, rd: Reg, rs1: Reg, number: i128) -> Result<Instr, AsmFaultKind>
-    ensures value { Is (λ instr. instr) result (imm_of op rd rs1 number) }
-    ensures fits { IfOk result (λ instr. Fits instr) }
+pub fn imm(op: ImmOp, rd: Reg, rs1: Reg, number: i128) -> Result<Words, AsmFaultKind>
+    ensures value { Is words_list result (all_words (single (imm_of op rd rs1 number))) }
+    ensures written { OnOk result (IfRight (single (imm_of op rd rs1 number)) AllWritten) }
 {
     let imm = immediate(number)?;
-    Ok(Instr::Imm { op, rd, rs1, imm })
+    Ok(one(Instr::Imm { op, rd, rs1, imm }))
 }
 
 /// A shift by an amount below the register's, or the word's, number of bits.
-pub fn shift(op: ShiftOp, rd: Reg, rs1: Reg, amount: i128) -> Result<Instr, AsmFaultKind>
-    ensures value { Is (λ instr. instr) result (shift_of op rd rs1 amount) }
-    ensures fits { IfOk result (λ instr. Fits instr) }
+pub fn shift(op: ShiftOp, rd: Reg, rs1: Reg, amount: i128) -> Result<Words, AsmFaultKind>
+    ensures value { Is words_list result (all_words (single (shift_of op rd rs1 amount))) }
+    ensures written { OnOk result (IfRight (single (shift_of op rd rs1 amount)) AllWritten) }
 {
     let amount = within(0, greatest_amount(op), amount)? as u8;
-    Ok(Instr::Shift {
+    Ok(one(Instr::Shift {
         op,
         rd,
         rs1,
         amount,
-    })
+    }))
 }

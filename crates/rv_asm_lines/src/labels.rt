@@ -36,7 +36,8 @@ pub fn find_label(layout: &Layout, name: &[u8]) -> Option<u64>
 
 /// The name of tokens that begin with a name and a colon.
 fn first_label<'a>(tokens: &[Token<'a>]) -> Option<&'a [u8]>
-    ensures value { option_map (λ x. (x.now, lexemes_of (drop 2 tokens.now))) result ≡ front_label (lexemes_of tokens.now) }
+    ensures value { option_map (λ x. (x.now, lexemes_of (drop 2 tokens.now))) result
+        ≡ front_label (lexemes_of tokens.now) }
     ensures longer { IfSome result (λ x. 2 ≤ length tokens.now) }
 {
     match tokens {
@@ -70,7 +71,8 @@ pub fn take_labels<'a, 'b>(
     tokens: &'b [Token<'a>],
 ) -> Result<&'b [Token<'a>], AsmFaultKind>
     ensures { MatchResult result
-        (λ rest. labels_at line (layout_view layout.old) (lexemes_of tokens.now) ≡ Ok (layout_view layout.new, lexemes_of rest.now))
+        (λ rest. labels_at line (layout_view layout.old) (lexemes_of tokens.now)
+        ≡ Ok (layout_view layout.new, lexemes_of rest.now))
         (λ e. Fails e (labels_at line (layout_view layout.old) (lexemes_of tokens.now))) }
 {
     let mut used: usize = 0;

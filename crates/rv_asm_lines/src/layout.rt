@@ -11,7 +11,7 @@ use rv_asm_statements::Statement;
 use std::collections::BTreeSet;
 
 /// A label or a statement, its line, and where it stands.
-#[derive(Debug, Drop)]
+#[derive(Drop)]
 pub struct Item {
     pub line: u64,
     pub place: Place,

@@ -14,6 +14,7 @@ mod offsets;
 mod output;
 mod parts;
 mod resolved;
+mod words;
 
 pub use fields::{Fields, NO_FIELDS, harts_of, memory_of, ranks_of, take_fields};
 pub use globals::take_global;

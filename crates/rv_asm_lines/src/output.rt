@@ -20,7 +20,7 @@ use rv_image::{Link, Members};
 use std::alloc::Global;
 
 /// What is made so far: the parts' bytes, where every hart begins, the communicators and the links.
-#[derive(Debug, Drop)]
+#[derive(Drop)]
 pub struct Output {
     pub text: Vec<u8>,
     pub init: Vec<u8>,
@@ -72,7 +72,8 @@ fn take_directive(
     output: &mut Output,
 ) -> Result<(), AsmFaultKind>
     ensures { MatchResult result
-        (λ _. directive_step (layout_view layout.now) place directive.now (output_view output.old) ≡ Ok (output_view output.new))
+        (λ _. directive_step (layout_view layout.now) place directive.now (output_view output.old)
+        ≡ Ok (output_view output.new))
         (λ e. Fails e (directive_step (layout_view layout.now) place directive.now (output_view output.old))) }
 {
     match directive {
@@ -110,8 +111,10 @@ pub fn take_item(
     output: &mut Output,
 ) -> Result<(), AsmFaultKind>
     ensures output { MatchResult result
-        (λ _. stated_step (layout_view layout.now) item.now.place item.now.statement (output_view output.old) ≡ Ok (output_view output.new))
-        (λ e. Fails e (stated_step (layout_view layout.now) item.now.place item.now.statement (output_view output.old))) }
+        (λ _. stated_step (layout_view layout.now) item.now.place item.now.statement (output_view output.old)
+        ≡ Ok (output_view output.new))
+        (λ e. Fails e
+        (stated_step (layout_view layout.now) item.now.place item.now.statement (output_view output.old))) }
     ensures sound { OnOk result (IsSound (addresses_view layout.now) item.now.place.at item.now.statement) }
 {
     match &item.statement {

@@ -1,13 +1,15 @@
 //! The two parts of a source, and how long statements are.
 
 ghost use Rattle.std.specs.Prelude.{◌≡◌, ◌≤◌, ◌<◌, ◌^◌};
-ghost use Rattle.rv_asm_lines.specs.Parts.{address, width_bytes, alignment_bytes, padding, directive_length, length_of, data_may_stand, directive_may_stand, may_stand as can_stand, directive_part, part_after as part_behind};
+ghost use Rattle.rv_asm_lines.specs.Parts.{address, width_bytes, alignment_bytes, padding, directive_length, length_of};
+ghost use Rattle.rv_asm_lines.specs.Parts.{data_may_stand, directive_may_stand, may_stand as can_stand, directive_part};
+ghost use Rattle.rv_asm_lines.specs.Parts.{part_after as part_behind};
 
 use crate::resolved::length_of_use;
 use rv_asm_statements::{Alignment, Directive, Statement, Width};
 
 /// Where a statement belongs.
-#[derive(Clone, Copy, Debug)]
+#[derive(Clone, Copy)]
 pub enum Part {
     /// Instructions and words, loaded at address 0.
     Text,
@@ -16,7 +18,7 @@ pub enum Part {
 }
 
 /// A part, and the number of its bytes that stand before.
-#[derive(Clone, Copy, Debug)]
+#[derive(Clone, Copy)]
 pub struct Place {
     pub part: Part,
     pub at: u32,

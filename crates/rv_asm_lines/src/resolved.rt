@@ -1,26 +1,22 @@
 //! The instructions of a mnemonic and its operands.
 
-ghost use Rattle.std.specs.Prelude.{◌≡◌, ◌≤◌, ◌∷◌, ◌^◌, map, OnOk, pos, negsuc, neg_ℤ, ◌≤ℤ◌, ◌+ℤ◌, ◌-ℤ◌, ◌*ℤ◌, []};
+ghost use Rattle.std.specs.Prelude.{◌≡◌, ◌≤◌, ◌^◌, map, OnOk, pos, negsuc, neg_ℤ, ◌≤ℤ◌, ◌+ℤ◌, ◌-ℤ◌, ◌*ℤ◌};
 ghost use Rattle.rv_decode.specs.Table.{Fits, written_word};
 ghost use Rattle.rv_asm_tokens.specs.Fault.{Is};
 ghost use Rattle.rv_asm_lines.specs.LayoutView.{addresses_view};
-ghost use Rattle.rv_asm_lines.specs.Places.{IsWritten, AllWritten, IfRight};
+ghost use Rattle.rv_asm_lines.specs.Places.{AllWritten, IfRight};
 ghost use Rattle.rv_asm_lines.specs.WordsView.{words_list};
-ghost use Rattle.rv_asm_lines.specs.Resolved.{register_at, number_at, lui_high, low_part, high_part, load_immediate, load_address, use_length, instrs_of, words_of as resolved_words};
+ghost use Rattle.rv_asm_lines.specs.Resolved.{register_at, number_at, lui_high, low_part, high_part, load_immediate};
+ghost use Rattle.rv_asm_lines.specs.Resolved.{all_words, load_address, load_number as load_meant, use_length};
+ghost use Rattle.rv_asm_lines.specs.Resolved.{instrs_of, words_of as resolved_words};
 
 use crate::instructions::{branch, imm, jal, jalr, load, shift, store, upper};
 use crate::layout::Layout;
 use crate::offsets::{offset, upper_immediate, within};
+use crate::words::{Words, one, two};
 use rv_asm_statements::{Amount, Filled, Slot, Template, Use};
 use rv_asm_tokens::AsmFaultKind;
-use rv_decode::{ImmOp, Instr, Reg, UpperOp, encode};
-
-/// The words of one instruction or two.
-#[derive(Clone, Copy, Debug)]
-pub struct Words {
-    pub first: u32,
-    pub second: Option<u32>,
-}
+use rv_decode::{ImmOp, Instr, Reg, UpperOp};
 
 fn register(slot: Slot, o: &Filled) -> Reg
     ensures { result ≡ register_at slot o.now }
@@ -40,30 +36,6 @@ fn number(amount: Amount, o: &Filled) -> i128
     match amount {
         Amount::Written => o.target.number.value(),
         Amount::Given(given) => i128::from(given),
-    }
-}
-
-fn one(instr: Instr) -> Words
-    requires { Fits instr }
-    ensures words { words_list result ≡ written_word instr ∷ [] }
-    ensures written { IsWritten instr }
-{
-    Words {
-        first: encode(&instr),
-        second: None,
-    }
-}
-
-fn two(first: Instr, second: Instr) -> Words
-    requires first_fits { Fits first }
-    requires second_fits { Fits second }
-    ensures words { words_list result ≡ written_word first ∷ written_word second ∷ [] }
-    ensures first { IsWritten first }
-    ensures second { IsWritten second }
-{
-    Words {
-        first: encode(&first),
-        second: Some(encode(&second)),
     }
 }
 
@@ -147,6 +119,15 @@ fn immediate_words(d: Reg, z: i32) -> Words
     )
 }
 
+/// `li`, of a number that fits 32 bits with a sign, else `Range`.
+fn load_number(d: Reg, number: i128) -> Result<Words, AsmFaultKind>
+    ensures value { Is words_list result (all_words (load_meant d number)) }
+    ensures written { OnOk result (IfRight (load_meant d number) AllWritten) }
+{
+    let z = within(i32::MIN, i32::MAX, number)?;
+    Ok(immediate_words(d, z))
+}
+
 /// `la`, of an address.
 fn address_words(d: Reg, z: i128) -> Words
     requires low { neg_ℤ (pos (2 ^ 70)) ≤ℤ z }
@@ -177,34 +158,33 @@ pub fn words_of(
     ensures written { OnOk result (IfRight (instrs_of (addresses_view layout.now) at template o.now) AllWritten) }
 {
     let written = o.target.number.value();
-    let words = match template {
-        Template::Upper(op, d) => one(upper(op, register(d, o), written)?),
-        Template::Jal(d) => one(jal(register(d, o), offset(layout, at, &o.target)?)?),
-        Template::Jalr(d, s, n) => one(jalr(register(d, o), register(s, o), number(n, o))?),
+    match template {
+        Template::Upper(op, d) => upper(op, register(d, o), written),
+        Template::Jal(d) => jal(register(d, o), offset(layout, at, &o.target)?),
+        Template::Jalr(d, s, n) => jalr(register(d, o), register(s, o), number(n, o)),
         Template::Branch(op, s, t) => {
             let far = offset(layout, at, &o.target)?;
-            one(branch(op, register(s, o), register(t, o), far)?)
+            branch(op, register(s, o), register(t, o), far)
         }
-        Template::Load(op, d, s) => one(load(op, register(d, o), register(s, o), written)?),
-        Template::Store(op, s, t) => one(store(op, register(s, o), register(t, o), written)?),
-        Template::Imm(op, d, s, n) => one(imm(op, register(d, o), register(s, o), number(n, o))?),
-        Template::Shift(op, d, s) => one(shift(op, register(d, o), register(s, o), written)?),
-        Template::Arith(op, d, s, t) => one(Instr::Arith {
+        Template::Load(op, d, s) => load(op, register(d, o), register(s, o), written),
+        Template::Store(op, s, t) => store(op, register(s, o), register(t, o), written),
+        Template::Imm(op, d, s, n) => imm(op, register(d, o), register(s, o), number(n, o)),
+        Template::Shift(op, d, s) => shift(op, register(d, o), register(s, o), written),
+        Template::Arith(op, d, s, t) => Ok(one(Instr::Arith {
             op,
             rd: register(d, o),
             rs1: register(s, o),
             rs2: register(t, o),
-        }),
-        Template::Fence => one(Instr::Fence),
-        Template::Ecall => one(Instr::Ecall),
-        Template::Ebreak => one(Instr::Ebreak),
-        Template::LoadImmediate(d) => {
-            let z = within(i32::MIN, i32::MAX, written)?;
-            immediate_words(register(d, o), z)
+        })),
+        Template::Fence => Ok(one(Instr::Fence)),
+        Template::Ecall => Ok(one(Instr::Ecall)),
+        Template::Ebreak => Ok(one(Instr::Ebreak)),
+        Template::LoadImmediate(d) => load_number(register(d, o), written),
+        Template::LoadAddress(d) => {
+            let address = offset(layout, 0, &o.target)?;
+            Ok(address_words(register(d, o), address))
         }
-        Template::LoadAddress(d) => address_words(register(d, o), offset(layout, 0, &o.target)?),
-    };
-    Ok(words)
+    }
 }
 
 /// How many bytes the instructions of a mnemonic take.
