@@ -1,5 +1,6 @@
 -- What a source means: an image, or its first fault.
-use Rattle.std.specs.Prelude.{◌≡◌, ℕ, ◌+◌, ◌*◌, ◌%◌, ◌<◌, ◌≤◌, All, List, length, Bool, ◌&&◌, Option, Some, None, Result, Ok, Err, nat_le, ◌==◌, unwrap_or, if◌then◌else◌}
+use Rattle.std.specs.Prelude.{◌≡◌, ℕ, ◌+◌, ◌*◌, ◌%◌, ◌<◌, ◌≤◌, All, List, length, Bool, ◌&&◌, Option, Some, None}
+use Rattle.std.specs.Prelude.{Result, Ok, Err, nat_le, ◌==◌, unwrap_or, if◌then◌else◌}
 use Rattle.rv_image.specs.declared.images.ImageParts.{ImageParts}
 use Rattle.rv_image.specs.declared.images.ImageVersion.TheVariants.{Two}
 use Rattle.rv_image.specs.declared.images.Symbol.{Symbol}
@@ -42,11 +43,15 @@ parts_of f o symbols = record {
 
 -- harts, text and data fit the memory
 abbrev pub fits_memory : ImageParts → Bool
-fits_memory p = nat_le (4096 * p.harts) p.memory && (nat_le (length p.text) p.memory && nat_le (data_start (length p.text) + length p.init) p.memory)
+fits_memory p =
+    nat_le (4096 * p.harts) p.memory
+    && (nat_le (length p.text) p.memory && nat_le (data_start (length p.text) + length p.init) p.memory)
 
 -- what is tested of the whole
 unfoldable pub finished : Fields → Output → List Symbol → Result ImageParts AsmFault
-finished f o symbols = if length o.text == 0 then Err (at_line_0 kinds.Directive) else (if fits_memory (parts_of f o symbols) then Ok (parts_of f o symbols) else Err (at_line_0 kinds.Limit))
+finished f o symbols =
+    if length o.text == 0 then Err (at_line_0 kinds.Directive)
+    else (if fits_memory (parts_of f o symbols) then Ok (parts_of f o symbols) else Err (at_line_0 kinds.Limit))
 
 -- the symbols of a source: the names of `.globl`, each once, in byte order, with the addresses of their labels
 abbrev pub symbols_in : Layout → List Symbol

@@ -1,6 +1,7 @@
 //! Both passes, and what is tested of the whole.
 
-ghost use Rattle.std.specs.Prelude.{◌≡◌, ◌≤◌, ◌<◌, ◌+◌, ◌*◌, ◌^◌, ◌&&◌, length, List, ℕ, map, nat_le, MatchResult, IfOk, IfErr, OnOk, Ok, Err};
+ghost use Rattle.std.specs.Prelude.{◌≡◌, ◌≤◌, ◌<◌, ◌+◌, ◌*◌, ◌^◌, ◌&&◌, length, List, ℕ, map, nat_le, MatchResult};
+ghost use Rattle.std.specs.Prelude.{IfOk, IfErr, OnOk, Ok, Err};
 ghost use Rattle.std.specs.Str.Lines.{lines};
 ghost use Rattle.rv_image.specs.Image.{data_start};
 ghost use Rattle.rv_asm_tokens.specs.declared.fault.AsmFaultKind.TheVariants as kinds;
@@ -37,7 +38,8 @@ fn add_item(
     ensures value { MatchResult result
         (λ _. fitted line (layout_view layout.old) statement layout.old.fields ≡ Ok (layout_view layout.new))
         (λ e. Fails e (fitted line (layout_view layout.old) statement layout.old.fields)) }
-    ensures memory { result ≡ Err kinds.Memory → NoFault (fitted line (layout_view layout.old) statement layout.old.fields) }
+    ensures memory { result ≡ Err kinds.Memory
+        → NoFault (fitted line (layout_view layout.old) statement layout.old.fields) }
 {
     let place = next_place(layout);
     let end = u128::from(place.at) + length_of_statement(place.at, &statement);
@@ -167,7 +169,8 @@ fn make_output(alloc: Global, layout: &Layout) -> Result<Output, AsmFault>
 /// Whether harts, text and data fit the memory.
 fn fits(harts: u32, memory: u32, text: usize, init: usize) -> bool
     requires { harts ≤ 4 }
-    ensures { result ≡ (nat_le (4096 * harts) memory && (nat_le text memory && nat_le (data_start text + init) memory)) }
+    ensures { result
+        ≡ (nat_le (4096 * harts) memory && (nat_le text memory && nat_le (data_start text + init) memory)) }
 {
     if 4_096 * harts > memory || text as u64 > u64::from(memory) {
         return false;
@@ -231,7 +234,9 @@ pub fn assemble(alloc: Global, source: &str) -> Result<Image, AsmFault>
     ensures fault { IfErr result (λ fault. FailsAt fault (meaning source.now)) }
 
     // Each instruction of the source stands at its address: the words there decode to it.
-    ensures decodes { IfOk result (λ image. (s : Laid) → layout_of source.now ≡ Ok s → HoldCode (addresses s.text s.labels) image.text image.init s.items) }
+    ensures decodes { IfOk result
+        (λ image. (s : Laid) → layout_of source.now ≡ Ok s
+        → HoldCode (addresses s.text s.labels) image.text image.init s.items) }
 {
     let layout = layout_source(alloc, source)?;
     let output = make_output(alloc, &layout)?;

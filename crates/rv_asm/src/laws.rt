@@ -21,7 +21,8 @@ pub fn labels_stay()
 
 /// The symbols of an image are the labels that `.globl` names, each once, in byte order, with their addresses.
 pub fn symbols_are_those_of_globl(_source: &str)
-    ensures { (s : Laid) (image : ImageParts) → layout_of _source.now ≡ Ok s → meaning _source.now ≡ Ok image → AreGlobals s image.symbols }
+    ensures { (s : Laid) (image : ImageParts) → layout_of _source.now ≡ Ok s → meaning _source.now ≡ Ok image
+        → AreGlobals s image.symbols }
 {}
 
 /// Every image of a source is of version 2.
