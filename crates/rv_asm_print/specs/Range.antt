@@ -3,7 +3,8 @@ use Rattle.std.specs.Prelude.{◌<◌}
 use Rattle.std.specs.Int.{w32}
 use Rattle.std.specs.Prelude.{FitsSigned}
 use Rattle.rv_decode.specs.declared.instruction.Instr.{Instr}
-use Rattle.rv_decode.specs.declared.instruction.Instr.TheVariants.{Upper, Jal, Jalr, Branch, Load, Store, Imm, Shift, Arith}
+use Rattle.rv_decode.specs.declared.instruction.Instr.TheVariants.{Upper, Jal, Jalr, Branch, Load, Store, Imm, Shift}
+use Rattle.rv_decode.specs.declared.instruction.Instr.TheVariants.{Arith}
 
 -- registers from x0 to x31, and an upper immediate of 32 bits
 abbrev pub IsInRange : Instr → Type 0

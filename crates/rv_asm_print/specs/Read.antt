@@ -30,8 +30,10 @@ pub record IsRead (text : List ℕ) (i : Instr) : Type 0 where
 -- for four bytes, and the second writes the instruction's word, low byte first, at any place and with any labels.
 pub record StandsAnywhere (text : List ℕ) (i : Instr) : Type 0 where
   pub read : IsRead text i
-  pub placed : (n : ℕ) (s : Layout) → s.part ≡ Text → s.text + 4 ≤ most_bytes → line_step n s text ≡ Ok (with_item n s (Instruction read.used) s.fields s.globals)
-  pub written : (s : Layout) (p : Place) (o : Output) → stated_step s p (Instruction read.used) o ≡ Ok (record o { text = o.text ++ to_le_bytes w32 (written_word i) })
+  pub placed : (n : ℕ) (s : Layout) → s.part ≡ Text → s.text + 4 ≤ most_bytes → line_step n s text
+      ≡ Ok (with_item n s (Instruction read.used) s.fields s.globals)
+  pub written : (s : Layout) (p : Place) (o : Output) → stated_step s p (Instruction read.used) o
+      ≡ Ok (record o { text = o.text ++ to_le_bytes w32 (written_word i) })
 
 -- a program as it is listed: each instruction a line
 abbrev pub listing : List Instr → List ℕ

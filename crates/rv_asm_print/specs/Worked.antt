@@ -12,7 +12,8 @@ use Rattle.rv_asm_lines.specs.Output.{with_use, stated_step, items_from}
 use Rattle.rv_asm.specs.Source.{finished, meaning}
 use Rattle.rv_asm_print.specs.Read.{image_of}
 
-pub addi_line : meaning (codes "addi x5, x5, -1688") ≡ Ok (record (image_of []) { text = 0x93 ∷ 0x82 ∷ 0x82 ∷ 0x96 ∷ [] })
+pub addi_line : meaning (codes "addi x5, x5, -1688")
+    ≡ Ok (record (image_of []) { text = 0x93 ∷ 0x82 ∷ 0x82 ∷ 0x96 ∷ [] })
 unfolding with_digit digits_from magnitude front_at tokens_from filled_by row_use instruction_of statement_of written_word ranged instrs_of use_length labels_at placed line_step lines_from with_use stated_step items_from finished meaning
 addi_line = refl
 
