@@ -1,5 +1,6 @@
 //! The bytes of a rank (rv_memory).
-ghost use Rattle.std.specs.Prelude.{◌≡◌, ◌+◌, ◌-◌, ◌*◌, ◌^◌, ◌<◌, ◌≤◌, [], ◌∷◌, length, slice_index, true, false, Some, None, Err, IsOk, IfOk};
+ghost use Rattle.std.specs.Prelude.{◌≡◌, ◌+◌, ◌-◌, ◌*◌, ◌^◌, ◌<◌, ◌≤◌, [], ◌∷◌, length, slice_index, true, false, Some};
+ghost use Rattle.std.specs.Prelude.{None, Err, IsOk, IfOk};
 ghost use Rattle.rv_memory.specs.Memory.{bytes_at, init_start, value_at};
 
 use rv_memory::{BytesFault, Cause, RankMemory, StoreFault, Width};
@@ -103,7 +104,8 @@ pub fn load_is_misaligned_first(memory: &RankMemory) -> Result<u64, Cause>
 
 /// The lower byte of a half stands first.
 pub fn half_has_its_lower_byte_first(memory: &RankMemory, address: u64) -> Result<u64, Cause>
-    ensures { IfOk result (λ v. v ≡ slice_index memory.now.bytes address + slice_index memory.now.bytes (address + 1) * 256) }
+    ensures { IfOk result
+        (λ v. v ≡ slice_index memory.now.bytes address + slice_index memory.now.bytes (address + 1) * 256) }
 {
     memory.load(address, Width::Half)
 }
