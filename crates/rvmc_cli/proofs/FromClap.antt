@@ -1,6 +1,6 @@
 -- From what clap promises to what the words mean.
 use Rattle.std.proofs.Common.{◌≡◌, ◌<◌, ◌∙◌, ℕ, zero, suc, Bool, true, false, refl, sym, subst, ap, ap₂, arith, List, [], ◌∷◌, length, map, Option, Some, None, option_map, Bor, inl, inr, unwrap_or, true≢false, cond, ◌==◌}
-use Rattle.std.specs.Prelude.{Err}
+use Rattle.std.specs.Prelude.{Result, Ok, Err}
 use Rattle.std.specs.Box.{box_value}
 use Rattle.std.specs.Option.{is_some, option_and_then}
 use Rattle.std.proofs.lemmas.Bool.{eqb-true}
@@ -13,7 +13,7 @@ use Rattle.clap.specs.declared.parser.matches.ArgMatches.{ArgMatches}
 use Rattle.clap.specs.declared.parser.matches.ArgMatches.TheViews.{out-ArgMatches, out-SubCommand}
 use Rattle.clap.proofs.OnLiterals.{clap_on_literals}
 use Rattle.rvmc_cli.specs.App.{rvmc_app}
-use Rattle.rvmc_cli.specs.Meaning.{Finds, IsRefusal, IsTold, Parses, command_in, faults_in, is_request, line_in, meaning_of, refusals_of}
+use Rattle.rvmc_cli.specs.Meaning.{Finds, IsRefusal, IsTold, Parses, Tells, command_in, faults_in, is_request, line_in, meaning_of, refusals_of}
 use Rattle.rvmc_line.specs.declared.line.ParseFault.{ParseFault}
 use Rattle.rvmc_line.specs.declared.line.ParseFault.TheVariants as parse
 use Rattle.rvmc_line.specs.declared.line.CommandLine.{CommandLine}
@@ -112,10 +112,24 @@ refused_value : (ws : List (Bor Text)) (r : ParseFault) → meaning_of (texts ws
 refused_value ws r none nothing is =
     refusal ws kind.ValueValidation r none (subst (λ ks. IsAmong kind.ValueValidation (or_else ks (kind.ValueValidation ∷ []))) (sym nothing) (inl refl)) is
 
--- or memory was wanting for it
-pub told : (ws : List (Bor Text)) (w : Wrong) (r : ParseFault) (meant : Option CommandLine) → meaning_of (texts ws) ≡ meant → Finds meant (Err w) → faults_in (texts ws) ≡ [] → IsTold w r
-    → Parses (texts ws) (Err r)
-told ws wrong.Memory r meant is found nothing memory = subst (λ (x : ParseFault). Parses (texts ws) (Err x)) (sym memory) tt
-told ws wrong.Command r meant is found nothing shown = refused_value ws r (is ∙ found) nothing shown
-told ws (wrong.Number option least most text) r meant is found nothing shown = refused_value ws r (is ∙ found) nothing shown
-told ws (wrong.List option text) r meant is found nothing shown = refused_value ws r (is ∙ found) nothing shown
+-- what is told of a value that isn't one
+tells_none : (r : ParseFault) (meant : Option CommandLine) → meant ≡ None → IsRefusal kind.ValueValidation r → Tells meant (Err r)
+tells_none parse.Memory meant none is = tt
+tells_none (parse.Asked text) meant none is = absurd cc
+tells_none (parse.Refused text) meant none is = none
+
+-- or that memory was wanting for it
+pub tells : (w : Wrong) (r : ParseFault) (meant : Option CommandLine) → Finds meant (Err w) → IsTold w r → Tells meant (Err r)
+tells wrong.Memory r meant found memory = subst (λ (x : ParseFault). Tells meant (Err x)) (sym memory) tt
+tells wrong.Command r meant found shown = tells_none r meant found shown
+tells (wrong.Number option least most text) r meant found shown = tells_none r meant found shown
+tells (wrong.List option text) r meant found shown = tells_none r meant found shown
+
+-- what is told of the command is what is told of the words, which clap took
+pub told : (ws : List (Bor Text)) (r : Result CommandLine ParseFault) (meant : Option CommandLine) → meaning_of (texts ws) ≡ meant → faults_in (texts ws) ≡ [] → Tells meant r
+    → Parses (texts ws) r
+told ws (Ok line) meant is nothing tells = is ∙ tells
+told ws (Err parse.Memory) meant is nothing tells = tt
+told ws (Err (parse.Asked text)) meant is nothing tells = absurd tells
+told ws (Err (parse.Refused text)) meant is nothing tells =
+    refused_value ws (parse.Refused text) (is ∙ tells) nothing (refl, λ e. absurd cc)

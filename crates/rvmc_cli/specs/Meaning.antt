@@ -1,6 +1,7 @@
 -- What the words of a command line mean: clap's own walk over the commands of `App`, and then the
 -- value of each option.
-use Rattle.std.specs.Prelude.{◌≡◌, ◌≢◌, ⊤, ℕ, Bool, true, false, List, [], ◌∷◌, length, Option, Some, None, Result, Ok, Err, ◌==◌, if◌then◌else◌, codes, option_map, option_and_then}
+use Rattle.std.specs.Prelude.{◌≡◌, ◌≢◌, ⊤, ℕ, Bool, true, false, List, [], ◌∷◌, length, Option, Some, None, Result, Ok}
+use Rattle.std.specs.Prelude.{Err, ◌==◌, if◌then◌else◌, codes, option_map, option_and_then}
 use Rattle.std.specs.Option.{option_map_or}
 use Rattle.std.specs.Str.{bytes_eq}
 use Rattle.clap.specs.Words.{Row, Text, fault_of, first_of, subcommand_of}
@@ -33,7 +34,8 @@ budget_in rows = number_option (codes "budget") 1 16777216 1000000 rows
 
 -- the numbers of an option, or None without one
 abbrev pub list_option : Text → List Row → Option (Option (List ℕ))
-list_option name rows = option_map_or (λ text. option_map (λ numbers. Some numbers) (numbers_in text)) (first_of name rows) (Some None)
+list_option name rows =
+    option_map_or (λ text. option_map (λ numbers. Some numbers) (numbers_in text)) (first_of name rows) (Some None)
 
 -- each option of `one`
 abbrev pub one_in : List Row → Option CommandLine
@@ -108,6 +110,13 @@ abbrev pub Reads : {X : Type 0} → Option X → Result X Wrong → Type 0
 Reads meant (Ok found) = meant ≡ Some found
 Reads meant (Err wrong.Memory) = ⊥
 Reads meant (Err other) = meant ≡ None
+
+-- what is told of the command that clap found: its command line, or that a value isn't one, unless memory was refused
+abbrev pub Tells : Option CommandLine → Result CommandLine ParseFault → Type 0
+Tells meant (Ok line) = meant ≡ Some line
+Tells meant (Err parse.Memory) = ⊤
+Tells meant (Err (parse.Asked text)) = ⊥
+Tells meant (Err (parse.Refused text)) = meant ≡ None
 
 -- what is told of words that clap took, whose value isn't one
 abbrev pub IsTold : Wrong → ParseFault → Type 0

@@ -3,7 +3,8 @@
 ghost use Rattle.std.specs.Prelude.{◌≡◌, IfOk, None, Ok, [], map, option_map, true};
 ghost use Rattle.clap.specs.Walk.{rows_of};
 ghost use Rattle.clap.specs.Words.{first_of, found_of, kind_of};
-ghost use Rattle.rvmc_cli.specs.Meaning.{Finds, IsRefusal, IsTold, Parses, Reads, budget_in, flag_in, line_in, list_option, number_option, one_in};
+ghost use Rattle.rvmc_cli.specs.Meaning.{Finds, IsRefusal, IsTold, Parses, Reads, Tells, budget_in, flag_in, line_in};
+ghost use Rattle.rvmc_cli.specs.Meaning.{list_option, number_option, one_in};
 ghost use Rattle.rvmc_cli.specs.declared.parsing.Wrong.TheVariants as wrong;
 ghost use Rattle.rvmc_line.specs.declared.line.CommandLine.TheVariants.{One};
 
@@ -15,7 +16,7 @@ use std::alloc::{AllocError, Global};
 use std::fmt;
 
 /// Why what clap found is no command line.
-#[derive(Clone, Copy, Debug)]
+#[derive(Clone, Copy)]
 enum Wrong<'a> {
     /// Memory was refused for a list. It is told as that, and not by a sentence.
     Memory,
@@ -192,6 +193,25 @@ fn refused(
     Ok(shown(alloc, error))
 }
 
+/// The same below the usage of the command of this name.
+fn refused_by_name(alloc: Global, name: &str, wrong: Wrong<'_>) -> Result<ParseFault, AllocError>
+    ensures { IfOk result (IsTold wrong.entry) }
+{
+    let mut command = command::named(alloc, name)?;
+    refused(alloc, &mut command, wrong)
+}
+
+/// The command line of the command that clap found, or why it is none, as it is told.
+#[tactic(auto, using(crate::proofs::FromClap::tells))]
+fn told_line(alloc: Global, name: &str, matches: &ArgMatches<'_>) -> Result<CommandLine, ParseFault>
+    ensures { Tells (line_in name.now (rows_of (found_of matches.now))) result }
+{
+    match line(alloc, name, matches) {
+        Ok(line) => Ok(line),
+        Err(wrong) => Err(refused_by_name(alloc, name, wrong)?),
+    }
+}
+
 /// What the words after the program's name ask for. Without words it is `one --source`.
 ///
 /// `Asked` comes where the words ask for help or the version, `Refused` where clap doesn't take them,
@@ -219,11 +239,5 @@ pub fn parse<'a>(alloc: Global, words: &'a [&'a str]) -> Result<CommandLine, Par
     let Some((name, found)) = matches.subcommand() else {
         return Err(refused(alloc, &mut command, Wrong::Command)?);
     };
-    match line(alloc, name, found) {
-        Ok(line) => Ok(line),
-        Err(wrong) => {
-            let mut used = command::named(alloc, name)?;
-            Err(refused(alloc, &mut used, wrong)?)
-        }
-    }
+    told_line(alloc, name, found)
 }

@@ -7,7 +7,7 @@ use crate::list::Numbers;
 use std::alloc::AllocError;
 
 /// What rvmc is asked to do.
-#[derive(Debug, Drop, PartialEq, Eq)]
+#[derive(Drop)]
 pub enum CommandLine {
     /// A source is read, and its image is written; or with `from` an image of either version is read
     /// and written in version 2.
@@ -29,7 +29,7 @@ pub enum CommandLine {
 }
 
 /// Why there is no command line.
-#[derive(Debug, Drop)]
+#[derive(Drop)]
 pub enum ParseFault {
     /// Memory was refused.
     Memory,

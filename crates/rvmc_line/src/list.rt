@@ -11,7 +11,7 @@ use std::alloc::{AllocError, Global};
 use std::marker::Model;
 
 /// Numbers from 0 to 255, as a list of harts or of ranks names them. Contracts see a list of numbers.
-#[derive(Drop, Debug)]
+#[derive(Drop)]
 pub struct Numbers {
     items: Vec<u8>,
 }
@@ -68,8 +68,8 @@ fn each_number(alloc: Global, texts: &[&str]) -> Result<Option<Numbers>, AllocEr
     Ok(Some(Numbers { items }))
 }
 
-/// The numbers that a text writes: decimal numbers from 0 to 255, with one comma between them. Anything else in it, a blank too,
-/// is no such list, nor is a text with no number.
+/// The numbers that a text writes: decimal numbers from 0 to 255, with one comma between them. Anything else in it, a
+/// blank too, is no such list, nor is a text with no number.
 #[tactic(auto, unfolding(crate::specs::Number::numbers_in))]
 pub fn numbers_in(alloc: Global, text: &str) -> Result<Option<Numbers>, AllocError>
     ensures { IfOk result (λ found. found ≡ numbers_in text.now) }

@@ -11,16 +11,6 @@ returns-in-Err-clause-parsed c =
     let some = nonempty (length ws) (sym c.is_empty.ensures ∙ c.if-is_empty.false) in
     refused_words ws c.in-Err.error _ _ some app c.shown.ensures (c.in-Err.ensures.kinds (ap is_simple_and_free app ∙ is_exact))
 
-pub returns-in-Ok-line-clause-parsed : goal.returns-in-Ok-line-clause-parsed
-returns-in-Ok-line-clause-parsed c =
-    let ws = c.args.words.now in
-    let app = c.in_ok-command.ensures.app in
-    let some = nonempty (length ws) (sym c.is_empty.ensures ∙ c.if-is_empty.false) in
-    let none : faults_in (texts ws) ≡ [] = sym (faults_are _ (texts ws) app) ∙ c.in-Ok.ensures.kinds (ap is_simple_and_free app ∙ is_exact) in
-    let found = (c.in-Ok.ensures.ok.2 (ap is_simple app ∙ has_matches)).1 ∙ command_is _ (texts ws) app in
-    let both = met c.in-Ok.matches c.in-Some.name.now (rows_of (found_of c.in-Some.found.now)) c.in-Some.ensures.name c.in-Some.ensures.rows in
-    taken ws c.in-Some.name.now (rows_of (found_of c.in-Some.found.now)) some none (sym found ∙ both) ∙ c.in-Ok-line.ensures
-
 pub returns-clause-parsed : goal.returns-clause-parsed
 returns-clause-parsed c =
     let ws = c.args.words.now in
@@ -30,4 +20,4 @@ returns-clause-parsed c =
     let found = (c.in-Ok.ensures.ok.2 (ap is_simple app ∙ has_matches)).1 ∙ command_is _ (texts ws) app in
     let both = met c.in-Ok.matches c.in-Some.name.now (rows_of (found_of c.in-Some.found.now)) c.in-Some.ensures.name c.in-Some.ensures.rows in
     let line = taken ws c.in-Some.name.now (rows_of (found_of c.in-Some.found.now)) some none (sym found ∙ both) in
-    told ws c.in-Err-line.wrong c.in_ok-refused-in-Err-line.field-0 _ line c.in-Err-line.ensures none c.in_ok-refused-in-Err-line.ensures
+    told ws _ _ line none c.told_line.ensures
