@@ -1,5 +1,6 @@
 -- What the listing of an image tells: a line for each word of its text, behind the names of the word's address.
-use Rattle.std.specs.Prelude.{◌≡◌, ℕ, ◌-◌, ◌*◌, ◌/◌, ◌==◌, List, [], ◌∷◌, ◌++◌, length, replicate, codes, Option, Some, None, false}
+use Rattle.std.specs.Prelude.{◌≡◌, ℕ, ◌-◌, ◌*◌, ◌/◌, ◌==◌, List, [], ◌∷◌, ◌++◌, length, replicate, codes, Option, Some}
+use Rattle.std.specs.Prelude.{None, false}
 use Rattle.std.specs.Fmt.{digits}
 use Rattle.std.specs.List.{filter, flat_map, range_with_len}
 use Rattle.rv_decode.specs.Decoded.{decoded}
@@ -49,8 +50,11 @@ listing image = flat_map (word_lines image) (range_with_len 0 (length image.text
 
 -- an image without symbols is listed word by word, a line each
 abbrev pub WordsAloneLaw : Type 0
-WordsAloneLaw = (image : ImageParts) → image.symbols ≡ [] → listing image ≡ flat_map (word_line image.text) (range_with_len 0 (length image.text / 4))
+WordsAloneLaw =
+    (image : ImageParts) → image.symbols ≡ []
+    → listing image ≡ flat_map (word_line image.text) (range_with_len 0 (length image.text / 4))
 
 -- the names that stand before a word rise in the order of their bytes
 abbrev pub NamesRiseLaw : Type 0
-NamesRiseLaw = (image : ImageParts) (address : ℕ) → IsImage image → RisingNames (symbol_names (symbols_at image.symbols address))
+NamesRiseLaw =
+    (image : ImageParts) (address : ℕ) → IsImage image → RisingNames (symbol_names (symbols_at image.symbols address))

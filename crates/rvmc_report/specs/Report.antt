@@ -27,7 +27,8 @@ rank_end state turns stop = record { output = state.out.items; harts = state.har
 
 -- the end of each rank, of the ranks' states, their events and their stops
 abbrev pub ends_of : List RankState → List TraceView → List Stop → List RankEnd
-ends_of (state ∷ states) (trace ∷ traces) (stop ∷ stops) = rank_end state (length trace.events) stop ∷ ends_of states traces stops
+ends_of (state ∷ states) (trace ∷ traces) (stop ∷ stops) =
+    rank_end state (length trace.events) stop ∷ ends_of states traces stops
 ends_of states traces stops = []
 
 -- the end of each rank of a record
@@ -53,7 +54,8 @@ abbrev pub mode_text : Mode → ℕ → List ℕ
 mode_text Running pc = codes "running at " ++ address_text pc
 mode_text (Waiting wait) pc = codes "waiting at " ++ address_text pc
 mode_text (Ended code) pc = codes "ended " ++ decimal code
-mode_text (Trapped cause at) pc = codes "trapped " ++ (decimal (cause_number cause) ++ (codes " at " ++ address_text at))
+mode_text (Trapped cause at) pc =
+    codes "trapped " ++ (decimal (cause_number cause) ++ (codes " at " ++ address_text at))
 
 abbrev pub stop_text : Stop → List ℕ
 stop_text AllEnded = codes "all-ended"
@@ -73,12 +75,15 @@ output_text rank output = output_head rank (length output) ++ (output ++ newline
 -- `rank R hart H` and how it stands
 abbrev pub hart_text : ℕ → ℕ → State → List ℕ
 hart_text rank number hart =
-    codes "rank " ++ (decimal rank ++ (codes " hart " ++ (decimal number ++ (codes " " ++ (mode_text hart.mode hart.pc ++ newline)))))
+    codes "rank "
+    ++ (decimal rank
+    ++ (codes " hart " ++ (decimal number ++ (codes " " ++ (mode_text hart.mode hart.pc ++ newline)))))
 
 -- `rank R stop WHY turns T`
 abbrev pub stop_line : ℕ → Stop → ℕ → List ℕ
 stop_line rank stop turns =
-    codes "rank " ++ (decimal rank ++ (codes " stop " ++ (stop_text stop ++ (codes " turns " ++ (decimal turns ++ newline)))))
+    codes "rank "
+    ++ (decimal rank ++ (codes " stop " ++ (stop_text stop ++ (codes " turns " ++ (decimal turns ++ newline)))))
 
 -- these harts of a rank in order, the first of which has this number
 abbrev pub harts_text : ℕ → ℕ → List State → List ℕ
@@ -117,8 +122,8 @@ is_trapped other = false
 abbrev pub has_trapped : List State → Bool
 has_trapped harts = list_any (λ hart. is_trapped hart.mode) harts
 
--- 5 where memory was wanting for a rank, else 3 where a hart trapped, else 4 where a rank stopped by its budget, a full clock
--- or too many calls, else 0
+-- 5 where memory was wanting for a rank, else 3 where a hart trapped, else 4 where a rank stopped by its budget, a full
+-- clock or too many calls, else 0
 abbrev pub status_of : List RankEnd → ℕ
 status_of ranks =
     if list_any (λ rank. wants_memory rank.stop) ranks then 5

@@ -11,7 +11,7 @@ use std::alloc::{AllocError, AllocFailed};
 use thiserror::Error;
 
 /// Why there is no answer. It prints as the fault's line on standard error, behind `rvmc: `.
-#[derive(Clone, Copy, Debug, PartialEq, Eq, Drop, Error)]
+#[derive(Clone, Copy, Debug, Drop, Error)]
 pub enum Fault {
     /// The source's first fault.
     #[error("{0}")]

@@ -9,7 +9,7 @@ use std::alloc::{AllocError, Global};
 use std::io::Read;
 
 /// Why the input isn't there as a whole.
-#[derive(Clone, Copy, Debug, PartialEq, Eq)]
+#[derive(Clone, Copy)]
 pub enum InputFault {
     /// A read failed, or the input is too long.
     Read,
@@ -35,7 +35,8 @@ pub fn read_input<R: Read>(alloc: Global, input: &mut R) -> Result<Vec<u8>, Inpu
     ensures end { IfOk result (λ _. IsAtEnd (R.remaining input.new)) }
     ensures short { IfOk result (λ bytes. length bytes.items ≤ 67108864) }
 
-    // Whatever is answered: bytes are taken from the front alone, 4,096 beyond the limit at most, and an empty input needs no memory.
+    // Whatever is answered: bytes are taken from the front alone, 4,096 beyond the limit at most, and an empty input
+    // needs no memory.
     ensures front { TakesAtMost 67112960 (R.remaining input.old) (R.remaining input.new) }
     ensures empty { R.remaining input.old ≡ Some [] → result ≢ Err faults.Memory }
 {

@@ -4,7 +4,8 @@ ghost use Rattle.std.specs.Prelude.{◌≡◌, ◌+◌, ◌*◌, ◌<◌, ◌/�
 ghost use Rattle.std.specs.List.{flat_map};
 ghost use Rattle.rv_decode.specs.Decoded.{decoded};
 ghost use Rattle.rv_memory.specs.Memory.{value_at};
-ghost use Rattle.rvmc_report.specs.Listing.{hex_8, listing, listing_line, name_line, statement_of, symbols_at, word_lines};
+ghost use Rattle.rvmc_report.specs.Listing.{hex_8, listing, listing_line, name_line, statement_of, symbols_at};
+ghost use Rattle.rvmc_report.specs.Listing.{word_lines};
 
 use rv_decode::{decode, print_instr};
 use rv_image::{Image, ImageParts, Symbol};

@@ -2,7 +2,9 @@
 
 ghost use Rattle.std.specs.Prelude.{◌≡◌, ◌++◌, IfOk, OnOk, string_bytes};
 ghost use Rattle.std.specs.List.{list_any};
-ghost use Rattle.rvmc_report.specs.Report.{HasEachRank, hart_text, harts_text, has_trapped, is_cut_short, is_trapped, mode_text, output_head, output_text, rank_end, rank_ends, rank_text, report, status_of, stop_line, stop_text, wants_memory};
+ghost use Rattle.rvmc_report.specs.Report.{HasEachRank, hart_text, harts_text, has_trapped, is_cut_short, is_trapped};
+ghost use Rattle.rvmc_report.specs.Report.{mode_text, output_head, output_text, rank_end, rank_ends, rank_text, report};
+ghost use Rattle.rvmc_report.specs.Report.{status_of, stop_line, stop_text, wants_memory};
 
 use cl_rank::{RankState, Stop};
 use cl_run::Record;
@@ -175,8 +177,8 @@ fn any_is_cut_short(stops: &[Stop]) -> bool
     stops.iter().any(|stop| is_cut_short(*stop))
 }
 
-/// The status of a run: 5 where memory was wanting for a rank, else 3 where a hart trapped, else 4 where a rank was stopped by its
-/// budget, a full clock or too many calls, else 0.
+/// The status of a run: 5 where memory was wanting for a rank, else 3 where a hart trapped, else 4 where a rank was
+/// stopped by its budget, a full clock or too many calls, else 0.
 #[tactic(auto, using(crate::proofs::Ends::status_by_lists))]
 pub fn status(left: &Record) -> u8
     requires { HasEachRank left.now }
