@@ -1,5 +1,6 @@
 -- What each command answers: the text on standard output, and the status.
-use Rattle.std.specs.Prelude.{◌≡◌, ⊤, ℕ, ◌+◌, ◌==◌, if◌then◌else◌, Bool, true, false, List, [], length, take, count_by, MatchOption, Option, Some, None, option_map, Result, Ok, Err}
+use Rattle.std.specs.Prelude.{◌≡◌, ⊤, ℕ, ◌+◌, ◌==◌, if◌then◌else◌, Bool, true, false, List, [], length, take, count_by}
+use Rattle.std.specs.Prelude.{MatchOption, Option, Some, None, option_map, Result, Ok, Err}
 use Rattle.std.specs.Result.{result_err, result_ok}
 use Rattle.std.specs.Str.Lossy.{utf8_valid_len}
 use Rattle.cl_run.specs.Plans.{ArePlans}
@@ -31,7 +32,10 @@ source_image bytes = if utf8_valid_len bytes == length bytes then result_ok (mea
 -- the fault of bytes that aren't UTF-8: a Token at the line of the first wrong byte
 abbrev pub wrong_bytes : List ℕ → Fault
 wrong_bytes bytes =
-    faults.Source (record { line = count_by (λ byte. byte == 10) (take (utf8_valid_len bytes) bytes) + 1; kind = kinds.Token })
+    faults.Source (record {
+      line = count_by (λ byte. byte == 10) (take (utf8_valid_len bytes) bytes) + 1;
+      kind = kinds.Token;
+    })
 
 -- the image that the bytes spell
 abbrev pub spelled_image : List ℕ → Option ImageParts
@@ -52,7 +56,7 @@ abbrev pub IsDone : List ℕ → List ℕ → ℕ → Type 0
 IsDone meant text status = (text ≡ meant) × (status ≡ 0)
 
 -- the report and the status of a run of the image on one thread, by these plans, with the ranks in this order
-pub record IsReported (image : ImageParts) (plans : List Plan) (order : List ℕ) (text : List ℕ) (status : ℕ) : Type 0 where
+pub record IsReported (image : ImageParts) (plans : List Plan) (order text : List ℕ) (status : ℕ) : Type 0 where
   pub left : Record
   pub run : IsOneRun image plans order left
   pub told : text ≡ report (rank_ends left)
@@ -66,14 +70,16 @@ pub record IsRunBy (image : ImageParts) (plans : List Plan) (order : List ℕ) (
 -- `one`: a run with the same plan for each rank. What isn't listed is all, in order
 abbrev pub IsOne : ImageParts → ℕ → Option (List ℕ) → Option (List ℕ) → List ℕ → ℕ → Type 0
 IsOne image budget harts ranks text status =
-    (plans : List Plan) × ArePlansOf image.ranks (listed harts image.harts) budget plans × IsRunBy image plans (listed ranks image.ranks) text status
+    (plans : List Plan) × ArePlansOf image.ranks (listed harts image.harts) budget plans
+    × IsRunBy image plans (listed ranks image.ranks) text status
 
 -- one case a command, of the bytes that are read
 abbrev pub Says : CommandLine → List ℕ → List ℕ → ℕ → Type 0
 Says (Asm false) bytes text status =
     MatchOption (source_image bytes) (IsFaulty text status) (λ image. IsDone (image_text image) text status)
 Says (Asm true) bytes text status =
-    MatchOption (spelled_image bytes) (IsFaulty text status) (λ image. IsDone (image_text (in_version_two image)) text status)
+    MatchOption (spelled_image bytes) (IsFaulty text status)
+    (λ image. IsDone (image_text (in_version_two image)) text status)
 Says Dis bytes text status =
     MatchOption (spelled_image bytes) (IsFaulty text status) (λ image. IsDone (listing image) text status)
 Says (One source budget plan order) bytes text status =
@@ -84,7 +90,8 @@ Says (One source budget plan order) bytes text status =
 -- the fault of a source, if it has one: of its bytes, or else its first
 unfoldable pub source_fault : List ℕ → Option Fault
 source_fault bytes =
-    if utf8_valid_len bytes == length bytes then option_map fault_of_source (result_err (meaning bytes)) else Some (wrong_bytes bytes)
+    if utf8_valid_len bytes == length bytes then option_map fault_of_source (result_err (meaning bytes))
+    else Some (wrong_bytes bytes)
 
 -- the first fault of the bytes of an image, if they have one
 abbrev pub image_fault : List ℕ → Option Fault

@@ -2,7 +2,8 @@
 
 ghost use Rattle.std.specs.Prelude.{◌≡◌, ◌+◌, ◌==◌, Err, IfErr, None, count_by, false, true};
 ghost use Rattle.std.specs.Str.{IsUtf8};
-ghost use Rattle.rvmc_answers.specs.Answers.{Finds, Gives, IsFaultIn, IsFaultOf, IsOne, IsRunBy, IsRunFault, Says, fault_in, image_fault, image_of, source_fault, source_image, spelled_image, wrong_bytes};
+ghost use Rattle.rvmc_answers.specs.Answers.{Finds, Gives, IsFaultIn, IsFaultOf, IsOne, IsRunBy, IsRunFault, Says};
+ghost use Rattle.rvmc_answers.specs.Answers.{image_fault, source_fault, source_image, spelled_image, wrong_bytes};
 ghost use Rattle.rvmc_line.specs.declared.line.CommandLine.TheVariants.{Asm, Dis, One};
 
 use crate::plans::{listed, plans};
@@ -16,7 +17,7 @@ use rvmc_report::report::{report, status};
 use std::alloc::Global;
 
 /// The text for standard output, and the status.
-#[derive(Debug, Drop)]
+#[derive(Drop)]
 pub struct Answer {
     pub text: Vec<u8>,
     pub status: u8,
@@ -61,18 +62,6 @@ fn rebuilt_image(alloc: Global, bytes: &[u8]) -> Result<Image, Fault>
     let image = source_image(alloc, bytes)?;
     let text = write_image(alloc, &image)?;
     Ok(read_image(alloc, &text)?)
-}
-
-/// The image of a source or of an image.
-fn image_of(alloc: Global, source: bool, bytes: &[u8]) -> Result<Image, Fault>
-    ensures image { Finds (image_of source bytes.now) result }
-    ensures fault { IfErr result (IsFaultIn (fault_in source bytes.now)) }
-{
-    if source {
-        rebuilt_image(alloc, bytes)
-    } else {
-        spelled_image(alloc, bytes)
-    }
 }
 
 /// `asm`.
@@ -134,24 +123,38 @@ fn run_all(
     run(alloc, image, &plans, &order)
 }
 
-/// `one`.
-fn one(
+/// `one --source`.
+fn one_of_source(
     alloc: Global,
-    source: bool,
     budget: u64,
     plan: &Option<Numbers>,
     order: &Option<Numbers>,
     bytes: &[u8],
 ) -> Result<Answer, Fault>
-    ensures says { Gives (Says (One source budget plan.now order.now) bytes.now) result }
-    ensures fault { IfErr result (IsRunFault (fault_in source bytes.now)) }
+    ensures says { Gives (Says (One true budget plan.now order.now) bytes.now) result }
+    ensures fault { IfErr result (IsRunFault (source_fault bytes.now)) }
 {
-    let image = image_of(alloc, source, bytes)?;
+    let image = rebuilt_image(alloc, bytes)?;
     run_all(alloc, &image, budget, plan, order)
 }
 
-/// What a command answers to its input. A fault of the input is an `Err`, as want of memory is: the first fault of the source
-/// or of the image, and `Plans` where a run's plan or order is wrong.
+/// `one`, of an image.
+fn one_of_image(
+    alloc: Global,
+    budget: u64,
+    plan: &Option<Numbers>,
+    order: &Option<Numbers>,
+    bytes: &[u8],
+) -> Result<Answer, Fault>
+    ensures says { Gives (Says (One false budget plan.now order.now) bytes.now) result }
+    ensures fault { IfErr result (IsRunFault (image_fault bytes.now)) }
+{
+    let image = spelled_image(alloc, bytes)?;
+    run_all(alloc, &image, budget, plan, order)
+}
+
+/// What a command answers to its input. A fault of the input is an `Err`, as want of memory is: the first fault of the
+/// source or of the image, and `Plans` where a run's plan or order is wrong.
 pub fn answer_to(alloc: Global, line: CommandLine, bytes: &[u8]) -> Result<Answer, Fault>
     ensures says { Gives (Says line bytes.now) result }
     ensures fault { IfErr result (IsFaultOf line bytes.now) }
@@ -161,10 +164,16 @@ pub fn answer_to(alloc: Global, line: CommandLine, bytes: &[u8]) -> Result<Answe
         CommandLine::Asm { from: true } => asm_from(alloc, bytes),
         CommandLine::Dis => dis(alloc, bytes),
         CommandLine::One {
-            source,
+            source: true,
             budget,
             plan,
             order,
-        } => one(alloc, source, budget, &plan, &order, bytes),
+        } => one_of_source(alloc, budget, &plan, &order, bytes),
+        CommandLine::One {
+            source: false,
+            budget,
+            plan,
+            order,
+        } => one_of_image(alloc, budget, &plan, &order, bytes),
     }
 }

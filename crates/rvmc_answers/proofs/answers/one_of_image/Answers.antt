@@ -1,10 +1,10 @@
-use Rattle.std.proofs.Common.{Option, subst, sym}
+use Rattle.std.proofs.Common.{Option, false, subst, sym}
 use Rattle.std.specs.Prelude.{IfErr, MatchOption}
 use Rattle.rv_image.specs.declared.images.ImageParts.{ImageParts}
 use Rattle.rvmc_answers.specs.Answers.{Gives, IsFaulty, IsOne, IsRunFault}
 use Rattle.rvmc_answers.proofs.Sources.{no_fault}
 use Rattle.rvmc_report.specs.declared.faults.Fault.{Fault}
-use Rattle.rvmc_answers.proofs.answers.one.Goals as goal
+use Rattle.rvmc_answers.proofs.answers.one_of_image.Goals as goal
 
 pub returns-clause-says : goal.returns-clause-says
 returns-clause-says c =
@@ -14,5 +14,5 @@ returns-clause-says c =
 
 pub returns-clause-fault : goal.returns-clause-fault
 returns-clause-fault c =
-    let none = no_fault c.args.source c.args.bytes.now _ c.in_ok-image.ensures.image in
+    let none = no_fault false c.args.bytes.now _ c.in_ok-image.ensures.image in
     subst (λ (meant : Option Fault). IfErr c.run_all.result (IsRunFault meant)) (sym none) c.run_all.ensures.fault
