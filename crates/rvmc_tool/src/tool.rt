@@ -106,15 +106,17 @@ pub fn tool_plain<'a, R: Read, O: Write, E: Write>(
 ) -> u8
     // The words mean a command line: what it says of all the bytes stands on the output, or nothing for want of memory.
     ensures answers { (line : Line) (bytes : List ℕ) → meaning_of (map (λ w. w.now) words.entry.now) ≡ Some line
-        → R.remaining input.old ≡ Some bytes → result ≢ 6 → Answers line bytes result (O.contents out.old) (O.contents out.new) }
+        → R.remaining input.old ≡ Some bytes → result ≢ 6
+        → Answers line bytes result (O.contents out.old) (O.contents out.new) }
 
     // They mean none: nothing is read, and the output is as it was but for help and the version.
     ensures refuses { meaning_of (map (λ w. w.now) words.entry.now) ≡ None → result ≢ 6
         → Refuses (map (λ w. w.now) words.entry.now) result (O.contents out.old) (O.contents out.new) }
-    ensures unread { meaning_of (map (λ w. w.now) words.entry.now) ≡ None → Keeps (R.remaining input.old) (R.remaining input.new) }
+    ensures unread { meaning_of (map (λ w. w.now) words.entry.now) ≡ None
+        → Keeps (R.remaining input.old) (R.remaining input.new) }
 
-    // Whatever is answered: the input loses bytes from its front alone, and 4,096 beyond the limit at most; and with the statuses 0, 3
-    // and 4 standard error is as it was.
+    // Whatever is answered: the input loses bytes from its front alone, and 4,096 beyond the limit at most; and with
+    // the statuses 0, 3 and 4 standard error is as it was.
     ensures front { TakesAtMost 67112960 (R.remaining input.old) (R.remaining input.new) }
     ensures quiet { is_quiet result ≡ true → Keeps (E.contents err.old) (E.contents err.new) }
 {
