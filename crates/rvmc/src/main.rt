@@ -2,27 +2,44 @@
 #![tactic(auto)]
 
 use rvmc_tool::tool_plain;
+use std::alloc::{AllocError, Global};
 use std::io;
 use std::process::ExitCode;
 
-/// The program on the process's words and streams.
-fn run(rt: &HostRuntime) -> io::Result<u8> {
-    let words: Vec<String> = std::env::args(rt)?.skip(1).collect(rt.alloc())?;
-    let mut texts = Vec::new(rt.alloc());
-    for word in &words {
+/// The words after the program's name.
+fn words(rt: &HostRuntime) -> io::Result<Vec<String>> {
+    Ok(std::env::args(rt)?.skip(1).collect(rt.alloc())?)
+}
+
+/// The words as they are passed on.
+fn texts<'a>(alloc: Global, words: &'a [String]) -> Result<Vec<&'a str>, AllocError> {
+    let mut texts = Vec::new(alloc);
+    for word in words {
         texts.push(word.as_str())?;
     }
-    Ok(tool_plain(
+    Ok(texts)
+}
+
+/// The program on these words and the process's streams.
+fn answered(rt: &HostRuntime, words: &[&str]) -> u8 {
+    tool_plain(
         rt.alloc(),
-        &texts,
+        words,
         &mut rt.stdin(),
         &mut rt.stdout(),
         &mut rt.stderr(),
-    ))
+    )
 }
 
-/// Tells on standard error why the words couldn't be had, and gives the status: 2 where one isn't UTF-8, which no command line
-/// takes, 5 for want of memory, 6 where the line can't be written.
+/// The program on the process's words and streams.
+fn run(rt: &HostRuntime) -> io::Result<u8> {
+    let words = words(rt)?;
+    let texts = texts(rt.alloc(), &words)?;
+    Ok(answered(rt, &texts))
+}
+
+/// Tells on standard error why the words couldn't be had, and gives the status: 2 where one isn't UTF-8, which no
+/// command line takes, 5 for want of memory, 6 where the line can't be written.
 fn refuse_words(rt: &HostRuntime, error: &io::Error) -> u8 {
     let (line, status) = match error.kind() {
         io::ErrorKind::InvalidData => (
