@@ -1,6 +1,6 @@
 //! Images that are read and written, and memories that are made.
 
-use rv_image::{ImageFault, read_image, write_image};
+use rv_image::{Image, read_image, write_image};
 use rv_memory::RankMemory;
 use std::alloc::{AllocError, Global};
 use std::io;
@@ -36,18 +36,27 @@ fn number(words: &[&str], at: usize) -> u32 {
     }
 }
 
-/// Reads an image and writes it again: whether that gave the same bytes.
-fn is_written_back(alloc: Global, bytes: &[u8]) -> Result<bool, ImageFault> {
-    let image = read_image(alloc, bytes)?;
-    let written = write_image(alloc, &image)?;
+/// Whether an image is written as these bytes.
+fn is_written_as(alloc: Global, image: &Image, bytes: &[u8]) -> Result<bool, AllocError> {
+    let written = write_image(alloc, image)?;
     Ok(written.as_slice() == bytes)
+}
+
+/// Prints whether an image is written as the bytes that it was read from.
+fn print_written<W: Write>(
+    alloc: Global,
+    out: &mut W,
+    image: &Image,
+    bytes: &[u8],
+) -> io::Result<()> {
+    let is_same = is_written_as(alloc, image, bytes)?;
+    writeln!(out, "{}", if is_same { "image" } else { "another image" })
 }
 
 /// Prints what became of the bytes of an image.
 fn print_read<W: Write>(alloc: Global, out: &mut W, bytes: &[u8]) -> io::Result<()> {
-    match is_written_back(alloc, bytes) {
-        Ok(true) => writeln!(out, "image"),
-        Ok(false) => writeln!(out, "another image"),
+    match read_image(alloc, bytes) {
+        Ok(image) => print_written(alloc, out, &image, bytes),
         Err(fault) => writeln!(out, "{fault}"),
     }
 }

@@ -1,16 +1,17 @@
 //! Reads words from standard input, and prints what each is and what it does.
 //!
-//! A line with a word alone, in eight hex digits: the word of its instruction, written again, and its text, or `illegal`.
-//! A line with a word and three more hex numbers: one step over the word, from 0, where x5 reads the first, x6 the second,
-//! and the double word at address 16 is the third. What x7 reads then, and the pc.
+//! A line with a word alone, in eight hex digits: the word of its instruction, written again, and its text, or
+//! `illegal`. A line with a word and three more hex numbers: one step over the word, from 0, where x5 reads the first,
+//! x6 the second, and the double word at address 16 is the third. What x7 reads then, and the pc.
 //!
-//! A line `image` and bytes in hex: `image` where they are read as one that is written as the same bytes, or their fault.
-//! `parts` and four numbers: the same of an image of 8 ranks with so many communicators, links, and bytes of text and data.
-//! `memory` and a number: how many bytes are read of a memory of that size.
+//! A line `image` and bytes in hex: `image` where they are read as one that is written as the same bytes, or their
+//! fault. `parts` and four numbers: the same of an image of 8 ranks with so many communicators, links, and bytes of
+//! text and data. `memory` and a number: how many bytes are read of a memory of that size.
 //!
-//! The table in `stdin` and `stdout` is data from outside. The words and texts are GNU as 2.40's (`-march=rv64im`, a jump's
-//! or a branch's offset as `.+8`): edges of the operands' ranges and random numbers. What steps do is qemu-riscv64 7.2.22's,
-//! by a program that does each instruction once and writes what it gave. Images and their faults are those of docs/FORMATS.md.
+//! The table in `stdin` and `stdout` is data from outside. The words and texts are GNU as 2.40's (`-march=rv64im`, a
+//! jump's or a branch's offset as `.+8`): edges of the operands' ranges and random numbers. What steps do is
+//! qemu-riscv64 7.2.22's, by a program that does each instruction once and writes what it gave. Images and their faults
+//! are those of docs/FORMATS.md.
 #![tactic(auto)]
 
 mod images;
@@ -41,7 +42,7 @@ fn after(alloc: Global, word: u32, a: u64, b: u64, cell: u64) -> Result<Hart, Al
     let mut hart = Hart::start(0, 4096, 0, 0);
     hart.set(Reg::new(5), a);
     hart.set(Reg::new(6), b);
-    if hart.mode() == Mode::Running {
+    if let Mode::Running = hart.mode() {
         step(&mut hart, &mut memory)?;
     }
     Ok(hart)
@@ -66,23 +67,32 @@ fn number(text: &str) -> u64 {
     u64::from_str_radix(text, 16).unwrap_or(0)
 }
 
+/// Prints what a word is, or what a step over it does.
+fn print_numbers<W: Write>(alloc: Global, out: &mut W, words: &[&str]) -> io::Result<()> {
+    let word = words.first().map(|text| u32::from_str_radix(text, 16));
+    match (word, words) {
+        (Some(Ok(word)), [_]) => print_word(alloc, out, word),
+        (Some(Ok(word)), [_, a, b, cell]) => {
+            print_step(alloc, out, word, number(a), number(b), number(cell))
+        }
+        _ => writeln!(out, "no row"),
+    }
+}
+
+/// Prints what the words of a line ask for.
+fn print_words<W: Write>(alloc: Global, out: &mut W, words: &[&str]) -> io::Result<()> {
+    match words {
+        [name, rest @ ..] if *name == "image" => print_image(alloc, out, rest),
+        [name, rest @ ..] if *name == "parts" => print_parts(alloc, out, rest),
+        [name, rest @ ..] if *name == "memory" => print_memory(alloc, out, rest),
+        _ => print_numbers(alloc, out, words),
+    }
+}
+
 /// Prints what a line asks for.
 fn print_line<W: Write>(alloc: Global, out: &mut W, line: &str) -> io::Result<()> {
     let words: Vec<&str> = line.split(' ').collect(alloc)?;
-    match words.first() {
-        Some(name) if *name == "image" => return print_image(alloc, out, &words[1..]),
-        Some(name) if *name == "parts" => return print_parts(alloc, out, &words[1..]),
-        Some(name) if *name == "memory" => return print_memory(alloc, out, &words[1..]),
-        _ => {}
-    }
-    let Some(Ok(word)) = words.first().map(|text| u32::from_str_radix(text, 16)) else {
-        return writeln!(out, "no word");
-    };
-    match words.as_slice() {
-        [_] => print_word(alloc, out, word),
-        [_, a, b, cell] => print_step(alloc, out, word, number(a), number(b), number(cell)),
-        _ => writeln!(out, "no row"),
-    }
+    print_words(alloc, out, &words)
 }
 
 fn main(rt: HostRuntime) -> io::Result<()> {
