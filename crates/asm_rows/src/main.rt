@@ -10,7 +10,7 @@
 #![tactic(auto)]
 
 use rv_asm::assemble;
-use rv_image::{ImageParts, Symbol};
+use rv_image::{ImageParts, Link, Members, Symbol};
 use std::alloc::Global;
 use std::io;
 use std::io::Write;
@@ -59,6 +59,13 @@ fn print_communicator<W: Write>(out: &mut W, ranks: &[u8]) -> io::Result<()> {
     writeln!(out)
 }
 
+/// Prints a symbol's name and its address.
+fn print_symbol<W: Write>(out: &mut W, symbol: &Symbol) -> io::Result<()> {
+    write!(out, " ")?;
+    out.write_all(symbol.name.as_slice())?;
+    write!(out, " {}", symbol.address)
+}
+
 /// Prints the symbols, if there are some.
 fn print_symbols<W: Write>(out: &mut W, symbols: &[Symbol]) -> io::Result<()> {
     if symbols.is_empty() {
@@ -66,11 +73,25 @@ fn print_symbols<W: Write>(out: &mut W, symbols: &[Symbol]) -> io::Result<()> {
     }
     write!(out, "symbols")?;
     for symbol in symbols {
-        write!(out, " ")?;
-        out.write_all(symbol.name.as_slice())?;
-        write!(out, " {}", symbol.address)?;
+        print_symbol(out, symbol)?;
     }
     writeln!(out)
+}
+
+/// Prints the communicators, one a line.
+fn print_communicators<W: Write>(out: &mut W, comms: &[Members]) -> io::Result<()> {
+    for members in comms {
+        print_communicator(out, members.as_slice())?;
+    }
+    Ok(())
+}
+
+/// Prints the links, one a line.
+fn print_links<W: Write>(out: &mut W, links: &[Link]) -> io::Result<()> {
+    for Link { from, to } in links {
+        writeln!(out, "link {from} {to}")?;
+    }
+    Ok(())
 }
 
 /// Prints an image.
@@ -78,12 +99,8 @@ fn print_image<W: Write>(out: &mut W, parts: &ImageParts) -> io::Result<()> {
     print_fields(out, parts)?;
     print_words(out, parts.text.as_slice())?;
     print_data(out, parts.init.as_slice())?;
-    for members in parts.comms.as_slice() {
-        print_communicator(out, members.as_slice())?;
-    }
-    for link in parts.links.as_slice() {
-        writeln!(out, "link {} {}", link.from, link.to)?;
-    }
+    print_communicators(out, parts.comms.as_slice())?;
+    print_links(out, parts.links.as_slice())?;
     print_symbols(out, parts.symbols.as_slice())
 }
 
