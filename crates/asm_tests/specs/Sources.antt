@@ -65,7 +65,8 @@ TextsStand = map (λ row. meaning row.0) texts ≡ map (λ row. Ok (with_text ro
 -- sources with their data
 abbrev pub datas : List (List ℕ × List ℕ)
 datas =
-    -- a label of the data is where it is loaded, and has the address before a padding; one on a line with `.text` belongs to the part before
+    -- a label of the data is where it is loaded, and has the address before a padding; one on a line with `.text`
+    -- belongs to the part before
     (codes "nop\n.data\nx: .word x, -2", 0x10 ∷ 0 ∷ 0 ∷ 0 ∷ 0xfe ∷ 0xff ∷ 0xff ∷ 0xff ∷ [])
     ∷ (codes "nop\n.data\n.byte 7\nx: .balign 4\n.word x", 7 ∷ 0 ∷ 0 ∷ 0 ∷ 0x11 ∷ 0 ∷ 0 ∷ 0 ∷ [])
     ∷ (codes ".data\n.byte 7\ny: .text\nnop\n.data\n.half 1\n.word y", 7 ∷ 1 ∷ 0 ∷ 0x11 ∷ 0 ∷ 0 ∷ 0 ∷ [])
@@ -100,7 +101,11 @@ named =
     ∷ (codes ".memory 4096\n.globl go\ngo: nop\n.globl go\n.data\n.globl go", at (codes "go") 0 ∷ [])
     -- in the order of their bytes, and not in that of the source, of their addresses or of their lengths
     ∷ (codes ".memory 4096\n.globl b\n.globl a\nb: nop\na:", at (codes "a") 4 ∷ at (codes "b") 0 ∷ [])
-    ∷ (codes ".memory 4096\n.globl b\n.globl ab\n.globl a\n.globl B\na: ab: b: B: nop", at (codes "B") 0 ∷ at (codes "a") 0 ∷ at (codes "ab") 0 ∷ at (codes "b") 0 ∷ [])
+    ∷ (
+      codes ".memory 4096\n.globl b\n.globl ab\n.globl a\n.globl B\na: ab: b: B: nop",
+      at (codes "B") 0
+          ∷ at (codes "a") 0 ∷ at (codes "ab") 0 ∷ at (codes "b") 0 ∷ [],
+    )
     -- 31 bytes
     ∷ (codes ".memory 4096\n.globl _.$A567890123456789012345678901\n_.$A567890123456789012345678901: nop", at (codes "_.$A567890123456789012345678901") 0 ∷ [])
     -- a label without `.globl` is none
@@ -203,12 +208,17 @@ GoHasItsBytes = (meaning (codes ".globl go\ngo: nop\n") ≡ Ok go_means) × (ima
 
 -- the end of the memory is an address that a symbol may have
 abbrev pub EndIsKept : Type 0
-EndIsKept = meaning (codes ".memory 4096\nnop\n.data\n.zero 4080\nend: .globl end") ≡ Ok (record (with_symbols (at (codes "end") 4096 ∷ [])) { init = replicate 4080 0 })
+EndIsKept =
+    meaning (codes ".memory 4096\nnop\n.data\n.zero 4080\nend: .globl end")
+    ≡ Ok (record (with_symbols (at (codes "end") 4096 ∷ [])) { init = replicate 4080 0 })
 
 -- a name of 32 bytes is refused wherever it stands, however many names there are
 abbrev pub LongNamesAreRefused : Type 0
-LongNamesAreRefused = (n : ℕ) (s : Layout) → line_step n s (codes ".globl a1234567890123456789012345678901") ≡ Err kinds.Directive
+LongNamesAreRefused =
+    (n : ℕ) (s : Layout) → line_step n s (codes ".globl a1234567890123456789012345678901") ≡ Err kinds.Directive
 
 -- one more name than 1,024 is refused, whatever labels there are
 abbrev pub OneMoreIsRefused : Type 0
-OneMoreIsRefused = (n : ℕ) (s : Layout) → length s.globals ≡ 1024 → is_global (codes "go") s.globals ≡ false → line_step n s (codes ".globl go") ≡ Err kinds.Limit
+OneMoreIsRefused =
+    (n : ℕ) (s : Layout) → length s.globals ≡ 1024 → is_global (codes "go") s.globals ≡ false
+    → line_step n s (codes ".globl go") ≡ Err kinds.Limit

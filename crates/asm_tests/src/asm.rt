@@ -1,6 +1,7 @@
 //! Of `rv_asm`: small sources, whose meaning `assemble` answers.
 
-ghost use Rattle.asm_tests.specs.Sources.{DataStand, EndIsKept, EntriesStand, FaultsAreTold, GoHasItsBytes, LongNamesAreRefused, OneMoreIsRefused, SymbolsStand, TextsStand};
+ghost use Rattle.asm_tests.specs.Sources.{DataStand, EndIsKept, EntriesStand, FaultsAreTold, GoHasItsBytes};
+ghost use Rattle.asm_tests.specs.Sources.{LongNamesAreRefused, OneMoreIsRefused, SymbolsStand, TextsStand};
 
 /// Instructions have the words of GNU as, at the limits of their numbers too.
 pub fn texts_stand()

@@ -1,5 +1,5 @@
-//! What the crates of the assembler answer in cases that are easily got wrong. Each clause follows from the contracts of
-//! the crate that its module speaks of.
+//! What the crates of the assembler answer in cases that are easily got wrong. Each clause follows from the contracts
+//! of the crate that its module speaks of.
 #![tactic(auto)]
 
 pub mod asm;
