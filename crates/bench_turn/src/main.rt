@@ -1,6 +1,6 @@
-//! Runs a small guest as often as its second argument says, and prints what the guest's registers hold then: a program to
-//! time turns with. Its first argument says how: `turns` takes recorded turns of a rank, `steps` bare steps of its hart, and
-//! `events` steps with an event of 24 bytes pushed for each.
+//! Runs a small guest as often as its second argument says, and prints what the guest's registers hold then: a program
+//! to time turns with. Its first argument says how: `turns` takes recorded turns of a rank, `steps` bare steps of its
+//! hart, and `events` steps with an event of 24 bytes pushed for each.
 #![tactic(auto)]
 
 mod guest;
@@ -8,43 +8,81 @@ mod ways;
 
 use crate::guest::image;
 use crate::ways::{Way, done_by};
-use cl_rank::{Rank, RankState};
+use cl_rank::Rank;
 use rv_decode::Reg;
-use rv_image::Image;
+use rv_hart::Hart;
+use rv_image::{Image, ImageFault};
 use std::alloc::{AllocError, Global};
+use std::io::Write;
 use std::{env, io};
+
+/// The way that a word names, if there is one.
+fn way_of(word: Option<String>) -> Way {
+    match word {
+        Some(word) => Way::named(word.as_str()),
+        None => Way::Turns,
+    }
+}
+
+/// The number that a word is, or else 1000.
+fn count_of(word: Option<String>) -> u64 {
+    match word {
+        Some(word) => word.as_str().parse().unwrap_or(1000),
+        None => 1000,
+    }
+}
 
 fn arguments(rt: &HostRuntime) -> io::Result<(Way, u64)> {
     let mut words = env::args(rt)?;
-    let mut way = Way::Turns;
-    if let Some(word) = words.nth(1) {
-        way = Way::named(word.as_str());
-    }
-    let mut count = 1000;
-    if let Some(word) = words.next() {
-        count = word.as_str().parse().unwrap_or(count);
-    }
-    Ok((way, count))
+    let way = way_of(words.nth(1));
+    Ok((way, count_of(words.next())))
 }
 
-fn run(alloc: Global, image: &Image, way: Way, count: u64) -> Result<(RankState, u64), AllocError> {
+/// How many instructions a run did, and what the hart holds then.
+#[derive(Clone, Copy, Drop)]
+struct Left {
+    steps: u64,
+    pc: u64,
+    x5: u64,
+    x9: u64,
+}
+
+/// What a hart holds.
+fn left_by(hart: &Hart, steps: u64) -> Left {
+    Left {
+        steps,
+        pc: hart.pc(),
+        x5: hart.get(Reg::new(5)),
+        x9: hart.get(Reg::new(9)),
+    }
+}
+
+/// What a run over the image leaves.
+fn run(alloc: Global, image: &Image, way: Way, count: u64) -> Result<Option<Left>, AllocError> {
     let mut rank = Rank::new(alloc, image, 0, count)?;
-    let done = done_by(alloc, image, way, &mut rank, count)?;
-    let (state, _) = rank.into_parts();
-    Ok((state, done))
+    let steps = done_by(alloc, image, way, &mut rank, count)?;
+    Ok(rank.state.harts.first().map(|hart| left_by(hart, steps)))
+}
+
+/// What a run of the guest leaves.
+fn run_guest(alloc: Global, way: Way, count: u64) -> Result<Option<Left>, ImageFault> {
+    let image = image(alloc)?;
+    Ok(run(alloc, &image, way, count)?)
+}
+
+/// Prints what a run left.
+fn print_left<W: Write>(out: &mut W, left: Left) -> io::Result<()> {
+    let Left { steps, pc, x5, x9 } = left;
+    writeln!(out, "steps {steps}")?;
+    writeln!(out, "pc {pc:016x}")?;
+    writeln!(out, "x5 {x5:016x}")?;
+    writeln!(out, "x9 {x9:016x}")
 }
 
 fn main(rt: HostRuntime) -> io::Result<()> {
     let (way, count) = arguments(&rt)?;
-    let Ok(image) = image(rt.alloc()) else {
-        return println!(rt; "no image");
-    };
-    let (state, done) = run(rt.alloc(), &image, way, count)?;
-    println!(rt; "steps {done}")?;
-    if let Some(hart) = state.harts.first() {
-        println!(rt; "pc {:016x}", hart.pc())?;
-        println!(rt; "x5 {:016x}", hart.get(Reg::new(5)))?;
-        println!(rt; "x9 {:016x}", hart.get(Reg::new(9)))?;
+    match run_guest(rt.alloc(), way, count) {
+        Ok(Some(left)) => print_left(&mut rt.stdout(), left),
+        _ => println!(rt; "no image"),
     }
-    Ok(())
 }

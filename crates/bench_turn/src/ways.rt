@@ -4,8 +4,9 @@ ghost use Rattle.std.specs.Prelude.{◌≡◌, vec_len};
 
 use cl_journal::Hub;
 use cl_rank::Rank;
-use rv_hart::{Mode, step};
+use rv_hart::{Hart, Mode, step};
 use rv_image::Image;
+use rv_memory::RankMemory;
 use std::alloc::{AllocError, Global};
 
 /// A way to run the guest.
@@ -45,8 +46,26 @@ pub fn done_by(
             let mut hub = Hub::start(alloc, image)?;
             Ok(turns(rank, &mut hub, count))
         }
-        Way::Steps => Ok(steps(rank, count)),
-        Way::Events => events(alloc, rank, count),
+        Way::Steps => Ok(first_steps(rank, count)),
+        Way::Events => first_events(alloc, rank, count),
+    }
+}
+
+/// Bare steps of the first hart.
+fn first_steps(rank: &mut Rank, count: u64) -> u64 {
+    let state = &mut rank.state;
+    match state.harts.first_mut() {
+        Some(hart) => steps(hart, &mut state.memory, count),
+        None => 0,
+    }
+}
+
+/// Bare steps of the first hart, each with an event.
+fn first_events(alloc: Global, rank: &mut Rank, count: u64) -> Result<u64, AllocError> {
+    let state = &mut rank.state;
+    match state.harts.first_mut() {
+        Some(hart) => events(alloc, hart, &mut state.memory, count),
+        None => Ok(0),
     }
 }
 
@@ -63,19 +82,20 @@ fn turns(rank: &mut Rank, hub: &mut Hub, count: u64) -> u64 {
     count
 }
 
-/// Bare steps of the first hart, `count` at most.
-fn steps(rank: &mut Rank, count: u64) -> u64 {
-    let state = &mut rank.state;
-    let Some(hart) = state.harts.first_mut() else {
-        return 0;
-    };
+/// A step of a hart, if it runs: whether it did one.
+fn is_done(hart: &mut Hart, memory: &mut RankMemory) -> bool {
+    match hart.mode() {
+        Mode::Running => step(hart, memory).is_ok(),
+        _ => false,
+    }
+}
+
+/// Bare steps of a hart, `count` at most.
+fn steps(hart: &mut Hart, memory: &mut RankMemory, count: u64) -> u64 {
     for done in 0..count {
-        let Mode::Running = hart.mode() else {
+        if !is_done(hart, memory) {
             return done;
-        };
-        let Ok(_) = step(hart, &mut state.memory) else {
-            return done;
-        };
+        }
     }
     count
 }
@@ -88,25 +108,23 @@ struct Pushed {
     kind: u64,
 }
 
-/// Bare steps of the first hart, `count` at most, each with an event pushed to a growing list.
-fn events(alloc: Global, rank: &mut Rank, count: u64) -> Result<u64, AllocError> {
+/// Bare steps of a hart, `count` at most, each with an event pushed to a growing list.
+fn events(
+    alloc: Global,
+    hart: &mut Hart,
+    memory: &mut RankMemory,
+    count: u64,
+) -> Result<u64, AllocError> {
     let mut list = Vec::new(alloc);
-    let state = &mut rank.state;
-    let Some(hart) = state.harts.first_mut() else {
-        return Ok(0);
-    };
     for done in 0..count {
-        let Mode::Running = hart.mode() else {
-            return Ok(done);
-        };
         list.push(Pushed {
             stamp: done,
             hart: 0,
             kind: 0,
         })?;
-        let Ok(_) = step(hart, &mut state.memory) else {
+        if !is_done(hart, memory) {
             return Ok(done);
-        };
+        }
     }
-    Ok(list.len() as u64)
+    Ok(count)
 }
