@@ -15,7 +15,8 @@ use Rattle.cl_state.specs.Asked.{asked}
 use Rattle.cl_state.specs.Rank.{Rank}
 use Rattle.cl_rank.specs.declared.stops.Stop.{Stop}
 use Rattle.cl_rank.specs.Deeds.{Act, Answers, IsStamp, kind_of, request_of}
-use Rattle.cl_rank.specs.Turns.{AllStopped, Answered, Gives, IsActive, IsTurn, RankView, StopHolds, TellsAct, is_stopped}
+use Rattle.cl_rank.specs.Turns.{AllStopped, Answered, Gives, IsActive, IsTurn, RankView, StopHolds, TellsAct}
+use Rattle.cl_rank.specs.Turns.{is_stopped}
 use Rattle.cl_rank.specs.Turns.{all_stopped as all_stopped_of}
 use Rattle.cl_rank.proofs.Alone.{clock_moved, stamp_above}
 use Rattle.cluster_tests.specs.Turns.{EndsWith, Enters, IsReplied, LeavesOne, StoppedRows}
@@ -109,35 +110,39 @@ by_call request hart old before after hub left stamp (Act.Freed link part gate) 
 by_call request hart old before after hub left stamp Act.Held h s t e = absurd (cc)
 by_call request hart old before after hub left stamp Act.Idle h s t e = absurd (cc)
 
-module _ (hart : ℕ) (was is : RankView) (hub left : Journal) (turn : IsTurn Answered hart was is hub left) where
+module _ (hart : ℕ) (old new : RankView) (hub left : Journal) (turn : IsTurn Answered hart old new hub left) where
   -- the deed's hart and rank are those of the turn
-  answers : (asks : Ask) → asked was.rank hart ≡ asks → Answers asks turn.deed.act
-  answers asks e = subst (λ a. Answers a turn.deed.act) e (subst (λ h. Answers (asked was.rank h) turn.deed.act) turn.by turn.moves.2)
+  answers : (asks : Ask) → asked old.rank hart ≡ asks → Answers asks turn.deed.act
+  answers asks e = subst (λ a. Answers a turn.deed.act) e
+      (subst (λ h. Answers (asked old.rank h) turn.deed.act) turn.by turn.moves.2)
 
-  tells : TellsAct Answered was.rank.site.number hart turn.deed.stamp hub left turn.deed.act
+  tells : TellsAct Answered old.rank.site.number hart turn.deed.stamp hub left turn.deed.act
   tells = subst (λ r. TellsAct Answered r hart turn.deed.stamp hub left turn.deed.act) turn.rank
       (subst (λ h. TellsAct Answered turn.deed.rank h turn.deed.stamp hub left turn.deed.act) turn.by turn.tells)
 
-  behind : is.events ≡ was.events ++ event hart turn.deed.stamp turn.deed.act ∷ []
-  behind = turn.event ∙ ap (λ h. was.events ++ event h turn.deed.stamp turn.deed.act ∷ []) turn.by
+  behind : new.events ≡ old.events ++ event hart turn.deed.stamp turn.deed.act ∷ []
+  behind = turn.event ∙ ap (λ h. old.events ++ event h turn.deed.stamp turn.deed.act ∷ []) turn.by
 
-  pub leaves_one : LeavesOne hart was.rank is.rank was.events is.events
+  pub leaves_one : LeavesOne hart old.rank new.rank old.events new.events
   leaves_one = record {
     event = event hart turn.deed.stamp turn.deed.act;
     behind = behind;
     hart_is = refl;
-    above = stamp_above was.rank.clock turn.deed.stamp turn.deed.act turn.moves.3;
-    clock_is = clock_moved was.rank is.rank turn.deed turn.moves;
+    above = stamp_above old.rank.clock turn.deed.stamp turn.deed.act turn.moves.3;
+    clock_is = clock_moved old.rank new.rank turn.deed turn.moves;
   }
 
-  pub idles : asked was.rank hart ≡ Ask.Idle → EndsWith Kind.Idle was.events is.events × (left ≡ hub)
+  pub idles : asked old.rank hart ≡ Ask.Idle → EndsWith Kind.Idle old.events new.events × (left ≡ hub)
   idles e =
-      let idle = by_idle was.rank.site.number hart turn.deed.stamp hub left turn.deed.act (answers Ask.Idle e) tells in
-      (record { event = event hart turn.deed.stamp turn.deed.act; behind = behind; kind_is = idle.0 }, idle.1)
+      let act = turn.deed.act in
+      let idle = by_idle old.rank.site.number hart turn.deed.stamp hub left act (answers Ask.Idle e) tells in
+      (record { event = event hart turn.deed.stamp act; behind = behind; kind_is = idle.0 }, idle.1)
 
-  pub enters : (request : Request) → asked was.rank hart ≡ Ask.Hub request → Enters request hart was.rank was.events is.events hub left
+  pub enters : (request : Request) → asked old.rank hart ≡ Ask.Hub request
+      → Enters request hart old.rank old.events new.events hub left
   enters request e =
-      by_call request hart was.rank was.events is.events hub left turn.deed.stamp turn.deed.act (answers (Ask.Hub request) e) turn.moves.3 tells behind
+      by_call request hart old.rank old.events new.events hub left turn.deed.stamp turn.deed.act
+      (answers (Ask.Hub request) e) turn.moves.3 tells behind
 
 -- what a locked hub answered
 pub replied : (rank hart clock : ℕ) (request : Request) (r : Result (Reply × ℕ) HubFault)

@@ -1,3 +1,4 @@
 pub mod Reads
 pub mod Turns
+pub mod Boxes
 pub mod Runs

@@ -1,6 +1,6 @@
 //! What is answered of ranks and their turns.
 
-ghost use Rattle.std.specs.Prelude.{◌≡◌, ◌<◌, ◌+◌, ◌^◌, length, vec_len, Err, IfOk, OnOk};
+ghost use Rattle.std.specs.Prelude.{◌≡◌, ◌<◌, ◌+◌, ◌^◌, length, vec_len, Err, IfOk, None, OnOk};
 ghost use Rattle.mp_types.specs.declared.requests.Request.{Request};
 ghost use Rattle.cl_state.specs.declared.asking.Ask.TheVariants as ask;
 ghost use Rattle.cl_state.specs.Asked.{asked};
@@ -9,6 +9,7 @@ ghost use Rattle.cl_rank.specs.Sides.{AreChannelsOf};
 ghost use Rattle.cl_rank.specs.Turns.{AllStopped};
 ghost use Rattle.cl_rank.specs.Views.{view_of};
 ghost use Rattle.cl_trace.specs.declared.events.Kind.TheVariants as kind;
+ghost use Rattle.cluster_tests.specs.Boxes.{KeepsKeys, KeepsOthers, LooksInVain, MakesOne};
 ghost use Rattle.cluster_tests.specs.Turns.{EndsWith, Enters, IsReplied, LeavesOne, StoppedRows};
 
 use cl_journal::{Hub, HubFault};
@@ -24,8 +25,8 @@ pub fn a_used_budget_stops(
     channels: &[Channel],
     hart: u8,
 ) -> Result<(), Stop>
-    requires own { AreChannelsOf rank.old.state.site.version channels.now (view_of rank.old).sides }
     requires hart { hart < vec_len rank.old.state.harts }
+    requires own { AreChannelsOf rank.old.state.site.version channels.now (view_of rank.old).sides }
     requires runs { ¬ (AllStopped (rank_of rank.old.state)) }
     requires used { rank.old.budget ≡ length rank.old.trace.events }
     ensures { result ≡ Err Stop.Budget }
@@ -40,8 +41,8 @@ pub fn stopped_harts_stop_their_rank(
     channels: &[Channel],
     hart: u8,
 ) -> Result<(), Stop>
-    requires own { AreChannelsOf rank.old.state.site.version channels.now (view_of rank.old).sides }
     requires hart { hart < vec_len rank.old.state.harts }
+    requires own { AreChannelsOf rank.old.state.site.version channels.now (view_of rank.old).sides }
     requires stopped { AllStopped (rank_of rank.old.state) }
     ensures { result ≡ Err Stop.AllEnded }
 {
@@ -55,8 +56,8 @@ pub fn a_full_clock_stops(
     channels: &[Channel],
     hart: u8,
 ) -> Result<(), Stop>
-    requires own { AreChannelsOf rank.old.state.site.version channels.now (view_of rank.old).sides }
     requires hart { hart < vec_len rank.old.state.harts }
+    requires own { AreChannelsOf rank.old.state.site.version channels.now (view_of rank.old).sides }
     requires runs { ¬ (AllStopped (rank_of rank.old.state)) }
     requires left { length rank.old.trace.events < rank.old.budget }
     requires full { rank.old.state.clock + 1 ≡ 2 ^ 62 }
@@ -72,9 +73,10 @@ pub fn a_turn_leaves_one_event(
     channels: &[Channel],
     hart: u8,
 ) -> Result<(), Stop>
-    requires own { AreChannelsOf rank.old.state.site.version channels.now (view_of rank.old).sides }
     requires hart { hart < vec_len rank.old.state.harts }
-    ensures { OnOk result (LeavesOne hart (rank_of rank.old.state) (rank_of rank.new.state) rank.old.trace.events rank.new.trace.events) }
+    requires own { AreChannelsOf rank.old.state.site.version channels.now (view_of rank.old).sides }
+    ensures { OnOk result (LeavesOne hart (rank_of rank.old.state) (rank_of rank.new.state)
+        rank.old.trace.events rank.new.trace.events) }
 {
     rank.turn_plain(hub, channels, hart)
 }
@@ -86,8 +88,8 @@ pub fn a_stopped_hart_idles(
     channels: &[Channel],
     hart: u8,
 ) -> Result<(), Stop>
-    requires own { AreChannelsOf rank.old.state.site.version channels.now (view_of rank.old).sides }
     requires hart { hart < vec_len rank.old.state.harts }
+    requires own { AreChannelsOf rank.old.state.site.version channels.now (view_of rank.old).sides }
     requires idles { asked (rank_of rank.old.state) hart ≡ ask.Idle }
     ensures recorded { OnOk result (EndsWith kind.Idle rank.old.trace.events rank.new.trace.events) }
     ensures hub { OnOk result (hub.new ≡ hub.old) }
@@ -95,17 +97,77 @@ pub fn a_stopped_hart_idles(
     rank.turn_plain(hub, channels, hart)
 }
 
-/// A turn whose hart asks the hub enters one call, of that rank and hart at the rank's clock. Its event keeps the request
-/// and the reply, and has the call's stamp.
+/// A turn whose hart asks the hub enters one call, of that rank and hart at the rank's clock. Its event keeps the
+/// request and the reply, and has the call's stamp.
 pub fn a_call_is_entered(
     rank: &mut Rank,
     hub: &mut Hub,
     channels: &[Channel],
     hart: u8,
 ) -> Result<(), Stop>
-    requires own { AreChannelsOf rank.old.state.site.version channels.now (view_of rank.old).sides }
     requires hart { hart < vec_len rank.old.state.harts }
-    ensures { (request : Request) → asked (rank_of rank.old.state) hart ≡ ask.Hub request → OnOk result (Enters request hart (rank_of rank.old.state) rank.old.trace.events rank.new.trace.events hub.old hub.new) }
+    requires own { AreChannelsOf rank.old.state.site.version channels.now (view_of rank.old).sides }
+    ensures { (request : Request) → asked (rank_of rank.old.state) hart ≡ ask.Hub request
+        → OnOk result (Enters request hart (rank_of rank.old.state) rank.old.trace.events rank.new.trace.events
+        hub.old hub.new) }
+{
+    rank.turn_plain(hub, channels, hart)
+}
+
+/// A turn that asks no box moves no key.
+pub fn a_turn_without_a_box_keeps_the_keys(
+    rank: &mut Rank,
+    hub: &mut Hub,
+    channels: &[Channel],
+    hart: u8,
+) -> Result<(), Stop>
+    requires hart { hart < vec_len rank.old.state.harts }
+    requires own { AreChannelsOf rank.old.state.site.version channels.now (view_of rank.old).sides }
+    ensures { OnOk result (rank.new.asked_box ≡ None → KeepsKeys (view_of rank.old).sides (view_of rank.new).sides) }
+{
+    rank.turn_plain(hub, channels, hart)
+}
+
+/// A turn moves no key of a box that it didn't ask.
+pub fn a_turn_keeps_the_keys_of_other_boxes(
+    rank: &mut Rank,
+    hub: &mut Hub,
+    channels: &[Channel],
+    hart: u8,
+) -> Result<(), Stop>
+    requires hart { hart < vec_len rank.old.state.harts }
+    requires own { AreChannelsOf rank.old.state.site.version channels.now (view_of rank.old).sides }
+    ensures { OnOk result (KeepsOthers (view_of rank.old) (view_of rank.new)) }
+{
+    rank.turn_plain(hub, channels, hart)
+}
+
+/// A turn that is recorded as a miss asked its box: its key there loaded one gate word, which shows nothing.
+pub fn a_miss_asked_its_box(
+    rank: &mut Rank,
+    hub: &mut Hub,
+    channels: &[Channel],
+    hart: u8,
+) -> Result<(), Stop>
+    requires hart { hart < vec_len rank.old.state.harts }
+    requires own { AreChannelsOf rank.old.state.site.version channels.now (view_of rank.old).sides }
+    ensures { OnOk result (EndsWith kind.Miss rank.old.trace.events rank.new.trace.events
+        → LooksInVain (view_of rank.old) (view_of rank.new)) }
+{
+    rank.turn_plain(hub, channels, hart)
+}
+
+/// A turn that is recorded as ready made one thing, at the stamp above the clock, in a box whose key was open.
+pub fn a_ready_makes_one_thing(
+    rank: &mut Rank,
+    hub: &mut Hub,
+    channels: &[Channel],
+    hart: u8,
+) -> Result<(), Stop>
+    requires hart { hart < vec_len rank.old.state.harts }
+    requires own { AreChannelsOf rank.old.state.site.version channels.now (view_of rank.old).sides }
+    ensures { OnOk result (EndsWith kind.Ready rank.old.trace.events rank.new.trace.events
+        → MakesOne (view_of rank.old) (view_of rank.new)) }
 {
     rank.turn_plain(hub, channels, hart)
 }
