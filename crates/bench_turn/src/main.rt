@@ -6,6 +6,8 @@
 mod guest;
 mod ways;
 
+ghost use Rattle.std.specs.Prelude.{◌≡◌, []};
+
 use crate::guest::image;
 use crate::ways::{Way, done_by};
 use cl_rank::Rank;
@@ -57,9 +59,12 @@ fn left_by(hart: &Hart, steps: u64) -> Left {
     }
 }
 
-/// What a run over the image leaves.
-fn run(alloc: Global, image: &Image, way: Way, count: u64) -> Result<Option<Left>, AllocError> {
-    let mut rank = Rank::new(alloc, image, 0, count)?;
+/// What a run over an image without links leaves.
+#[tactic(auto, using(crate::proofs::Links::no_sides, crate::proofs::Links::no_channels))]
+fn run(alloc: Global, image: &Image, way: Way, count: u64) -> Result<Option<Left>, AllocError>
+    requires { image.now.links ≡ [] }
+{
+    let mut rank = Rank::new(alloc, image, 0, count, Vec::new(alloc), Vec::new(alloc))?;
     let steps = done_by(alloc, image, way, &mut rank, count)?;
     Ok(rank.state.harts.first().map(|hart| left_by(hart, steps)))
 }
@@ -67,6 +72,9 @@ fn run(alloc: Global, image: &Image, way: Way, count: u64) -> Result<Option<Left
 /// What a run of the guest leaves.
 fn run_guest(alloc: Global, way: Way, count: u64) -> Result<Option<Left>, ImageFault> {
     let image = image(alloc)?;
+    if !image.parts().links.as_slice().is_empty() {
+        return Ok(None);
+    }
     Ok(run(alloc, &image, way, count)?)
 }
 

@@ -1,6 +1,8 @@
 //! Ways to run a guest. Each says how many instructions it did.
 
-ghost use Rattle.std.specs.Prelude.{◌≡◌, vec_len};
+ghost use Rattle.std.specs.Prelude.{◌≡◌, [], vec_len};
+ghost use Rattle.cl_rank.specs.Sides.{AreChannelsOf};
+ghost use Rattle.cl_rank.specs.Views.{view_of};
 
 use cl_journal::Hub;
 use cl_rank::Rank;
@@ -33,14 +35,16 @@ impl Way {
     }
 }
 
-/// Runs the guest a way.
+/// Runs the guest a way. Its rank has no sides of links.
 pub fn done_by(
     alloc: Global,
     image: &Image,
     way: Way,
     rank: &mut Rank,
     count: u64,
-) -> Result<u64, AllocError> {
+) -> Result<u64, AllocError>
+    requires { AreChannelsOf rank.old.state.site.version [] (view_of rank.old).sides }
+{
     match way {
         Way::Turns => {
             let mut hub = Hub::start(alloc, image)?;
@@ -70,12 +74,14 @@ fn first_events(alloc: Global, rank: &mut Rank, count: u64) -> Result<u64, Alloc
 }
 
 /// Recorded turns of the first hart, `count` at most.
-fn turns(rank: &mut Rank, hub: &mut Hub, count: u64) -> u64 {
+fn turns(rank: &mut Rank, hub: &mut Hub, count: u64) -> u64
+    requires { AreChannelsOf rank.old.state.site.version [] (view_of rank.old).sides }
+{
     if rank.state.harts.is_empty() {
         return 0;
     }
     for done in 0..count {
-        if rank.turn_plain(hub, 0).is_err() {
+        if rank.turn_plain(hub, &[], 0).is_err() {
             return done;
         }
     }
