@@ -162,4 +162,5 @@ module _ (hart : ℕ) (old new : RankView) (hub left : Journal) (turn : IsTurn A
   pub makes_one : EndsWith Kind.Ready old.events new.events → MakesOne old new
   makes_one ends =
       by_ready turn.deed.stamp turn.deed.act old new
-      (kind_behind Kind.Ready old.events new.events (event_of turn.deed) turn.event ends) turn.moves.3 turn.keys turn.box
+      (kind_behind Kind.Ready old.events new.events (event_of turn.deed) turn.event ends) turn.moves.3 turn.keys
+      turn.box

@@ -1,5 +1,6 @@
 -- Which plans are refused, and how they go round.
-use Rattle.std.specs.Prelude.{ℕ, ◌≡◌, ◌<◌, ◌≤◌, ◌+◌, ◌*◌, ◌%◌, ◌^◌, ◌⊎◌, Bool, true, false, IsTrue, List, [], ◌∷◌, length, slice_get, slice_index, All, Contains, Some, Result, Ok, Err, IfOk, OnOk}
+use Rattle.std.specs.Prelude.{ℕ, ◌≡◌, ◌<◌, ◌≤◌, ◌+◌, ◌*◌, ◌%◌, ◌^◌, ◌⊎◌, Bool, true, false, IsTrue, List, [], ◌∷◌}
+use Rattle.std.specs.Prelude.{length, slice_get, slice_index, All, Contains, Some, Result, Ok, Err, IfOk, OnOk}
 use Rattle.std.proofs.Common.{refl, sym, ap, ◌∙◌, subst, arith}
 use Rattle.std.proofs.Math.Nat.{mod-eq_of_lt}
 use Rattle.std.proofs.lemmas.List.Elements.{All-cons, All-contains, All-nil}
@@ -17,12 +18,15 @@ module _ (image : ImageParts) (plans : List Plan) (order : List ℕ) (are : AreP
   -- each plan is right
   pub plan_at : (rank : ℕ) (plan : Plan) → slice_get plans rank ≡ Some plan → IsPlan image.harts plan
   plan_at rank plan at =
-      subst (IsPlan image.harts) (get_or_from_slice_get plans rank plan plan at) (are.are_plans rank plan (slice_get_within plans rank plan at))
+      subst (IsPlan image.harts) (get_or_from_slice_get plans rank plan plan at)
+      (are.are_plans rank plan (slice_get_within plans rank plan at))
 
   -- and names no hart that isn't there
-  pub no_absent_hart : (rank : ℕ) (plan : Plan) → slice_get plans rank ≡ Some plan → Contains plan.order.items image.harts → ⊥
+  pub no_absent_hart : (rank : ℕ) (plan : Plan) → slice_get plans rank ≡ Some plan
+      → Contains plan.order.items image.harts → ⊥
   no_absent_hart rank plan at has =
-      let below = All-contains (λ n. n < image.harts) plan.order.items image.harts (plan_at rank plan at).is_order.there has in
+      let below = All-contains (λ n. n < image.harts) plan.order.items image.harts
+      (plan_at rank plan at).is_order.there has in
       absurd (omega (arith, below))
 
 -- what can't be so is refused
@@ -31,12 +35,18 @@ refused true no_way = absurd (no_way refl)
 refused false no_way = refl
 
 -- one rank, and a plan of its hart 0 at either limit
-pub limits : (image : ImageParts) (plans : List Plan) (plan : Plan) → image.ranks ≡ 1 → 0 < image.harts → plans ≡ plan ∷ [] → plan.order.items ≡ 0 ∷ []
+pub limits : (image : ImageParts) (plans : List Plan) (plan : Plan) → image.ranks ≡ 1 → 0 < image.harts
+    → plans ≡ plan ∷ [] → plan.order.items ≡ 0 ∷ []
     → (plan.budget ≡ 1) ⊎ (plan.budget ≡ 16777216) → ArePlans image plans (0 ∷ [])
 limits image plans plan one hart is items budget = record {
   one_each = ap (λ (ps : List Plan). length ps) is ∙ sym one;
-  are_plans = subst (All (IsPlan image.harts)) (sym is) (All-cons (IsPlan image.harts) plan [] right (All-nil (IsPlan image.harts)));
-  is_order = record { named = omega arith; there = All-cons (λ number. number < image.ranks) 0 [] (omega (arith, one)) (All-nil (λ number. number < image.ranks)) };
+  are_plans = subst (All (IsPlan image.harts)) (sym is)
+      (All-cons (IsPlan image.harts) plan [] right (All-nil (IsPlan image.harts)));
+  is_order = record {
+    named = omega arith;
+    there = All-cons (λ number. number < image.ranks) 0 [] (omega (arith, one))
+        (All-nil (λ number. number < image.ranks));
+  };
   misses_none = λ rank below. (0, omega arith, omega (arith, below, one));
 }
   where
@@ -55,7 +65,10 @@ limits image plans plan one hart is items budget = record {
     right : IsPlan image.harts plan
     right = record {
       is_order = subst (IsOrder image.harts) (sym items)
-          (record { named = omega arith; there = All-cons (λ number. number < image.harts) 0 [] hart (All-nil (λ number. number < image.harts)) });
+          (record {
+            named = omega arith;
+            there = All-cons (λ number. number < image.harts) 0 [] hart (All-nil (λ number. number < image.harts));
+          });
       least_budget = least;
       most_budget = most;
     }
@@ -71,7 +84,8 @@ round_and_round plan events n event follows below =
     digits n m below = let sum : n + m ≡ 1 * m + n = omega arith in ap (λ k. k % m) sum ∙ mod-mul-add 1 m n below
 
 -- what a run leaves
-pub of_each : (image : ImageParts) (plans : List Plan) (order : List ℕ) (left : Record) → ArePlans image plans order → IsOneRun image plans order left
+pub of_each : (image : ImageParts) (plans : List Plan) (order : List ℕ) (left : Record) → ArePlans image plans order
+    → IsOneRun image plans order left
     → OfEachRank image plans order left
 of_each image plans order left are run = record {
   are_plans = are;
@@ -81,7 +95,8 @@ of_each image plans order left are run = record {
   stops_count = run.stops_count;
 }
 
-pub of_each_ok : {E : Type 0} (image : ImageParts) (plans : List Plan) (order : List ℕ) (r : Result Record E) → OnOk r (ArePlans image plans order)
+pub of_each_ok : {E : Type 0} (image : ImageParts) (plans : List Plan) (order : List ℕ) (r : Result Record E)
+    → OnOk r (ArePlans image plans order)
     → IfOk r (IsOneRun image plans order) → IfOk r (OfEachRank image plans order)
 of_each_ok image plans order (Ok left) are run = of_each image plans order left are run
 of_each_ok image plans order (Err e) are run = tt

@@ -1,5 +1,6 @@
 -- What turns leave, and why there is none.
-use Rattle.std.specs.Prelude.{ℕ, ◌≡◌, ◌+◌, ◌<◌, ◌^◌, Bool, true, false, ◌&&◌, List, [], ◌∷◌, ◌++◌, Result, Ok, Err, OnOk, IfOk, IfErr}
+use Rattle.std.specs.Prelude.{ℕ, ◌≡◌, ◌+◌, ◌<◌, ◌^◌, Bool, true, false, ◌&&◌, List, [], ◌∷◌, ◌++◌, Result, Ok, Err}
+use Rattle.std.specs.Prelude.{OnOk, IfOk, IfErr}
 use Rattle.std.specs.List.{list_all}
 use Rattle.std.proofs.Common.{refl, sym, ap, ◌∙◌, subst, arith}
 use mathlib.Core.Logic.{inl, inr}
@@ -28,7 +29,8 @@ on_ok (Err e) f p = tt
 
 module _ {D : Type 0} (gives : Gives D) (hart : ℕ) (rank : Rank) (turns budget : ℕ) (before after : D) where
   -- the causes exclude one another
-  budget_told : (s : Stop) → ¬ (AllStopped rank) → turns ≡ budget → StopHolds gives hart rank turns budget before after s → s ≡ Stop.Budget
+  budget_told : (s : Stop) → ¬ (AllStopped rank) → turns ≡ budget
+      → StopHolds gives hart rank turns budget before after s → s ≡ Stop.Budget
   budget_told s runs used (inr h) = absurd (omega (arith, used, h.0.left))
   budget_told Stop.AllEnded runs used (inl h) = absurd (runs h.0)
   budget_told Stop.Budget runs used (inl h) = refl
@@ -53,7 +55,8 @@ module _ {D : Type 0} (gives : Gives D) (hart : ℕ) (rank : Rank) (turns budget
   full_told (Stop.ClockFull c) runs left full (inl h) = ap Stop.ClockFull (sym h.0.2)
   full_told (Stop.Calls n) runs left full (inl h) = absurd h.0
 
-  pub used_budget : {X : Type 0} (r : Result X Stop) → ¬ (AllStopped rank) → turns ≡ budget → OnOk r (IsActive rank turns budget)
+  pub used_budget : {X : Type 0} (r : Result X Stop) → ¬ (AllStopped rank) → turns ≡ budget
+      → OnOk r (IsActive rank turns budget)
       → IfErr r (λ s. StopHolds gives hart rank turns budget before after s) → r ≡ Err Stop.Budget
   used_budget (Ok x) runs used active holds = absurd (omega (arith, used, active.left))
   used_budget (Err s) runs used active holds = ap Err (budget_told s runs used holds)
@@ -63,7 +66,8 @@ module _ {D : Type 0} (gives : Gives D) (hart : ℕ) (rank : Rank) (turns budget
   all_stopped (Ok x) stopped active holds = absurd (active.runs stopped)
   all_stopped (Err s) stopped active holds = ap Err (end_told s stopped holds)
 
-  pub full_clock : {X : Type 0} (r : Result X Stop) → ¬ (AllStopped rank) → turns < budget → rank.clock + 1 ≡ 2 ^ 62 → OnOk r (IsActive rank turns budget)
+  pub full_clock : {X : Type 0} (r : Result X Stop) → ¬ (AllStopped rank) → turns < budget → rank.clock + 1 ≡ 2 ^ 62
+      → OnOk r (IsActive rank turns budget)
       → IfErr r (λ s. StopHolds gives hart rank turns budget before after s) → r ≡ Err (Stop.ClockFull rank.clock)
   full_clock (Ok x) runs left full active holds = absurd (omega (arith, full, active.low))
   full_clock (Err s) runs left full active holds = ap Err (full_told s runs left full holds)
@@ -72,7 +76,8 @@ abbrev event : ℕ → ℕ → Act → Event
 event hart stamp act = record { hart = hart; stamp = stamp; kind = kind_of act; request = request_of act }
 
 -- a hart that idles leaves an idle event, and tells nobody
-by_idle : (rank hart stamp : ℕ) (hub left : Journal) (act : Act) → Answers Ask.Idle act → TellsAct Answered rank hart stamp hub left act
+by_idle : (rank hart stamp : ℕ) (hub left : Journal) (act : Act) → Answers Ask.Idle act
+    → TellsAct Answered rank hart stamp hub left act
     → (kind_of act ≡ Kind.Idle) × (left ≡ hub)
 by_idle rank hart stamp hub left Act.Plain h t = absurd (cc)
 by_idle rank hart stamp hub left Act.Local h t = absurd (cc)
@@ -86,15 +91,23 @@ by_idle rank hart stamp hub left Act.Held h t = absurd (cc)
 by_idle rank hart stamp hub left Act.Idle h t = (refl, t)
 
 -- a hart that asks the hub has its call entered
-by_call : (request : Request) (hart : ℕ) (old : Rank) (before after : List Event) (hub left : Journal) (stamp : ℕ) (act : Act)
-    → Answers (Ask.Hub request) act → IsStamp old.clock act stamp → TellsAct Answered old.site.number hart stamp hub left act
+by_call : (request : Request) (hart : ℕ) (old : Rank) (before after : List Event) (hub left : Journal) (stamp : ℕ)
+    (act : Act) → Answers (Ask.Hub request) act → IsStamp old.clock act stamp
+    → TellsAct Answered old.site.number hart stamp hub left act
     → after ≡ before ++ event hart stamp act ∷ [] → Enters request hart old before after hub left
 by_call request hart old before after hub left stamp Act.Plain h s t e = absurd (cc)
 by_call request hart old before after hub left stamp Act.Local h s t e = absurd (cc)
 by_call request hart old before after hub left stamp (Act.Hub clock made reply) h s t e =
     let same : made ≡ request = cc in
     record {
-      entry = record { rank = old.site.number; hart = hart; clock = clock; stamp = stamp; request = made; reply = reply };
+      entry = record {
+        rank = old.site.number;
+        hart = hart;
+        clock = clock;
+        stamp = stamp;
+        request = made;
+        reply = reply;
+      };
       entered = t.entries;
       rank_is = refl;
       hart_is = refl;
@@ -151,7 +164,8 @@ replied rank hart clock request (Ok told) h = record { hub = h.0; reply_is = h.2
 replied rank hart clock request (Err fault) h = tt
 
 -- of two harts both are asked
-both : (rank : Rank) (a b : State) → rank.harts ≡ a ∷ b ∷ [] → all_stopped_of rank ≡ (is_stopped a.mode && (is_stopped b.mode && true))
+both : (rank : Rank) (a b : State) → rank.harts ≡ a ∷ b ∷ []
+    → all_stopped_of rank ≡ (is_stopped a.mode && (is_stopped b.mode && true))
 both rank a b e = ap (λ (hs : List State). list_all (λ (h : State). is_stopped h.mode) hs) e
 
 second : (x y : Bool) → y ≡ false → (x && (y && true)) ≡ true → ⊥
@@ -165,7 +179,9 @@ first false y e h = absurd (cc)
 
 pub stopped_rows : StoppedRows
 stopped_rows = record {
-  over = λ rank a b code pc cause e p q. both rank a b e ∙ ap (λ m. is_stopped m && (is_stopped b.mode && true)) p ∙ ap (λ m. is_stopped m && true) q;
+  over = λ rank a b code pc cause e p q. both rank a b e ∙ ap (λ m. is_stopped m && (is_stopped b.mode && true)) p
+      ∙ ap (λ m. is_stopped m && true) q;
   runs = λ rank a b e q h. second (is_stopped a.mode) (is_stopped b.mode) (ap is_stopped q) (sym (both rank a b e) ∙ h);
-  waits = λ rank a b w e p h. first (is_stopped a.mode) (is_stopped b.mode) (ap is_stopped p) (sym (both rank a b e) ∙ h);
+  waits = λ rank a b w e p h. first (is_stopped a.mode) (is_stopped b.mode) (ap is_stopped p)
+      (sym (both rank a b e) ∙ h);
 }

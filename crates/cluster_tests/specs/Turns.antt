@@ -29,14 +29,16 @@ pub record EndsWith (kind : Kind) (before after : List Event) : Type 0 where
   pub kind_is : event.kind ≡ kind
 
 -- one entry more, of the rank and the hart at the rank's clock, and one event with its request, reply and stamp
-pub record Enters (request : Request) (hart : ℕ) (rank : Rank) (before after : List Event) (hub left : Journal) : Type 0 where
+pub record Enters (request : Request) (hart : ℕ) (rank : Rank) (before after : List Event)
+    (hub left : Journal) : Type 0 where
   pub entry : Entry
   pub entered : left.entries ≡ hub.entries ++ entry ∷ []
   pub rank_is : entry.rank ≡ rank.site.number
   pub hart_is : entry.hart ≡ hart
   pub clock_is : entry.clock ≡ rank.clock
   pub request_is : entry.request ≡ request
-  pub behind : after ≡ before ++ record { hart = hart; stamp = entry.stamp; kind = Kind.Hub entry.reply; request = Some request } ∷ []
+  pub behind : after ≡ before
+      ++ record { hart = hart; stamp = entry.stamp; kind = Kind.Hub entry.reply; request = Some request } ∷ []
 
 -- the reply of a hub after some calls, at the stamp above both clocks
 pub record IsReplied (rank clock : ℕ) (request : Request) (told : Reply × ℕ) : Type 0 where
@@ -49,4 +51,5 @@ pub record StoppedRows : Type 0 where
   pub over : (rank : Rank) (a b : State) (code pc : ℕ) (cause : Cause)
       → rank.harts ≡ a ∷ b ∷ [] → a.mode ≡ Ended code → b.mode ≡ Trapped cause pc → AllStopped rank
   pub runs : (rank : Rank) (a b : State) → rank.harts ≡ a ∷ b ∷ [] → b.mode ≡ Running → ¬ (AllStopped rank)
-  pub waits : (rank : Rank) (a b : State) (w : Wait) → rank.harts ≡ a ∷ b ∷ [] → a.mode ≡ Waiting w → ¬ (AllStopped rank)
+  pub waits : (rank : Rank) (a b : State) (w : Wait) → rank.harts ≡ a ∷ b ∷ [] → a.mode ≡ Waiting w
+      → ¬ (AllStopped rank)

@@ -1,6 +1,7 @@
 //! What is answered of plans and runs.
 
-ghost use Rattle.std.specs.Prelude.{◌≡◌, ◌<◌, ◌⊎◌, ◌∷◌, ℕ, [], length, Contains, Err, IfOk, Some, slice_get, true, false};
+ghost use Rattle.std.specs.Prelude.{◌≡◌, ◌<◌, ◌⊎◌, ◌∷◌, ℕ, [], length, Contains, Err, IfOk, Some, slice_get};
+ghost use Rattle.std.specs.Prelude.{true, false};
 ghost use Rattle.cl_run.specs.Plans.{ArePlans};
 ghost use Rattle.cl_run.specs.declared.plans.Plan.{Plan};
 ghost use Rattle.cluster_tests.specs.Runs.{OfEachRank, RoundAndRound};
@@ -43,7 +44,8 @@ pub fn a_plan_of_no_hart_is_refused(image: &Image, plans: &[Plan], order: &[u8])
 
 /// A plan that names a hart with the number of harts is refused: they are numbered from 0.
 pub fn an_absent_hart_is_refused(image: &Image, plans: &[Plan], order: &[u8]) -> bool
-    requires { (rank : ℕ) × (plan : Plan) × (slice_get plans.now rank ≡ Some plan) × Contains plan.order.items image.now.harts }
+    requires { (rank : ℕ) × (plan : Plan) × (slice_get plans.now rank ≡ Some plan)
+        × Contains plan.order.items image.now.harts }
     ensures { result ≡ false }
 {
     are_plans(image, plans, order)
@@ -69,7 +71,8 @@ pub fn a_missed_rank_is_refused(image: &Image, plans: &[Plan], order: &[u8]) -> 
 pub fn the_limits_are_taken(image: &Image, plans: &[Plan]) -> bool
     requires one { image.now.ranks ≡ 1 }
     requires hart { 0 < image.now.harts }
-    requires plans { (plan : Plan) × (plans.now ≡ plan ∷ []) × (plan.order.items ≡ 0 ∷ []) × ((plan.budget ≡ 1) ⊎ (plan.budget ≡ 16777216)) }
+    requires plans { (plan : Plan) × (plans.now ≡ plan ∷ []) × (plan.order.items ≡ 0 ∷ [])
+        × ((plan.budget ≡ 1) ⊎ (plan.budget ≡ 16777216)) }
     ensures { result ≡ true }
 {
     are_plans(image, plans, &[0])

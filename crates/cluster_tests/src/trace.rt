@@ -37,8 +37,8 @@ pub fn a_push_counts_one(trace: &mut Trace, event: Event) -> Result<u64, AllocEr
     Ok(trace.len())
 }
 
-/// An instruction and then any event stand behind those before as they were pushed: of whichever hart and kind they are,
-/// whether their stamps follow one another or not, and whatever runs the trace keeps.
+/// An instruction and then any event stand behind those before as they were pushed: of whichever hart and kind they
+/// are, whether their stamps follow one another or not, and whatever runs the trace keeps.
 pub fn both_stand_as_pushed(
     trace: &mut Trace,
     hart: u8,
@@ -67,14 +67,16 @@ pub fn room_is_found_again(trace: &mut Trace) -> bool
 
 /// Two events are read one after the other, each once.
 pub fn two_are_read_in_order<'a>(cursor: &mut Cursor<'a>) -> (Option<Seen<'a>>, Option<Seen<'a>>)
-    ensures { (first second : Event) (rest : List Event) → cursor.old ≡ first ∷ second ∷ rest → Reads first result.0 × Reads second result.1 × (cursor.new ≡ rest) }
+    ensures { (first second : Event) (rest : List Event) → cursor.old ≡ first ∷ second ∷ rest
+        → Reads first result.0 × Reads second result.1 × (cursor.new ≡ rest) }
 {
     (cursor.next(), cursor.next())
 }
 
 /// What is seen ahead is what is read next.
 pub fn first_is_seen_ahead<'a>(cursor: &mut Cursor<'a>) -> (Option<Seen<'a>>, Option<Seen<'a>>)
-    ensures { (first : Event) (rest : List Event) → cursor.old ≡ first ∷ rest → Reads first result.0 × Reads first result.1 × (cursor.new ≡ rest) }
+    ensures { (first : Event) (rest : List Event) → cursor.old ≡ first ∷ rest
+        → Reads first result.0 × Reads first result.1 × (cursor.new ≡ rest) }
 {
     (cursor.peek(), cursor.next())
 }

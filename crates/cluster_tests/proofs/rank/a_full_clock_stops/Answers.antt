@@ -5,4 +5,6 @@ use Rattle.cluster_tests.proofs.rank.a_full_clock_stops.Goals as goal
 
 pub returns : goal.returns
 returns c =
-    full_clock Answered c.args.hart (rank_of c.args.rank.now.state) _ _ _ _ c.turn_plain.result c.requires.runs c.requires.left c.requires.full c.turn_plain.ensures.active c.turn_plain.ensures.stop
+    full_clock Answered c.args.hart (rank_of c.args.rank.now.state) _ _ _ _
+    c.turn_plain.result c.requires.runs c.requires.left c.requires.full
+    c.turn_plain.ensures.active c.turn_plain.ensures.stop

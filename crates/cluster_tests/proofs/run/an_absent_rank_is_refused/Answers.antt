@@ -4,4 +4,10 @@ use Rattle.cluster_tests.proofs.Planning.{refused}
 use Rattle.cluster_tests.proofs.run.an_absent_rank_is_refused.Goals as goal
 
 pub returns : goal.returns
-returns c = refused c.are_plans.result (λ yes. absurd (omega (arith, All-contains (λ n. n < c.args.image.now.ranks) c.args.order.now c.args.image.now.ranks (c.are_plans.ensures.0 yes).is_order.there c.requires)))
+returns c = refused c.are_plans.result
+    (λ yes. absurd
+    (omega (
+      arith,
+      All-contains (λ n. n < c.args.image.now.ranks) c.args.order.now c.args.image.now.ranks
+          (c.are_plans.ensures.0 yes).is_order.there c.requires,
+    )))
