@@ -11,7 +11,7 @@ use std::marker::Model;
 
 /// All communicators of a rank's image, at most 8 of them; number 0 is all ranks in order.
 /// Contracts see a list of lists of ranks.
-#[derive(Drop, Debug)]
+#[derive(Drop)]
 pub struct Communicators {
     lists: Vec<Members>,
 }
@@ -27,7 +27,7 @@ impl Model for Communicators {
 }
 
 /// What the image fixes of a rank. No event changes it.
-#[derive(Drop, Debug)]
+#[derive(Drop)]
 pub struct Site {
     /// The rank's number.
     pub number: u8,
