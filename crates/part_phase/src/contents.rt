@@ -9,7 +9,7 @@ use std::marker::Model;
 
 /// The bytes of a box, 0 behind those of its partition: 64 where it has 8 data words, 128 where it has 16. They take no
 /// memory. Contracts see the list of them.
-#[derive(Drop, Debug)]
+#[derive(Drop)]
 pub struct Contents {
     bytes: [u8; 128],
     count: usize,

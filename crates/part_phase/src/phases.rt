@@ -14,7 +14,7 @@ use std::alloc::{AllocError, Global};
 use std::marker::Model;
 
 /// The side that a rank has of a link.
-#[derive(Clone, Copy, PartialEq, Eq, Drop, Debug)]
+#[derive(Clone, Copy, PartialEq, Eq, Drop)]
 pub enum Phase {
     /// None: the link joins two other ranks.
     Apart,
@@ -25,7 +25,7 @@ pub enum Phase {
 }
 
 /// All of a rank's phases, one a link of the image. Contracts see the list of them.
-#[derive(Drop, Debug)]
+#[derive(Drop)]
 pub struct Phases {
     list: Vec<Phase>,
 }
