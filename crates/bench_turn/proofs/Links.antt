@@ -1,5 +1,5 @@
 -- An image without links gives its ranks no sides.
-use Rattle.std.specs.Prelude.{ℕ, ◌≡◌, []}
+use Rattle.std.specs.Prelude.{ℕ, []}
 use Rattle.rv_image.specs.declared.images.ImageVersion.{ImageVersion}
 use Rattle.cl_rank.specs.Sides.{AreChannelsOf, AreNewSides}
 
