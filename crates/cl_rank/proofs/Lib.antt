@@ -11,5 +11,6 @@ pub mod Moves
 pub mod Rows
 pub mod Stepped
 pub mod Tables
+pub mod Taken
 pub mod Turned
 pub mod Went
