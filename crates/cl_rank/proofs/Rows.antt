@@ -22,7 +22,7 @@ use Rattle.mp_request.specs.Table.{Table, request_at}
 use Rattle.part_phase.specs.declared.phases.Phase.{Phase}
 use Rattle.part_phase.specs.declared.receiving.RecvPhase.{RecvPhase}
 use Rattle.part_phase.specs.declared.sending.SendPhase.{SendPhase}
-use Rattle.part_phase.specs.Limits.{are_parts, is_size, padded}
+use Rattle.part_phase.specs.Limits.{are_parts, box_bytes, is_size, padded}
 use Rattle.part_phase.specs.Phases.{sending_at, receiving_at}
 use Rattle.part_phase.specs.Receiving.{next_box, next_box_of}
 use Rattle.part_phase.specs.Sending.{all_freed, is_ready, next_to_free}
@@ -389,6 +389,16 @@ short [] (suc n) = omega arith
 short (x ∷ xs) zero = omega arith
 short (x ∷ xs) (suc n) = let less : length (take n xs) ≤ n = short xs n in omega (arith, less)
 
+no_longer : (xs : List ℕ) (n : ℕ) → length (take n xs) ≤ length xs
+no_longer [] zero = omega arith
+no_longer [] (suc n) = omega arith
+no_longer (x ∷ xs) zero = omega arith
+no_longer (x ∷ xs) (suc n) = let less : length (take n xs) ≤ length xs = no_longer xs n in omega (arith, less)
+
+-- the first bytes of a partition are no more than it has
+first_short : (xs : List ℕ) (n size : ℕ) → length xs ≤ size → length (take n xs) ≤ size
+first_short xs n size low = let less = no_longer xs n in omega (arith, less, low)
+
 -- ---- all rows
 
 module _ (site : Site) (hart : ℕ) (memory : Memory) (table : Table) (phases : List Phase) (written : ℕ) where
@@ -408,9 +418,9 @@ module _ (site : Site) (hart : ℕ) (memory : Memory) (table : Table) (phases : 
       side = side;
       there = is;
       of = refl;
-      raw = bytes_at memory (side.buffer + part * side.size) side.size;
+      raw = take (box_bytes site.version) (bytes_at memory (side.buffer + part * side.size) side.size);
       filled = refl;
-      count = short _ side.size;
+      count = first_short _ (box_bytes site.version) side.size (short _ side.size);
     };
   }
     where
