@@ -1,7 +1,7 @@
 -- What a turn that takes from a box makes of a rank.
-use Rattle.std.proofs.Common.{◌≡◌, ℕ, zero, suc, ◌<◌, ◌≤◌, ◌+◌, ◌-◌, ◌*◌, List, [], ◌∷◌, ◌++◌, length, Bool, true, false}
-use Rattle.std.proofs.Common.{Option, Some, None, get_or, set, replicate, take, inl, inr, refl, sym, ap, subst, ◌∙◌, rules, arith}
-use Rattle.std.proofs.Common.{⊎_elim, length-append}
+use Rattle.std.proofs.Common.{◌≡◌, ℕ, zero, suc, ◌<◌, ◌≤◌, ◌+◌, ◌-◌, ◌*◌, List, [], ◌∷◌, ◌++◌, length, Bool, true}
+use Rattle.std.proofs.Common.{false, Option, Some, None, get_or, set, replicate, take, inl, inr, refl, sym, ap, subst}
+use Rattle.std.proofs.Common.{◌∙◌, rules, arith, ⊎_elim, length-append}
 use Rattle.std.proofs.lemmas.List.{append-nil}
 use Rattle.std.specs.List.{flat_map}
 use Rattle.std.specs.Prelude.{◌⊎◌, ◌&&◌, map, max, not, slice_get, nat_le, is_some, ◌^◌, if◌then◌else◌}
@@ -23,7 +23,8 @@ use Rattle.part_phase.specs.declared.phases.Phase.{Phase}
 use Rattle.part_phase.specs.declared.phases.Phase.TheVariants.{Apart, Sending, Receiving}
 use Rattle.part_phase.specs.declared.receiving.RecvPhase.{RecvPhase}
 use Rattle.part_phase.specs.Phases.{changed_at, on_receiving, receiving_at, receiving_in, sending_at}
-use Rattle.part_phase.specs.Receiving.{is_left, next_box, next_box_of, overlaps, lowest_from as lowest_in, one_taken as taken_in}
+use Rattle.part_phase.specs.Receiving.{is_left, next_box, next_box_of, overlaps}
+use Rattle.part_phase.specs.Receiving.{lowest_from as lowest_in, one_taken as taken_in}
 use Rattle.part_phase.specs.Sending.{none_marked}
 use Rattle.cl_state.specs.declared.asking.Answer.TheVariants as answer
 use Rattle.cl_state.specs.declared.asking.Ask.TheVariants as ask
@@ -40,9 +41,9 @@ use Rattle.cl_rank.specs.declared.ranks.Rank.{Rank as Running}
 use Rattle.cl_rank.specs.declared.turning.Turn.{Turn}
 use Rattle.cl_rank.specs.Deeds.{Act}
 use Rattle.cl_rank.specs.Fitting.{RequestsFit}
-use Rattle.cl_rank.specs.Sides.{AreChannelsOf, AreSides, HasKey, HasReceiver, KeyMoves, PhaseFits, ReceiverActs, SenderActs}
-use Rattle.cl_rank.specs.Sides.{is_place, phase_of_receiver, place_of, receiver_key, receiver_of, receiver_view, sender_key}
-use Rattle.cl_rank.specs.Sides.{side_of, sides_in}
+use Rattle.cl_rank.specs.Sides.{AreChannelsOf, AreSides, HasKey, HasReceiver, KeyMoves, PhaseFits, ReceiverActs}
+use Rattle.cl_rank.specs.Sides.{SenderActs, is_place, phase_of_receiver, place_of, receiver_key, receiver_of}
+use Rattle.cl_rank.specs.Sides.{receiver_view, sender_key, side_of, sides_in}
 use Rattle.cl_rank.specs.Steps.{IsTaken, MayTake, ReceiverAt, changed_side}
 use Rattle.cl_rank.proofs.Answered.{taken_becomes, untaken_stays}
 use Rattle.cl_rank.proofs.Asks.{BoxTurn, Tidings}
@@ -57,8 +58,8 @@ use Rattle.cl_rank.proofs.Tables.{Keeps}
 
 -- the receiver's side of a link and its phase change, by an act on one box
 pub record ReceiverMoves (old new : Rank) (stamp : ℕ) (act : Act) (link part : ℕ) (sends : List (ℕ × SendView))
-    (recvs got : List (ℕ × RecvView)) (f : RecvView → RecvView) (g : RecvPhase → RecvPhase) (change : Receiver → Receiver)
-    : Type 0 where
+    (recvs got : List (ℕ × RecvView)) (f : RecvView → RecvView) (g : RecvPhase → RecvPhase)
+    (change : Receiver → Receiver) : Type 0 where
   pub side : RecvView
   pub there : side_of link recvs ≡ Some side
   pub alone : side_of link sends ≡ None
@@ -79,7 +80,8 @@ pub record ReceiverMoves (old new : Rank) (stamp : ℕ) (act : Act) (link part :
       → ReceiverActs old.site.version stamp act k.view (change k).view
 
 pub receiver_moved : (old new : Rank) (stamp : ℕ) (act : Act) (link part : ℕ) (sends : List (ℕ × SendView))
-    (recvs got : List (ℕ × RecvView)) (f : RecvView → RecvView) (g : RecvPhase → RecvPhase) (change : Receiver → Receiver)
+    (recvs got : List (ℕ × RecvView)) (f : RecvView → RecvView) (g : RecvPhase → RecvPhase)
+    (change : Receiver → Receiver)
     → AreSides old.site.version old.phases old.clock (sides_in sends recvs) → RequestsFit old.requests old.phases
     → ReceiverMoves old new stamp act link part sends recvs got f g change
     → Moved old new (sides_in sends recvs) (sides_in sends got) stamp act
@@ -92,7 +94,8 @@ receiver_moved old new stamp act link part sends recvs got f g change sides fit 
     record {
       sides = sides_told old.site.version old new _ stamp _ refl m.site m.clock m.phases
           (subst (λ w. AreSides old.site.version (changed_at link (on_receiving g) old.phases) stamp w) all
-          (kept old.site.version old.phases old.clock stamp sends recvs link (on_receiving g) (λ s. s) f sides m.low (record {
+          (kept old.site.version old.phases old.clock stamp sends recvs link (on_receiving g) (λ s. s) f sides m.low
+          (record {
             fit = receiver_fits g f (slice_get old.phases link) _ _ (sides.fit link)
                 (λ r h. subst (λ x. g (phase_of_receiver x) ≡ phase_of_receiver (f x)) (sym (only r h)) m.same);
             size = λ s h. sides.sizes link s h;
@@ -119,7 +122,8 @@ receiver_moved old new stamp act link part sends recvs got f g change sides fit 
       own = λ chs own. own_told old new chs _ m.site (subst (λ w. AreChannelsOf old.site.version chs w) all
           (owned old.site.version old.phases old.clock stamp sends recvs link (on_receiving g) (λ s. s) f chs own
           (λ s h. refl)
-          (λ r h. subst (λ (x : RecvView). map receiver_box (f x).keys ≡ map receiver_box x.keys) (sym (only r h)) m.boxes)));
+          (λ r h. subst (λ (x : RecvView). map receiver_box (f x).keys ≡ map receiver_box x.keys) (sym (only r h))
+          m.boxes)));
     }
 
 -- ---- which box is left
@@ -174,9 +178,9 @@ left_next p box on is =
 
 left_of : (p : RecvPhase) (part box : ℕ) → p.active ≡ true → next_box_of p part ≡ Some box → LeftIn p box
 left_of p part box on is =
-    let passes : ℕ → Bool = λ k. is_left p.taken k && overlaps p part k in
     let lowest : lowest_in (λ k. is_left p.taken k && overlaps p part k) 0 p.boxes ≡ Some box =
-    subst (λ b. (if b then lowest_in (λ k. is_left p.taken k && overlaps p part k) 0 p.boxes else None) ≡ Some box) on is in
+    subst (λ b. (if b then lowest_in (λ k. is_left p.taken k && overlaps p part k) 0 p.boxes else None) ≡ Some box) on
+    is in
     let found = lowest_passes (λ k. is_left p.taken k && overlaps p part k) 0 p.boxes box lowest in
     let low : box < 0 + p.boxes = found.1 in
     (not_true _ (and_left _ _ found.0), omega (arith, low))
@@ -186,7 +190,8 @@ left_at p box can =
     ⊎_elim (λ (h : next_box p ≡ Some box). left_next p box can.active h)
     (λ (h : (part : ℕ) × (next_box_of p part ≡ Some box)). left_of p h.0 box can.active h.1) can.next
 
-takes_can : (ps : List Phase) (link part : ℕ) (row : Row) → TakesAt ps link part row → CanTake (receiving_at ps link) part
+takes_can : (ps : List Phase) (link part : ℕ) (row : Row) → TakesAt ps link part row
+    → CanTake (receiving_at ps link) part
 takes_can ps link part (AtOnce o) h = absurd h
 takes_can ps link part (OnReply m w) h = absurd h
 takes_can ps link part (OnBox (Readies at ready)) h = absurd h
@@ -283,7 +288,8 @@ whole_box v words =
     length-append (flat_map bytes_of_word words) _ in
     let most : box_bytes v ≤ 128 = (box_limits v).0 in
     let long : box_bytes v ≤ length (bytes_of words) = omega (arith, behind, front, both, most) in
-    let count : length (take (box_bytes v) (bytes_of words)) ≡ box_bytes v = length_first (box_bytes v) (bytes_of words) long in
+    let count : length (take (box_bytes v) (bytes_of words)) ≡ box_bytes v =
+    length_first (box_bytes v) (bytes_of words) long in
     let none : box_bytes v - length (take (box_bytes v) (bytes_of words)) ≡ 0 = omega (arith, count) in
     ap (λ n. take (box_bytes v) (bytes_of words) ++ zeros n) none ∙ append-nil _
 
@@ -417,7 +423,7 @@ module _ (old : Rank) (hart link part : ℕ) (channels : List ChannelView)
                       done.long ∙ wide,
                       whole,
                       ap (λ (x : Receiver). x.view) (lane_is (Some n) shown k)
-                          ∙ ap (λ t. with_got (record (with_look k.view done.gate) { copied = done.words }) t) (sym stamps),
+                          ∙ ap (with_got (record (with_look k.view done.gate) { copied = done.words })) (sym stamps),
                     );
                   }),
             )
@@ -490,8 +496,8 @@ module _ (r : Running) (t : Turn) (link part : ℕ) (channels : List ChannelView
       by_stamp : rank_of new ≡ told (rank_of r.state) t.hart (answer.Taken f.full) f.stamp
           → BoxTurn r t link part new r.sends.items got (answer.Taken f.full, kind.Take, f.stamp)
       by_stamp is =
-          let m = taken_moved (rank_of r.state) t.hart link part channels r.sends.items r.recvs.items r.sides r.fit own
-          asks f.stamp take_is got done (rank_of new) f.raw f.full f.is f.filled is in
+          let m = taken_moved (rank_of r.state) t.hart link part channels r.sends.items r.recvs.items r.sides r.fit
+          own asks f.stamp take_is got done (rank_of new) f.raw f.full f.is f.filled is in
           record {
             act = Act.Take link part m.0 f.full;
             answers = asks;
@@ -512,8 +518,8 @@ module _ (r : Running) (t : Turn) (link part : ℕ) (channels : List ChannelView
       by_stamp : rank_of new ≡ told (rank_of r.state) t.hart answer.Missed f.stamp
           → BoxTurn r t link part new r.sends.items got (answer.Missed, kind.Miss, f.stamp)
       by_stamp is =
-          let m = untaken_moved (rank_of r.state) t.hart link part channels r.sends.items r.recvs.items r.sides r.fit own
-          asks f.stamp take_is got done (rank_of new) f.is is in
+          let m = untaken_moved (rank_of r.state) t.hart link part channels r.sends.items r.recvs.items r.sides r.fit
+          own asks f.stamp take_is got done (rank_of new) f.is is in
           record {
             act = Act.Miss link part;
             answers = inl asks;

@@ -27,8 +27,8 @@ invariant_of-self c =
         stamp = w.in-Taken.stamp;
         is = w.in-Taken.is;
         full = w.of-bytes.result;
-        filled = w.of-bytes.ensures ∙ ap (λ n. padded c.args.self.now.state.site.version (take (8 * n) w.in-Taken.bytes))
-            w.box_words.ensures;
+        filled = w.of-bytes.ensures
+            ∙ ap (λ n. padded c.args.self.now.state.site.version (take (8 * n) w.in-Taken.bytes)) w.box_words.ensures;
         tells = w.answer-is;
       })
       | in-Missed w ↦ inr (record { stamp = w.in-Missed.stamp; is = w.in-Missed.is; tells = w.answer-is })
@@ -54,8 +54,8 @@ returns-clause-turned c =
         stamp = w.in-Taken.stamp;
         is = w.in-Taken.is;
         full = w.of-bytes.result;
-        filled = w.of-bytes.ensures ∙ ap (λ n. padded c.args.self.now.state.site.version (take (8 * n) w.in-Taken.bytes))
-            w.box_words.ensures;
+        filled = w.of-bytes.ensures
+            ∙ ap (λ n. padded c.args.self.now.state.site.version (take (8 * n) w.in-Taken.bytes)) w.box_words.ensures;
         tells = w.answer-is;
       })
       | in-Missed w ↦ inr (record { stamp = w.in-Missed.stamp; is = w.in-Missed.is; tells = w.answer-is })
@@ -79,8 +79,8 @@ returns-clause-own c =
         stamp = w.in-Taken.stamp;
         is = w.in-Taken.is;
         full = w.of-bytes.result;
-        filled = w.of-bytes.ensures ∙ ap (λ n. padded c.args.self.now.state.site.version (take (8 * n) w.in-Taken.bytes))
-            w.box_words.ensures;
+        filled = w.of-bytes.ensures
+            ∙ ap (λ n. padded c.args.self.now.state.site.version (take (8 * n) w.in-Taken.bytes)) w.box_words.ensures;
         tells = w.answer-is;
       })
       | in-Missed w ↦ inr (record { stamp = w.in-Missed.stamp; is = w.in-Missed.is; tells = w.answer-is })
