@@ -1,6 +1,6 @@
--- What the hub's reply makes of a rank: the side of one link gets the shape or the cut that its phase got, if it got one.
-use Rattle.std.proofs.Common.{◌≡◌, ◌≢◌, ℕ, zero, suc, ◌<◌, ◌≤◌, ◌*◌, ◌%◌, ◌==◌, List, [], ◌∷◌, ◌++◌, Bool, true, false, Option, Some, None}
-use Rattle.std.proofs.Common.{refl, sym, ap, subst, ◌∙◌, inl, inr, ⊎_elim, rules, arith}
+-- What the hub's reply makes of a rank: the side of one link gets the shape or the cut that its phase got, if it did.
+use Rattle.std.proofs.Common.{◌≡◌, ℕ, zero, suc, ◌<◌, ◌≤◌, ◌*◌, ◌%◌, ◌==◌, List, [], ◌∷◌, ◌++◌, Bool, true, false}
+use Rattle.std.proofs.Common.{Option, Some, None, refl, sym, ap, subst, ◌∙◌, inl, inr, ⊎_elim, rules, arith}
 use Rattle.std.specs.Prelude.{◌&&◌, map, not, nat_le, option_map, slice_get, IfSome, if◌then◌else◌}
 use Rattle.rv_image.specs.declared.images.ImageVersion.{ImageVersion}
 use Rattle.mp_types.specs.declared.replies.Reply.{Reply}
@@ -10,7 +10,7 @@ use Rattle.mp_request.specs.declared.entries.Partitions.{Partitions}
 use Rattle.mp_request.specs.declared.entries.State.TheVariants.{Inactive}
 use Rattle.mp_request.specs.declared.entries.Transfer.TheVariants.{SendPartitions}
 use Rattle.mp_request.specs.Table.{Table, request_at, with_request}
-use Rattle.part_channel.specs.Channels.{ChannelView, receiver_box, sender_box}
+use Rattle.part_channel.specs.Channels.{receiver_box, sender_box}
 use Rattle.part_channel.specs.Receiving.{RecvView}
 use Rattle.part_channel.specs.Sending.{IsPast, SendView, shaped}
 use Rattle.part_phase.specs.declared.phases.Phase.{Phase}
@@ -72,9 +72,13 @@ limits_of v parts size are is =
     let range = both_true (nat_le 8 size) (nat_le size (box_bytes v)) words.0 in
     let least = at_most 1 parts few.0 in
     let low = at_most 8 size range.0 in
-    let high = at_most size (box_bytes v) range.1 in
-    (((omega (arith, least), at_most parts 16 few.1),
-    (omega (arith, low), within size (box_bytes v) high (box_limits v).0, same_number (size % 8) 0 words.1)), high)
+    let high = at_most size (box_bytes v) range.1 in (
+      (
+        (omega (arith, least), at_most parts 16 few.1),
+        (omega (arith, low), within size (box_bytes v) high (box_limits v).0, same_number (size % 8) 0 words.1),
+      ),
+      high,
+    )
   where
     within : (a b : ℕ) → a ≤ b → b ≤ 128 → a ≤ 128
     within a b p q = omega (arith, p, q)
@@ -245,13 +249,14 @@ module _ (v : ImageVersion) (boxes bytes : ℕ) where
   cutting p = on_receiving (cut_into boxes bytes) p
 
   receiver_cut : (r : RecvView) → is_cut v (phase_of_receiver r) boxes bytes ≡ true
-      → Followed v (Some (Receiving (phase_of_receiver r))) (Some (Receiving (cut_into boxes bytes (phase_of_receiver r))))
-      None (Some r)
+      → Followed v (Some (Receiving (phase_of_receiver r)))
+      (Some (Receiving (cut_into boxes bytes (phase_of_receiver r)))) None (Some r)
   receiver_cut r fits =
       let was = phase_of_receiver r in
       let now = cut_into boxes bytes (phase_of_receiver r) in
-      let known = both_true (are_parts boxes && is_size v bytes && (boxes * bytes == r.parts * r.size)) (r.boxes == 0) fits in
-      let total = both_true (are_parts boxes && is_size v bytes) (boxes * bytes == r.parts * r.size) known.0 in
+      let same_total = boxes * bytes == r.parts * r.size in
+      let known = both_true (are_parts boxes && is_size v bytes && same_total) (r.boxes == 0) fits in
+      let total = both_true (are_parts boxes && is_size v bytes) same_total known.0 in
       let passed = both_true (are_parts boxes) (is_size v bytes) total.0 in
       let limits = limits_of v boxes bytes passed.0 passed.1 in
       let same = same_number (boxes * bytes) (r.parts * r.size) total.1 in
@@ -292,15 +297,19 @@ FitsSize size p = (0 < p.parts) × (p.size ≡ size)
 
 -- a request has the shape that the side of its link got; the others have those of other links
 module _ (table : Table) (ps : List Phase) (link parts size handle : ℕ) (side : Partitions) (fit : RequestsFit table ps)
-    (none : is_unshaped_sending (slice_get ps link) ≡ true) (low : 0 < parts) (of : (side.link ≡ link) × (side.size ≡ size)) where
+    (none : is_unshaped_sending (slice_get ps link) ≡ true) (low : 0 < parts)
+    (of : (side.link ≡ link) × (side.size ≡ size)) where
+  abbrev shaping_it : Phase → Phase
+  shaping_it p = on_sending (shaped_sending parts size) p
+
   abbrev made : Option OpenRequest
   made = Some (record { transfer = SendPartitions side; state = Inactive })
 
   abbrev become : List Phase
-  become = changed_at link (on_sending (shaped_sending parts size)) ps
+  become = changed_at link shaping_it ps
 
   shaped_now : (P : Option Phase) → is_unshaped_sending P ≡ true
-      → FitsSize size (sending_in (option_map (on_sending (shaped_sending parts size)) P))
+      → FitsSize size (sending_in (option_map shaping_it P))
   shaped_now None e = absurd (cc)
   shaped_now (Some Apart) e = absurd (cc)
   shaped_now (Some (Sending p)) e = (low, refl)
@@ -314,16 +323,15 @@ module _ (table : Table) (ps : List Phase) (link parts size handle : ℕ) (side 
 
   new_size : FitsSize side.size (sending_at become side.link)
   new_size =
-      let is : sending_at become side.link ≡ sending_in (option_map (on_sending (shaped_sending parts size)) (slice_get ps link)) =
-      ap (λ l. sending_at become l) of.0 ∙ ap sending_in (phase_changed link (on_sending (shaped_sending parts size)) ps) in
+      let is : sending_at become side.link ≡ sending_in (option_map shaping_it (slice_get ps link)) =
+      ap (λ l. sending_at become l) of.0 ∙ ap sending_in (phase_changed link shaping_it ps) in
       let now = shaped_now (slice_get ps link) none in
       subst (FitsSize side.size) (sym is) (now.0, now.1 ∙ sym of.1)
 
   old_size : (n l : ℕ) → FitsSize n (sending_at ps l) → FitsSize n (sending_at become l)
   old_size n = each_link (λ l. FitsSize n (sending_at ps l) → FitsSize n (sending_at become l)) link
       (λ had. absurd (unshaped_then (slice_get ps link) none had.0))
-      (λ l other had. subst (FitsSize n)
-      (sym (ap sending_in (phase_beside l link (on_sending (shaped_sending parts size)) ps other))) had)
+      (λ l other had. subst (FitsSize n) (sym (ap sending_in (phase_beside l link shaping_it ps other))) had)
 
   fit_shaped : RequestsFit (with_request table handle made) become
   fit_shaped = record {
@@ -344,16 +352,17 @@ same_phases zero (p ∷ ps) = refl
 same_phases (suc link) (p ∷ ps) = ap (λ l. p ∷ l) (same_phases link ps)
 
 -- the phase of one link changes, and its sides follow; the requests fit again
-pub record Follows (v : ImageVersion) (link : ℕ) (old new : Part) (sends : List (ℕ × SendView)) (recvs : List (ℕ × RecvView)) :
-    Type 0 where
+pub record Follows (v : ImageVersion) (link : ℕ) (old new : Part) (sends : List (ℕ × SendView))
+    (recvs : List (ℕ × RecvView)) : Type 0 where
   pub change : Phase → Phase
   pub phases : new.phases ≡ changed_at link change old.phases
   pub at : Followed v (slice_get old.phases link) (option_map change (slice_get old.phases link)) (side_of link sends)
       (side_of link recvs)
   pub fit : RequestsFit new.requests new.phases
 
-module _ (v : ImageVersion) (clock link : ℕ) (old new : Part) (sends : List (ℕ × SendView)) (recvs : List (ℕ × RecvView))
-    (sides : AreSides v old.phases clock (sides_in sends recvs)) (fit : RequestsFit old.requests old.phases) where
+module _ (v : ImageVersion) (clock link : ℕ) (old new : Part) (sends : List (ℕ × SendView))
+    (recvs : List (ℕ × RecvView)) (sides : AreSides v old.phases clock (sides_in sends recvs))
+    (fit : RequestsFit old.requests old.phases) where
   before : Before v (slice_get old.phases link) (side_of link sends) (side_of link recvs)
   before = record { fit = sides.fit link; size = sides.sizes link; uncut = sides.uncut link }
 
@@ -468,15 +477,18 @@ module _ (old new : Rank) (hart stamp : ℕ) (request : Request) (reply : Reply)
   here : slice_get new.phases link ≡ option_map become_so.change (slice_get old.phases link)
   here = ap (λ ps. slice_get ps link) phases_now ∙ phase_changed link become_so.change old.phases
 
-  at : Followed old.site.version (slice_get old.phases link) (slice_get new.phases link) (side_of link sends) (side_of link recvs)
+  at : Followed old.site.version (slice_get old.phases link) (slice_get new.phases link) (side_of link sends)
+      (side_of link recvs)
   at = subst (λ Q. Followed old.site.version (slice_get old.phases link) Q (side_of link sends) (side_of link recvs))
       (sym here) become_so.at
 
   may_send : IfSome (side_of link sends) (SendingMay (sending_at old.phases link) (sending_at new.phases link))
-  may_send = if_there (SendingMay (sending_at old.phases link) (sending_at new.phases link)) (side_of link sends) at.sent
+  may_send =
+      if_there (SendingMay (sending_at old.phases link) (sending_at new.phases link)) (side_of link sends) at.sent
 
   may_get : IfSome (side_of link recvs) (ReceivingMay (receiving_at old.phases link) (receiving_at new.phases link))
-  may_get = if_there (ReceivingMay (receiving_at old.phases link) (receiving_at new.phases link)) (side_of link recvs) at.got
+  may_get =
+      if_there (ReceivingMay (receiving_at old.phases link) (receiving_at new.phases link)) (side_of link recvs) at.got
 
   sides_now : old.clock ≤ stamp
       → AreSides old.site.version (changed_at link become_so.change old.phases) stamp
@@ -505,12 +517,15 @@ module _ (old new : Rank) (hart stamp : ℕ) (request : Request) (reply : Reply)
         fit = subst (λ t. RequestsFit t new.phases) (sym by.requests)
             (subst (λ ps. RequestsFit after.requests ps) (sym by.phases) become_so.fit);
         keys = keys_stay old.site.version stamp (Act.Hub old.clock request reply) _ _ refl
-            (senders_stay link (sent_between old.phases new.phases link) sends (λ s there. sent_keys old.phases new.phases link s))
-            (receivers_stay link (got_between old.phases new.phases link) recvs (λ r there. got_keys old.phases new.phases link r));
+            (senders_stay link (sent_between old.phases new.phases link) sends
+            (λ s there. sent_keys old.phases new.phases link s))
+            (receivers_stay link (got_between old.phases new.phases link) recvs
+            (λ r there. got_keys old.phases new.phases link r));
         own = λ channels own. own_told old new channels _ by.site
             (owned old.site.version old.phases 0 0 sends recvs link become_so.change
             (sent_between old.phases new.phases link) (got_between old.phases new.phases link) channels own
-            (λ s there. ap (map sender_box) (sent_keys old.phases new.phases link s)) (λ r there. ap (map receiver_box) (got_keys old.phases new.phases link r)));
+            (λ s there. ap (map sender_box) (sent_keys old.phases new.phases link s))
+            (λ r there. ap (map receiver_box) (got_keys old.phases new.phases link r)));
       }
 
 -- the same, as a running rank's turn meets it
@@ -518,28 +533,30 @@ module _ (r : Running) (hart stamp : ℕ) (request : Request) (reply : Reply) (n
     (asks : asked (rank_of r.state) hart ≡ ask.Hub request)
     (is : rank_of new ≡ told (rank_of r.state) hart (answer.Reply reply) stamp)
     (named : link ≡ named_link request reply) where
-  pub may_follow_sender : (was now : SendPhase) → was ≡ sending_at r.state.phases link → now ≡ sending_at new.phases link
-      → IfSome (side_of link r.sends.items) (SendingMay was now)
+  pub may_follow_sender : (was now : SendPhase) → was ≡ sending_at r.state.phases link
+      → now ≡ sending_at new.phases link → IfSome (side_of link r.sends.items) (SendingMay was now)
   may_follow_sender was now p q =
       subst (λ w. IfSome (side_of link r.sends.items) (SendingMay w now)) (sym p)
       (subst (λ n. IfSome (side_of link r.sends.items) (SendingMay (sending_at r.state.phases link) n)) (sym q)
-      (subst (λ l. IfSome (side_of l r.sends.items) (SendingMay (sending_at r.state.phases l) (sending_at new.phases l)))
-      (sym named)
-      (may_send (rank_of r.state) (rank_of new) hart stamp request reply r.sends.items r.recvs.items r.sides r.fit asks is)))
+      (subst (λ l. IfSome (side_of l r.sends.items)
+      (SendingMay (sending_at r.state.phases l) (sending_at new.phases l))) (sym named)
+      (may_send (rank_of r.state) (rank_of new) hart stamp request reply r.sends.items r.recvs.items r.sides r.fit asks
+      is)))
 
   pub may_follow_receiver : (was now : RecvPhase) → was ≡ receiving_at r.state.phases link
       → now ≡ receiving_at new.phases link → IfSome (side_of link r.recvs.items) (ReceivingMay was now)
   may_follow_receiver was now p q =
       subst (λ w. IfSome (side_of link r.recvs.items) (ReceivingMay w now)) (sym p)
       (subst (λ n. IfSome (side_of link r.recvs.items) (ReceivingMay (receiving_at r.state.phases link) n)) (sym q)
-      (subst (λ l. IfSome (side_of l r.recvs.items) (ReceivingMay (receiving_at r.state.phases l) (receiving_at new.phases l)))
-      (sym named)
-      (may_get (rank_of r.state) (rank_of new) hart stamp request reply r.sends.items r.recvs.items r.sides r.fit asks is)))
+      (subst (λ l. IfSome (side_of l r.recvs.items)
+      (ReceivingMay (receiving_at r.state.phases l) (receiving_at new.phases l))) (sym named)
+      (may_get (rank_of r.state) (rank_of new) hart stamp request reply r.sends.items r.recvs.items r.sides r.fit asks
+      is)))
 
   sent_so : (was now : SendPhase) (sends : List (ℕ × SendView)) → was ≡ sending_at r.state.phases link
       → now ≡ sending_at new.phases link → sends ≡ changed_side link (followed_sender was now) r.sends.items
-      → sends ≡ changed_side (named_link request reply) (sent_between r.state.phases new.phases (named_link request reply))
-      r.sends.items
+      → sends ≡ changed_side (named_link request reply)
+      (sent_between r.state.phases new.phases (named_link request reply)) r.sends.items
   sent_so was now sends p q sent =
       sent ∙ (ap (λ w. changed_side link (followed_sender w now) r.sends.items) p
       ∙ (ap (λ n. changed_side link (followed_sender (sending_at r.state.phases link) n) r.sends.items) q
@@ -547,14 +564,15 @@ module _ (r : Running) (hart stamp : ℕ) (request : Request) (reply : Reply) (n
 
   got_so : (was now : RecvPhase) (recvs : List (ℕ × RecvView)) → was ≡ receiving_at r.state.phases link
       → now ≡ receiving_at new.phases link → recvs ≡ changed_side link (followed_receiver was now) r.recvs.items
-      → recvs ≡ changed_side (named_link request reply) (got_between r.state.phases new.phases (named_link request reply))
-      r.recvs.items
+      → recvs ≡ changed_side (named_link request reply)
+      (got_between r.state.phases new.phases (named_link request reply)) r.recvs.items
   got_so was now recvs p q got =
       got ∙ (ap (λ w. changed_side link (followed_receiver w now) r.recvs.items) p
       ∙ (ap (λ n. changed_side link (followed_receiver (receiving_at r.state.phases link) n) r.recvs.items) q
       ∙ ap (λ l. changed_side l (got_between r.state.phases new.phases l) r.recvs.items) named))
 
-  pub went_reply : (was now : SendPhase) (had has : RecvPhase) (sends : List (ℕ × SendView)) (recvs : List (ℕ × RecvView))
+  pub went_reply : (was now : SendPhase) (had has : RecvPhase) (sends : List (ℕ × SendView))
+      (recvs : List (ℕ × RecvView))
       → was ≡ sending_at r.state.phases link → now ≡ sending_at new.phases link
       → had ≡ receiving_at r.state.phases link → has ≡ receiving_at new.phases link
       → sends ≡ changed_side link (followed_sender was now) r.sends.items
@@ -562,20 +580,21 @@ module _ (r : Running) (hart stamp : ℕ) (request : Request) (reply : Reply) (n
       → Moved (rank_of r.state) (rank_of new) (sides_in r.sends.items r.recvs.items) (sides_in sends recvs) stamp
       (Act.Hub r.state.clock request reply)
   went_reply was now had has sends recvs p q a b sent got low =
-      subst (λ ss. Moved (rank_of r.state) (rank_of new) (sides_in r.sends.items r.recvs.items) (sides_in ss recvs) stamp
-      (Act.Hub r.state.clock request reply)) (sym (sent_so was now sends p q sent))
+      subst (λ ss. Moved (rank_of r.state) (rank_of new) (sides_in r.sends.items r.recvs.items) (sides_in ss recvs)
+      stamp (Act.Hub r.state.clock request reply)) (sym (sent_so was now sends p q sent))
       (subst (λ rs. Moved (rank_of r.state) (rank_of new) (sides_in r.sends.items r.recvs.items)
       (sides_in (changed_side (named_link request reply)
       (sent_between r.state.phases new.phases (named_link request reply)) r.sends.items) rs) stamp
       (Act.Hub r.state.clock request reply)) (sym (got_so had has recvs a b got))
-      (reply_moved (rank_of r.state) (rank_of new) hart stamp request reply r.sends.items r.recvs.items r.sides r.fit asks is
-      (omega (arith, low))))
+      (reply_moved (rank_of r.state) (rank_of new) hart stamp request reply r.sends.items r.recvs.items r.sides r.fit
+      asks is (omega (arith, low))))
 
 same_reply : (told read : Reply) → answer.Reply told ≡ answer.Reply read → read ≡ told
 same_reply told read h = cc
 
 abbrev hub_event : ℕ → ℕ → Request → Reply → Event
-hub_event hart stamp request reply = record { hart = hart; stamp = stamp; kind = kind.Hub reply; request = Some request }
+hub_event hart stamp request reply =
+    record { hart = hart; stamp = stamp; kind = kind.Hub reply; request = Some request }
 
 pub replied_event : (events new : List Event) (hart stamp : ℕ) (request : Request) (told read : Reply)
     → answer.Reply told ≡ answer.Reply read → new ≡ events ++ hub_event hart stamp request read ∷ []
