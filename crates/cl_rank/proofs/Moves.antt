@@ -150,7 +150,8 @@ sides_told v old new ps stamp after version site clock phases sides =
 alone_row : (v : ImageVersion) (table : Table) (ps : List Phase) (started : Option ℕ) (asks : Ask) (row : Row) (act : Act)
     → Answers asks act → place_of act ≡ None → request_of act ≡ None → RowFits v table ps started asks row
     → AloneRow started row
-alone_row v table ps started asks row Act.Plain is place quiet fits = subst (λ a. RowFits v table ps started a row) is fits
+alone_row v table ps started asks row Act.Plain is place quiet fits =
+    (subst (λ a. RowFits v table ps started a row) is fits).1
 alone_row v table ps started asks row Act.Local is place quiet fits = subst (λ a. RowFits v table ps started a row) is fits
 alone_row v table ps started asks row Act.Held is place quiet fits = subst (λ a. RowFits v table ps started a row) is fits
 alone_row v table ps started asks row Act.Idle is place quiet fits = subst (λ a. RowFits v table ps started a row) is fits

@@ -145,7 +145,7 @@ TakesAt phases link box (OnBox _) = ⊥
 
 -- the row of a turn that asks this
 abbrev pub RowFits : ImageVersion → Table → List Phase → Option ℕ → Ask → Row → Type 0
-RowFits version table phases started ask.Plain row = AloneRow started row
+RowFits version table phases started ask.Plain row = (started ≡ None) × AloneRow started row
 RowFits version table phases started ask.Local row = AloneRow started row
 RowFits version table phases started ask.Held row = AloneRow started row
 RowFits version table phases started ask.Idle row = AloneRow started row
@@ -499,7 +499,7 @@ module _ (site : Site) (hart : ℕ) (memory : Memory) (table : Table) (phases : 
   pub row_fits : (d : Doing) → Passed site memory table phases written d
       → RowFits site.version table phases (started_link table d) (asked_in site memory table phases d)
       (row_in site hart memory table phases d)
-  row_fits Step ok = refl
+  row_fits Step ok = (refl, refl)
   row_fits (Refused code) ok = refl
   row_fits (Go c) ok = call_fits c ok
   row_fits (Poll c post) ok = polls_fits c post
