@@ -8,6 +8,7 @@ pub mod Keys
 pub mod Lists
 pub mod Looked
 pub mod Moves
+pub mod Pairs
 pub mod Plain
 pub mod Replied
 pub mod Rows

@@ -1,6 +1,6 @@
 //! What two ranks know of each other by a box of theirs.
 
-ghost use Rattle.std.specs.Prelude.{◌≡◌, ℕ, List, Some, vec_len};
+ghost use Rattle.std.specs.Prelude.{◌≡◌, ℕ, List, Some};
 ghost use Rattle.part_box.specs.Rule.{GateRule};
 ghost use Rattle.part_box.specs.declared.view.Receiving.{Receiving};
 ghost use Rattle.part_box.specs.declared.view.Sending.{Sending};
@@ -17,30 +17,26 @@ use part_channel::Channel;
 /// The sender's rank has the sender's key of the box, the receiver's rank the other one; `channels` are those of all
 /// links, by number.
 pub fn agree(sender: &mut Rank, receiver: &mut Rank, channels: &[Channel], place: BoxPlace)
-    requires sends { AreChannelsOf sender.old.state.site.version channels.now (view_of sender.old).sides }
-    requires recvs { AreChannelsOf receiver.old.state.site.version channels.now (view_of receiver.old).sides }
-    requires sender { (s : Sending) × (sender_of (view_of sender.old).sides place.link place.part ≡ Some s) }
-    requires receiver { (r : Receiving) × (receiver_of (view_of receiver.old).sides place.link place.part ≡ Some r) }
-    ensures sender { view_of sender.new ≡ view_of sender.old }
-    ensures receiver { view_of receiver.new ≡ view_of receiver.old }
-    ensures budgets { (sender.new.budget ≡ sender.old.budget) × (receiver.new.budget ≡ receiver.old.budget) }
-    ensures harts { (vec_len sender.new.state.harts ≡ vec_len sender.old.state.harts)
-        × (vec_len receiver.new.state.harts ≡ vec_len receiver.old.state.harts) }
+    requires sender { AreChannelsOf sender.old.state.site.version channels.now (view_of sender.old).sides }
+    requires receiver { AreChannelsOf receiver.old.state.site.version channels.now (view_of receiver.old).sides }
+    requires sends { (s : Sending) × (sender_of (view_of sender.old).sides place.link place.part ≡ Some s) }
+    requires receives { (r : Receiving) × (receiver_of (view_of receiver.old).sides place.link place.part ≡ Some r) }
+    ensures sender { sender.new ≡ sender.old }
+    ensures receiver { receiver.new ≡ receiver.old }
     ensures agreed { (s : Sending) (r : Receiving)
         → sender_of (view_of sender.old).sides place.link place.part ≡ Some s
         → receiver_of (view_of receiver.old).sides place.link place.part ≡ Some r
         → (words : List ℕ) × GateRule (box_words sender.old.state.site.version) words s r }
 {
-    let Some(send) = find(sender.sends.as_slice(), place.link) else {
+    let Some(from) = find(sender.sends.as_slice(), place.link) else {
         unreachable!()
     };
-    let Some(recv) = find(receiver.recvs.as_slice(), place.link) else {
+    let Some(to) = find(receiver.recvs.as_slice(), place.link) else {
         unreachable!()
     };
-    let channel = &channels[place.link as usize];
-    channel.agree(
-        &mut sender.sends[send].1,
-        &mut receiver.recvs[recv].1,
-        place.part,
-    );
+    let send = &mut sender.sends[from].1;
+    let recv = &mut receiver.recvs[to].1;
+    let _sends = send.next();
+    let _receives = recv.next();
+    channels[place.link as usize].agree(send, recv, place.part);
 }
