@@ -1,6 +1,5 @@
 use Rattle.std.proofs.Common.{◌∙◌, ◌+◌, ap, sym, rules, arith}
 use Rattle.cl_state.specs.Room.{rank_of}
-use Rattle.cl_state.specs.declared.asking.Answer.TheVariants as answer
 use Rattle.cl_state.specs.Told.{told}
 use Rattle.cl_rank.proofs.Turned.{clock_told}
 use Rattle.cl_rank.proofs.Went.{alone_stamp, event_alone, one_more, quiet_turn, went_alone}

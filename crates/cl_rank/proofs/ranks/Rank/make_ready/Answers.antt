@@ -1,4 +1,4 @@
-use Rattle.std.proofs.Common.{◌≡◌, ◌+◌, ◌≤◌, List, ℕ, length, take, ap, subst, sym, refl, rules, arith}
+use Rattle.std.proofs.Common.{length, ap, sym, refl, rules, arith}
 use Rattle.part_phase.specs.declared.sending.SendPhase.{SendPhase}
 use Rattle.cl_state.specs.Room.{rank_of}
 use Rattle.cl_rank.specs.Deeds.{Act}
