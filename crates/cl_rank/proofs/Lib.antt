@@ -6,6 +6,7 @@ pub mod Clocks
 pub mod Kept
 pub mod Keys
 pub mod Lists
+pub mod Loads
 pub mod Looked
 pub mod Moves
 pub mod Pairs
