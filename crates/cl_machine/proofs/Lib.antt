@@ -11,3 +11,4 @@ pub mod Law
 pub mod Verdicts
 pub mod Worked
 pub mod Witness
+pub mod Same

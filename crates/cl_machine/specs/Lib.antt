@@ -1,3 +1,5 @@
+pub mod Steps
+pub mod Turns
 pub mod Order
 pub mod Merge
 pub mod Journal

@@ -48,6 +48,15 @@ JoinedLaw =
     (image : ImageParts) (steps : List Step) (final : Cluster) → IsImage image
     → IsRun (loaded_cluster image) steps final → IsJoinedAs image final steps
 
+-- ranks that ran apart have a merge of their steps, if each step is its own rank's, and it is a run that ends where they
+-- ended
+abbrev pub MergedLaw : Type 0
+MergedLaw =
+    (image : ImageParts) (final : Cluster) (deeds : ℕ → List Deed) (entries : List Entry) → IsImage image
+    → Joined image.links (loaded_cluster image) final deeds entries
+    → ((r : ℕ) → AllByRecursion (λ (e : Step). e.rank ≡ r) (map step_of (deeds r)))
+    → (steps : List Step) × IsMerge (λ r. map step_of (deeds r)) steps × IsRun (loaded_cluster image) steps final
+
 -- the merge of what a run left is a run with the same end, whatever the run's own order was
 abbrev pub ReorderLaw : Type 0
 ReorderLaw =

@@ -1,6 +1,6 @@
 //! Laws of runs and merges, over the definitions alone.
 
-ghost use Rattle.cl_order.specs.Laws.{AppendLaw, GateNeededLaw, JoinedLaw, MergeExistsLaw, ReorderLaw};
+ghost use Rattle.cl_order.specs.Laws.{AppendLaw, GateNeededLaw, JoinedLaw, MergeExistsLaw, MergedLaw, ReorderLaw};
 
 /// A run of a list and one step more is a run of the list, and then the step.
 pub fn append_law()
@@ -16,6 +16,11 @@ pub fn merge_exists_law()
 /// alone keeps the gate rule.
 pub fn joined_law()
     ensures { JoinedLaw }
+{}
+
+/// The steps of ranks that ran apart, put in order of their stamps, are a run that ends where they ended.
+pub fn merged_law()
+    ensures { MergedLaw }
 {}
 
 /// The steps of a run, put in order of their stamps, are a run with the same end.

@@ -4,6 +4,8 @@ use Rattle.std.specs.Prelude.{max, take}
 use Rattle.mp_types.specs.declared.requests.Request.{Request}
 use Rattle.cl_trace.specs.declared.events.Event.{Event}
 use Rattle.cl_trace.specs.declared.events.Kind.{Kind}
+use Rattle.cl_trace.specs.Rising.{last_stamp}
+use Rattle.cl_trace.proofs.Rising.{last_stamp-push}
 use Rattle.part_channel.specs.Channels.{ChannelView}
 use Rattle.part_channel.specs.Receiving.{RecvView}
 use Rattle.part_channel.specs.Sending.{SendView}
@@ -35,6 +37,10 @@ one_more events new e budget is left =
     longer : (xs : List Event) → length (xs ++ e ∷ []) ≡ length xs + 1
     longer [] = omega arith
     longer (x ∷ xs) = let rest : length (xs ++ e ∷ []) ≡ length xs + 1 = longer xs in omega (arith, rest)
+
+-- and the last stamp is then its stamp
+pub stamped_by : (events new : List Event) (e : Event) → new ≡ events ++ e ∷ [] → last_stamp 0 new ≡ e.stamp
+stamped_by events new e is = ap (last_stamp 0) is ∙ last_stamp-push 0 events e
 
 abbrev pub deed_of : RankView → ℕ → ℕ → Act → Deed
 deed_of old hart stamp act = record { rank = old.rank.site.number; hart = hart; stamp = stamp; act = act }

@@ -3,6 +3,7 @@
 ghost use Rattle.std.specs.Prelude.{◌≡◌, ◌<◌, ◌≤◌, ◌+◌, ◌^◌, [], None, length, vec_len, IfOk, IfErr, OnOk, OnErr};
 ghost use Rattle.cl_state.specs.Rank.{loaded};
 ghost use Rattle.cl_state.specs.Room.{rank_of};
+ghost use Rattle.cl_trace.specs.Rising.{last_stamp};
 ghost use Rattle.cl_rank.specs.Facts.{are_sides_fact};
 ghost use Rattle.cl_rank.specs.Fitting.{RequestsFit};
 ghost use Rattle.cl_rank.specs.Sides.{AreChannelsOf, AreNewSides, AreSides, sides_in};
@@ -35,6 +36,7 @@ pub struct Rank {
     pub asked_box: Option<BoxPlace>,
     ghost low: { state.clock < 2 ^ 62 },
     ghost within: { length trace.events ≤ budget },
+    ghost stamped: { last_stamp 0 trace.events ≤ state.clock },
     ghost sides: { AreSides state.site.version state.phases state.clock (sides_in sends.items recvs.items) } by { are_sides_fact state.site.version state.phases state.clock (sides_in sends.items recvs.items) },
     ghost fit: { RequestsFit state.requests state.phases },
 }
@@ -135,12 +137,13 @@ impl Rank {
         self.turn(&(), &mut desk, channels, hart)
     }
 
-    /// The rank's state, its trace, and its sides of links, the sender's first.
+    /// The rank's state, its trace, and its sides of links, the sender's first. No event is later than the clock.
     pub fn into_parts(self) -> (RankState, Trace, Vec<(u8, SendSide)>, Vec<(u8, RecvSide)>)
         ensures state { result.0 ≡ self.state }
         ensures trace { result.1 ≡ self.trace }
         ensures sends { result.2 ≡ self.sends }
         ensures recvs { result.3 ≡ self.recvs }
+        ensures stamped { last_stamp 0 result.1.events ≤ result.0.clock }
     {
         let Rank {
             alloc: _,

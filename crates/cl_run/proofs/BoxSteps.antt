@@ -20,9 +20,9 @@ use Rattle.cl_machine.specs.Parts.{PartsMove, PartsMoveAt}
 use Rattle.cl_machine.specs.Product.{BoxActs, BoxMoves, box_at, box_for}
 use Rattle.cl_machine.proofs.Lists.{get-set_other, get-set_same}
 use Rattle.cl_run.specs.Driver.{Agree, KeysAgree, Station}
-use Rattle.cl_run.specs.Keys.{AgreeOn, HasKeysOf, IsBoxOf, box_of}
+use Rattle.cl_record.specs.Keys.{AgreeOn, HasKeysOf, IsBoxOf, box_of}
 use Rattle.cl_run.specs.UnderWay.{AreBoxes}
-use Rattle.cl_run.proofs.Keys.{freed_empty, freed_stamp, ready_box, ready_empty, take_box, take_holds, take_stamp}
+use Rattle.cl_record.proofs.Keys.{freed_empty, freed_stamp, ready_box, ready_empty, take_box, take_holds, take_stamp}
 
 -- boxes have numbers of their own
 box_apart : (a b c d : ℕ) → b < 16 → d < 16 → box_number a b ≡ box_number c d → (a ≡ c) × (b ≡ d)

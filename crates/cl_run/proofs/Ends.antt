@@ -37,22 +37,23 @@ use Rattle.cl_state.specs.declared.state.RankState.{RankState}
 use Rattle.cl_rank.specs.declared.stops.Stop.{Stop}
 use Rattle.cl_run.specs.declared.driver.Driver.{Driver}
 use Rattle.cl_run.specs.declared.driver.Seat.{Seat}
-use Rattle.cl_run.specs.declared.plans.Plan.{Plan}
-use Rattle.cl_run.specs.declared.records.Record.{Record}
+use Rattle.cl_record.specs.declared.plans.Plan.{Plan}
+use Rattle.cl_record.specs.declared.records.Record.{Record}
 use Rattle.cl_machine.specs.declared.steps.Step.{Step}
 use Rattle.cl_machine.specs.Cluster.{loaded_cluster}
 use Rattle.cl_run.specs.Driver.{AreSeated, IsDriver, IsFresh, IsJoined, IsRecordOf, IsStoppedAt, Station, station}
 use Rattle.cl_run.specs.Driver.{stations}
-use Rattle.cl_run.specs.Keys.{HasKeysOf, Shows, box_of}
-use Rattle.cl_run.specs.Plans.{ArePlans, IsPlan}
-use Rattle.cl_run.specs.Runs.{HasCause, IsEndOf, IsOneRun, IsRankOf, is_hub}
+use Rattle.cl_record.specs.Keys.{HasKeysOf, Shows, box_of}
+use Rattle.cl_record.specs.Plans.{ArePlans, IsPlan}
+use Rattle.cl_record.specs.Records.{IsEndOf, is_hub}
+use Rattle.cl_run.specs.Runs.{HasCause, IsOneRun, IsRankOf}
 use Rattle.cl_run.specs.UnderWay.{AreBoxes, IsSoFar, IsUnderWay, cluster_of}
 use Rattle.cl_run.proofs.Joined.{link_at}
-use Rattle.cl_run.proofs.Leaves.{shows}
-use Rattle.cl_run.proofs.Pairs.{at_below}
+use Rattle.cl_record.proofs.Leaves.{shows}
+use Rattle.cl_record.proofs.Elements.{at_below}
 use Rattle.cl_run.proofs.Rounds.{goes_round}
 use Rattle.cl_run.proofs.Seats.{station_at}
-use Rattle.cl_run.proofs.Wires.{new_keys, new_receiver_at, new_sender_at, over_channels}
+use Rattle.cl_record.proofs.Wires.{new_keys, new_receiver_at, new_sender_at, over_channels}
 
 -- what stands at a number of what a function made of a list
 pub from_map : {X Y : Type 0} (f : X → Y) (xs : List X) (r : ℕ) (y : Y) → slice_get (map f xs) r ≡ Some y → (x : X)
@@ -64,7 +65,7 @@ from_map f (x ∷ xs) (suc r) y h = from_map f xs r y h
 planned : (image : ImageParts) (plans : List Plan) (order : List ℕ) (r : ℕ) (plan : Plan)
     → ArePlans image plans order → slice_get plans r ≡ Some plan → IsPlan image.harts plan
 planned image plans order r plan are at =
-    subst (IsPlan image.harts) (get_or_from_slice_get plans r plan plan at) (are.are_plans r plan (slice_get_within plans r plan at))
+    subst (IsPlan image.harts) (get_or_from_slice_get plans r plan plan at) (are.planned.are_plans r plan (slice_get_within plans r plan at))
 
 rank_of_run : (steps : List Step) (entries : List Entry) (r : ℕ) (plan : Plan) (s : Station) (stop : Stop)
     → IsSoFar steps entries r plan s → s.stop ≡ Some stop
@@ -137,7 +138,7 @@ module _ (image : ImageParts) (plans : List Plan) (order : List ℕ) (are : AreP
         → (plan : Plan) × (slice_get plans r ≡ Some plan) × IsFresh image driver.channels.items r plan seat
     fresh_at r seat at =
         let inside = slice_get_within driver.seats.items r seat at in
-        let plan = at_below plans r (omega (arith, inside, d.count_is, are.one_each)) in
+        let plan = at_below plans r (omega (arith, inside, d.count_is, are.planned.one_each)) in
         (plan.0, plan.1, d.fresh r plan.0 seat plan.1 at)
 
     joined_at : (r : ℕ) (seat : Seat) → slice_get driver.seats.items r ≡ Some seat
@@ -157,7 +158,7 @@ module _ (image : ImageParts) (plans : List Plan) (order : List ℕ) (are : AreP
 
     pub seated_at_start : AreSeated plans driver
     seated_at_start = record {
-      one_each = d.count_is ∙ sym are.one_each;
+      one_each = d.count_is ∙ sym are.planned.one_each;
       each = λ r plan seat at_plan at.
           let own = d.fresh r plan seat at_plan at in
           let is = planned image plans order r plan are at_plan in
@@ -248,7 +249,7 @@ module _ (image : ImageParts) (plans : List Plan) (order : List ℕ) (are : AreP
       → ((place : ℕ) → place < length order → IsStoppedAt (stations driver) (slice_index order place))
       → All (λ (seat : Seat). IsTrue (is_some seat.stop)) driver.seats.items
   all_stopped seated done k d there =
-      let named = are.misses_none k (omega (arith, there, seated.one_each, are.one_each)) in
+      let named = are.misses_none k (omega (arith, there, seated.one_each, are.planned.one_each)) in
       let is : k ≡ slice_index order named.0 = get_or_read order named.0 k named.1 (sym named.2) 0 in
       let stopped = subst (IsStoppedAt (stations driver)) (sym is) (done named.0 named.1) in
       let seat = from_map station driver.seats.items k stopped.0 stopped.2 in
@@ -317,7 +318,7 @@ module _ (image : ImageParts) (plans : List Plan) (order : List ℕ) (are : AreP
 
     pub one_run : AreSeated plans driver → IsOneRun image plans order left
     one_run seated =
-        let count : length driver.seats.items ≡ image.ranks = seated.one_each ∙ are.one_each in
+        let count : length driver.seats.items ≡ image.ranks = seated.one_each ∙ are.planned.one_each in
         record {
           steps = w.steps;
           final = cluster_of (stations driver) driver.hub w.boxes;
@@ -325,7 +326,7 @@ module _ (image : ImageParts) (plans : List Plan) (order : List ℕ) (are : AreP
           end = ends;
           none_idles = w.none_idles;
           round = goes_round order (IsStoppedAt (stations driver)) 0 (map (λ (e : Step). e.rank) w.steps) slot w.round;
-          plans_count = are.one_each;
+          plans_count = are.planned.one_each;
           traces_count = ap (λ (xs : List TraceView). length xs) is.traces_are
               ∙ length-map driver.seats.items (λ (seat : Seat). seat.rank.trace) ∙ count;
           ranks_count = ap (λ (xs : List RankState). length xs) is.ranks_are

@@ -17,7 +17,7 @@ use Rattle.cl_rank.specs.Deeds.{Act, Deed, event_of, kind_of, request_of}
 use Rattle.cl_rank.specs.Turns.{Answered, Tells, TellsAct}
 use Rattle.cl_machine.specs.Journal.{Enters, reply_in}
 use Rattle.cl_machine.specs.Product.{JournalMoves, entry_of}
-use Rattle.cl_run.specs.Runs.{is_hub}
+use Rattle.cl_record.specs.Records.{is_hub}
 use Rattle.cl_run.specs.UnderWay.{shown}
 
 -- a call of the hub enters one entry of the cluster's journal

@@ -15,8 +15,8 @@ use Rattle.cl_state.specs.Rank.{Rank}
 use Rattle.cl_rank.specs.Deeds.{Act, answer_of}
 use Rattle.cl_rank.specs.Sides.{AreChannelsOf, HasKey, KeyMoves, KeysMove, Sides, place_of, receiver_of, sender_of}
 use Rattle.cl_run.specs.Driver.{GoesOn, IsJoined, Station, Stops, TakesTurn}
-use Rattle.cl_run.specs.Keys.{HasKeysOf}
-use Rattle.cl_run.specs.declared.plans.Plan.{Plan}
+use Rattle.cl_record.specs.Keys.{HasKeysOf}
+use Rattle.cl_record.specs.declared.plans.Plan.{Plan}
 use Rattle.cl_run.proofs.Hubs.{hub_part}
 
 key_later : {K : Type 0} (here : Bool) (Acts : K → K → Type 0) (old new : Option K) (k : K)

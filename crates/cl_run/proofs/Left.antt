@@ -18,10 +18,10 @@ use Rattle.cl_rank.specs.Sides.{HasReceiver, HasSender, receiver_key, sender_key
 use Rattle.cl_run.specs.declared.driver.Driver.{Driver}
 use Rattle.cl_run.specs.declared.driver.Seat.{Seat}
 use Rattle.cl_run.specs.Driver.{AreJoined, IsLinkLeft, ends_of, station, stations}
-use Rattle.cl_run.specs.Settling.{IsAllSettled, MaySettle}
+use Rattle.cl_record.specs.Settling.{IsAllSettled, MaySettle}
 use Rattle.cl_run.proofs.Ends.{from_map}
 use Rattle.cl_run.proofs.Joined.{link_at}
-use Rattle.cl_run.proofs.Pairs.{at_below}
+use Rattle.cl_record.proofs.Elements.{at_below}
 use Rattle.cl_run.proofs.Seats.{station_at}
 
 some_sends : (o : Option SendView) (part : ℕ) (s : Sending) → sender_key o part ≡ Some s → (x : SendView) × (o ≡ Some x)

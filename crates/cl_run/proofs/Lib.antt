@@ -1,4 +1,3 @@
-pub mod Keys
 pub mod BoxSteps
 pub mod Rounds
 pub mod Hubs
@@ -8,9 +7,6 @@ pub mod Seats
 pub mod Joined
 pub mod Pairs
 pub mod Slots
-pub mod Sides
-pub mod Wires
-pub mod Leaves
-pub mod Links
 pub mod Ends
 pub mod Left
+pub mod Merged

@@ -11,8 +11,9 @@ use Rattle.cl_rank.specs.declared.sides.BoxPlace.{BoxPlace}
 use Rattle.cl_rank.specs.Sides.{AreChannelsOf, receiver_of, sender_of}
 use Rattle.cl_rank.specs.Views.{place_in}
 use Rattle.cl_run.specs.declared.driver.Driver.{Driver}
+use Rattle.cl_record.proofs.Elements.{at_below}
 use Rattle.cl_run.specs.Driver.{Agree, AreJoined, HaveKeys, KeysAgree, Station, station, stations}
-use Rattle.cl_run.specs.Keys.{AgreeOn}
+use Rattle.cl_record.specs.Keys.{AgreeOn}
 use Rattle.cl_run.specs.declared.driver.Seat.{Seat}
 use Rattle.cl_run.proofs.Joined.{link_at}
 use Rattle.cl_run.proofs.Seats.{station_at}
@@ -71,11 +72,6 @@ module _ (seats : List Seat) (l : Link) (link part : ℕ) (x y : Seat)
       subst (λ (z : Station). AgreeOn z.rank.site.version s r) (sym from_is)
       (agree s r (ap (λ (z : Station). sender_of z.sides link part) (sym from_is) ∙ sends)
       (ap (λ (z : Station). receiver_of z.sides link part) (sym to_is) ∙ receives))
-
-pub at_below : {X : Type 0} (xs : List X) (i : ℕ) → i < length xs → (x : X) × (slice_get xs i ≡ Some x)
-at_below [] i below = absurd (omega (arith, below))
-at_below (x ∷ xs) zero below = (x, refl)
-at_below (x ∷ xs) (suc i) below = at_below xs i (omega (arith, below))
 
 module _ (driver : Driver) (joined : AreJoined driver) where
   -- what a rank asked last is a box of a link

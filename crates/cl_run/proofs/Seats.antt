@@ -9,8 +9,8 @@ use Rattle.rv_image.specs.declared.images.ImageParts.{ImageParts}
 use Rattle.part_channel.specs.Channels.{ChannelView}
 use Rattle.cl_state.specs.Rank.{below, loaded}
 use Rattle.cl_state.specs.Room.{rank_of}
-use Rattle.cl_run.specs.declared.plans.Plan.{Plan}
-use Rattle.cl_run.proofs.Stations.{last_or_before}
+use Rattle.cl_record.specs.declared.plans.Plan.{Plan}
+use Rattle.cl_record.proofs.Elements.{last_or_before}
 use Rattle.cl_rank.specs.declared.stops.Stop.{Stop}
 use Rattle.cl_run.specs.Driver.{AreFresh, IsFresh, station}
 use Rattle.cl_run.specs.declared.driver.Seat.{Seat}

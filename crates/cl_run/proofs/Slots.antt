@@ -20,11 +20,11 @@ use Rattle.cl_rank.specs.Sides.{AreChannelsOf}
 use Rattle.cl_rank.specs.declared.stops.Stop.{Stop}
 use Rattle.cl_run.specs.declared.driver.Driver.{Driver}
 use Rattle.cl_run.specs.declared.driver.Seat.{Seat}
-use Rattle.cl_run.specs.declared.plans.Plan.{Plan}
+use Rattle.cl_record.specs.declared.plans.Plan.{Plan}
 use Rattle.cl_run.specs.Driver.{Agree, AreJoined, AreSeated, GoesOn, IsJoined, IsSeated, IsStoppedAt, OneGoes, SlotGoes}
 use Rattle.cl_run.specs.Driver.{Station, left, left_of, station, stations}
-use Rattle.cl_run.specs.Keys.{HasKeysOf}
-use Rattle.cl_run.specs.Plans.{in_slot}
+use Rattle.cl_record.specs.Keys.{HasKeysOf}
+use Rattle.cl_record.specs.Plans.{in_slot}
 use Rattle.cl_run.specs.UnderWay.{IsUnderWay}
 use Rattle.cl_machine.proofs.Lists.{get-set_same, get-set_other}
 use Rattle.cl_run.proofs.Joined.{goes_joined, link_at, links_stay}

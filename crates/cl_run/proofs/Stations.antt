@@ -22,24 +22,18 @@ use Rattle.cl_rank.specs.Deeds.{Deed, answer_of, event_of, kind_of, Act, request
 use Rattle.cl_state.specs.Asked.{asked}
 use Rattle.cl_rank.specs.Turns.{Answered, IsActive, IsCause, Refuses, StopHolds, stop_of}
 use Rattle.cl_rank.specs.declared.stops.Stop.{Stop}
-use Rattle.cl_run.specs.declared.plans.Plan.{Plan}
+use Rattle.cl_record.specs.declared.plans.Plan.{Plan}
 use Rattle.cl_machine.specs.declared.steps.Step.{Step}
 use Rattle.cl_run.specs.Driver.{Station, Stops, TakesTurn}
 use Rattle.cl_machine.specs.Order.{of_rank}
-use Rattle.cl_run.specs.Plans.{in_slot}
+use Rattle.cl_record.specs.Plans.{in_slot}
 use Rattle.cl_machine.specs.Product.{entry_of, step_of}
-use Rattle.cl_run.specs.Runs.{AsksHub, HasCause, HasTurn, hub_calls, is_hub, step_by}
+use Rattle.cl_record.specs.Records.{AsksHub, HasTurn, hub_calls, is_hub, step_by}
+use Rattle.cl_run.specs.Runs.{HasCause}
+use Rattle.cl_record.proofs.Elements.{last_or_before}
 use Rattle.cl_run.specs.UnderWay.{IsSoFar}
 use Rattle.cl_run.proofs.Hubs.{HubPart, hub_part, listed}
 use Rattle.cl_machine.proofs.Lists.{filter-keeps, filter-skips}
-
--- an element of a list with one more
-pub last_or_before : {X : Type 0} (xs : List X) (x y : X) (n : ℕ) → slice_get (xs ++ x ∷ []) n ≡ Some y
-    → (slice_get xs n ≡ Some y) ⊎ ((n ≡ length xs) × (x ≡ y))
-last_or_before [] x y zero h = inr (refl, same_Some x y h)
-last_or_before [] x y (suc n) h = absurd (cc)
-last_or_before (z ∷ xs) x y zero h = inl h
-last_or_before (z ∷ xs) x y (suc n) h = elim (last_or_before xs x y n h) [ inl e ↦ inl e | inr e ↦ inr (ap suc e.0, e.1) ]
 
 entries_more : (r : ℕ) (before after : List Entry) (more : List Entry) → after ≡ before ++ more
     → entries_by r after ≡ entries_by r before ++ entries_by r more

@@ -18,12 +18,12 @@ use Rattle.cl_rank.specs.Sides.{KeysMove, place_of}
 use Rattle.cl_machine.specs.Boxes.{Box}
 use Rattle.cl_machine.specs.Parts.{PartsMove}
 use Rattle.cl_run.specs.Runs.{NoneIdles}
-use Rattle.cl_run.specs.declared.plans.Plan.{Plan}
+use Rattle.cl_record.specs.declared.plans.Plan.{Plan}
 use Rattle.cl_machine.specs.declared.steps.Step.{Step}
 use Rattle.cl_machine.specs.Cluster.{Cluster, IsRun, IsStep, loaded_cluster}
 use Rattle.cl_run.specs.Driver.{Agree, IsStoppedAt, Station, Stops, TakesTurn}
-use Rattle.cl_run.specs.Keys.{HasKeysOf}
-use Rattle.cl_run.specs.Plans.{in_slot}
+use Rattle.cl_record.specs.Keys.{HasKeysOf}
+use Rattle.cl_record.specs.Plans.{in_slot}
 use Rattle.cl_machine.specs.Product.{BoxMoves, box_at, step_of}
 use Rattle.cl_run.specs.UnderWay.{AreBoxes, IsSoFar, IsUnderWay, Round, cluster_of, shown}
 use Rattle.cl_run.proofs.BoxSteps.{boxes_go, boxes_same}

@@ -22,14 +22,15 @@ use Rattle.rv_image.specs.declared.images.Link.{Link}
 use Rattle.rv_image.specs.Image.{IsLink}
 use Rattle.cl_trace.specs.declared.events.Event.{Event}
 use Rattle.cl_state.specs.Room.{rank_of}
-use Rattle.cl_run.specs.Keys.{AgreeOn, HasKeysOf}
-use Rattle.cl_run.specs.Wiring.{AreNewEnds, sides_in}
-use Rattle.cl_run.specs.declared.wiring.Ends.{Ends}
+use Rattle.cl_record.specs.Keys.{AgreeOn, HasKeysOf}
+use Rattle.cl_record.specs.Wiring.{AreNewEnds}
+use Rattle.cl_record.specs.Room.{HaveRoom}
+use Rattle.cl_record.specs.declared.wiring.Ends.{Ends}
 use Rattle.cl_run.specs.declared.driver.Driver.{Driver}
-use Rattle.cl_run.specs.declared.lists.Lists.{Lists}
+use Rattle.cl_record.specs.declared.lists.Lists.{Lists}
 use Rattle.cl_run.specs.declared.driver.Seat.{Seat}
-use Rattle.cl_run.specs.declared.plans.Plan.{Plan}
-use Rattle.cl_run.specs.declared.records.Record.{Record}
+use Rattle.cl_record.specs.declared.plans.Plan.{Plan}
+use Rattle.cl_record.specs.declared.records.Record.{Record}
 
 -- what a driver keeps of one rank: its state, its events, its sides, the box that its last turn asked, the place of its
 -- next hart in its plan, its budget, and its stop
@@ -187,12 +188,6 @@ AreFresh image plans channels seats =
     (r : ℕ) (plan : Plan) (seat : Seat) → slice_get plans r ≡ Some plan → slice_get seats r ≡ Some seat
     → IsFresh image channels r plan seat
 
--- so many ranks have new ends of the image's links, over these channels
-abbrev pub AreAllNew : ImageParts → List ChannelView → List Ends → Type 0
-AreAllNew image channels all =
-    (r : ℕ) (ends : Ends) → slice_get all r ≡ Some ends
-    → AreNewEnds image.version image.links channels r (sides_in ends)
-
 -- a rank's ends of the links, as it leaves them
 abbrev pub ends_of : Seat → Ends
 ends_of seat = record { sends = seat.rank.sends; recvs = seat.rank.recvs }
@@ -218,19 +213,6 @@ pub record IsRecordOf (driver : Driver) (left_behind : Record) : Type 0 where
   pub boxes_count : length left_behind.boxes.items ≡ length driver.hub.links
   pub boxes_are : (link : ℕ) (l : Link) → slice_get driver.hub.links link ≡ Some l
       → (boxes : List Settled) × (slice_get left_behind.boxes.items link ≡ Some boxes) × IsLinkLeft driver link l boxes
-
--- the lists of a record are empty, with room for so many ranks and links
-pub record HaveRoom (count links : ℕ) (lists : Lists) : Type 0 where
-  pub traces_empty : lists.traces.items ≡ []
-  pub ranks_empty : lists.ranks.items ≡ []
-  pub stops_empty : lists.stops.items ≡ []
-  pub ends_empty : lists.ends.items ≡ []
-  pub boxes_empty : lists.boxes.items ≡ []
-  pub traces_room : count ≤ vec_capacity lists.traces
-  pub ranks_room : count ≤ vec_capacity lists.ranks
-  pub stops_room : count ≤ vec_capacity lists.stops
-  pub ends_room : count ≤ vec_capacity lists.ends
-  pub boxes_room : links ≤ vec_capacity lists.boxes
 
 -- all ranks as they are loaded, a hub that was never called, and a new channel for each link
 pub record IsDriver (image : ImageParts) (plans : List Plan) (driver : Driver) : Type 0 where

@@ -8,11 +8,8 @@ pub use Rattle.cl_machine.specs.Product
 pub use Rattle.cl_machine.specs.Joined
 pub use Rattle.cl_machine.specs.Laws
 pub use Rattle.cl_machine.specs.Rows
-pub mod Plans
+pub mod Setups
 pub mod Rounds
-pub mod Keys
 pub mod Runs
 pub mod Driver
-pub mod Wiring
-pub mod Settling
 pub mod UnderWay

@@ -14,10 +14,11 @@ use Rattle.cl_run.specs.Driver.{IsStoppedAt, Station}
 use Rattle.cl_machine.specs.Journal.{journal_of}
 use Rattle.cl_machine.specs.Journal as cluster
 use Rattle.cl_machine.specs.Order.{of_rank}
-use Rattle.cl_run.specs.Keys.{IsBoxOf}
-use Rattle.cl_run.specs.Plans.{in_slot}
-use Rattle.cl_run.specs.Runs.{FollowsPlan, HasCause, NoneIdles, hub_calls, is_hub, step_by}
-use Rattle.cl_run.specs.declared.plans.Plan.{Plan}
+use Rattle.cl_record.specs.Keys.{IsBoxOf}
+use Rattle.cl_record.specs.Plans.{in_slot}
+use Rattle.cl_record.specs.Records.{FollowsPlan, hub_calls, is_hub, step_by}
+use Rattle.cl_run.specs.Runs.{HasCause, NoneIdles}
+use Rattle.cl_record.specs.declared.plans.Plan.{Plan}
 use Rattle.cl_machine.specs.declared.steps.Step.{Step}
 
 -- the turns from `from` on, with all slots below `to` gone through: whoever a slot names that was passed over is done

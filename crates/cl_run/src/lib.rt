@@ -3,16 +3,10 @@
 #![tactic(auto)]
 
 mod driver;
-mod lists;
 mod loading;
 mod one;
-mod plans;
-mod records;
-mod settling;
-mod wiring;
 
 pub use cl_machine::{Step, laws, rows};
+pub use cl_record::{BUDGET_MAX, Plan, Record, RunFault, are_plans};
 pub use loading::Loaded;
 pub use one::run_one;
-pub use plans::{BUDGET_MAX, Plan, are_plans};
-pub use records::{Record, RunFault};

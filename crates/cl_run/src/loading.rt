@@ -1,14 +1,13 @@
 //! Ranks that are loaded, and their run.
 
-ghost use Rattle.std.specs.Prelude.{◌≡◌, ◌↔◌, Err, IfOk, length};
+ghost use Rattle.std.specs.Prelude.{◌≡◌, ◌↔◌, ◌⊎◌, Err, IfErr, IfOk, length};
 ghost use Rattle.cl_run.specs.Driver.{IsLoaded};
-ghost use Rattle.cl_run.specs.Plans.{ArePlans};
+ghost use Rattle.cl_record.specs.Plans.{ArePlans};
+ghost use Rattle.cl_record.specs.Records.{IsMergedRun};
 ghost use Rattle.cl_run.specs.Runs.{IsOneRun};
 
 use crate::driver::Driver;
-use crate::lists::Lists;
-use crate::plans::{Plan, are_plans};
-use crate::records::{Record, RunFault};
+use cl_record::{Lists, Plan, Record, RunFault, are_plans};
 use rv_image::Image;
 use std::alloc::{AllocError, Global};
 use std::marker::Model;
@@ -29,7 +28,8 @@ pub struct Loaded<'a> {
 
 impl<'a> Model for Loaded<'a> {
     ghost use Rattle.cl_run.specs.Driver.{IsLoaded};
-    ghost use Rattle.cl_run.specs.Plans.{ArePlans, Setup};
+    ghost use Rattle.cl_record.specs.Plans.{ArePlans};
+    ghost use Rattle.cl_run.specs.Setups.{Setup};
 
     ghost Value = { Setup };
 
@@ -60,6 +60,7 @@ impl<'a> Loaded<'a> {
     ) -> Result<Loaded<'a>, RunFault>
         ensures loaded { IfOk result (λ loaded. loaded ≡ record { image = image.now; plans = plans.now; order = order.now }) }
         ensures plans { (result ≡ Err RunFault.Plans) ↔ ¬ ArePlans image.now plans.now order.now }
+        ensures fault { IfErr result (λ fault. (fault ≡ RunFault.Plans) ⊎ (fault ≡ RunFault.Memory)) }
     {
         if !are_plans(image, plans, order) {
             return Err(RunFault::Plans);
@@ -81,14 +82,17 @@ impl<'a> Loaded<'a> {
     pub fn run(self) -> Record
         ensures plans { ArePlans self.entry.image self.entry.plans self.entry.order }
         ensures run { IsOneRun self.entry.image self.entry.plans self.entry.order result }
+        ensures merged { IsMergedRun self.entry.image result }
     {
         let Loaded {
-            image: _,
+            image,
             plans,
             order,
             mut driver,
             lists,
         } = self;
+        // whoever asks for the parts knows that they are an image's
+        let _parts = image.parts();
         driver.run(plans, order);
         driver.into_record(lists)
     }

@@ -1,12 +1,12 @@
 //! All ranks on one thread.
 
-ghost use Rattle.std.specs.Prelude.{◌≡◌, ◌↔◌, IfOk, OnOk, Err};
-ghost use Rattle.cl_run.specs.Plans.{ArePlans};
+ghost use Rattle.std.specs.Prelude.{◌≡◌, ◌↔◌, ◌⊎◌, IfErr, IfOk, OnOk, Err};
+ghost use Rattle.cl_record.specs.Plans.{ArePlans};
+ghost use Rattle.cl_record.specs.Records.{IsMergedRun};
 ghost use Rattle.cl_run.specs.Runs.{IsOneRun};
 
 use crate::loading::Loaded;
-use crate::plans::Plan;
-use crate::records::{Record, RunFault};
+use cl_record::{Plan, Record, RunFault};
 use rv_image::Image;
 use std::alloc::Global;
 
@@ -22,8 +22,10 @@ pub fn run_one(
     order: &[u8],
 ) -> Result<Record, RunFault>
     ensures run { IfOk result (IsOneRun image.now plans.now order.now) }
+    ensures merged { IfOk result (IsMergedRun image.now) }
     ensures right { OnOk result (ArePlans image.now plans.now order.now) }
     ensures plans { (result ≡ Err RunFault.Plans) ↔ ¬ ArePlans image.now plans.now order.now }
+    ensures fault { IfErr result (λ fault. (fault ≡ RunFault.Plans) ⊎ (fault ≡ RunFault.Memory)) }
 {
     let loaded = Loaded::new(alloc, image, plans, order)?;
     Ok(loaded.run())

@@ -1,3 +1,4 @@
 pub mod Turning
 pub mod Boxing
 pub mod Planning
+pub mod Merging

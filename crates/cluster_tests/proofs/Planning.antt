@@ -8,9 +8,9 @@ use Rattle.std.proofs.lemmas.Nat.{mod-mul-add}
 use Rattle.std.proofs.lemmas.Option.{get_or_from_slice_get, slice_get_within}
 use mathlib.Core.Logic.{inl, inr}
 use Rattle.rv_image.specs.declared.images.ImageParts.{ImageParts}
-use Rattle.cl_run.specs.Plans.{ArePlans, IsOrder, IsPlan}
-use Rattle.cl_run.specs.declared.plans.Plan.{Plan}
-use Rattle.cl_run.specs.declared.records.Record.{Record}
+use Rattle.cl_record.specs.Plans.{ArePlans, IsOrder, IsPlan}
+use Rattle.cl_record.specs.declared.plans.Plan.{Plan}
+use Rattle.cl_record.specs.declared.records.Record.{Record}
 use Rattle.cl_run.specs.Runs.{IsOneRun}
 use Rattle.cluster_tests.specs.Runs.{OfEachRank, RoundAndRound}
 
@@ -19,7 +19,7 @@ module _ (image : ImageParts) (plans : List Plan) (order : List ℕ) (are : AreP
   pub plan_at : (rank : ℕ) (plan : Plan) → slice_get plans rank ≡ Some plan → IsPlan image.harts plan
   plan_at rank plan at =
       subst (IsPlan image.harts) (get_or_from_slice_get plans rank plan plan at)
-      (are.are_plans rank plan (slice_get_within plans rank plan at))
+      (are.planned.are_plans rank plan (slice_get_within plans rank plan at))
 
   -- and names no hart that isn't there
   pub no_absent_hart : (rank : ℕ) (plan : Plan) → slice_get plans rank ≡ Some plan
@@ -39,9 +39,11 @@ pub limits : (image : ImageParts) (plans : List Plan) (plan : Plan) → image.ra
     → plans ≡ plan ∷ [] → plan.order.items ≡ 0 ∷ []
     → (plan.budget ≡ 1) ⊎ (plan.budget ≡ 16777216) → ArePlans image plans (0 ∷ [])
 limits image plans plan one hart is items budget = record {
-  one_each = ap (λ (ps : List Plan). length ps) is ∙ sym one;
-  are_plans = subst (All (IsPlan image.harts)) (sym is)
-      (All-cons (IsPlan image.harts) plan [] right (All-nil (IsPlan image.harts)));
+  planned = record {
+    one_each = ap (λ (ps : List Plan). length ps) is ∙ sym one;
+    are_plans = subst (All (IsPlan image.harts)) (sym is)
+        (All-cons (IsPlan image.harts) plan [] right (All-nil (IsPlan image.harts)));
+  };
   is_order = record {
     named = omega arith;
     there = All-cons (λ number. number < image.ranks) 0 [] (omega (arith, one))

@@ -2,10 +2,10 @@
 use Rattle.std.specs.Prelude.{ℕ, ◌≡◌, ◌<◌, ◌+◌, List, length, slice_get, slice_index, Some}
 use Rattle.rv_image.specs.declared.images.ImageParts.{ImageParts}
 use Rattle.cl_trace.specs.declared.events.Event.{Event}
-use Rattle.cl_run.specs.Plans.{ArePlans}
-use Rattle.cl_run.specs.Runs.{FollowsPlan}
-use Rattle.cl_run.specs.declared.plans.Plan.{Plan}
-use Rattle.cl_run.specs.declared.records.Record.{Record}
+use Rattle.cl_record.specs.Plans.{ArePlans}
+use Rattle.cl_record.specs.Records.{FollowsPlan}
+use Rattle.cl_record.specs.declared.plans.Plan.{Plan}
+use Rattle.cl_record.specs.declared.records.Record.{Record}
 
 -- a plan, a trace, a state and a stop for each rank
 pub record OfEachRank (image : ImageParts) (plans : List Plan) (order : List ℕ) (left : Record) : Type 0 where

@@ -2,6 +2,8 @@
 //! contract, what must be answered there; it is proved from the contract of what it calls alone.
 #![tactic(auto)]
 
+pub mod calls;
+pub mod merge;
 pub mod rank;
 pub mod run;
 pub mod trace;

@@ -2,8 +2,8 @@
 
 ghost use Rattle.std.specs.Prelude.{◌≡◌, ◌<◌, ◌⊎◌, ◌∷◌, ℕ, [], length, Contains, Err, IfOk, Some, slice_get};
 ghost use Rattle.std.specs.Prelude.{true, false};
-ghost use Rattle.cl_run.specs.Plans.{ArePlans};
-ghost use Rattle.cl_run.specs.declared.plans.Plan.{Plan};
+ghost use Rattle.cl_record.specs.Plans.{ArePlans};
+ghost use Rattle.cl_record.specs.declared.plans.Plan.{Plan};
 ghost use Rattle.cluster_tests.specs.Runs.{OfEachRank, RoundAndRound};
 
 use cl_run::{Loaded, Plan, Record, RunFault, are_plans, run_one};

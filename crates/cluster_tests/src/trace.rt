@@ -1,12 +1,14 @@
 //! What is answered of traces.
 
-ghost use Rattle.std.specs.Prelude.{◌≡◌, ◌<◌, ◌+◌, ◌^◌, ◌++◌, ◌∷◌, List, [], length, IfOk, OnOk, true};
+ghost use Rattle.std.specs.Prelude.{◌≡◌, ◌<◌, ◌+◌, ◌^◌, ◌++◌, ◌∷◌, List, [], length, IfOk, IfSome, OnOk, Ok, Some};
+ghost use Rattle.std.specs.Prelude.{true, false};
 ghost use Rattle.cl_trace.specs.declared.events.Bare.TheVariants.{Plain};
 ghost use Rattle.cl_trace.specs.declared.events.Event.{Event};
-ghost use Rattle.cl_trace.specs.Traces.{bare_event};
+ghost use Rattle.cl_trace.specs.Rising.{last_stamp};
+ghost use Rattle.cl_trace.specs.Traces.{bare_event, carried_by_kind};
 ghost use Rattle.cluster_tests.specs.Reads.{Reads};
 
-use cl_trace::{Cursor, Event, Seen, Trace};
+use cl_trace::{Bare, Cursor, Event, Kind, Seen, Trace};
 use mp_types::Stamp;
 use std::alloc::{AllocError, Global};
 
@@ -28,6 +30,7 @@ pub fn a_new_trace_shows_nothing(alloc: Global) -> bool
 
 /// Where room was made, one event more is counted.
 pub fn a_push_counts_one(trace: &mut Trace, event: Event) -> Result<u64, AllocError>
+    requires rises { last_stamp 0 trace.old.events < event.stamp }
     requires low { event.stamp < 2 ^ 62 }
     requires few { length trace.old.events + 1 < 2 ^ 64 }
     ensures { IfOk result (λ count. count ≡ length trace.old.events + 1) }
@@ -45,8 +48,9 @@ pub fn both_stand_as_pushed(
     stamp: Stamp,
     event: Event,
 ) -> Result<(), AllocError>
-    requires first { stamp < 2 ^ 62 }
-    requires second { event.stamp < 2 ^ 62 }
+    requires first { last_stamp 0 trace.old.events < stamp }
+    requires second { stamp < event.stamp }
+    requires low { event.stamp < 2 ^ 62 }
     requires few { length trace.old.events + 2 < 2 ^ 64 }
     ensures { OnOk result (trace.new.events ≡ trace.old.events ++ bare_event hart Plain stamp ∷ event ∷ []) }
 {
@@ -55,6 +59,16 @@ pub fn both_stand_as_pushed(
     trace.reserve()?;
     trace.push(event);
     Ok(())
+}
+
+/// No trace has an event whose stamp isn't above 0 and above that of each event before it.
+pub fn stamps_rise(trace: &Trace)
+    ensures first { (before after : List Event) (event : Event) → trace.now.events ≡ before ++ event ∷ after
+        → 0 < event.stamp }
+    ensures later { (before between after : List Event) (early late : Event)
+        → trace.now.events ≡ before ++ early ∷ (between ++ late ∷ after) → early.stamp < late.stamp }
+{
+    let _cursor = trace.cursor();
 }
 
 /// Room that is there is found again without memory.
@@ -87,4 +101,36 @@ pub fn a_reader_begins_with_the_first(trace: &Trace) -> Option<Seen<'_>>
 {
     let mut cursor = trace.cursor();
     cursor.next()
+}
+
+/// A kind that carries no elements is copied whatever memory there is.
+pub fn empty_kind_copied(alloc: Global, kind: &Kind) -> Result<Kind, AllocError>
+    requires { carried_by_kind kind.now ≡ 0 }
+    ensures { result ≡ Ok kind.now }
+{
+    kind.try_copy(alloc)
+}
+
+/// What carries nothing is found again in the kind that is made of it.
+pub fn bare_is_found_again(bare: Bare) -> Option<Bare>
+    ensures { result ≡ Some bare }
+{
+    Kind::from(bare).bare()
+}
+
+/// A look in vain is no look that found a partition taken.
+pub fn a_miss_is_not_freed() -> bool
+    ensures { result ≡ false }
+{
+    Kind::Miss.is_same(&Kind::Freed)
+}
+
+/// Two events that are read in the order of a trace have stamps in that order.
+pub fn a_reader_sees_stamps_rise(trace: &Trace) -> Option<(Stamp, Stamp)>
+    ensures { IfSome result (λ stamps. stamps.0 < stamps.1) }
+{
+    let mut cursor = trace.cursor();
+    let first = cursor.next()?;
+    let second = cursor.next()?;
+    Some((first.stamp(), second.stamp()))
 }

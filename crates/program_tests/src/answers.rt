@@ -1,29 +1,63 @@
 //! What commands answer to their input, and the plans that a command line stands for.
 
-ghost use Rattle.std.specs.Prelude.{◌≡◌, ◌≢◌, [], ◌∷◌, Err, IfOk, length};
-ghost use Rattle.cl_run.specs.declared.plans.Plan.{Plan as Held};
+ghost use Rattle.std.specs.Prelude.{◌≡◌, ◌≢◌, ℕ, [], ◌∷◌, Err, IfOk, false, length};
+ghost use Rattle.cl_record.specs.declared.plans.Plan.{Plan as Held};
 ghost use Rattle.rv_asm_tokens.specs.declared.fault.AsmFault.{AsmFault};
+ghost use Rattle.rvmc_answers.specs.Answers.{needs_threads};
 ghost use Rattle.rvmc_report.specs.declared.faults.Fault.TheVariants as faults;
 
 use cl_run::Plan;
-use rvmc_answers::answers::{Answer, answer_to};
+use rvmc_answers::answers::{Answer, answer_to, answer_with_threads};
 use rvmc_answers::plans::{listed, plans};
 use rvmc_line::{CommandLine, Numbers};
 use rvmc_report::faults::Fault;
 use std::alloc::{AllocError, Global};
+use std::sync::Wait;
+use std::thread::Threads;
 
 /// No command tells of a read that failed: the bytes are there.
-pub fn nothing_is_read(alloc: Global, line: CommandLine, bytes: &[u8]) -> Result<Answer, Fault>
+pub fn nothing_is_read(alloc: Global, line: &CommandLine, bytes: &[u8]) -> Result<Answer, Fault>
+    requires { needs_threads line.now ≡ false }
     ensures { result ≢ Err faults.Read }
 {
     answer_to(alloc, line, bytes)
 }
 
 /// Nor of a write.
-pub fn nothing_is_written(alloc: Global, line: CommandLine, bytes: &[u8]) -> Result<Answer, Fault>
+pub fn nothing_is_written(alloc: Global, line: &CommandLine, bytes: &[u8]) -> Result<Answer, Fault>
+    requires { needs_threads line.now ≡ false }
     ensures { result ≢ Err faults.Write }
 {
     answer_to(alloc, line, bytes)
+}
+
+/// A run on one thread is refused none.
+pub fn one_wants_no_thread(
+    alloc: Global,
+    plan: Option<Numbers>,
+    order: Option<Numbers>,
+    bytes: &[u8],
+) -> Result<Answer, Fault>
+    ensures { result ≢ Err faults.Spawn }
+{
+    let line = CommandLine::One {
+        source: true,
+        budget: 1,
+        plan,
+        order,
+    };
+    answer_to(alloc, &line, bytes)
+}
+
+/// A listing isn't told of as threads that left what doesn't fit, on whatever thread it is made.
+pub fn dis_has_no_threads<R: Threads + Wait + Sync>(
+    rt: &R,
+    alloc: Global,
+    bytes: &[u8],
+) -> Result<Answer, Fault>
+    ensures { (rank place : ℕ) → result ≢ Err (faults.Unlike rank place) }
+{
+    answer_with_threads(rt, alloc, &CommandLine::Dis, bytes)
 }
 
 /// An image isn't taken for a source: no bytes are no fault of a source.
@@ -41,7 +75,7 @@ pub fn images_are_no_sources(
         plan,
         order,
     };
-    answer_to(alloc, line, &[])
+    answer_to(alloc, &line, &[])
 }
 
 /// Without a list all take turns, the last too.

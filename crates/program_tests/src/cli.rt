@@ -3,7 +3,7 @@
 ghost use Rattle.std.specs.Prelude.{◌≡◌, [], ◌∷◌, IfErr, IfOk, IsErr, None, Ok, Some, false, true};
 ghost use Rattle.clap.specs.declared.error.kind.ErrorKind.TheVariants.{DisplayVersion};
 ghost use Rattle.rvmc_cli.specs.Meaning.{IsRefusal};
-ghost use Rattle.rvmc_line.specs.declared.line.CommandLine.TheVariants.{Asm, Dis, One};
+ghost use Rattle.rvmc_line.specs.declared.line.CommandLine.TheVariants.{Asm, Dis, One, Run};
 ghost use Rattle.rvmc_line.specs.declared.line.ParseFault.TheVariants as faults;
 
 use rvmc_cli::parse;
@@ -127,6 +127,89 @@ pub fn wrong_order_is_refused(alloc: Global) -> Result<CommandLine, ParseFault>
     ensures { IsErr result }
 {
     parse(alloc, &["one", "--order", "0,"])
+}
+
+/// `run` runs an image with a lead of 64 turns.
+#[tactic(auto, unfolding(rvmc_cli::specs::Meaning::faults_in, rvmc_cli::specs::Meaning::command_in, rvmc_cli::specs::Meaning::line_in, clap::proofs::OnLiterals::clap_on_literals))]
+pub fn run_leads_by_64(alloc: Global) -> Result<CommandLine, ParseFault>
+    ensures { IfOk result (λ line. line ≡ Run false 1000000 None 64) }
+{
+    parse(alloc, &["run"])
+}
+
+/// It takes a source, a budget and a plan as `one` does.
+#[tactic(auto, unfolding(rvmc_cli::specs::Meaning::faults_in, rvmc_cli::specs::Meaning::command_in, rvmc_cli::specs::Meaning::line_in, clap::proofs::OnLiterals::clap_on_literals, rvmc_line::specs::Number::number_in, rvmc_line::specs::Number::numbers_in))]
+pub fn run_takes_what_one_takes(alloc: Global) -> Result<CommandLine, ParseFault>
+    ensures { IfOk result (λ line. line ≡ Run true 5 (Some (0 ∷ 1 ∷ [])) 64) }
+{
+    parse(
+        alloc,
+        &["run", "--source", "--budget", "5", "--plan", "0,1"],
+    )
+}
+
+/// `--lead` bounds the lead, and nothing else.
+#[tactic(auto, unfolding(rvmc_cli::specs::Meaning::faults_in, rvmc_cli::specs::Meaning::command_in, rvmc_cli::specs::Meaning::line_in, clap::proofs::OnLiterals::clap_on_literals, rvmc_line::specs::Number::number_in))]
+pub fn lead_of_1_is_heeded(alloc: Global) -> Result<CommandLine, ParseFault>
+    ensures { IfOk result (λ line. line ≡ Run false 1000000 None 1) }
+{
+    parse(alloc, &["run", "--lead", "1"])
+}
+
+/// It may stand behind an equals sign.
+#[tactic(auto, unfolding(rvmc_cli::specs::Meaning::faults_in, rvmc_cli::specs::Meaning::command_in, rvmc_cli::specs::Meaning::line_in, clap::proofs::OnLiterals::clap_on_literals, rvmc_line::specs::Number::number_in))]
+pub fn lead_behind_an_equals_sign_is_heeded(alloc: Global) -> Result<CommandLine, ParseFault>
+    ensures { IfOk result (λ line. line ≡ Run false 1000000 None 5) }
+{
+    parse(alloc, &["run", "--lead=5"])
+}
+
+/// The greatest lead is taken.
+#[tactic(auto, unfolding(rvmc_cli::specs::Meaning::faults_in, rvmc_cli::specs::Meaning::command_in, rvmc_cli::specs::Meaning::line_in, clap::proofs::OnLiterals::clap_on_literals, rvmc_line::specs::Number::number_in))]
+pub fn lead_of_65536_is_heeded(alloc: Global) -> Result<CommandLine, ParseFault>
+    ensures { IfOk result (λ line. line ≡ Run false 1000000 None 65536) }
+{
+    parse(alloc, &["run", "--lead", "65536"])
+}
+
+/// One more is refused.
+#[tactic(auto, unfolding(rvmc_cli::specs::Meaning::faults_in, rvmc_cli::specs::Meaning::command_in, rvmc_cli::specs::Meaning::line_in, clap::proofs::OnLiterals::clap_on_literals, rvmc_line::specs::Number::number_in))]
+pub fn lead_of_65537_is_refused(alloc: Global) -> Result<CommandLine, ParseFault>
+    ensures { IsErr result }
+{
+    parse(alloc, &["run", "--lead", "65537"])
+}
+
+/// A lead of 0 is refused.
+#[tactic(auto, unfolding(rvmc_cli::specs::Meaning::faults_in, rvmc_cli::specs::Meaning::command_in, rvmc_cli::specs::Meaning::line_in, clap::proofs::OnLiterals::clap_on_literals, rvmc_line::specs::Number::number_in))]
+pub fn lead_of_0_is_refused(alloc: Global) -> Result<CommandLine, ParseFault>
+    ensures { IsErr result }
+{
+    parse(alloc, &["run", "--lead", "0"])
+}
+
+/// A lead that is given twice is refused.
+#[tactic(auto, unfolding(rvmc_cli::specs::Meaning::faults_in, rvmc_cli::specs::Meaning::command_in, rvmc_cli::specs::Meaning::line_in, clap::proofs::OnLiterals::clap_on_literals, rvmc_line::specs::Number::number_in))]
+pub fn lead_twice_is_refused(alloc: Global) -> Result<CommandLine, ParseFault>
+    ensures { IsErr result }
+{
+    parse(alloc, &["run", "--lead", "5", "--lead", "5"])
+}
+
+/// `one` has no lead.
+#[tactic(auto, unfolding(rvmc_cli::specs::Meaning::faults_in, rvmc_cli::specs::Meaning::command_in, rvmc_cli::specs::Meaning::line_in, clap::proofs::OnLiterals::clap_on_literals, rvmc_line::specs::Number::number_in))]
+pub fn lead_of_one_is_refused(alloc: Global) -> Result<CommandLine, ParseFault>
+    ensures { IsErr result }
+{
+    parse(alloc, &["one", "--lead", "5"])
+}
+
+/// `run` has no order.
+#[tactic(auto, unfolding(rvmc_cli::specs::Meaning::faults_in, rvmc_cli::specs::Meaning::command_in, rvmc_cli::specs::Meaning::line_in, clap::proofs::OnLiterals::clap_on_literals, rvmc_line::specs::Number::number_in, rvmc_line::specs::Number::numbers_in))]
+pub fn order_of_run_is_refused(alloc: Global) -> Result<CommandLine, ParseFault>
+    ensures { IsErr result }
+{
+    parse(alloc, &["run", "--order", "1,0"])
 }
 
 /// No other word is a command.

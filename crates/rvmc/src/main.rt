@@ -1,10 +1,12 @@
 //! rvmc: an emulator of a small cluster of RISC-V machines that pass messages.
 #![tactic(auto)]
 
-use rvmc_tool::tool_plain;
+use rvmc_tool::tool;
 use std::alloc::{AllocError, Global};
 use std::io;
 use std::process::ExitCode;
+use std::sync::Wait;
+use std::thread::Threads;
 
 /// The words after the program's name.
 fn words(rt: &HostRuntime) -> io::Result<Vec<String>> {
@@ -20,9 +22,10 @@ fn texts<'a>(alloc: Global, words: &'a [String]) -> Result<Vec<&'a str>, AllocEr
     Ok(texts)
 }
 
-/// The program on these words and the process's streams.
-fn answered(rt: &HostRuntime, words: &[&str]) -> u8 {
-    tool_plain(
+/// The program on these words and the process's streams, with threads of this runtime.
+fn answered<R: Threads + Wait + Sync>(rt: &HostRuntime, threads: &R, words: &[&str]) -> u8 {
+    tool(
+        threads,
         rt.alloc(),
         words,
         &mut rt.stdin(),
@@ -31,11 +34,11 @@ fn answered(rt: &HostRuntime, words: &[&str]) -> u8 {
     )
 }
 
-/// The program on the process's words and streams.
-fn run(rt: &HostRuntime) -> io::Result<u8> {
+/// The program on the process's words and streams, with threads of this runtime.
+fn run<R: Threads + Wait + Sync>(rt: &HostRuntime, threads: &R) -> io::Result<u8> {
     let words = words(rt)?;
     let texts = texts(rt.alloc(), &words)?;
-    Ok(answered(rt, &texts))
+    Ok(answered(rt, threads, &texts))
 }
 
 /// Tells on standard error why the words couldn't be had, and gives the status: 2 where one isn't UTF-8, which no
@@ -55,7 +58,7 @@ fn refuse_words(rt: &HostRuntime, error: &io::Error) -> u8 {
 }
 
 fn main(rt: HostRuntime) -> ExitCode {
-    let status = match run(&rt) {
+    let status = match run(&rt, &rt) {
         Ok(status) => status,
         Err(error) => refuse_words(&rt, &error),
     };

@@ -1,1 +1,4 @@
 pub mod Sources
+pub mod Stable
+pub mod Reading
+pub mod Ends

@@ -1,2 +1,4 @@
 pub mod Plans
+pub mod Images
 pub mod Answers
+pub mod Laws

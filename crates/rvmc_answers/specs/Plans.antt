@@ -1,6 +1,6 @@
 -- The plans and the order of the ranks that a command line stands for.
 use Rattle.std.specs.Prelude.{◌≡◌, ℕ, List, length, Option, Some, None, All}
-use Rattle.cl_run.specs.declared.plans.Plan.{Plan}
+use Rattle.cl_record.specs.declared.plans.Plan.{Plan}
 use Rattle.cl_state.specs.Rank.{below}
 
 -- what is listed, or without a list all of so many, in order

@@ -2,4 +2,7 @@
 #![tactic(auto)]
 
 pub mod answers;
+mod images;
+pub mod laws;
 pub mod plans;
+mod runs;

@@ -4,7 +4,8 @@ ghost use Rattle.std.specs.Prelude.{◌≡◌, IfOk};
 ghost use Rattle.cl_state.specs.Rank.{below};
 ghost use Rattle.rvmc_answers.specs.Plans.{ArePlansOf, IsPlanOf, listed};
 
-use cl_run::Plan;
+use cl_record::Plan;
+use rv_image::Image;
 use rvmc_line::Numbers;
 use std::alloc::{AllocError, Global};
 
@@ -46,4 +47,20 @@ pub fn plans(alloc: Global, ranks: u8, harts: &[u8], budget: u64) -> Result<Vec<
         plans.push(plan(alloc, harts, budget)?)?;
     }
     Ok(plans)
+}
+
+/// One plan for each rank of the image: the harts that were listed, or without a list all of them, for so many turns at
+/// most.
+pub(crate) fn plans_of(
+    alloc: Global,
+    image: &Image,
+    budget: u64,
+    harts: &Option<Numbers>,
+) -> Result<Vec<Plan>, AllocError>
+    ensures { IfOk result (λ plans.
+        ArePlansOf image.now.ranks (listed harts.now image.now.harts) budget plans.items) }
+{
+    let parts = image.parts();
+    let harts = listed(alloc, harts, parts.harts)?;
+    plans(alloc, parts.ranks, &harts, budget)
 }

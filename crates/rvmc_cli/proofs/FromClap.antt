@@ -1,16 +1,13 @@
 -- From what clap promises to what the words mean.
-use Rattle.std.proofs.Common.{◌≡◌, ◌<◌, ◌∙◌, ℕ, zero, suc, Bool, true, false, refl, sym, subst, ap, ap₂, arith, List, [], ◌∷◌, length, map, Option, Some, None, option_map, Bor, inl, inr, unwrap_or, true≢false, cond, ◌==◌}
+use Rattle.std.proofs.Common.{◌≡◌, ◌<◌, ◌∙◌, ℕ, zero, suc, Bool, true, false, refl, sym, subst, ap, arith, List, [], ◌∷◌, length, map, Option, None, Bor, inl, inr, true≢false, cond, ◌==◌}
 use Rattle.std.specs.Prelude.{Result, Ok, Err}
-use Rattle.std.specs.Box.{box_value}
-use Rattle.std.specs.Option.{is_some, option_and_then}
+use Rattle.std.specs.Option.{option_and_then}
 use Rattle.std.proofs.lemmas.Bool.{eqb-true}
-use Rattle.clap.specs.Words.{App, Row, Text, fault_of, found_of, is_simple, is_simple_and_free, kind_of, rows_of, subcommand_of, subcommand_name_of, subcommand_rows_of}
+use Rattle.clap.specs.Words.{App, Row, Text, fault_of, is_simple, is_simple_and_free, kind_of, subcommand_of}
 use Rattle.clap.specs.Kinds.{HasKind, IsAmong, Kinds, or_else}
 use Rattle.clap.specs.declared.error.Error.{Error}
 use Rattle.clap.specs.declared.error.kind.ErrorKind.{ErrorKind}
 use Rattle.clap.specs.declared.error.kind.ErrorKind.TheVariants as kind
-use Rattle.clap.specs.declared.parser.matches.ArgMatches.{ArgMatches}
-use Rattle.clap.specs.declared.parser.matches.ArgMatches.TheViews.{out-ArgMatches, out-SubCommand}
 use Rattle.clap.proofs.OnLiterals.{clap_on_literals}
 use Rattle.rvmc_cli.specs.App.{rvmc_app}
 use Rattle.rvmc_cli.specs.Meaning.{Finds, IsRefusal, IsTold, Parses, Tells, command_in, faults_in, is_request, line_in, meaning_of, refusals_of}
@@ -40,10 +37,10 @@ unfolding command_in
 command_is a ws e = ap (λ x. subcommand_of x ws) e
 
 -- clap took the words
-pub taken : (ws : List (Bor Text)) (name : Text) (rows : List Row) → 0 < length ws → faults_in (texts ws) ≡ [] → command_in (texts ws) ≡ Some (name, rows)
-    → meaning_of (texts ws) ≡ line_in name rows
-taken [] name rows lt none found = absurd (omega (arith, lt))
-taken (w ∷ ws) name rows lt none found = rw (none, found) refl
+pub taken : (ws : List (Bor Text)) (found : Option (Text × List Row)) → 0 < length ws → faults_in (texts ws) ≡ [] → command_in (texts ws) ≡ found
+    → meaning_of (texts ws) ≡ option_and_then (λ p. line_in p.0 p.1) found
+taken [] found lt none is = absurd (omega (arith, lt))
+taken (w ∷ ws) found lt none is = rw (none, is) refl
 
 some_kind : (k : ErrorKind) (ks : Kinds) → IsAmong k ks → length ks ≡ 0 → ⊥
 some_kind k [] among e = among
@@ -58,27 +55,9 @@ not_taken (w ∷ ws) k lt among = go (length (faults_in (texts (w ∷ ws))) == 0
     go true e = absurd (some_kind k _ among (eqb-true _ _ e))
     go false e = refl
 
-some≢none : {X : Type 0} (x : X) → Some x ≡ None → ⊥
-some≢none x e = true≢false (ap (λ o. is_some o) e)
-
-abbrev pub both_of : {B : Type 0} → (B → Text) → (B → List Row) → Option B → Option (Text × List Row)
-both_of f g o = option_map (λ b. (f b, g b)) o
-
-pub pair : {B : Type 0} (f : B → Text) (g : B → List Row) (o : Option B) (n : Text) (rs : List Row) → Some n ≡ option_map f o
-    → Some rs ≡ option_map (λ (p : Text × List Row). p.1) (both_of f g o) → both_of f g o ≡ Some (n, rs)
-pair f g None n rs name rows = absurd (some≢none n name)
-pair f g (Some b) n rs name rows =
-    let first : n ≡ f b = ap (λ o. unwrap_or o n) name in
-    let second : rs ≡ g b = ap (λ o. unwrap_or o rs) rows in
-    ap₂ (λ x y. Some (x, y)) (sym first) (sym second)
-
 pub nonempty : (n : ℕ) → (n == 0) ≡ false → 0 < n
 nonempty zero e = absurd (true≢false e)
 nonempty (suc n) e = omega arith
-
-pub met : (m : ArgMatches) (n : Text) (rs : List Row) → Some n ≡ subcommand_name_of m → Some rs ≡ option_map (λ p. p.1) (subcommand_rows_of m) → subcommand_rows_of m ≡ Some (n, rs)
-met m n rs name rows =
-    pair (λ b. (out-SubCommand (box_value b)).name.now) (λ b. rows_of (found_of (out-SubCommand (box_value b)).matches)) (out-ArgMatches m).subcommand n rs name rows
 
 -- what is refused is refused for a reason that the words give
 among_refusals : (k : ErrorKind) (ks : Kinds) → IsAmong k ks → IsAmong k (or_else ks (kind.ValueValidation ∷ []))

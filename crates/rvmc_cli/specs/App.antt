@@ -32,11 +32,18 @@ asm_app = with_rules (new_app (codes "asm")) (flag (codes "from") ∷ [])
 abbrev pub dis_app : App
 dis_app = new_app (codes "dis")
 
+-- what `run` and `one` share: `NAME [--source] [--budget N] [--plan HARTS]`
+abbrev pub runner_app : Text → App
+runner_app name =
+    with_rules (new_app name) (flag (codes "source") ∷ option (codes "budget") ∷ option (codes "plan") ∷ [])
+
+-- `run [--source] [--budget N] [--plan HARTS] [--lead N]`
+abbrev pub run_app : App
+run_app = with_rule (runner_app (codes "run")) (option (codes "lead"))
+
 -- `one [--source] [--budget N] [--plan HARTS] [--order RANKS]`
 abbrev pub one_app : App
-one_app =
-    with_rules (new_app (codes "one"))
-    (flag (codes "source") ∷ option (codes "budget") ∷ option (codes "plan") ∷ option (codes "order") ∷ [])
+one_app = with_rule (runner_app (codes "one")) (option (codes "order"))
 
 -- `rvmc`, before its commands: `--help`, `--version` and the command `help` are clap's own
 abbrev pub top_app : App
@@ -52,11 +59,12 @@ top_app =
 
 -- the whole command line, one row a command
 abbrev pub rvmc_app : App
-rvmc_app = with_commands top_app (asm_app ∷ dis_app ∷ one_app ∷ [])
+rvmc_app = with_commands top_app (asm_app ∷ dis_app ∷ run_app ∷ one_app ∷ [])
 
 -- the command of this name by itself; any other name stands for the whole command line
 abbrev pub app_named : Text → App
-app_named name = if bytes_eq name (codes "one") then one_app else rvmc_app
+app_named name =
+    if bytes_eq name (codes "run") then run_app else (if bytes_eq name (codes "one") then one_app else rvmc_app)
 
 -- clap's command is built from these rules, and none of its arguments is global
 pub record StandsFor (rules : App) (command : Command) : Type 0 where

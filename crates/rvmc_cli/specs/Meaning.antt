@@ -11,7 +11,7 @@ use Rattle.clap.specs.declared.error.kind.ErrorKind.TheVariants as kind
 use Rattle.rvmc_cli.specs.App.{rvmc_app}
 use Rattle.rvmc_line.specs.Number.{number_in, numbers_in}
 use Rattle.rvmc_line.specs.declared.line.CommandLine.{CommandLine}
-use Rattle.rvmc_line.specs.declared.line.CommandLine.TheVariants.{Asm, Dis, One}
+use Rattle.rvmc_line.specs.declared.line.CommandLine.TheVariants.{Asm, Dis, One, Run}
 use Rattle.rvmc_line.specs.declared.line.ParseFault.{ParseFault}
 use Rattle.rvmc_line.specs.declared.line.ParseFault.TheVariants as parse
 use Rattle.rvmc_cli.specs.declared.parsing.Wrong.{Wrong}
@@ -37,6 +37,17 @@ abbrev pub list_option : Text → List Row → Option (Option (List ℕ))
 list_option name rows =
     option_map_or (λ text. option_map (λ numbers. Some numbers) (numbers_in text)) (first_of name rows) (Some None)
 
+-- `--lead N`, from 1 to 2^16; without it 64
+abbrev pub lead_in : List Row → Option ℕ
+lead_in rows = number_option (codes "lead") 1 65536 64 rows
+
+-- each option of `run`
+abbrev pub run_in : List Row → Option CommandLine
+run_in rows =
+    option_and_then (λ budget. option_and_then (λ lead. option_map (λ plan.
+    Run (flag_in (codes "source") rows) budget plan lead)
+    (list_option (codes "plan") rows)) (lead_in rows)) (budget_in rows)
+
 -- each option of `one`
 abbrev pub one_in : List Row → Option CommandLine
 one_in rows =
@@ -49,8 +60,9 @@ unfoldable pub line_in : Text → List Row → Option CommandLine
 line_in name rows =
     if bytes_eq name (codes "asm") then Some (Asm (flag_in (codes "from") rows))
     else (if bytes_eq name (codes "dis") then Some Dis
+    else (if bytes_eq name (codes "run") then run_in rows
     else (if bytes_eq name (codes "one") then one_in rows
-    else None))
+    else None)))
 
 -- ---- the whole line
 

@@ -1,8 +1,9 @@
 //! The command line as clap builds it: each command with its options, and what help says of them.
 
-ghost use Rattle.std.specs.Prelude.{◌≡◌, IfOk, false};
-ghost use Rattle.clap.specs.Words.{new_app, rule_of};
-ghost use Rattle.rvmc_cli.specs.App.{StandsFor, app_named, asm_app, dis_app, flag, one_app, option, rvmc_app, top_app};
+ghost use Rattle.std.specs.Prelude.{◌≡◌, IfOk, IsOkAnd, false};
+ghost use Rattle.clap.specs.Words.{AddsSubcommand, new_app, rule_of};
+ghost use Rattle.rvmc_cli.specs.App.{StandsFor, app_named, asm_app, dis_app, flag, one_app, option, run_app};
+ghost use Rattle.rvmc_cli.specs.App.{runner_app, rvmc_app, top_app};
 
 use clap::{Arg, ArgAction, Command};
 use std::alloc::{AllocError, Global};
@@ -14,7 +15,8 @@ Examples:
   rvmc <hi.s                  assembles the source and runs it
   rvmc asm <hi.s >hi.image    makes an image of it
   rvmc dis <hi.image          lists the image's instructions
-  rvmc one <hi.image          runs the image
+  rvmc one <hi.image          runs the image on one thread
+  rvmc run --source <hi.s     runs the source with a thread for each rank
 
 Status:
   0 done, 1 fault of the input, 2 fault of the command line, 3 a hart trapped,
@@ -39,6 +41,24 @@ at its address, as `go:`, a line each.
 
 Example:
   rvmc asm <hi.s | rvmc dis";
+
+const RUN_EXAMPLES: &str = "\
+The ranks run side by side, each on a thread of its own. A rank that is more
+than N turns ahead of the slowest rank that hasn't ended is held back, where N
+is that of --lead. In each of its turns a rank gives one hart a turn: the next
+in the list that --plan gives, round and round, the same for each rank. A list
+is decimal numbers from 0 to 255 with one comma between them. A hart may be
+listed more than once, or not at all.
+
+Where the program leaves the order of messages open, it may differ from run to
+run, and with it the report. `rvmc one` runs the same image in an order that is
+laid down, and its report has the same form.
+
+Examples:
+  rvmc run --source <hi.s
+  rvmc run --budget 100 <hi.image
+  rvmc run --lead 1 <hi.image          the ranks keep close together
+  rvmc run --plan 0,0,1 <hi.image      hart 0 takes two turns, then hart 1 one";
 
 const ONE_EXAMPLES: &str = "\
 The ranks take turns in the order that --order lists, round and round, and a
@@ -111,28 +131,57 @@ fn dis<'a>(alloc: Global) -> Command<'a>
     )
 }
 
+/// A command that runs an image, with the options that `run` and `one` share.
+fn runner<'a>(
+    alloc: Global,
+    name: &'a str,
+    about: &'a str,
+    examples: &'a str,
+) -> Result<Command<'a>, AllocError>
+    ensures { IfOk result (StandsFor (runner_app name.entry.now)) }
+{
+    command(alloc, name, about, examples)
+        .arg(flag(alloc, "source", "Takes a source in place of an image"))?
+        .arg(option(
+            alloc,
+            "budget",
+            "N",
+            "Stops a rank after N turns, from 1 to 16777216 [default: 1000000]",
+        ))?
+        .arg(option(
+            alloc,
+            "plan",
+            "HARTS",
+            "The harts that take a rank's turns, as 0,1 [default: all in order]",
+        ))
+}
+
+fn run<'a>(alloc: Global) -> Result<Command<'a>, AllocError>
+    ensures { IfOk result (StandsFor run_app) }
+{
+    runner(
+        alloc,
+        "run",
+        "Runs the image on standard input with a thread for each rank and reports",
+        RUN_EXAMPLES,
+    )?
+    .arg(option(
+        alloc,
+        "lead",
+        "N",
+        "Holds back a rank more than N turns ahead, from 1 to 65536 [default: 64]",
+    ))
+}
+
 fn one<'a>(alloc: Global) -> Result<Command<'a>, AllocError>
     ensures { IfOk result (StandsFor one_app) }
 {
-    command(
+    runner(
         alloc,
         "one",
         "Runs the image on standard input on one thread and reports",
         ONE_EXAMPLES,
-    )
-    .arg(flag(alloc, "source", "Takes a source in place of an image"))?
-    .arg(option(
-        alloc,
-        "budget",
-        "N",
-        "Stops a rank after N turns, from 1 to 16777216 [default: 1000000]",
-    ))?
-    .arg(option(
-        alloc,
-        "plan",
-        "HARTS",
-        "The harts that take a rank's turns, as 0,1 [default: all in order]",
-    ))?
+    )?
     .arg(option(
         alloc,
         "order",
@@ -144,32 +193,45 @@ fn one<'a>(alloc: Global) -> Result<Command<'a>, AllocError>
 fn top<'a>(alloc: Global) -> Result<Command<'a>, AllocError>
     ensures { IfOk result (StandsFor top_app) }
 {
-    Command::new(alloc, "rvmc")
-        .about("Emulates a small cluster of RISC-V machines (RV64IM) that pass messages")
-        .after_help(TOP_EXAMPLES)
-        .version("0.1.0")
-        .no_binary_name(true)
-        .subcommand_required(true)
-        .bin_name("rvmc")
+    command(
+        alloc,
+        "rvmc",
+        "Emulates a small cluster of RISC-V machines (RV64IM) that pass messages",
+        TOP_EXAMPLES,
+    )
+    .version("0.1.0")
+    .no_binary_name(true)
+    .subcommand_required(true)
+    .bin_name("rvmc")
+}
+
+/// The command with another below it, where there was memory to build that one.
+fn with_command<'a>(
+    command: Command<'a>,
+    below: Result<Command<'a>, AllocError>,
+) -> Result<Command<'a>, AllocError>
+    ensures { IfOk result (λ new. IsOkAnd below.entry (λ sub. AddsSubcommand command.entry sub new)) }
+{
+    command.subcommand(below?)
 }
 
 /// The whole command line.
 pub fn rvmc<'a>(alloc: Global) -> Result<Command<'a>, AllocError>
     ensures { IfOk result (StandsFor rvmc_app) }
 {
-    top(alloc)?
-        .subcommand(asm(alloc)?)?
-        .subcommand(dis(alloc))?
-        .subcommand(one(alloc)?)
+    let command = with_command(top(alloc)?, asm(alloc))?;
+    let command = command.subcommand(dis(alloc))?;
+    let command = with_command(command, run(alloc))?;
+    with_command(command, one(alloc))
 }
 
 /// The command of this name by itself, whose usage a refusal shows; any other name stands for the whole command line.
 pub fn named<'a>(alloc: Global, name: &str) -> Result<Command<'a>, AllocError>
     ensures { IfOk result (StandsFor (app_named name.now)) }
 {
-    if name == "one" {
-        one(alloc)?.bin_name("rvmc one")
-    } else {
-        rvmc(alloc)
+    match name {
+        "run" => run(alloc)?.bin_name("rvmc run"),
+        "one" => one(alloc)?.bin_name("rvmc one"),
+        _ => rvmc(alloc),
     }
 }

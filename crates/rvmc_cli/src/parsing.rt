@@ -1,10 +1,10 @@
 //! From words to a command line.
 
-ghost use Rattle.std.specs.Prelude.{◌≡◌, IfOk, None, Ok, [], map, option_map, true};
+ghost use Rattle.std.specs.Prelude.{◌≡◌, IfOk, None, Ok, [], map, option_and_then, option_map, true};
 ghost use Rattle.clap.specs.Walk.{rows_of};
-ghost use Rattle.clap.specs.Words.{first_of, found_of, kind_of};
+ghost use Rattle.clap.specs.Words.{first_of, found_of, kind_of, subcommand_rows_of};
 ghost use Rattle.rvmc_cli.specs.Meaning.{Finds, IsRefusal, IsTold, Parses, Reads, Tells, budget_in, flag_in, line_in};
-ghost use Rattle.rvmc_cli.specs.Meaning.{list_option, number_option, one_in};
+ghost use Rattle.rvmc_cli.specs.Meaning.{lead_in, list_option, number_option, one_in, run_in};
 ghost use Rattle.rvmc_cli.specs.declared.parsing.Wrong.TheVariants as wrong;
 ghost use Rattle.rvmc_line.specs.declared.line.CommandLine.TheVariants.{One};
 
@@ -113,6 +113,12 @@ fn budget<'a>(matches: &ArgMatches<'a>) -> Result<u64, Wrong<'a>>
     number(matches, "budget", 1, 16_777_216, 1_000_000)
 }
 
+fn lead<'a>(matches: &ArgMatches<'a>) -> Result<u64, Wrong<'a>>
+    ensures { Reads (lead_in (rows_of (found_of matches.now))) result }
+{
+    number(matches, "lead", 1, 65_536, 64)
+}
+
 /// The numbers of an option, if it was given.
 fn list<'a>(
     alloc: Global,
@@ -128,6 +134,20 @@ fn list<'a>(
         Some(numbers) => Ok(Some(numbers)),
         None => Err(Wrong::List { option, text }),
     }
+}
+
+fn run<'a>(alloc: Global, matches: &ArgMatches<'a>) -> Result<CommandLine, Wrong<'a>>
+    ensures { Finds (run_in (rows_of (found_of matches.now))) result }
+{
+    let budget = budget(matches)?;
+    let lead = lead(matches)?;
+    let plan = list(alloc, matches, "plan")?;
+    Ok(CommandLine::Run {
+        source: flag(matches, "source"),
+        budget,
+        plan,
+        lead,
+    })
 }
 
 fn one<'a>(alloc: Global, matches: &ArgMatches<'a>) -> Result<CommandLine, Wrong<'a>>
@@ -156,6 +176,9 @@ fn line<'a>(alloc: Global, name: &str, matches: &ArgMatches<'a>) -> Result<Comma
     }
     if name == "dis" {
         return Ok(CommandLine::Dis);
+    }
+    if name == "run" {
+        return run(alloc, matches);
     }
     if name == "one" {
         return one(alloc, matches);
@@ -212,6 +235,17 @@ fn told_line(alloc: Global, name: &str, matches: &ArgMatches<'_>) -> Result<Comm
     }
 }
 
+/// The same of the words as a whole, where clap found a command in them or none.
+#[tactic(auto, using(crate::proofs::FromClap::tells))]
+fn told(alloc: Global, matches: &ArgMatches<'_>) -> Result<CommandLine, ParseFault>
+    ensures { Tells (option_and_then (λ found. line_in found.0 found.1) (subcommand_rows_of matches.now)) result }
+{
+    match matches.subcommand() {
+        Some((name, found)) => told_line(alloc, name, found),
+        None => Err(refused_by_name(alloc, "", Wrong::Command)?),
+    }
+}
+
 /// What the words after the program's name ask for. Without words it is `one --source`.
 ///
 /// `Asked` comes where the words ask for help or the version, `Refused` where clap doesn't take them,
@@ -229,15 +263,8 @@ pub fn parse<'a>(alloc: Global, words: &'a [&'a str]) -> Result<CommandLine, Par
             order: None,
         });
     }
-    let mut command = command::rvmc(alloc)?;
-    let matches = match command.try_get_matches_from_mut(words) {
-        Ok(matches) => matches,
-        Err(error) => {
-            return Err(shown(alloc, error));
-        }
-    };
-    let Some((name, found)) = matches.subcommand() else {
-        return Err(refused(alloc, &mut command, Wrong::Command)?);
-    };
-    told_line(alloc, name, found)
+    match command::rvmc(alloc)?.try_get_matches_from(words) {
+        Ok(matches) => told(alloc, &matches),
+        Err(error) => Err(shown(alloc, error)),
+    }
 }

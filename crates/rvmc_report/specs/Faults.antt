@@ -1,21 +1,23 @@
 -- The faults of the program.
 use Rattle.std.specs.Prelude.{ℕ}
-use Rattle.cl_run.specs.declared.records.RunFault.{RunFault}
-use Rattle.cl_run.specs.declared.records.RunFault.TheVariants as run
+use Rattle.cl_record.specs.declared.records.RunFault.{RunFault}
+use Rattle.cl_record.specs.declared.records.RunFault.TheVariants as run
 use Rattle.rv_asm_tokens.specs.declared.fault.AsmFault.{AsmFault}
 use Rattle.rv_asm_tokens.specs.declared.fault.AsmFaultKind.{AsmFaultKind}
 use Rattle.rv_asm_tokens.specs.declared.fault.AsmFaultKind.TheVariants as kinds
 use Rattle.rv_image.specs.declared.faults.ImageFault.{ImageFault}
 use Rattle.rv_image.specs.declared.faults.ImageFault.TheVariants as image
 use Rattle.rvmc_report.specs.declared.faults.Fault.{Fault}
-use Rattle.rvmc_report.specs.declared.faults.Fault.TheVariants.{Source, Image, Plans, Memory, Read, Write}
+use Rattle.rvmc_report.specs.declared.faults.Fault.TheVariants.{Source, Image, Plans, Unlike, Memory, Spawn, Read, Write}
 
--- 1 for a fault of the input, 5 for memory, 6 for reads and writes
+-- 1 for a fault of the input, 5 for memory or a thread, 6 for reads and writes
 abbrev pub fault_status : Fault → ℕ
 fault_status (Source fault) = 1
 fault_status (Image fault) = 1
 fault_status Plans = 1
+fault_status (Unlike rank place) = 1
 fault_status Memory = 5
+fault_status Spawn = 5
 fault_status Read = 6
 fault_status Write = 6
 
@@ -34,3 +36,5 @@ fault_of_image fault = Image fault
 abbrev pub fault_of_run : RunFault → Fault
 fault_of_run run.Plans = Plans
 fault_of_run run.Memory = Memory
+fault_of_run run.Spawn = Spawn
+fault_of_run (run.Unlike rank place) = Unlike rank place

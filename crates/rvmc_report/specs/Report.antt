@@ -4,7 +4,7 @@ use Rattle.std.specs.Fmt.{decimal, digits}
 use Rattle.std.specs.List.{enumerate_from, flat_map, list_any}
 use Rattle.cl_rank.specs.declared.stops.Stop.{Stop}
 use Rattle.cl_rank.specs.declared.stops.Stop.TheVariants.{AllEnded, Budget, Calls, ClockFull, Memory}
-use Rattle.cl_run.specs.declared.records.Record.{Record}
+use Rattle.cl_record.specs.declared.records.Record.{Record}
 use Rattle.cl_state.specs.declared.state.RankState.{RankState}
 use Rattle.cl_trace.specs.Traces.{TraceView}
 use Rattle.rv_hart.specs.State.{State}

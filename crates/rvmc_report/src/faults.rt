@@ -4,7 +4,7 @@ ghost use Rattle.std.specs.Prelude.{◌≡◌};
 ghost use Rattle.rvmc_report.specs.Faults.{fault_of_image, fault_of_run, fault_of_source, fault_status};
 ghost use Rattle.rvmc_report.specs.declared.faults.Fault.TheVariants as faults;
 
-use cl_run::RunFault;
+use cl_record::RunFault;
 use rv_asm::{AsmFault, AsmFaultKind};
 use rv_image::ImageFault;
 use std::alloc::{AllocError, AllocFailed};
@@ -22,9 +22,18 @@ pub enum Fault {
     /// The plan or the order names a hart or a rank that isn't there, or the order misses a rank.
     #[error("plans")]
     Plans,
+    /// What the threads of a run left doesn't fit together.
+    #[error("unlike {rank} {place}")]
+    Unlike {
+        rank: u8,
+        place: u64,
+    },
     /// Memory was refused.
     #[error("memory")]
     Memory,
+    /// A thread was refused.
+    #[error("spawn")]
+    Spawn,
     /// A read failed, or the input is too long.
     #[error("read")]
     Read,
@@ -34,13 +43,14 @@ pub enum Fault {
 }
 
 impl Fault {
-    /// The status that a program ends with: 1 for a fault of the input, 5 for memory, 6 for reads and writes.
+    /// The status that a program ends with: 1 for a fault of the input, 5 for memory or a thread, 6 for reads and
+    /// writes.
     pub fn status(self) -> u8
         ensures { result ≡ fault_status self }
     {
         match self {
-            Fault::Source(_) | Fault::Image(_) | Fault::Plans => 1,
-            Fault::Memory => 5,
+            Fault::Source(_) | Fault::Image(_) | Fault::Plans | Fault::Unlike { .. } => 1,
+            Fault::Memory | Fault::Spawn => 5,
             Fault::Read | Fault::Write => 6,
         }
     }
@@ -75,6 +85,8 @@ impl From<RunFault> for Fault {
         match fault {
             RunFault::Plans => Fault::Plans,
             RunFault::Memory => Fault::Memory,
+            RunFault::Spawn => Fault::Spawn,
+            RunFault::Unlike { rank, place } => Fault::Unlike { rank, place },
         }
     }
 }

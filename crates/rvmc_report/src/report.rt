@@ -7,7 +7,7 @@ ghost use Rattle.rvmc_report.specs.Report.{mode_text, output_head, output_text, 
 ghost use Rattle.rvmc_report.specs.Report.{status_of, stop_line, stop_text, wants_memory};
 
 use cl_rank::{RankState, Stop};
-use cl_run::Record;
+use cl_record::Record;
 use rv_hart::{Hart, Mode};
 use std::alloc::{AllocError, Global};
 

@@ -1,6 +1,6 @@
 //! The program over any reader and writers.
 #![tactic(auto)]
 
-mod tool;
+mod program;
 
-pub use tool::tool_plain;
+pub use program::{tool, tool_plain};

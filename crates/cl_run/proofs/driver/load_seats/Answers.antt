@@ -5,7 +5,7 @@ use Rattle.std.proofs.lemmas.Option.{slice_get_read, slice_get_within}
 use Rattle.cl_state.specs.Rank.{loaded}
 use Rattle.cl_state.specs.Rank.{below as below_of}
 use Rattle.cl_run.proofs.Seats.{fresh_more, loaded_more}
-use Rattle.cl_run.proofs.Sides.{next_at, seam_more}
+use Rattle.cl_record.proofs.Sides.{next_at, seam_more}
 use Rattle.cl_run.proofs.driver.load_seats.Goals as goal
 
 pub overflow_cast-rank : goal.overflow_cast-rank

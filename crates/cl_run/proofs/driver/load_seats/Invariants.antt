@@ -2,7 +2,8 @@ use Rattle.std.proofs.Common.{◌≡◌, ◌++◌, List, length, map, vec_len}
 use Rattle.part_channel.specs.Channels.{ChannelView}
 use Rattle.cl_state.specs.Rank.{below, loaded}
 use Rattle.cl_state.specs.Room.{rank_of}
-use Rattle.cl_run.specs.Driver.{AreAllNew, AreFresh}
+use Rattle.cl_run.specs.Driver.{AreFresh}
+use Rattle.cl_record.specs.Wiring.{AreAllNew}
 use Rattle.cl_run.specs.declared.driver.Seat.{Seat}
 use Rattle.cl_run.proofs.driver.load_seats.Given as goal
 

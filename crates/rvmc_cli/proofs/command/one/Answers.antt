@@ -3,8 +3,4 @@ use Rattle.rvmc_cli.proofs.Building.{with_arg}
 use Rattle.rvmc_cli.proofs.command.one.Goals as goal
 
 pub returns : goal.returns
-returns c =
-    let source = with_arg _ _ _ _ _ c.command.ensures c.flag.ensures.rule c.flag.ensures.local c.in_ok-arg.ensures in
-    let budget = with_arg _ _ _ _ _ source c.option.ensures.rule c.option.ensures.local c.in_ok-arg-2.ensures in
-    let plan = with_arg _ _ _ _ _ budget c.option-2.ensures.rule c.option-2.ensures.local c.in_ok-arg-3.ensures in
-    IfOk-weaker c.arg-4.result _ _ (λ new adds. with_arg _ _ _ new _ plan c.option-3.ensures.rule c.option-3.ensures.local adds) c.arg-4.ensures
+returns c = IfOk-weaker c.arg.result _ _ (λ new adds. with_arg _ _ _ new _ c.in_ok-runner.ensures c.option.ensures.rule c.option.ensures.local adds) c.arg.ensures

@@ -1,9 +1,10 @@
 use Rattle.std.proofs.lemmas.Result.{IfOk-weaker}
-use Rattle.rvmc_cli.proofs.Building.{with_command}
+use Rattle.rvmc_cli.proofs.Building.{with_built, with_command}
 use Rattle.rvmc_cli.proofs.command.rvmc.Goals as goal
 
 pub returns : goal.returns
 returns c =
-    let asm = with_command _ _ _ _ _ c.in_ok-top.ensures c.in_ok-asm.ensures c.in_ok-subcommand.ensures in
-    let dis = with_command _ _ _ _ _ asm c.dis.ensures c.in_ok-subcommand-2.ensures in
-    IfOk-weaker c.subcommand-3.result _ _ (λ new adds. with_command _ _ _ _ new dis c.in_ok-one.ensures adds) c.subcommand-3.ensures
+    let asm = with_built _ _ _ _ _ c.in_ok-top.ensures c.asm.ensures c.in_ok-command.ensures in
+    let dis = with_command _ _ _ _ _ asm c.dis.ensures c.in_ok-command-2.ensures in
+    let run = with_built _ _ _ _ _ dis c.run.ensures c.in_ok-command-3.ensures in
+    IfOk-weaker c.with_command-3.result _ _ (λ new adds. with_built _ _ _ _ _ run c.one.ensures adds) c.with_command-3.ensures

@@ -2,7 +2,7 @@ use Rattle.std.proofs.Common.{◌∙◌, ◌+◌, ap, sym, rules, arith}
 use Rattle.cl_state.specs.Room.{rank_of}
 use Rattle.cl_state.specs.Told.{told}
 use Rattle.cl_rank.proofs.Turned.{clock_told}
-use Rattle.cl_rank.proofs.Went.{alone_stamp, event_alone, one_more, quiet_turn, went_alone}
+use Rattle.cl_rank.proofs.Went.{alone_stamp, event_alone, one_more, quiet_turn, stamped_by, went_alone}
 use Rattle.cl_rank.proofs.ranks.Rank.go_alone.Goals as goal
 
 pub invariant_of-self : goal.invariant_of-self
@@ -12,10 +12,12 @@ invariant_of-self c =
     c.started-link.ensures c.begin.ensures.sends c.begin.ensures.recvs in
     let clock = clock_told (rank_of c.args.self.now.state) (rank_of c.tell_next.new.self) c.args.turn.hart _ _
     c.tell_next.ensures.told in
+    let last = stamped_by c.args.self.now.trace.events c.push.new.self.events _ c.push.ensures in
     record {
       low = omega (arith, clock, c.requires.may.low);
       within = one_more c.args.self.now.trace.events c.push.new.self.events _ c.args.self.now.budget c.push.ensures
           c.requires.may.left;
+      stamped = omega (arith, clock, last);
       sides = moved.sides;
       fit = moved.fit;
     }

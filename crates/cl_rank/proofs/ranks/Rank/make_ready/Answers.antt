@@ -5,7 +5,7 @@ use Rattle.cl_rank.specs.Deeds.{Act}
 use Rattle.cl_rank.specs.Steps.{IsReadied, MayReady}
 use Rattle.cl_rank.proofs.Boxes.{length_first}
 use Rattle.cl_rank.proofs.Turned.{clock_told}
-use Rattle.cl_rank.proofs.Went.{cut_is, in_bounds, may_go, one_more, quiet_turn, went_ready}
+use Rattle.cl_rank.proofs.Went.{cut_is, in_bounds, may_go, one_more, quiet_turn, stamped_by, went_ready}
 use Rattle.cl_rank.proofs.ranks.Rank.make_ready.Goals as goal
 
 pub slice_bounds-bytes-end : goal.slice_bounds-bytes-end
@@ -34,10 +34,12 @@ invariant_of-self c =
     c.make_ready-stamp.new.sends.items c.make_ready-stamp.ensures.stamp c.tell_next.ensures.told done in
     let clock = clock_told (rank_of c.args.self.now.state) (rank_of c.tell_next.new.self) c.args.turn.hart _ _
     c.tell_next.ensures.told in
+    let last = stamped_by c.args.self.now.trace.events c.push.new.self.events _ c.push.ensures in
     record {
       low = omega (arith, clock, c.requires.may.low, c.make_ready-stamp.ensures.stamp);
       within = one_more c.args.self.now.trace.events c.push.new.self.events _ c.args.self.now.budget c.push.ensures
           c.requires.may.left;
+      stamped = omega (arith, clock, last);
       sides = moved.sides;
       fit = moved.fit;
     }

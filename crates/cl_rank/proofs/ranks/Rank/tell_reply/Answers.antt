@@ -2,7 +2,7 @@ use Rattle.std.proofs.Common.{refl, rules, arith}
 use Rattle.cl_state.specs.Room.{rank_of}
 use Rattle.cl_rank.proofs.Replied.{may_follow_receiver, may_follow_sender, replied_event, went_reply}
 use Rattle.cl_rank.proofs.Turned.{clock_told}
-use Rattle.cl_rank.proofs.Went.{one_more}
+use Rattle.cl_rank.proofs.Went.{one_more, stamped_by}
 use Rattle.cl_rank.proofs.ranks.Rank.tell_reply.Goals as goal
 
 pub follow_sender-requires : goal.follow_sender-requires
@@ -27,10 +27,12 @@ invariant_of-self c =
     c.follow_sender.ensures c.follow_receiver.ensures c.requires.stamp.0 in
     let clock = clock_told (rank_of c.args.self.now.state) (rank_of c.tell_next.new.self) c.args.turn.hart _ _
     c.tell_next.ensures.told in
+    let last = stamped_by c.args.self.now.trace.events c.push.new.self.events _ c.push.ensures in
     record {
       low = omega (arith, clock, c.requires.stamp.1);
       within = one_more c.args.self.now.trace.events c.push.new.self.events _ c.args.self.now.budget c.push.ensures
           c.requires.may.left;
+      stamped = omega (arith, clock, last);
       sides = moved.sides;
       fit = moved.fit;
     }

@@ -2,7 +2,7 @@ use Rattle.std.proofs.Common.{◌≡◌, ◌∙◌, Some, map, arith, sym, ap, s
 use Rattle.std.proofs.lemmas.List.{length-map}
 use Rattle.cl_run.specs.declared.driver.Seat.{Seat}
 use Rattle.cl_run.specs.Driver.{ends_of}
-use Rattle.cl_run.specs.Settling.{IsAllSettled, MaySettle}
+use Rattle.cl_record.specs.Settling.{IsAllSettled, MaySettle}
 use Rattle.cl_run.proofs.Left.{all_yielded, links_left, may_settle}
 use Rattle.cl_run.proofs.Seats.{fewer}
 use Rattle.cl_run.proofs.driver.Driver.into_record.Goals as goal

@@ -1,6 +1,6 @@
 use Rattle.cl_run.proofs.Joined.{link_at}
-use Rattle.cl_run.proofs.Wires.{new_sides}
-use Rattle.cl_run.specs.Wiring.{sides_in}
+use Rattle.cl_record.proofs.Wires.{new_sides}
+use Rattle.cl_record.specs.Wiring.{sides_in}
 use Rattle.cl_run.proofs.driver.Seat.load.Goals as goal
 
 pub new-requires : goal.new-requires

@@ -1,9 +1,11 @@
 use Rattle.std.proofs.Common.{◌∙◌, List, length, subst, sym}
 use Rattle.rv_image.specs.declared.images.Link.{Link}
-use Rattle.cl_run.specs.Driver.{HaveRoom}
-use Rattle.cl_run.specs.Plans.{Setup}
+use Rattle.cl_record.specs.Room.{HaveRoom}
+use Rattle.cl_record.specs.Records.{IsMergedRun}
+use Rattle.cl_run.specs.Setups.{Setup}
 use Rattle.cl_run.specs.Runs.{IsOneRun}
 use Rattle.cl_run.proofs.Ends.{all_stopped, one_run, seated_at_start, under_way_at_start}
+use Rattle.cl_run.proofs.Merged.{one_merged}
 use Rattle.cl_run.proofs.loading.Loaded.run.Goals as goal
 
 pub run-requires-clause-seated : goal.run-requires-clause-seated
@@ -33,6 +35,17 @@ into_record-requires-clause-room c =
     let loaded = c.self.invariant.1 in
     let start = under_way_at_start l.image.now l.plans.now l.order.now are l.driver loaded.loaded in
     let end = c.run.ensures.goes l.image.now start in
-    let count = c.run.ensures.seated.one_each ∙ are.one_each in
+    let count = c.run.ensures.seated.one_each ∙ are.planned.one_each in
     subst (λ n. HaveRoom n (length c.run.new.self.hub.links) l.lists) (sym count)
     (subst (λ (ls : List Link). HaveRoom l.image.now.ranks (length ls) l.lists) (sym end.1.links_are) loaded.room)
+
+pub returns-clause-merged : goal.returns-clause-merged
+returns-clause-merged c =
+    let l = c.self.inside in
+    let are = c.self.invariant.0 in
+    let loaded = c.self.invariant.1 in
+    let start = under_way_at_start l.image.now l.plans.now l.order.now are l.driver loaded.loaded in
+    let end = c.run.ensures.goes l.image.now start in
+    subst (λ (s : Setup). IsMergedRun s.image c.into_record.result) c.self.view_is
+    (one_merged l.image.now l.plans.now l.order.now c.into_record.result c.parts-parts.ensures.limits
+    (one_run l.image.now l.plans.now l.order.now are c.run.new.self c.into_record.result c.into_record.ensures end.0 end.1 c.run.ensures.seated))

@@ -1,0 +1,11 @@
+pub mod Prefixes
+pub mod Receives
+pub mod Counting
+pub mod Takes
+pub mod Sends
+pub mod Readies
+pub mod Reports
+pub mod Arrived
+pub mod Found
+pub mod Arrival
+pub mod Writes

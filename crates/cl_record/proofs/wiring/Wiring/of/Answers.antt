@@ -1,0 +1,1 @@
+use Rattle.cl_record.proofs.wiring.Wiring.of.Goals as goal

@@ -1,0 +1,34 @@
+-- Plans: which harts take a rank's turns, and how many it has; and the order in which ranks take theirs.
+use Rattle.std.specs.Prelude.{ℕ, ◌≡◌, ◌<◌, ◌≤◌, ◌^◌, ◌%◌, List, length, slice_index, All, Contains}
+use Rattle.rv_image.specs.declared.images.ImageParts.{ImageParts}
+use Rattle.cl_record.specs.declared.plans.Plan.{Plan}
+
+-- an order of turns: some numbers, each of one that is there
+pub record IsOrder (count : ℕ) (order : List ℕ) : Type 0 where
+  pub named : 0 < length order
+  pub there : All (λ number. number < count) order
+
+-- whose turn slot n is, where the order is used round and round
+abbrev pub in_slot : List ℕ → ℕ → ℕ
+in_slot order n = slice_index order (n % length order)
+
+-- the harts of a rank that has so many, and 1 to 2^24 turns
+pub record IsPlan (harts : ℕ) (plan : Plan) : Type 0 where
+  pub is_order : IsOrder harts plan.order.items
+  pub least_budget : 1 ≤ plan.budget
+  pub most_budget : plan.budget ≤ 2 ^ 24
+
+-- the order of the ranks misses none of them
+abbrev pub MissesNone : ℕ → List ℕ → Type 0
+MissesNone ranks order = (rank : ℕ) → rank < ranks → Contains order rank
+
+-- one plan for each rank of an image
+pub record HasPlans (image : ImageParts) (plans : List Plan) : Type 0 where
+  pub one_each : length plans ≡ image.ranks
+  pub are_plans : All (IsPlan image.harts) plans
+
+-- and an order of all ranks, in which they take turns on one thread
+pub record ArePlans (image : ImageParts) (plans : List Plan) (order : List ℕ) : Type 0 where
+  pub planned : HasPlans image plans
+  pub is_order : IsOrder image.ranks order
+  pub misses_none : MissesNone image.ranks order

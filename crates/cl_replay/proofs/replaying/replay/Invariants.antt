@@ -1,0 +1,5 @@
+use Rattle.cl_replay.specs.Replays.{IsReached}
+use Rattle.cl_replay.proofs.replaying.replay.Given as goal
+
+abbrev pub invariant-loop-k : goal.invariant-loop-k
+invariant-loop-k l = IsReached l.image l.steps l.k l.state

@@ -1,0 +1,272 @@
+use Rattle.std.proofs.Common.{◌≡◌, ◌≤◌, refl, sym, ap, ◌∙◌, subst, slice_set, ⊎_elim, inl, inr}
+use Rattle.std.specs.Vec.{with_item, with_items}
+use Rattle.std.proofs.lemmas.Result.{on_ok_weaker}
+use Rattle.cl_state.specs.Room.{rank_of}
+use Rattle.cl_trace.specs.Traces.{kind_of_bare}
+use Rattle.cl_machine.specs.Turns.{kind_seen}
+use Rattle.cl_replay.specs.declared.states.ClusterState.{ClusterState}
+use Rattle.cl_replay.specs.Turns.{IsFreed, IsReady, IsTake, Readies, Takes}
+use Rattle.cl_replay.proofs.ByKind.{at_step, call_fault, call_leads, changed_items, done_fault, freed_leads, freed_nowhere}
+use Rattle.cl_replay.proofs.ByKind.{matched_err, matched_ok, miss_leads, miss_nowhere, plain_leads, plain_nowhere}
+use Rattle.cl_replay.proofs.ByKind.{quiet_fault, quiet_leads, ready_leads, ready_nowhere, take_leads, take_nowhere}
+use Rattle.cl_replay.proofs.states.ClusterState.step.Goals as goal
+
+pub returns-in-Plain-clause-leads : goal.returns-in-Plain-clause-leads
+returns-in-Plain-clause-leads c =
+    let old = c.args.self.now in
+    let e = c.args.step.now in
+    let s = c.index_mut-state.result.now in
+    let kind = sym c.kind.ensures ∙ ap kind_seen c.in-Bare.is ∙ ap kind_of_bare c.in-Plain.is in
+    let rank = c.from-rank.ensures ∙ c.rank.ensures in
+    let low = subst (λ t. t ≤ 4611686018427387903) c.stamp.ensures c.if-stamp-gt-CLOCK_MAX.false in
+    let here = at_step old e c.from-rank.result c.len.result c.from.result c.len-2.result s rank c.len.ensures
+    c.if-rank-len.false low c.index_mut-state.ensures.value (c.from.ensures ∙ c.hart.ensures) c.len-2.ensures
+    c.if-from-len.false in
+    let new : ClusterState = record {
+      ranks = with_item old.ranks c.from-rank.result c.plain.new.state;
+      hub = old.hub;
+      clock = old.clock;
+      boxes = old.boxes;
+    } in
+    let ranks = ap (λ i. slice_set old.ranks.items i c.plain.new.state) rank in
+    on_ok_weaker c.done.result (λ yes.
+    plain_leads old e s here.there new c.plain.new.state here.hart here.low ranks refl refl refl kind
+    (c.plain.ensures.goes yes) (c.plain.ensures.told yes)) c.done.ensures.ok
+
+pub returns-in-Plain-clause-fault : goal.returns-in-Plain-clause-fault
+returns-in-Plain-clause-fault c =
+    let old = c.args.self.now in
+    let e = c.args.step.now in
+    let s = c.index_mut-state.result.now in
+    let kind = sym c.kind.ensures ∙ ap kind_seen c.in-Bare.is ∙ ap kind_of_bare c.in-Plain.is in
+    let rank = c.from-rank.ensures ∙ c.rank.ensures in
+    let low = subst (λ t. t ≤ 4611686018427387903) c.stamp.ensures c.if-stamp-gt-CLOCK_MAX.false in
+    let here = at_step old e c.from-rank.result c.len.result c.from.result c.len-2.result s rank c.len.ensures
+    c.if-rank-len.false low c.index_mut-state.ensures.value (c.from.ensures ∙ c.hart.ensures) c.len-2.ensures
+    c.if-from-len.false in
+    done_fault old e c.done.result c.plain.result (λ not.
+    plain_nowhere old e s here.there kind (c.plain.ensures.none not)) c.done.ensures.err
+
+pub returns-in-Miss-clause-leads : goal.returns-in-Miss-clause-leads
+returns-in-Miss-clause-leads c =
+    let old = c.args.self.now in
+    let e = c.args.step.now in
+    let s = c.index_mut-state.result.now in
+    let kind = sym c.kind.ensures ∙ ap kind_seen c.in-Bare.is ∙ ap kind_of_bare c.in-Miss.is in
+    let rank = c.from-rank.ensures ∙ c.rank.ensures in
+    let low = subst (λ t. t ≤ 4611686018427387903) c.stamp.ensures c.if-stamp-gt-CLOCK_MAX.false in
+    let here = at_step old e c.from-rank.result c.len.result c.from.result c.len-2.result s rank c.len.ensures
+    c.if-rank-len.false low c.index_mut-state.ensures.value (c.from.ensures ∙ c.hart.ensures) c.len-2.ensures
+    c.if-from-len.false in
+    let new : ClusterState = record {
+      ranks = with_item old.ranks c.from-rank.result c.miss.new.state;
+      hub = old.hub;
+      clock = old.clock;
+      boxes = old.boxes;
+    } in
+    let ranks = ap (λ i. slice_set old.ranks.items i c.miss.new.state) rank in
+    on_ok_weaker c.done-in-Miss.result (λ yes.
+    miss_leads old e s here.there new c.miss.new.state here.hart here.low ranks refl refl refl kind
+    (c.miss.ensures.goes yes) (c.miss.ensures.told yes)) c.done-in-Miss.ensures.ok
+
+pub returns-in-Miss-clause-fault : goal.returns-in-Miss-clause-fault
+returns-in-Miss-clause-fault c =
+    let old = c.args.self.now in
+    let e = c.args.step.now in
+    let s = c.index_mut-state.result.now in
+    let kind = sym c.kind.ensures ∙ ap kind_seen c.in-Bare.is ∙ ap kind_of_bare c.in-Miss.is in
+    let rank = c.from-rank.ensures ∙ c.rank.ensures in
+    let low = subst (λ t. t ≤ 4611686018427387903) c.stamp.ensures c.if-stamp-gt-CLOCK_MAX.false in
+    let here = at_step old e c.from-rank.result c.len.result c.from.result c.len-2.result s rank c.len.ensures
+    c.if-rank-len.false low c.index_mut-state.ensures.value (c.from.ensures ∙ c.hart.ensures) c.len-2.ensures
+    c.if-from-len.false in
+    done_fault old e c.done-in-Miss.result c.miss.result (λ not.
+    miss_nowhere old e s here.there kind (c.miss.ensures.none not)) c.done-in-Miss.ensures.err
+
+pub returns-in-Freed-clause-leads : goal.returns-in-Freed-clause-leads
+returns-in-Freed-clause-leads c =
+    let old = c.args.self.now in
+    let e = c.args.step.now in
+    let s = c.index_mut-state.result.now in
+    let kind = sym c.kind.ensures ∙ ap kind_seen c.in-Bare.is ∙ ap kind_of_bare c.in-Freed.is in
+    let rank = c.from-rank.ensures ∙ c.rank.ensures in
+    let low = subst (λ t. t ≤ 4611686018427387903) c.stamp.ensures c.if-stamp-gt-CLOCK_MAX.false in
+    let here = at_step old e c.from-rank.result c.len.result c.from.result c.len-2.result s rank c.len.ensures
+    c.if-rank-len.false low c.index_mut-state.ensures.value (c.from.ensures ∙ c.hart.ensures) c.len-2.ensures
+    c.if-from-len.false in
+    let new : ClusterState = record {
+      ranks = with_item old.ranks c.from-rank.result c.freed.new.state;
+      hub = old.hub;
+      clock = old.clock;
+      boxes = old.boxes;
+    } in
+    let ranks = ap (λ i. slice_set old.ranks.items i c.freed.new.state) rank in
+    on_ok_weaker c.done-in-Freed.result (λ yes.
+    freed_leads old e s here.there new c.freed.new.state here.hart here.low ranks refl refl refl kind
+    (subst (λ xs. IsFreed (rank_of s) xs e) c.as_slice.ensures.value (c.freed.ensures.goes yes)) (c.freed.ensures.told yes)) c.done-in-Freed.ensures.ok
+
+pub returns-in-Freed-clause-fault : goal.returns-in-Freed-clause-fault
+returns-in-Freed-clause-fault c =
+    let old = c.args.self.now in
+    let e = c.args.step.now in
+    let s = c.index_mut-state.result.now in
+    let kind = sym c.kind.ensures ∙ ap kind_seen c.in-Bare.is ∙ ap kind_of_bare c.in-Freed.is in
+    let rank = c.from-rank.ensures ∙ c.rank.ensures in
+    let low = subst (λ t. t ≤ 4611686018427387903) c.stamp.ensures c.if-stamp-gt-CLOCK_MAX.false in
+    let here = at_step old e c.from-rank.result c.len.result c.from.result c.len-2.result s rank c.len.ensures
+    c.if-rank-len.false low c.index_mut-state.ensures.value (c.from.ensures ∙ c.hart.ensures) c.len-2.ensures
+    c.if-from-len.false in
+    done_fault old e c.done-in-Freed.result c.freed.result (λ not.
+    freed_nowhere old e s here.there kind
+    (subst (λ xs. IsFreed (rank_of s) xs e → ⊥) c.as_slice.ensures.value (c.freed.ensures.none not))) c.done-in-Freed.ensures.err
+
+pub returns-in-Ready-clause-leads : goal.returns-in-Ready-clause-leads
+returns-in-Ready-clause-leads c =
+    let old = c.args.self.now in
+    let e = c.args.step.now in
+    let s = c.index_mut-state.result.now in
+    let kind = sym c.kind.ensures ∙ ap kind_seen c.in-Bare.is ∙ ap kind_of_bare c.in-Ready.is in
+    let rank = c.from-rank.ensures ∙ c.rank.ensures in
+    let low = subst (λ t. t ≤ 4611686018427387903) c.stamp.ensures c.if-stamp-gt-CLOCK_MAX.false in
+    let here = at_step old e c.from-rank.result c.len.result c.from.result c.len-2.result s rank c.len.ensures
+    c.if-rank-len.false low c.index_mut-state.ensures.value (c.from.ensures ∙ c.hart.ensures) c.len-2.ensures
+    c.if-from-len.false in
+    let new : ClusterState = record {
+      ranks = with_item old.ranks c.from-rank.result c.ready.new.state;
+      hub = old.hub;
+      clock = old.clock;
+      boxes = with_items old.boxes c.ready.new.boxes;
+    } in
+    let ranks = ap (λ i. slice_set old.ranks.items i c.ready.new.state) rank in
+    on_ok_weaker c.done-in-Ready.result (λ yes.
+    let r = subst (λ xs. Readies (rank_of s) xs e (rank_of c.ready.new.state) c.ready.new.boxes) c.as_mut_slice.ensures.value
+    (c.ready.ensures.goes yes) in
+    let items : (with_items old.boxes c.ready.new.boxes).items ≡ c.ready.new.boxes =
+    changed_items old.boxes _ _ c.ready.new.boxes r.changes in
+    ready_leads old e s here.there new c.ready.new.state here.hart here.low ranks refl refl kind
+    (subst (λ xs. Readies (rank_of s) old.boxes.items e (rank_of c.ready.new.state) xs) (sym items) r)) c.done-in-Ready.ensures.ok
+
+pub returns-in-Ready-clause-fault : goal.returns-in-Ready-clause-fault
+returns-in-Ready-clause-fault c =
+    let old = c.args.self.now in
+    let e = c.args.step.now in
+    let s = c.index_mut-state.result.now in
+    let kind = sym c.kind.ensures ∙ ap kind_seen c.in-Bare.is ∙ ap kind_of_bare c.in-Ready.is in
+    let rank = c.from-rank.ensures ∙ c.rank.ensures in
+    let low = subst (λ t. t ≤ 4611686018427387903) c.stamp.ensures c.if-stamp-gt-CLOCK_MAX.false in
+    let here = at_step old e c.from-rank.result c.len.result c.from.result c.len-2.result s rank c.len.ensures
+    c.if-rank-len.false low c.index_mut-state.ensures.value (c.from.ensures ∙ c.hart.ensures) c.len-2.ensures
+    c.if-from-len.false in
+    done_fault old e c.done-in-Ready.result c.ready.result (λ not.
+    ready_nowhere old e s here.there kind
+    (subst (λ xs. IsReady (rank_of s) xs e → ⊥) c.as_mut_slice.ensures.value (c.ready.ensures.none not))) c.done-in-Ready.ensures.err
+
+pub returns-in-Take-clause-leads : goal.returns-in-Take-clause-leads
+returns-in-Take-clause-leads c =
+    let old = c.args.self.now in
+    let e = c.args.step.now in
+    let s = c.index_mut-state.result.now in
+    let kind = sym c.kind.ensures ∙ ap kind_seen c.in-Bare.is ∙ ap kind_of_bare c.in-Take.is in
+    let rank = c.from-rank.ensures ∙ c.rank.ensures in
+    let low = subst (λ t. t ≤ 4611686018427387903) c.stamp.ensures c.if-stamp-gt-CLOCK_MAX.false in
+    let here = at_step old e c.from-rank.result c.len.result c.from.result c.len-2.result s rank c.len.ensures
+    c.if-rank-len.false low c.index_mut-state.ensures.value (c.from.ensures ∙ c.hart.ensures) c.len-2.ensures
+    c.if-from-len.false in
+    let new : ClusterState = record {
+      ranks = with_item old.ranks c.from-rank.result c.take.new.state;
+      hub = old.hub;
+      clock = old.clock;
+      boxes = with_items old.boxes c.take.new.boxes;
+    } in
+    let ranks = ap (λ i. slice_set old.ranks.items i c.take.new.state) rank in
+    on_ok_weaker c.done-in-Take.result (λ yes.
+    let r = subst (λ xs. Takes (rank_of s) xs e (rank_of c.take.new.state) c.take.new.boxes) c.as_mut_slice-in-Take.ensures.value
+    (c.take.ensures.goes yes) in
+    let items : (with_items old.boxes c.take.new.boxes).items ≡ c.take.new.boxes =
+    changed_items old.boxes _ _ c.take.new.boxes r.changes in
+    take_leads old e s here.there new c.take.new.state here.hart here.low ranks refl refl kind
+    (subst (λ xs. Takes (rank_of s) old.boxes.items e (rank_of c.take.new.state) xs) (sym items) r)) c.done-in-Take.ensures.ok
+
+pub returns-in-Take-clause-fault : goal.returns-in-Take-clause-fault
+returns-in-Take-clause-fault c =
+    let old = c.args.self.now in
+    let e = c.args.step.now in
+    let s = c.index_mut-state.result.now in
+    let kind = sym c.kind.ensures ∙ ap kind_seen c.in-Bare.is ∙ ap kind_of_bare c.in-Take.is in
+    let rank = c.from-rank.ensures ∙ c.rank.ensures in
+    let low = subst (λ t. t ≤ 4611686018427387903) c.stamp.ensures c.if-stamp-gt-CLOCK_MAX.false in
+    let here = at_step old e c.from-rank.result c.len.result c.from.result c.len-2.result s rank c.len.ensures
+    c.if-rank-len.false low c.index_mut-state.ensures.value (c.from.ensures ∙ c.hart.ensures) c.len-2.ensures
+    c.if-from-len.false in
+    done_fault old e c.done-in-Take.result c.take.result (λ not.
+    take_nowhere old e s here.there kind
+    (subst (λ xs. IsTake (rank_of s) xs e → ⊥) c.as_mut_slice-in-Take.ensures.value (c.take.ensures.none not))) c.done-in-Take.ensures.err
+
+pub returns-in-Local-clause-leads : goal.returns-in-Local-clause-leads
+returns-in-Local-clause-leads c =
+    let old = c.args.self.now in
+    let e = c.args.step.now in
+    let s = c.index_mut-state.result.now in
+    let rank = c.from-rank.ensures ∙ c.rank.ensures in
+    let low = subst (λ t. t ≤ 4611686018427387903) c.stamp.ensures c.if-stamp-gt-CLOCK_MAX.false in
+    let here = at_step old e c.from-rank.result c.len.result c.from.result c.len-2.result s rank c.len.ensures
+    c.if-rank-len.false low c.index_mut-state.ensures.value (c.from.ensures ∙ c.hart.ensures) c.len-2.ensures
+    c.if-from-len.false in
+    let new : ClusterState = record {
+      ranks = with_item old.ranks c.from-rank.result c.quiet.new.state;
+      hub = old.hub;
+      clock = old.clock;
+      boxes = old.boxes;
+    } in
+    let ranks = ap (λ i. slice_set old.ranks.items i c.quiet.new.state) rank in
+    matched_ok c.quiet.result _ _ c.quiet.ensures (λ _ q.
+    quiet_leads old e s here.there new c.quiet.new.state here.hart here.low ranks refl refl refl e.kind refl q.0 q.1)
+
+pub returns-in-Local-clause-fault : goal.returns-in-Local-clause-fault
+returns-in-Local-clause-fault c =
+    let old = c.args.self.now in
+    let e = c.args.step.now in
+    let s = c.index_mut-state.result.now in
+    let kind = sym c.kind.ensures ∙ ap kind_seen c.in-Bare.is in
+    let rank = c.from-rank.ensures ∙ c.rank.ensures in
+    let low = subst (λ t. t ≤ 4611686018427387903) c.stamp.ensures c.if-stamp-gt-CLOCK_MAX.false in
+    let here = at_step old e c.from-rank.result c.len.result c.from.result c.len-2.result s rank c.len.ensures
+    c.if-rank-len.false low c.index_mut-state.ensures.value (c.from.ensures ∙ c.hart.ensures) c.len-2.ensures
+    c.if-from-len.false in
+    matched_err c.quiet.result _ _ _ c.quiet.ensures (quiet_fault old e s here
+    (⊎_elim (λ l. inl (kind ∙ ap kind_of_bare l))
+    (λ rest. ⊎_elim (λ h. inr (inl (kind ∙ ap kind_of_bare h))) (λ i. inr (inr (kind ∙ ap kind_of_bare i))) rest)
+    c.in-Local.is))
+
+pub returns-in-Ok-clause-leads : goal.returns-in-Ok-clause-leads
+returns-in-Ok-clause-leads c =
+    let old = c.args.self.now in
+    let e = c.args.step.now in
+    let s = c.index_mut-state.result.now in
+    let rank = c.from-rank.ensures ∙ c.rank.ensures in
+    let low = subst (λ t. t ≤ 4611686018427387903) c.stamp.ensures c.if-stamp-gt-CLOCK_MAX.false in
+    let here = at_step old e c.from-rank.result c.len.result c.from.result c.len-2.result s rank c.len.ensures
+    c.if-rank-len.false low c.index_mut-state.ensures.value (c.from.ensures ∙ c.hart.ensures) c.len-2.ensures
+    c.if-from-len.false in
+    let new : ClusterState = record {
+      ranks = with_item old.ranks c.from-rank.result c.call.new.state;
+      hub = c.call.new.hub;
+      clock = c.stamp-self.result;
+      boxes = old.boxes;
+    } in
+    let ranks = ap (λ i. slice_set old.ranks.items i c.call.new.state) rank in
+    call_leads old e s here.there new c.call.new.state here.hart here.low ranks c.in-Hub.reply.now
+    (sym c.kind.ensures ∙ ap kind_seen c.in-Hub.is) c.stamp-self.ensures refl
+    c.in-Ok.ensures.calls
+
+pub returns-in-Err-clause-fault : goal.returns-in-Err-clause-fault
+returns-in-Err-clause-fault c =
+    let old = c.args.self.now in
+    let e = c.args.step.now in
+    let s = c.index_mut-state.result.now in
+    let rank = c.from-rank.ensures ∙ c.rank.ensures in
+    let low = subst (λ t. t ≤ 4611686018427387903) c.stamp.ensures c.if-stamp-gt-CLOCK_MAX.false in
+    let here = at_step old e c.from-rank.result c.len.result c.from.result c.len-2.result s rank c.len.ensures
+    c.if-rank-len.false low c.index_mut-state.ensures.value (c.from.ensures ∙ c.hart.ensures) c.len-2.ensures
+    c.if-from-len.false in
+    call_fault old e s here c.in-Hub.reply.now (sym c.kind.ensures ∙ ap kind_seen c.in-Hub.is) c.in-Err.fault c.in-Err.ensures.fault

@@ -1,0 +1,6 @@
+pub mod Boxes
+pub mod States
+pub mod Turns
+pub mod Steps
+pub mod Replays
+pub mod Records

@@ -1,0 +1,50 @@
+//! A list of steps, replayed.
+
+ghost use Rattle.std.specs.Prelude.{◌≡◌, ◌↔◌, ◌<◌, ◌≤◌, length, Err, IfErr, IfOk, OnOk};
+ghost use Rattle.cl_replay.specs.Replays.{IsReached, ReplayFaultHolds};
+
+use crate::faults::StepFault;
+use crate::states::ClusterState;
+use cl_machine::Step;
+use rv_image::Image;
+use std::alloc::Global;
+
+/// Why steps weren't replayed.
+#[derive(Clone, Copy, PartialEq, Eq, Drop, Debug)]
+pub enum ReplayFault {
+    /// 1: there are fewer steps than were to be replayed: so many.
+    PastEnd(u64),
+    /// 2: the machine has no such step where the steps before it lead. Carries its place, from 0.
+    Step(u64),
+    /// 3: memory was refused, for the loaded cluster or for what a step makes.
+    Memory,
+}
+
+/// The cluster of the image after the first n of these steps.
+pub fn replay(
+    alloc: Global,
+    image: &Image,
+    steps: &[Step],
+    n: u64,
+) -> Result<ClusterState, ReplayFault>
+    ensures reached { IfOk result (IsReached image.now steps.now n) }
+    ensures within { OnOk result (n ≤ length steps.now) }
+    ensures past { (result ≡ Err (ReplayFault.PastEnd (length steps.now))) ↔ (length steps.now < n) }
+    ensures fault { IfErr result (ReplayFaultHolds image.now steps.now n) }
+{
+    let len = steps.len() as u64;
+    if n > len {
+        return Err(ReplayFault::PastEnd(len));
+    }
+    let Ok(mut state) = ClusterState::load(alloc, image) else {
+        return Err(ReplayFault::Memory);
+    };
+    for k in 0..n {
+        match state.step(&steps[k as usize]) {
+            Ok(()) => {}
+            Err(StepFault::NotAStep) => return Err(ReplayFault::Step(k)),
+            Err(StepFault::Memory) => return Err(ReplayFault::Memory),
+        }
+    }
+    Ok(state)
+}

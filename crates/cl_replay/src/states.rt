@@ -1,0 +1,71 @@
+//! The state of a whole cluster.
+
+ghost use Rattle.std.specs.Prelude.{◌≡◌, IfOk, map, replicate};
+ghost use Rattle.cl_state.specs.Rank.{below, loaded};
+ghost use Rattle.cl_state.specs.Room.{rank_of};
+ghost use Rattle.cl_machine.specs.Cluster.{loaded_cluster};
+ghost use Rattle.cl_replay.specs.Boxes.{vacant};
+ghost use Rattle.cl_replay.specs.States.{StandsFor};
+
+use cl_state::RankState;
+use mp_hub::HubState;
+use mp_types::Stamp;
+use part_box::Settled;
+use rv_image::Image;
+use std::alloc::{AllocError, Global};
+
+/// All parts of a cluster between two steps.
+#[derive(Drop)]
+pub struct ClusterState {
+    /// The ranks, by their numbers.
+    pub ranks: Vec<RankState>,
+    pub hub: HubState,
+    /// The hub's clock: the stamp of the last call that it answered, 0 at first.
+    pub clock: Stamp,
+    /// What stands in each box, by the number of its link, and by its partition there (MPI 4.1,
+    /// chapter 4).
+    pub boxes: Vec<[Settled; 16]>,
+}
+
+/// All ranks of the image as they are loaded, by their numbers.
+fn load_ranks(alloc: Global, image: &Image, count: u8) -> Result<Vec<RankState>, AllocError>
+    ensures { IfOk result (λ ranks. map rank_of ranks.items ≡ map (loaded image.now) (below count)) }
+{
+    let mut ranks = Vec::new(alloc);
+    for rank in 0..count {
+        ranks.push(RankState::load(alloc, image, rank)?)?;
+    }
+    Ok(ranks)
+}
+
+/// The boxes of so many links, all empty.
+fn no_boxes(alloc: Global, links: usize) -> Result<Vec<[Settled; 16]>, AllocError>
+    ensures { IfOk result (λ boxes. boxes.items ≡ replicate links (replicate 16 (vacant 0))) }
+{
+    let empty = Settled {
+        full: false,
+        stamp: 0,
+        words: [0; 16],
+    };
+    let mut boxes = Vec::new(alloc);
+    for _link in 0..links {
+        boxes.push([empty; 16])?;
+    }
+    Ok(boxes)
+}
+
+impl ClusterState {
+    /// All ranks of the image as they are loaded, a hub that was never called, and all boxes empty.
+    pub fn load(alloc: Global, image: &Image) -> Result<ClusterState, AllocError>
+        ensures { IfOk result (λ state. StandsFor image.now state (loaded_cluster image.now)) }
+    {
+        let parts = image.parts();
+        let links = parts.links.as_slice().len();
+        Ok(ClusterState {
+            ranks: load_ranks(alloc, image, parts.ranks)?,
+            hub: HubState::new(alloc, image)?,
+            clock: 0,
+            boxes: no_boxes(alloc, links)?,
+        })
+    }
+}

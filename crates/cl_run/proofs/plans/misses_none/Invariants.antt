@@ -1,5 +1,0 @@
-use Rattle.std.proofs.Common.{ℕ, ◌<◌, Contains}
-use Rattle.cl_run.proofs.plans.misses_none.Given as goal
-
-abbrev pub invariant-loop-rank : goal.invariant-loop-rank
-invariant-loop-rank l = (r : ℕ) → r < l.rank → Contains l.order r

@@ -1,6 +1,0 @@
-use Rattle.std.proofs.Common.{take}
-use Rattle.cl_run.specs.Wiring.{IsWired}
-use Rattle.cl_run.proofs.wiring.Wiring.of.Given as goal
-
-abbrev pub invariant-loop-number : goal.invariant-loop-number
-invariant-loop-number l = IsWired l.image.version l.image.ranks (take l.number l.image.links) l.wiring

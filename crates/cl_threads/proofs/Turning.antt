@@ -1,0 +1,137 @@
+-- What a rank's turns so far are, and why it stops.
+use Rattle.std.specs.Prelude.{ℕ, ◌≡◌, ◌<◌, ◌≤◌, ◌+◌, ◌%◌, ◌⊎◌, List, [], ◌∷◌, ◌++◌, length, map, slice_get, Some}
+use Rattle.std.specs.List.{AllByRecursion}
+use Rattle.std.proofs.Common.{refl, sym, ap, ◌∙◌, subst, arith}
+use Rattle.std.proofs.Math.Nat.{mod-add-mod, mod-eq_of_lt, mod_self}
+use Rattle.std.proofs.lemmas.List.{length-append, map-append}
+use mathlib.Core.Logic.{inl, inr}
+use Rattle.cl_journal.specs.declared.journal.HubFault.{HubFault}
+use Rattle.cl_journal.specs.declared.journal.HubFault.TheVariants as fault
+use Rattle.cl_trace.specs.declared.events.Event.{Event}
+use Rattle.mp_types.specs.declared.requests.Request.{Request}
+use Rattle.cl_state.specs.Asked.{asked}
+use Rattle.cl_state.specs.declared.asking.Ask.{Ask}
+use Rattle.cl_state.specs.Rank.{Rank}
+use Rattle.cl_state.proofs.Moves.{told_at}
+use Rattle.cl_rank.specs.Deeds.{Deed, IsAlone, PartRun, RankMoves, answer_of, event_of}
+use Rattle.cl_rank.specs.Sides.{KeysMove, Sides}
+use Rattle.cl_rank.specs.Turns.{Gives, IsActive, IsCause, IsFault, IsTurn, RankView, stop_of}
+use Rattle.cl_rank.specs.declared.stops.Stop.{Stop}
+use Rattle.cl_record.proofs.Elements.{last_or_before}
+use Rattle.cl_record.specs.Plans.{in_slot}
+use Rattle.cl_record.specs.Records.{AsksHub, FollowsPlan, HasTurn}
+use Rattle.cl_record.specs.declared.plans.Plan.{Plan}
+use Rattle.cl_threads.specs.Alone.{KeysGo, StopsFor, WentBy}
+
+-- a run, and one step more
+part_run_more : {S D : Type 0} (Move : S → D → S → Type 0) (old mid new : S) (ds : List D) (d : D) → PartRun Move old ds mid
+    → Move mid d new → PartRun Move old (ds ++ d ∷ []) new
+part_run_more Move old mid new [] d run step = (new, subst (λ s. Move s d new) run step, refl)
+part_run_more Move old mid new (x ∷ ds) d run step = (run.0, run.1, part_run_more Move run.0 mid new ds d run.2 step)
+
+all_more : {X : Type 0} (P : X → Type 0) (xs : List X) (x : X) → AllByRecursion P xs → P x → AllByRecursion P (xs ++ x ∷ [])
+all_more P [] x all this = (this, tt)
+all_more P (y ∷ xs) x all this = (all.0, all_more P xs x all.1 this)
+
+-- the place behind one, where so many are used round and round
+pub next_place : (turns count next : ℕ) → next ≡ turns % count → next + 1 < count → next + 1 ≡ (turns + 1) % count
+next_place turns count next is below =
+    sym (mod-eq_of_lt below) ∙ ap (λ n. (n + 1) % count) is ∙ mod-add-mod turns count 1
+
+pub first_place : (turns count next : ℕ) → next ≡ turns % count → next + 1 ≡ count → 0 ≡ (turns + 1) % count
+first_place turns count next is end =
+    sym (mod_self count) ∙ ap (λ n. n % count) (sym end) ∙ ap (λ n. (n + 1) % count) is ∙ mod-add-mod turns count 1
+
+-- what a rank did so far: it takes its turns by its plan, and nobody but its own keys knows more of what it met
+pub record WentSoFar (plan : Plan) (old now : RankView) (deeds : List Deed) : Type 0 where
+  pub site : now.rank.site ≡ old.rank.site
+  pub own : AllByRecursion (λ (d : Deed). d.rank ≡ old.rank.site.number) deeds
+  pub alone : IsAlone old.rank deeds now.rank
+  pub traced : now.events ≡ map event_of deeds
+  pub keys : KeysGo old.rank.site.version old.sides deeds now.sides
+  pub follows_plan : FollowsPlan plan now.events
+  pub in_budget : length now.events ≤ plan.budget
+
+pub no_turns_yet : (plan : Plan) (old : RankView) → old.events ≡ [] → WentSoFar plan old old []
+no_turns_yet plan old none = record {
+  site = refl;
+  own = tt;
+  alone = refl;
+  traced = none;
+  keys = refl;
+  follows_plan = λ n event at. let no = subst (λ es. slice_get es n ≡ Some event) none at in absurd (cc);
+  in_budget = subst (λ (es : List Event). length es ≤ plan.budget) (sym none) (omega arith);
+}
+
+-- one turn more, of the hart that the plan names
+module _ {D : Type 0} (gives : Gives D) (plan : Plan) (old now new : RankView) (desk left : D) (deeds : List Deed) (hart budget : ℕ)
+    (so : WentSoFar plan old now deeds) (turn : IsTurn gives hart now new desk left) (is : hart ≡ in_slot plan.order.items (length now.events))
+    (active : IsActive now.rank (length now.events) budget) (budget_is : budget ≡ plan.budget) where
+  pub longer : length new.events ≡ length now.events + 1
+  longer = ap (λ (es : List Event). length es) turn.event ∙ length-append now.events (event_of turn.deed ∷ [])
+
+  pub one_more_turn : WentSoFar plan old new (deeds ++ turn.deed ∷ [])
+  one_more_turn = record {
+    site = ap (λ (x : Rank). x.site) turn.moves.4
+        ∙ (told_at now.rank turn.deed.hart (answer_of turn.deed.act) turn.deed.stamp).site ∙ so.site;
+    own = all_more (λ (d : Deed). d.rank ≡ old.rank.site.number) deeds turn.deed so.own
+        (turn.rank ∙ ap (λ s. s.number) so.site);
+    alone = part_run_more RankMoves old.rank now.rank new.rank deeds turn.deed so.alone turn.moves;
+    traced = turn.event ∙ ap (λ es. es ++ event_of turn.deed ∷ []) so.traced ∙ sym (map-append event_of deeds (turn.deed ∷ []));
+    keys = part_run_more (λ (a : Sides) (d : Deed) (b : Sides). KeysMove old.rank.site.version d.stamp d.act a b)
+        old.sides now.sides new.sides deeds turn.deed so.keys
+        (subst (λ v. KeysMove v turn.deed.stamp turn.deed.act now.sides new.sides) (ap (λ s. s.version) so.site) turn.keys);
+    follows_plan = λ n e at. elim (last_or_before now.events (event_of turn.deed) e n (subst (λ es. slice_get es n ≡ Some e) turn.event at)) [
+      | inl before ↦ so.follows_plan n e before
+      | inr last ↦ ap (λ (x : Event). x.hart) (sym last.1) ∙ turn.by ∙ is ∙ ap (in_slot plan.order.items) (sym last.0)
+    ];
+    in_budget = omega (arith, active.left, budget_is, longer);
+  }
+
+-- no turn more, of the hart that the plan names
+module _ (plan : Plan) (rank : Rank) (events : List Event) (hart budget : ℕ)
+    (is : hart ≡ in_slot plan.order.items (length events)) (budget_is : budget ≡ plan.budget) where
+  has_turn : IsActive rank (length events) budget → HasTurn plan rank events
+  has_turn active = record { runs = active.runs; left = omega (arith, active.left, budget_is); low = active.low }
+
+  own_cause : (stop : Stop) → IsCause rank (length events) budget stop → StopsFor plan rank events stop
+  own_cause Stop.AllEnded h = h
+  own_cause Stop.Budget h = (h.0, h.1 ∙ budget_is)
+  own_cause Stop.Memory h = has_turn h
+  own_cause (Stop.ClockFull c) h = (omega (arith, h.3), inl (sym h.2, h.0, omega (arith, h.1, budget_is)))
+  own_cause (Stop.Calls n) h = absurd h
+
+  refused_cause : (f : HubFault) → HasTurn plan rank events → AsksHub plan rank events → IsFault f
+      → StopsFor plan rank events (stop_of f)
+  refused_cause fault.Memory turn asks h = turn
+  refused_cause (fault.ClockFull c) turn asks h = (omega (arith, h), inr (turn, asks))
+  refused_cause (fault.Calls n) turn asks h = (h, turn, asks)
+
+  -- whatever else is known of a refusal
+  pub stops_for : (A : Type 0) (B : HubFault → Request → Type 0) (stop : Stop)
+      → (IsCause rank (length events) budget stop × A)
+      ⊎ (IsActive rank (length events) budget
+      × ((f : HubFault) × (stop ≡ stop_of f) × IsFault f
+      × ((request : Request) × (asked rank hart ≡ Ask.Hub request) × B f request)))
+      → StopsFor plan rank events stop
+  stops_for A B stop h = elim h [
+    | inl own ↦ own_cause stop own.0
+    | inr refused ↦
+        let f = refused.1.0 in
+        let asks = refused.1.3 in
+        subst (StopsFor plan rank events) (sym refused.1.1)
+        (refused_cause f (has_turn refused.0) (asks.0, ap (asked rank) (sym is) ∙ asks.1) refused.1.2)
+  ]
+
+-- it stopped as it was
+pub went_by : (plan : Plan) (old now new : RankView) (deeds : List Deed) (stop : Stop) → WentSoFar plan old now deeds
+    → new ≡ now → StopsFor plan now.rank now.events stop → WentBy plan old new stop deeds
+went_by plan old now new deeds stop so same stops = subst (λ v. WentBy plan old v stop deeds) (sym same) (record {
+  own = so.own;
+  alone = so.alone;
+  traced = so.traced;
+  keys = so.keys;
+  follows_plan = so.follows_plan;
+  in_budget = so.in_budget;
+  stops = stops;
+})

@@ -1,0 +1,28 @@
+use Rattle.std.proofs.Common.{arith, length, subst, sym}
+use Rattle.cl_record.specs.Room.{HaveRoom}
+use Rattle.cl_threads.proofs.Gathered.{gathered}
+use Rattle.cl_threads.proofs.Settled.{count, may_settle}
+use Rattle.cl_threads.proofs.threads.run_cluster.Goals as goal
+
+pub gather-requires-clause-settle : goal.gather-requires-clause-settle
+gather-requires-clause-settle g c =
+    may_settle c.args.image.now c.args.plans.now c.args.cluster c.in-Ok.done.items c.requires.loaded
+    (rw c.as_slice.ensures.value at c.in-Ok.ensures.done)
+
+pub gather-requires-clause-room : goal.gather-requires-clause-room
+gather-requires-clause-room g c =
+    let many = count c.args.image.now c.args.plans.now c.args.cluster c.in-Ok.done.items c.requires.loaded
+    (rw c.as_slice.ensures.value at c.in-Ok.ensures.done) in
+    subst (λ n. HaveRoom n (length c.args.image.now.links) c.args.cluster.lists) (sym many) c.requires.loaded.room
+
+pub gather-requires-clause-few : goal.gather-requires-clause-few
+gather-requires-clause-few g c =
+    let many = count c.args.image.now c.args.plans.now c.args.cluster c.in-Ok.done.items c.requires.loaded
+    (rw c.as_slice.ensures.value at c.in-Ok.ensures.done) in
+    omega (arith, many, c.parts-parts.ensures.limits.few_ranks)
+
+pub returns-clause-run : goal.returns-clause-run
+returns-clause-run g c =
+    gathered c.args.image.now c.args.plans.now c.args.cluster c.in-Ok.done.items c.into_inner.result c.gather.result
+    c.requires.planned c.requires.loaded (rw c.as_slice.ensures.value at c.in-Ok.ensures.done)
+    c.gather.ensures.links c.gather.ensures.replays c.gather.ensures.left c.gather.ensures.tied c.gather.ensures.of

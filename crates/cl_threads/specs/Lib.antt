@@ -1,0 +1,6 @@
+pub mod Alone
+pub mod Loading
+pub mod Leaving
+pub mod Ties
+pub mod Rows
+pub mod Runs

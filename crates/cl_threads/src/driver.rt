@@ -1,0 +1,128 @@
+//! A thread for each rank.
+
+ghost use Rattle.std.specs.Prelude.{◌≡◌, ◌≤◌, [], IfOk, length};
+ghost use Rattle.std.specs.VecDeque.{deque_capacity};
+ghost use Rattle.cl_threads.specs.Alone.{AreDone, AreReady, IsDone, IsReady};
+
+use crate::gates::{Gate, Passage};
+use crate::turns::{Done, run_rank};
+use cl_journal::Hub;
+use cl_rank::Rank;
+use cl_record::Plan;
+use part_channel::Channel;
+use std::alloc::{AllocError, Global};
+use std::collections::VecDeque;
+use std::snapshot::Snapshot;
+use std::sync::{Mutex, Wait};
+use std::thread;
+use std::thread::{Promise, Scope, Threads};
+
+/// A thread for a rank was refused.
+#[derive(Clone, Copy, Drop, Debug)]
+pub(crate) struct NoThread;
+
+/// What the thread of a rank promises: the rank comes back as it went by itself.
+#[derive(Drop)]
+struct GoesAlone<'a> {
+    channels: &'a [Channel],
+    plan: &'a Plan,
+    rank: Snapshot<Rank>,
+}
+
+impl<'a> Promise<Done> for GoesAlone<'a> {
+    ghost use Rattle.cl_threads.specs.Alone.{IsDone};
+
+    ghost kept_by = { λ p done. IsDone p.channels.now p.plan.now p.rank.value done };
+}
+
+/// The ranks' ways past the gate, by their numbers. Whoever drops one passes `End` for its rank.
+pub(crate) fn passages<'g, G: Gate>(
+    alloc: Global,
+    gate: &'g G,
+    ranks: u8,
+) -> Result<VecDeque<Passage<&'g G>>, AllocError>
+    ensures { IfOk result (λ all. length all.items ≡ ranks) }
+{
+    let mut all = VecDeque::new(alloc);
+    for rank in 0..ranks {
+        all.push_back(Passage::new(gate, rank))?;
+    }
+    Ok(all)
+}
+
+/// Starts the first of these ranks, does the ranks above it, and joins it. Where a thread is refused, the gate is passed at
+/// once by the ranks that weren't started, and the others are joined.
+fn run_from<'s, E, R: Threads + Wait + Sync, G: Gate + Send + Drop + 's>(
+    scope: &Scope<'s, E>,
+    rt: &'s R,
+    hub: &'s Mutex<Hub>,
+    channels: &'s [Channel],
+    plans: &'s [Plan],
+    mut passages: VecDeque<Passage<G>>,
+    mut ranks: VecDeque<Rank>,
+    done: VecDeque<Done>,
+) -> Result<VecDeque<Done>, NoThread>
+    requires ready { AreReady channels.now plans.now ranks.items }
+    requires passages { length passages.items ≡ length plans.now }
+    requires empty { done.items ≡ [] }
+    requires room { length plans.now ≤ deque_capacity done }
+    ensures done { IfOk result (λ all. AreDone channels.now plans.now ranks.items all.items) }
+    ensures room { IfOk result (λ all. deque_capacity all ≡ deque_capacity done) }
+{
+    let (Some((plan, above)), Some(passage), Some(rank)) = (
+        plans.split_first(),
+        passages.pop_front(),
+        ranks.pop_front(),
+    ) else {
+        return Ok(done);
+    };
+    let promise = GoesAlone {
+        channels,
+        plan,
+        rank: Snapshot::of(&rank),
+    };
+    let started = scope.spawn_with(
+        promise,
+        move || -> Done
+            requires { IsReady channels.now plan.now rank }
+            ensures { IsDone channels.entry.now plan.entry.now rank result }
+        { run_rank(rt, hub, channels, plan, passage, rank) },
+    );
+    match started {
+        Err(_refused) => Err(NoThread),
+        Ok(thread) => {
+            let others = run_from(scope, rt, hub, channels, above, passages, ranks, done);
+            let first = thread.join(rt);
+            let mut all = others?;
+            all.push_front_reserved(first);
+            Ok(all)
+        }
+    }
+}
+
+/// All ranks, each on a thread of its own, from their first turns to their stops.
+pub(crate) fn run_all<'e, R: Threads + Wait + Sync, G: Gate + Send + Drop + 'e>(
+    rt: &'e R,
+    hub: &'e Mutex<Hub>,
+    channels: &'e [Channel],
+    plans: &'e [Plan],
+    passages: VecDeque<Passage<G>>,
+    ranks: VecDeque<Rank>,
+    done: VecDeque<Done>,
+) -> Result<VecDeque<Done>, NoThread>
+    requires ready { AreReady channels.now plans.now ranks.items }
+    requires passages { length passages.items ≡ length plans.now }
+    requires empty { done.items ≡ [] }
+    requires room { length plans.now ≤ deque_capacity done }
+    ensures done { IfOk result (λ all. AreDone channels.now plans.now ranks.items all.items) }
+{
+    thread::scope(
+        thread::scope_env::<'e>(),
+        rt,
+        move |scope| -> Result<VecDeque<Done>, NoThread>
+            requires { AreReady channels.now plans.now ranks.items × (length passages.items ≡ length plans.now)
+                × (done.items ≡ []) × (length plans.now ≤ deque_capacity done) }
+            ensures { IfOk result (λ all. AreDone channels.entry.now plans.entry.now ranks.items all.items) }
+        { run_from(scope, rt, hub, channels, plans, passages, ranks, done) },
+    )
+}

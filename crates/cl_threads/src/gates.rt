@@ -1,0 +1,62 @@
+//! What ranks pass on their threads: it may hold one back, and knows nothing of it but its number.
+
+/// Where a rank is.
+#[derive(Clone, Copy, PartialEq, Eq, Drop, Debug)]
+pub enum Point {
+    /// Its thread runs.
+    Begin,
+    /// It is about to take a turn, or to find that it has none.
+    Turn,
+    /// It takes no turn any more, on whatever way it ended; also where its thread couldn't be started.
+    End,
+}
+
+/// What each rank passes at each point, on its own thread. It may hold the rank for a while.
+pub trait Gate: Sync {
+    fn pass(&self, rank: u8, point: Point);
+}
+
+/// Holds nobody.
+#[derive(Clone, Copy, Drop, Debug)]
+pub struct NoGate;
+
+impl Gate for NoGate {
+    #[inline(always)]
+    fn pass(&self, _rank: u8, _point: Point) {}
+}
+
+// What a reference passes is what it points to.
+impl<'g, G: Gate> Gate for &'g G {
+    #[inline(always)]
+    fn pass(&self, rank: u8, point: Point) {
+        (**self).pass(rank, point);
+    }
+}
+
+/// A rank's way past a gate. Dropping it passes `End`, so that each rank passes that on every way it may end.
+pub(crate) struct Passage<G: Gate + Drop> {
+    gate: G,
+    rank: u8,
+}
+
+impl<G: Gate + Drop> Passage<G> {
+    pub(crate) fn new(gate: G, rank: u8) -> Passage<G> {
+        Passage { gate, rank }
+    }
+
+    pub(crate) fn begin(&self) {
+        self.gate.pass(self.rank, Point::Begin);
+    }
+
+    #[inline(always)]
+    pub(crate) fn turn(&self) {
+        self.gate.pass(self.rank, Point::Turn);
+    }
+}
+
+impl<G: Gate + Drop> Drop for Passage<G> {
+    fn drop(self) {
+        let Passage { gate, rank } = self;
+        gate.pass(rank, Point::End);
+    }
+}

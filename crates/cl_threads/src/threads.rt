@@ -1,0 +1,123 @@
+//! All ranks, each on a thread of its own.
+
+ghost use Rattle.std.specs.Prelude.{◌≡◌, ◌≢◌, ◌↔◌, ◌≤◌, Err, IfErr, IfOk, OnOk, length, map};
+ghost use Rattle.cl_journal.specs.Journal.{Replays};
+ghost use Rattle.cl_record.specs.Plans.{HasPlans};
+ghost use Rattle.cl_record.specs.Records.{IsMergedRun};
+ghost use Rattle.cl_record.specs.Room.{HaveRoom};
+ghost use Rattle.cl_record.specs.Settling.{MaySettle};
+ghost use Rattle.cl_threads.specs.Leaving.{IsRecordOf, ends_of};
+ghost use Rattle.cl_threads.specs.Loading.{IsCluster};
+ghost use Rattle.cl_threads.specs.Runs.{IsThreadRun};
+ghost use Rattle.cl_threads.specs.Ties.{AreOf, AreTied};
+
+use crate::driver::{passages, run_all};
+use crate::gates::{Gate, Passage};
+use crate::leaving::leave;
+use crate::loading::Cluster;
+use crate::ties::{are_same_links, compare};
+use crate::turns::Done;
+use cl_journal::Hub;
+use cl_record::{Lists, Plan, Record, RunFault, has_plans};
+use part_channel::Channel;
+use rv_image::Image;
+use std::alloc::Global;
+use std::collections::VecDeque;
+use std::sync::{Mutex, Wait};
+use std::thread::Threads;
+
+/// What the threads left, as a record, if it fits together: the hub has the image's links, and just the calls of these
+/// ranks. Else Unlike.
+fn gather(
+    image: &Image,
+    channels: Vec<Channel>,
+    hub: Hub,
+    done: VecDeque<Done>,
+    lists: Lists,
+) -> Result<Record, RunFault>
+    requires settle { MaySettle image.now.links channels.items (map ends_of done.items) }
+    requires room { HaveRoom (length done.items) (length image.now.links) lists }
+    requires few { length done.items ≤ 8 }
+    ensures links { OnOk result (hub.links ≡ image.now.links) }
+    ensures replays { OnOk result (Replays hub) }
+    ensures left { IfOk result (IsRecordOf image.now.links channels.items hub.entries done.items) }
+    ensures tied { IfOk result (λ left. AreTied left.journal.items left.traces.items) }
+    ensures of { IfOk result (λ left. AreOf image.now.ranks left.journal.items) }
+    ensures unlike { IfErr result (λ fault. fault ≢ RunFault.Plans) }
+{
+    let parts = image.parts();
+    if !are_same_links(hub.links(), parts.links.as_slice()) {
+        return Err(RunFault::Unlike {
+            rank: 255,
+            place: 0,
+        });
+    }
+    // whoever asks for the entries knows that they replay
+    let _entries = hub.entries();
+    let left = leave(channels, hub, done, lists);
+    compare(parts.ranks, left.traces.as_slice(), left.journal.as_slice())?;
+    Ok(left)
+}
+
+/// Runs ranks that are loaded, each on a thread of its own.
+fn run_cluster<R: Threads + Wait + Sync, G: Gate>(
+    rt: &R,
+    image: &Image,
+    plans: &[Plan],
+    passages: VecDeque<Passage<&G>>,
+    cluster: Cluster,
+) -> Result<Record, RunFault>
+    requires planned { HasPlans image.now plans.now }
+    requires loaded { IsCluster image.now plans.now cluster }
+    requires passages { length passages.items ≡ image.now.ranks }
+    ensures run { IfOk result (IsThreadRun image.now plans.now) }
+    ensures fault { IfErr result (λ fault. fault ≢ RunFault.Plans) }
+{
+    // whoever asks for the parts knows that there are 8 ranks at most
+    let _parts = image.parts();
+    let Cluster {
+        ranks,
+        hub,
+        channels,
+        done,
+        lists,
+    } = cluster;
+    let hub = Mutex::new(hub);
+    let Ok(done) = run_all(rt, &hub, channels.as_slice(), plans, passages, ranks, done) else {
+        return Err(RunFault::Spawn);
+    };
+    gather(image, channels, hub.into_inner(), done, lists)
+}
+
+/// Runs each rank of the image on a thread of its own, by its plan, until each is stopped. All ranks call one hub, behind
+/// a lock, and share the boxes of their links without one. Before each turn a rank passes the gate.
+///
+/// The record is of ranks that went alone, of a journal that has just their calls, and of boxes that have what they made
+/// and took, so that what they did fits together. Which of them went first where they met is known from the stamps alone.
+///
+/// Refusals: Plans where a plan is wrong (and just there); Memory where the ranks, the hub or the record find no room,
+/// before the first turn; Spawn where a thread is refused; Unlike where what the threads left doesn't fit together. It
+/// waits for the lock and for the threads, and what it promises holds if it returns.
+pub fn run_threads<R: Threads + Wait + Sync, G: Gate>(
+    rt: &R,
+    alloc: Global,
+    image: &Image,
+    plans: &[Plan],
+    gate: &G,
+) -> Result<Record, RunFault>
+    ensures run { IfOk result (IsThreadRun image.now plans.now) }
+    ensures merged { IfOk result (IsMergedRun image.now) }
+    ensures plans { (result ≡ Err RunFault.Plans) ↔ ¬ HasPlans image.now plans.now }
+{
+    if !has_plans(image, plans) {
+        return Err(RunFault::Plans);
+    }
+    let ranks = image.parts().ranks;
+    let Ok(cluster) = Cluster::load(alloc, image, plans) else {
+        return Err(RunFault::Memory);
+    };
+    let Ok(passages) = passages(alloc, gate, ranks) else {
+        return Err(RunFault::Memory);
+    };
+    run_cluster(rt, image, plans, passages, cluster)
+}

@@ -1,0 +1,118 @@
+//! Runs the image on standard input with a thread for each rank, merges what the ranks did into one list of steps, and
+//! replays that on one thread: prints for each rank whether the replay gives the registers, the bytes of memory, the
+//! output and the clock that its thread left, and whether the boxes are the same. That they are is proved; here it is
+//! run.
+#![tactic(auto)]
+
+use cl_merge::merge;
+use cl_rank::RankState;
+use cl_record::{Plan, Record, RunFault};
+use cl_replay::{ClusterState, replay};
+use cl_threads::{Pace, run_threads};
+use part_box::Settled;
+use rv_decode::Reg;
+use rv_hart::Hart;
+use rv_image::{Image, read_image};
+use std::alloc::{AllocError, Global};
+use std::io;
+use std::io::Read;
+use std::sync::Wait;
+use std::thread::Threads;
+
+/// The most turns of a rank.
+const BUDGET: u64 = 1_000_000;
+
+/// By how many turns a rank may be ahead.
+const LEAD: u64 = 64;
+
+/// All bytes of standard input.
+fn input(rt: &HostRuntime) -> io::Result<Vec<u8>> {
+    let mut bytes = Vec::new(rt.alloc());
+    rt.stdin().read_to_end(&mut bytes)?;
+    Ok(bytes)
+}
+
+/// A plan of all harts for each rank.
+fn plans(alloc: Global, ranks: u8, harts: u8) -> Result<Vec<Plan>, AllocError> {
+    let mut plans = Vec::new(alloc);
+    for _rank in 0..ranks {
+        let mut order = Vec::new(alloc);
+        for hart in 0..harts {
+            order.push(hart)?;
+        }
+        plans.push(Plan {
+            order,
+            budget: BUDGET,
+        })?;
+    }
+    Ok(plans)
+}
+
+/// What the threads of all ranks leave.
+fn left<R: Threads + Wait + Sync>(rt: &R, alloc: Global, image: &Image) -> Result<Record, RunFault> {
+    let parts = image.parts();
+    let Ok(plans) = plans(alloc, parts.ranks, parts.harts) else {
+        return Err(RunFault::Memory);
+    };
+    run_threads(rt, alloc, image, plans.as_slice(), &Pace::new(parts.ranks, LEAD))
+}
+
+/// The cluster to which all steps of a record lead, in order of their stamps.
+fn replayed(alloc: Global, image: &Image, left: &Record) -> Option<ClusterState> {
+    if left.traces.len() > 8 {
+        return None;
+    }
+    let steps = merge(alloc, left).ok()?;
+    replay(alloc, image, steps.as_slice(), steps.len() as u64).ok()
+}
+
+/// Whether two harts have the same pc and registers.
+fn is_same_hart(one: &Hart, other: &Hart) -> bool {
+    one.pc() == other.pc() && (0..32u8).all(|number| one.get(Reg::new(number)) == other.get(Reg::new(number)))
+}
+
+fn are_same_harts(one: &[Hart], other: &[Hart]) -> bool {
+    one.len() == other.len() && one.iter().zip(other.iter()).all(|(a, b)| is_same_hart(a, b))
+}
+
+/// Whether two ranks have the same harts, memory, output and clock.
+fn is_same_rank(one: &RankState, other: &RankState) -> bool {
+    let size = one.memory.size();
+    one.clock == other.clock
+        && size == other.memory.size()
+        && one.memory.bytes(0, size) == other.memory.bytes(0, size)
+        && one.out.as_slice() == other.out.as_slice()
+        && are_same_harts(one.harts.as_slice(), other.harts.as_slice())
+}
+
+/// Whether all boxes of a link are left the same.
+fn are_same_boxes(one: &[Settled; 16], other: &[Settled; 16]) -> bool {
+    one.iter().zip(other.iter()).all(|(a, b)| a == b)
+}
+
+/// Prints for each rank whether its replay is the same, and whether the boxes are.
+fn print_same(rt: &HostRuntime, left: &Record, state: &ClusterState) -> io::Result<()> {
+    for rank in 0..left.ranks.len().min(state.ranks.len()) {
+        let same = is_same_rank(&left.ranks[rank], &state.ranks[rank]);
+        println!(rt; "rank {rank} same: {same}")?;
+    }
+    let mut same = left.boxes.len() == state.boxes.len() && left.ranks.len() == state.ranks.len();
+    for link in 0..left.boxes.len().min(state.boxes.len()) {
+        same = same && are_same_boxes(&left.boxes[link], &state.boxes[link]);
+    }
+    println!(rt; "boxes same: {same}")
+}
+
+fn main(rt: HostRuntime) -> io::Result<()> {
+    let bytes = input(&rt)?;
+    let Ok(image) = read_image(rt.alloc(), bytes.as_slice()) else {
+        return println!(rt; "no image");
+    };
+    match left(&rt, rt.alloc(), &image) {
+        Ok(left) => match replayed(rt.alloc(), &image, &left) {
+            Some(state) => print_same(&rt, &left, &state),
+            None => println!(rt; "no replay"),
+        },
+        Err(fault) => println!(rt; "{fault:?}"),
+    }
+}

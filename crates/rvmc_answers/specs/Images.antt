@@ -1,0 +1,55 @@
+-- The image that a command takes from its input, or the input's fault.
+use Rattle.std.specs.Prelude.{◌≡◌, ⊤, ℕ, ◌+◌, ◌==◌, if◌then◌else◌, Bool, false, List, length, not, take, count_by}
+use Rattle.std.specs.Prelude.{Result, Ok, Err}
+use Rattle.std.specs.Result.{result_map_both}
+use Rattle.std.specs.Str.Lossy.{utf8_valid_len}
+use Rattle.rv_asm.specs.Source.{meaning}
+use Rattle.rv_asm_tokens.specs.declared.fault.AsmFaultKind.TheVariants as kinds
+use Rattle.rv_image.specs.Reading.{reading}
+use Rattle.rv_image.specs.declared.images.ImageParts.{ImageParts}
+use Rattle.rvmc_line.specs.declared.line.CommandLine.{CommandLine}
+use Rattle.rvmc_line.specs.declared.line.CommandLine.TheVariants.{Asm, Dis, One, Run}
+use Rattle.rvmc_report.specs.Faults.{fault_of_image, fault_of_source}
+use Rattle.rvmc_report.specs.declared.faults.Fault.{Fault}
+use Rattle.rvmc_report.specs.declared.faults.Fault.TheVariants as faults
+
+-- the fault of bytes that aren't UTF-8: a Token at the line of the first wrong byte
+abbrev pub wrong_bytes : List ℕ → Fault
+wrong_bytes bytes =
+    faults.Source (record {
+      line = count_by (λ byte. byte == 10) (take (utf8_valid_len bytes) bytes) + 1;
+      kind = kinds.Token;
+    })
+
+-- the image of a source, or its fault: of its bytes, or else its first
+unfoldable pub source_image : List ℕ → Result ImageParts Fault
+source_image bytes =
+    if utf8_valid_len bytes == length bytes then result_map_both (λ image. image) fault_of_source (meaning bytes)
+    else Err (wrong_bytes bytes)
+
+-- the image that the bytes spell, or their first fault
+abbrev pub spelled_image : List ℕ → Result ImageParts Fault
+spelled_image bytes = result_map_both (λ image. image) fault_of_image (reading bytes)
+
+-- whether a command takes a source, and not an image
+abbrev pub takes_source : CommandLine → Bool
+takes_source (Asm from) = not from
+takes_source Dis = false
+takes_source (Run source budget plan lead) = source
+takes_source (One source budget plan order) = source
+
+-- the image that a command takes from the bytes
+abbrev pub image_in : CommandLine → List ℕ → Result ImageParts Fault
+image_in line bytes = if takes_source line then source_image bytes else spelled_image bytes
+
+-- the fault of the input, unless memory was refused
+abbrev pub IsFaultIn : Result ImageParts Fault → Fault → Type 0
+IsFaultIn meant faults.Memory = ⊤
+IsFaultIn meant (faults.Source fault) = meant ≡ Err (faults.Source fault)
+IsFaultIn meant (faults.Image fault) = meant ≡ Err (faults.Image fault)
+IsFaultIn meant other = ⊥
+
+-- the image that is meant, or the fault
+abbrev pub Reads : Result ImageParts Fault → Result ImageParts Fault → Type 0
+Reads meant (Ok image) = meant ≡ Ok image
+Reads meant (Err fault) = IsFaultIn meant fault

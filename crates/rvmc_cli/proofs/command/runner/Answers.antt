@@ -1,0 +1,9 @@
+use Rattle.std.proofs.lemmas.Result.{IfOk-weaker}
+use Rattle.rvmc_cli.proofs.Building.{with_arg}
+use Rattle.rvmc_cli.proofs.command.runner.Goals as goal
+
+pub returns : goal.returns
+returns c =
+    let source = with_arg _ _ _ _ _ c.command.ensures c.flag.ensures.rule c.flag.ensures.local c.in_ok-arg.ensures in
+    let budget = with_arg _ _ _ _ _ source c.option.ensures.rule c.option.ensures.local c.in_ok-arg-2.ensures in
+    IfOk-weaker c.arg-3.result _ _ (λ new adds. with_arg _ _ _ new _ budget c.option-2.ensures.rule c.option-2.ensures.local adds) c.arg-3.ensures

@@ -1,0 +1,15 @@
+use Rattle.std.proofs.Common.{rules, ◌≡◌, ◌≤◌, List, ℕ, Option, length, subst}
+use Rattle.std.specs.Prelude.{IfSome}
+use Rattle.rvmc_tool.specs.Tool.{Answers}
+use Rattle.rvmc_tool.proofs.Told.{answered}
+use Rattle.rvmc_tool.proofs.program.obey.Goals as goal
+
+pub returns-in-Ok-clause-answers : goal.returns-in-Ok-clause-answers
+returns-in-Ok-clause-answers g c = λ bytes known not_6.
+    let contents = g.O.Write.contents in
+    let whole = subst (λ (k : Option (List ℕ)). IfSome k (λ all. c.in-Ok.bytes.items ≡ all)) known c.in-Ok.ensures.whole.all in
+    let size = c.in-Ok.ensures.whole.short in
+    let short : length c.deref.result.now ≤ 67108864 = search rules in
+    let same : c.deref.result.now ≡ bytes = search rules in
+    let told = answered c.args.line.now c.deref.result.now c.answer_to.result c.tell.result (contents c.args.out.now) (contents c.tell.new.out) short c.answer_to.ensures.says c.answer_to.ensures.fault (c.tell.ensures.told not_6) in
+    subst (λ (b : List ℕ). Answers c.args.line.now b c.tell.result (contents c.args.out.now) (contents c.tell.new.out)) same told

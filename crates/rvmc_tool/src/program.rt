@@ -1,0 +1,224 @@
+//! The program over any reader and writers.
+
+ghost use Rattle.std.specs.Prelude.{◌≡◌, ◌≢◌, IfErr, IfOk, List, OnOk, ℕ, None, Some, false, map, true};
+ghost use Rattle.std.specs.Io.KnownBytes.{Appends, Keeps};
+ghost use Rattle.rvmc_answers.specs.Answers.{needs_threads};
+ghost use Rattle.rvmc_cli.specs.Meaning.{meaning_of};
+ghost use Rattle.rvmc_line.specs.declared.line.CommandLine.{CommandLine as Line};
+ghost use Rattle.rvmc_tool.specs.Tool.{Answers, IsWhole, Refuses, RefusesPlain, Shows, Tells, is_quiet};
+ghost use Rattle.rvmc_tool.specs.Tool.{plain_meaning_of};
+ghost use Rattle.rvmc_report.specs.Faults.{fault_status};
+ghost use Rattle.rvmc_report.specs.Input.{TakesAtMost};
+
+use rvmc_answers::answers::{Answer, answer_to, answer_with_threads, needs_threads};
+use rvmc_cli::parse;
+use rvmc_line::{CommandLine, ParseFault};
+use rvmc_report::faults::Fault;
+use rvmc_report::input::{InputFault, read_input};
+use std::alloc::Global;
+use std::io::{Read, Write};
+use std::sync::Wait;
+use std::thread::Threads;
+
+/// Writes a text, and tells whether the writer took all of it.
+fn put<W: Write>(out: &mut W, text: &[u8]) -> bool
+    ensures { result ≡ true → Appends (W.contents out.old) (W.contents out.new) text.now }
+{
+    out.write_all(text).is_ok() && out.flush().is_ok()
+}
+
+/// Tells a fault on standard error, and gives its status: 6 where the line can't be written.
+fn fail<E: Write>(err: &mut E, fault: Fault) -> u8
+    ensures status { result ≢ 6 → result ≡ fault_status fault }
+    ensures loud { is_quiet result ≡ false }
+{
+    if writeln!(err, "rvmc: {fault}").is_ok() && err.flush().is_ok() {
+        fault.status()
+    } else {
+        Fault::Write.status()
+    }
+}
+
+/// Writes a text on standard output with this status, or else tells that a write failed.
+fn finish<O: Write, E: Write>(out: &mut O, err: &mut E, text: &[u8], status: u8) -> u8
+    ensures written { result ≢ 6 → Appends (O.contents out.old) (O.contents out.new) text.now }
+    ensures status { result ≢ 6 → result ≡ status }
+    ensures quiet { is_quiet result ≡ true → Keeps (E.contents err.old) (E.contents err.new) }
+{
+    if put(out, text) {
+        status
+    } else {
+        fail(err, Fault::Write)
+    }
+}
+
+/// All bytes of the input, or the status of the fault that was told in their place.
+fn take<I: Read, E: Write>(alloc: Global, input: &mut I, err: &mut E) -> Result<Vec<u8>, u8>
+    ensures whole { IfOk result (λ bytes. IsWhole (I.remaining input.old) bytes.items) }
+    ensures status { IfErr result (λ status. status ≢ 6 → status ≡ 5) }
+    ensures loud { IfErr result (λ status. is_quiet status ≡ false) }
+    ensures quiet { OnOk result (Keeps (E.contents err.old) (E.contents err.new)) }
+    ensures front { TakesAtMost 67112960 (I.remaining input.old) (I.remaining input.new) }
+{
+    match read_input(alloc, input) {
+        Ok(bytes) => Ok(bytes),
+        Err(InputFault::Read) => Err(fail(err, Fault::Read)),
+        Err(InputFault::Memory) => Err(fail(err, Fault::Memory)),
+    }
+}
+
+/// Writes an answer on standard output, or else tells the fault on standard error.
+fn tell<O: Write, E: Write>(answer: Result<Answer, Fault>, out: &mut O, err: &mut E) -> u8
+    ensures told { result ≢ 6 → Tells answer result (O.contents out.old) (O.contents out.new) }
+    ensures quiet { is_quiet result ≡ true → Keeps (E.contents err.old) (E.contents err.new) }
+{
+    match answer {
+        Ok(answer) => finish(out, err, &answer.text, answer.status),
+        Err(fault) => fail(err, fault),
+    }
+}
+
+/// Does what a command line asks for that needs no threads.
+fn obey<I: Read, O: Write, E: Write>(
+    alloc: Global,
+    line: &CommandLine,
+    input: &mut I,
+    out: &mut O,
+    err: &mut E,
+) -> u8
+    requires { needs_threads line.now ≡ false }
+    ensures answers { (bytes : List ℕ) → I.remaining input.old ≡ Some bytes → result ≢ 6
+        → Answers line.now bytes result (O.contents out.old) (O.contents out.new) }
+    ensures front { TakesAtMost 67112960 (I.remaining input.old) (I.remaining input.new) }
+    ensures quiet { is_quiet result ≡ true → Keeps (E.contents err.old) (E.contents err.new) }
+{
+    match take(alloc, input, err) {
+        Ok(bytes) => tell(answer_to(alloc, line, &bytes), out, err),
+        Err(status) => status,
+    }
+}
+
+/// Does what any command line asks for.
+fn obey_with_threads<R: Threads + Wait + Sync, I: Read, O: Write, E: Write>(
+    rt: &R,
+    alloc: Global,
+    line: &CommandLine,
+    input: &mut I,
+    out: &mut O,
+    err: &mut E,
+) -> u8
+    ensures answers { (bytes : List ℕ) → I.remaining input.old ≡ Some bytes → result ≢ 6
+        → Answers line.now bytes result (O.contents out.old) (O.contents out.new) }
+    ensures front { TakesAtMost 67112960 (I.remaining input.old) (I.remaining input.new) }
+    ensures quiet { is_quiet result ≡ true → Keeps (E.contents err.old) (E.contents err.new) }
+{
+    match take(alloc, input, err) {
+        Ok(bytes) => tell(answer_with_threads(rt, alloc, line, &bytes), out, err),
+        Err(status) => status,
+    }
+}
+
+/// Shows what there is in place of a command line.
+fn show<O: Write, E: Write>(fault: &ParseFault, out: &mut O, err: &mut E) -> u8
+    ensures shows { result ≢ 6 → Shows fault.now result (O.contents out.old) (O.contents out.new) }
+    ensures quiet { is_quiet result ≡ true → Keeps (E.contents err.old) (E.contents err.new) }
+{
+    match fault {
+        ParseFault::Memory => fail(err, Fault::Memory),
+        ParseFault::Asked(text) => finish(out, err, text.as_bytes(), 0),
+        ParseFault::Refused(text) => {
+            if put(err, text.as_bytes()) {
+                2
+            } else {
+                Fault::Write.status()
+            }
+        }
+    }
+}
+
+/// Refuses a command that needs threads.
+fn refuse_threads<E: Write>(err: &mut E) -> u8
+    ensures status { result ≢ 6 → result ≡ 2 }
+    ensures loud { is_quiet result ≡ false }
+{
+    let line = b"error: 'run' needs threads, and there are none here; `rvmc one` needs none\n";
+    if put(err, line) {
+        2
+    } else {
+        Fault::Write.status()
+    }
+}
+
+/// The whole program: `words` are those of the command line after the program's name. The result is its status:
+/// 0 done, 1 a fault of the input, 2 of the command line, 3 a hart trapped, 4 a rank was stopped by its budget, a full
+/// clock or too many calls, 5 memory or a thread was refused, 6 a read or a write failed. A fault stands as one line on
+/// `err`.
+///
+/// `run` waits for its threads and for the lock between them: what is promised of it holds if it returns. Any other
+/// command does as `tool_plain` does.
+pub fn tool<'a, R: Threads + Wait + Sync, I: Read, O: Write, E: Write>(
+    rt: &R,
+    alloc: Global,
+    words: &'a [&'a str],
+    input: &mut I,
+    out: &mut O,
+    err: &mut E,
+) -> u8
+    // The words mean a command line: what it says of all the bytes stands on the output, or nothing: for want of memory
+    // or of a thread, or where the threads left what doesn't fit together.
+    ensures answers { (line : Line) (bytes : List ℕ) → meaning_of (map (λ w. w.now) words.entry.now) ≡ Some line
+        → I.remaining input.old ≡ Some bytes → result ≢ 6
+        → Answers line bytes result (O.contents out.old) (O.contents out.new) }
+
+    // They mean none: nothing is read, and the output is as it was but for help and the version.
+    ensures refuses { meaning_of (map (λ w. w.now) words.entry.now) ≡ None → result ≢ 6
+        → Refuses (map (λ w. w.now) words.entry.now) result (O.contents out.old) (O.contents out.new) }
+    ensures unread { meaning_of (map (λ w. w.now) words.entry.now) ≡ None
+        → Keeps (I.remaining input.old) (I.remaining input.new) }
+
+    // Whatever is answered: the input loses bytes from its front alone, and 4,096 beyond the limit at most; and with
+    // the statuses 0, 3 and 4 standard error is as it was.
+    ensures front { TakesAtMost 67112960 (I.remaining input.old) (I.remaining input.new) }
+    ensures quiet { is_quiet result ≡ true → Keeps (E.contents err.old) (E.contents err.new) }
+{
+    match parse(alloc, words) {
+        Ok(line) => obey_with_threads(rt, alloc, &line, input, out, err),
+        Err(fault) => show(&fault, out, err),
+    }
+}
+
+/// The whole program without threads: it never waits, and `run` is a fault of the command line (status 2), found before
+/// anything is read.
+pub fn tool_plain<'a, I: Read, O: Write, E: Write>(
+    alloc: Global,
+    words: &'a [&'a str],
+    input: &mut I,
+    out: &mut O,
+    err: &mut E,
+) -> u8
+    // As `tool` does, where the words mean a command line that needs no threads.
+    ensures answers { (line : Line) (bytes : List ℕ) → plain_meaning_of (map (λ w. w.now) words.entry.now) ≡ Some line
+        → I.remaining input.old ≡ Some bytes → result ≢ 6
+        → Answers line bytes result (O.contents out.old) (O.contents out.new) }
+
+    // They mean none: nothing is read, and the output is as it was but for help and the version.
+    ensures refuses { plain_meaning_of (map (λ w. w.now) words.entry.now) ≡ None → result ≢ 6
+        → RefusesPlain (map (λ w. w.now) words.entry.now) result (O.contents out.old) (O.contents out.new) }
+    ensures unread { plain_meaning_of (map (λ w. w.now) words.entry.now) ≡ None
+        → Keeps (I.remaining input.old) (I.remaining input.new) }
+
+    // Whatever is answered.
+    ensures front { TakesAtMost 67112960 (I.remaining input.old) (I.remaining input.new) }
+    ensures quiet { is_quiet result ≡ true → Keeps (E.contents err.old) (E.contents err.new) }
+{
+    match parse(alloc, words) {
+        Ok(line) => {
+            if needs_threads(&line) {
+                refuse_threads(err)
+            } else {
+                obey(alloc, &line, input, out, err)
+            }
+        }
+        Err(fault) => show(&fault, out, err),
+    }
+}

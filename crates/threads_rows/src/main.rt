@@ -1,0 +1,156 @@
+//! Runs two ranks on threads of their own and prints what they leave. Each waits at its first turn until the other has
+//! come to its own: that they run at the same time no clause says, and a driver that runs one rank after the other, or
+//! gives them turns on one thread, doesn't get past it. `stdout` was written by hand.
+#![tactic(auto)]
+
+ghost use Rattle.std.specs.Prelude.{◌<◌};
+
+use cl_record::{Plan, Record, RunFault};
+use cl_threads::{Gate, NoGate, Pace, Point, run_threads};
+use rv_image::{Image, read_image};
+use std::alloc::{AllocError, Global};
+use std::io;
+use std::sync::Wait;
+use std::sync::atomic::{AtomicU64, Ordering};
+use std::thread::{Threads, yield_now};
+
+/// An image of 2 ranks with 65,536 bytes each, whose harts put out `hi` and a newline and end with 0, in 10 turns.
+const IMAGE: [u8; 68] = [
+    0x52, 0x56, 0x4d, 0x43, 0x01, 0x00, 0x02, 0x01, 0x00, 0x00, 0x01, 0x00, 0x00, 0x00, 0x00, 0x00,
+    0x28, 0x00, 0x00, 0x00, 0x00, 0x00, 0x00, 0x00, 0x00, 0x00, 0x00, 0x00, 0xb7, 0x72, 0x0a, 0x00,
+    0x93, 0x82, 0x82, 0x96, 0x23, 0x3c, 0x51, 0xfe, 0x13, 0x05, 0x81, 0xff, 0x93, 0x05, 0x30, 0x00,
+    0x93, 0x08, 0x10, 0x00, 0x73, 0x00, 0x00, 0x00, 0x13, 0x05, 0x00, 0x00, 0x93, 0x08, 0x00, 0x00,
+    0x73, 0x00, 0x00, 0x00,
+];
+
+/// How often a rank looks for the other.
+const TRIES: u32 = 10_000_000;
+
+/// Holds each of two ranks at its first turn until the other has come there too.
+#[derive(Drop)]
+struct Meet {
+    /// How often each rank passed its points.
+    begun: [AtomicU64; 2],
+    turns: [AtomicU64; 2],
+    ended: [AtomicU64; 2],
+    /// How many ranks gave up.
+    alone: AtomicU64,
+}
+
+fn zeros() -> [AtomicU64; 2] {
+    [AtomicU64::new(0), AtomicU64::new(0)]
+}
+
+impl Meet {
+    fn new() -> Meet {
+        Meet {
+            begun: zeros(),
+            turns: zeros(),
+            ended: zeros(),
+            alone: AtomicU64::new(0),
+        }
+    }
+
+    /// Waits until the other rank has come to a turn.
+    fn meet(&self, other: usize)
+        requires { other < 2 }
+    {
+        for _ in 0..TRIES {
+            if self.turns[other].load(Ordering::SeqCst) > 0 {
+                return;
+            }
+            yield_now();
+        }
+        self.alone.fetch_add(1, Ordering::SeqCst);
+    }
+}
+
+impl Gate for Meet {
+    fn pass(&self, rank: u8, point: Point) {
+        if rank > 1 {
+            return;
+        }
+        let mine = usize::from(rank);
+        match point {
+            Point::Begin => {
+                self.begun[mine].fetch_add(1, Ordering::SeqCst);
+            }
+            Point::Turn => {
+                self.turns[mine].fetch_add(1, Ordering::SeqCst);
+                self.meet(1 - mine);
+            }
+            Point::End => {
+                self.ended[mine].fetch_add(1, Ordering::SeqCst);
+            }
+        }
+    }
+}
+
+/// A plan of hart 0 for each of two ranks.
+fn plans(alloc: Global, budget: u64) -> Result<Vec<Plan>, AllocError> {
+    let mut plans = Vec::new(alloc);
+    for _rank in 0..2u8 {
+        let order = vec![in alloc; 0]?;
+        plans.push(Plan { order, budget })?;
+    }
+    Ok(plans)
+}
+
+/// A run of the image, by a plan of so many turns.
+fn run<R: Threads + Wait + Sync, G: Gate>(
+    rt: &R,
+    alloc: Global,
+    budget: u64,
+    gate: &G,
+) -> Result<Record, RunFault> {
+    let Ok(image) = read_image(alloc, &IMAGE) else {
+        return Err(RunFault::Memory);
+    };
+    let Ok(plans) = plans(alloc, budget) else {
+        return Err(RunFault::Memory);
+    };
+    run_threads(rt, alloc, &image, plans.as_slice(), gate)
+}
+
+/// Prints what each rank put out, after how many turns it stopped, and why.
+fn print_record(rt: &HostRuntime, name: &str, left: Result<Record, RunFault>) -> io::Result<()> {
+    match left {
+        Ok(record) => {
+            for rank in 0..record
+                .ranks
+                .len()
+                .min(record.traces.len())
+                .min(record.stops.len())
+            {
+                let out = record.ranks[rank].out.as_slice();
+                let turns = record.traces[rank].len();
+                let stop = record.stops[rank];
+                println!(rt; "{name}: rank {rank} put {out:?}, turns {turns}, {stop:?}")?;
+            }
+            Ok(())
+        }
+        Err(fault) => println!(rt; "{name}: {fault:?}"),
+    }
+}
+
+/// Prints how often each rank passed its points.
+fn print_points(rt: &HostRuntime, meet: &Meet) -> io::Result<()> {
+    for rank in 0..2 {
+        let begun = meet.begun[rank].load(Ordering::SeqCst);
+        let turns = meet.turns[rank].load(Ordering::SeqCst);
+        let ended = meet.ended[rank].load(Ordering::SeqCst);
+        println!(rt; "rank {rank} passed begin {begun}, turn {turns}, end {ended}")?;
+    }
+    let alone = meet.alone.load(Ordering::SeqCst);
+    println!(rt; "ranks that found nobody: {alone}")
+}
+
+fn main(rt: HostRuntime) -> io::Result<()> {
+    let alloc = rt.alloc();
+    let meet = Meet::new();
+    print_record(&rt, "meet", run(&rt, alloc, 1000, &meet))?;
+    print_points(&rt, &meet)?;
+    print_record(&rt, "no gate", run(&rt, alloc, 1000, &NoGate))?;
+    print_record(&rt, "pace", run(&rt, alloc, 3, &Pace::new(2, 1)))?;
+    print_record(&rt, "no turns", run(&rt, alloc, 0, &NoGate))
+}
