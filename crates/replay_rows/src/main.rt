@@ -49,12 +49,22 @@ fn plans(alloc: Global, ranks: u8, harts: u8) -> Result<Vec<Plan>, AllocError> {
 }
 
 /// What the threads of all ranks leave.
-fn left<R: Threads + Wait + Sync>(rt: &R, alloc: Global, image: &Image) -> Result<Record, RunFault> {
+fn left<R: Threads + Wait + Sync>(
+    rt: &R,
+    alloc: Global,
+    image: &Image,
+) -> Result<Record, RunFault> {
     let parts = image.parts();
     let Ok(plans) = plans(alloc, parts.ranks, parts.harts) else {
         return Err(RunFault::Memory);
     };
-    run_threads(rt, alloc, image, plans.as_slice(), &Pace::new(parts.ranks, LEAD))
+    run_threads(
+        rt,
+        alloc,
+        image,
+        plans.as_slice(),
+        &Pace::new(parts.ranks, LEAD),
+    )
 }
 
 /// The cluster to which all steps of a record lead, in order of their stamps.
@@ -68,11 +78,16 @@ fn replayed(alloc: Global, image: &Image, left: &Record) -> Option<ClusterState>
 
 /// Whether two harts have the same pc and registers.
 fn is_same_hart(one: &Hart, other: &Hart) -> bool {
-    one.pc() == other.pc() && (0..32u8).all(|number| one.get(Reg::new(number)) == other.get(Reg::new(number)))
+    one.pc() == other.pc()
+        && (0..32u8).all(|number| one.get(Reg::new(number)) == other.get(Reg::new(number)))
 }
 
 fn are_same_harts(one: &[Hart], other: &[Hart]) -> bool {
-    one.len() == other.len() && one.iter().zip(other.iter()).all(|(a, b)| is_same_hart(a, b))
+    one.len() == other.len()
+        && one
+            .iter()
+            .zip(other.iter())
+            .all(|(a, b)| is_same_hart(a, b))
 }
 
 /// Whether two ranks have the same harts, memory, output and clock.

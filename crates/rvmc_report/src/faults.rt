@@ -24,10 +24,7 @@ pub enum Fault {
     Plans,
     /// What the threads of a run left doesn't fit together.
     #[error("unlike {rank} {place}")]
-    Unlike {
-        rank: u8,
-        place: u64,
-    },
+    Unlike { rank: u8, place: u64 },
     /// Memory was refused.
     #[error("memory")]
     Memory,
