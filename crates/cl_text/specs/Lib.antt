@@ -1,0 +1,6 @@
+pub mod Limits
+pub mod Text
+pub mod Replies
+pub mod Reading
+pub mod Order
+pub mod Whole

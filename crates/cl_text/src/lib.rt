@@ -1,0 +1,16 @@
+//! The bytes of a record: the image and the steps of its cluster as one text, and back.
+//!
+//! The meaning stands in specs/: the limits of what is spelled, its one text, what bytes are read as, and the tests of
+//! all their parts in order.
+#![tactic(auto)]
+
+mod faults;
+mod laws;
+mod reading;
+mod replies;
+mod writing;
+
+pub use faults::RecordFault;
+pub use laws::{first_fault_law, one_spelling_law};
+pub use reading::read_record;
+pub use writing::{RecordText, write_record};
