@@ -6,3 +6,4 @@ pub mod Lifts
 pub mod Runs
 pub mod Spells
 pub mod Records
+pub mod Verdicts

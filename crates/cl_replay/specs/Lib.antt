@@ -4,3 +4,4 @@ pub mod Turns
 pub mod Steps
 pub mod Replays
 pub mod Records
+pub mod Checks

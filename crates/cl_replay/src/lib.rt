@@ -2,11 +2,12 @@
 //! machine's table.
 //!
 //! The meaning stands in specs/: which cluster a state stands for, what a step may be refused for,
-//! and where a list of steps leads.
+//! where a list of steps leads, and what a check of it finds.
 #![tactic(auto)]
 
 mod boxes;
 mod calls;
+mod checking;
 mod faults;
 mod laws;
 mod replaying;
@@ -15,8 +16,9 @@ mod stepping;
 mod turns;
 mod words;
 
-pub use cl_machine::Step;
+pub use checking::{Verdict, check};
+pub use cl_machine::{KindRef, Step};
 pub use faults::StepFault;
-pub use laws::{merged_replays_law, run_law};
+pub use laws::{merged_is_good_law, merged_replays_law, one_verdict_law, run_law};
 pub use replaying::{ReplayFault, replay};
 pub use states::ClusterState;

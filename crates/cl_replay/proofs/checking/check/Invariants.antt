@@ -1,0 +1,10 @@
+use Rattle.std.specs.Prelude.{take}
+use Rattle.cl_machine.specs.Order.{InOrder}
+use Rattle.cl_machine.specs.declared.steps.Step.{Step}
+use Rattle.cl_replay.specs.Replays.{IsReached}
+use Rattle.cl_replay.proofs.checking.check.Given as goal
+
+abbrev pub invariant-loop-n : goal.invariant-loop-n
+invariant-loop-n l =
+    IsReached l.image l.steps l.n l.state
+    × InOrder (λ (e : Step). e.stamp) (λ (e : Step). e.rank) (take l.n l.steps)
