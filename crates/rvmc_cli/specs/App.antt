@@ -32,18 +32,23 @@ asm_app = with_rules (new_app (codes "asm")) (flag (codes "from") ∷ [])
 abbrev pub dis_app : App
 dis_app = new_app (codes "dis")
 
--- what `run` and `one` share: `NAME [--source] [--budget N] [--plan HARTS]`
+-- what `run` and `one` share: `NAME [--source] [--budget N] [--plan HARTS] [--record]`
 abbrev pub runner_app : Text → App
 runner_app name =
-    with_rules (new_app name) (flag (codes "source") ∷ option (codes "budget") ∷ option (codes "plan") ∷ [])
+    with_rules (new_app name)
+    (flag (codes "source") ∷ option (codes "budget") ∷ option (codes "plan") ∷ flag (codes "record") ∷ [])
 
--- `run [--source] [--budget N] [--plan HARTS] [--lead N]`
+-- `run [--source] [--budget N] [--plan HARTS] [--record] [--lead N]`
 abbrev pub run_app : App
 run_app = with_rule (runner_app (codes "run")) (option (codes "lead"))
 
--- `one [--source] [--budget N] [--plan HARTS] [--order RANKS]`
+-- `one [--source] [--budget N] [--plan HARTS] [--record] [--order RANKS]`
 abbrev pub one_app : App
 one_app = with_rule (runner_app (codes "one")) (option (codes "order"))
+
+-- `check`
+abbrev pub check_app : App
+check_app = new_app (codes "check")
 
 -- `rvmc`, before its commands: `--help`, `--version` and the command `help` are clap's own
 abbrev pub top_app : App
@@ -59,7 +64,7 @@ top_app =
 
 -- the whole command line, one row a command
 abbrev pub rvmc_app : App
-rvmc_app = with_commands top_app (asm_app ∷ dis_app ∷ run_app ∷ one_app ∷ [])
+rvmc_app = with_commands top_app (asm_app ∷ dis_app ∷ run_app ∷ one_app ∷ check_app ∷ [])
 
 -- the command of this name by itself; any other name stands for the whole command line
 abbrev pub app_named : Text → App

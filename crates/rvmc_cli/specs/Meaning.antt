@@ -11,7 +11,7 @@ use Rattle.clap.specs.declared.error.kind.ErrorKind.TheVariants as kind
 use Rattle.rvmc_cli.specs.App.{rvmc_app}
 use Rattle.rvmc_line.specs.Number.{number_in, numbers_in}
 use Rattle.rvmc_line.specs.declared.line.CommandLine.{CommandLine}
-use Rattle.rvmc_line.specs.declared.line.CommandLine.TheVariants.{Asm, Dis, One, Run}
+use Rattle.rvmc_line.specs.declared.line.CommandLine.TheVariants.{Asm, Check, Dis, One, Run}
 use Rattle.rvmc_line.specs.declared.line.ParseFault.{ParseFault}
 use Rattle.rvmc_line.specs.declared.line.ParseFault.TheVariants as parse
 use Rattle.rvmc_cli.specs.declared.parsing.Wrong.{Wrong}
@@ -45,14 +45,14 @@ lead_in rows = number_option (codes "lead") 1 65536 64 rows
 abbrev pub run_in : List Row → Option CommandLine
 run_in rows =
     option_and_then (λ budget. option_and_then (λ lead. option_map (λ plan.
-    Run (flag_in (codes "source") rows) budget plan lead)
+    Run (flag_in (codes "source") rows) budget plan lead (flag_in (codes "record") rows))
     (list_option (codes "plan") rows)) (lead_in rows)) (budget_in rows)
 
 -- each option of `one`
 abbrev pub one_in : List Row → Option CommandLine
 one_in rows =
     option_and_then (λ budget. option_and_then (λ plan. option_map (λ order.
-    One (flag_in (codes "source") rows) budget plan order)
+    One (flag_in (codes "source") rows) budget plan order (flag_in (codes "record") rows))
     (list_option (codes "order") rows)) (list_option (codes "plan") rows)) (budget_in rows)
 
 -- the command of this name, with what was found for it
@@ -62,7 +62,8 @@ line_in name rows =
     else (if bytes_eq name (codes "dis") then Some Dis
     else (if bytes_eq name (codes "run") then run_in rows
     else (if bytes_eq name (codes "one") then one_in rows
-    else None)))
+    else (if bytes_eq name (codes "check") then Some Check
+    else None))))
 
 -- ---- the whole line
 
@@ -76,7 +77,7 @@ command_in words = subcommand_of rvmc_app words
 
 -- without words it is `one --source`; else clap has to take the words, and each value has to be one
 abbrev pub meaning_of : List Text → Option CommandLine
-meaning_of [] = Some (One true 1000000 None None)
+meaning_of [] = Some (One true 1000000 None None false)
 meaning_of (word ∷ words) =
     if length (faults_in (word ∷ words)) == 0
     then option_and_then (λ found. line_in found.0 found.1) (command_in (word ∷ words))

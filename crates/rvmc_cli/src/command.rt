@@ -2,8 +2,8 @@
 
 ghost use Rattle.std.specs.Prelude.{◌≡◌, IfOk, IsOkAnd, false};
 ghost use Rattle.clap.specs.Words.{AddsSubcommand, new_app, rule_of};
-ghost use Rattle.rvmc_cli.specs.App.{StandsFor, app_named, asm_app, dis_app, flag, one_app, option, run_app};
-ghost use Rattle.rvmc_cli.specs.App.{runner_app, rvmc_app, top_app};
+ghost use Rattle.rvmc_cli.specs.App.{StandsFor, app_named, asm_app, check_app, dis_app, flag, one_app, option};
+ghost use Rattle.rvmc_cli.specs.App.{run_app, runner_app, rvmc_app, top_app};
 
 use clap::{Arg, ArgAction, Command};
 use std::alloc::{AllocError, Global};
@@ -17,6 +17,8 @@ Examples:
   rvmc dis <hi.image          lists the image's instructions
   rvmc one <hi.image          runs the image on one thread
   rvmc run --source <hi.s     runs the source with a thread for each rank
+  rvmc run --record <hi.image | rvmc check
+                              checks each step that the threads took
 
 Status:
   0 done, 1 fault of the input, 2 fault of the command line, 3 a hart trapped,
@@ -54,11 +56,15 @@ Where the program leaves the order of messages open, it may differ from run to
 run, and with it the report. `rvmc one` runs the same image in an order that is
 laid down, and its report has the same form.
 
+With --record the record is written in place of the report: the image, and each
+step of each rank in the order of their stamps. `rvmc check` reads it.
+
 Examples:
   rvmc run --source <hi.s
   rvmc run --budget 100 <hi.image
   rvmc run --lead 1 <hi.image          the ranks keep close together
-  rvmc run --plan 0,0,1 <hi.image      hart 0 takes two turns, then hart 1 one";
+  rvmc run --plan 0,0,1 <hi.image      hart 0 takes two turns, then hart 1 one
+  rvmc run --record <hi.image >hi.record";
 
 const ONE_EXAMPLES: &str = "\
 The ranks take turns in the order that --order lists, round and round, and a
@@ -68,13 +74,33 @@ A list is decimal numbers from 0 to 255 with one comma between them. A hart may
 be listed more than once, or not at all. Each rank has to be listed.
 
 The report has the bytes that each rank put out, how each hart ended, and why
-and after how many turns each rank stopped.
+and after how many turns each rank stopped. With --record the record is written
+in its place: the image, and each step in order. `rvmc check` reads it.
 
 Examples:
   rvmc one --source <hi.s
   rvmc one --budget 100 <hi.image
   rvmc one --order 1,0 <hi.image       rank 1 takes the first turn
-  rvmc one --plan 0,0,1 <hi.image      hart 0 takes two turns, then hart 1 one";
+  rvmc one --plan 0,0,1 <hi.image      hart 0 takes two turns, then hart 1 one
+  rvmc one --record <hi.image >hi.record";
+
+const CHECK_EXAMPLES: &str = "\
+The steps of the record are taken one by one, from its image on, and each is
+compared with what the written machine does there. Nothing but the record is
+looked at: not what wrote it, and not how it came about.
+
+  good LEN   all LEN steps are a run of the image, in the order of their stamps
+  bad N      the first N steps are one, and with the next they aren't
+
+The status of `bad` is 1. Bytes that are no record are a fault, as
+`rvmc: record: Short 247`.
+
+At most 67,108,864 bytes are read. `run` and `one` write longer records too,
+which then can't be checked here.
+
+Examples:
+  rvmc one --record <hi.image >hi.record
+  rvmc check <hi.record";
 
 /// `--name`.
 fn flag<'a>(alloc: Global, name: &'a str, help: &'a str) -> Arg<'a>
@@ -153,7 +179,8 @@ fn runner<'a>(
             "plan",
             "HARTS",
             "The harts that take a rank's turns, as 0,1 [default: all in order]",
-        ))
+        ))?
+        .arg(flag(alloc, "record", "Writes the record in place of the report"))
 }
 
 fn run<'a>(alloc: Global) -> Result<Command<'a>, AllocError>
@@ -190,6 +217,17 @@ fn one<'a>(alloc: Global) -> Result<Command<'a>, AllocError>
     ))
 }
 
+fn check<'a>(alloc: Global) -> Command<'a>
+    ensures { StandsFor check_app result }
+{
+    command(
+        alloc,
+        "check",
+        "Tells whether the record on standard input is a run of its image",
+        CHECK_EXAMPLES,
+    )
+}
+
 fn top<'a>(alloc: Global) -> Result<Command<'a>, AllocError>
     ensures { IfOk result (StandsFor top_app) }
 {
@@ -222,7 +260,8 @@ pub fn rvmc<'a>(alloc: Global) -> Result<Command<'a>, AllocError>
     let command = with_command(top(alloc)?, asm(alloc))?;
     let command = command.subcommand(dis(alloc))?;
     let command = with_command(command, run(alloc))?;
-    with_command(command, one(alloc))
+    let command = with_command(command, one(alloc))?;
+    command.subcommand(check(alloc))
 }
 
 /// The command of this name by itself, whose usage a refusal shows; any other name stands for the whole command line.

@@ -1,6 +1,7 @@
 //! From words to a command line.
 
-ghost use Rattle.std.specs.Prelude.{◌≡◌, IfOk, None, Ok, [], map, option_and_then, option_map, true};
+ghost use Rattle.std.specs.Prelude.{◌≡◌, IfOk, None, Ok, [], false, map, option_and_then, option_map};
+ghost use Rattle.std.specs.Prelude.{true};
 ghost use Rattle.clap.specs.Walk.{rows_of};
 ghost use Rattle.clap.specs.Words.{first_of, found_of, kind_of, subcommand_rows_of};
 ghost use Rattle.rvmc_cli.specs.Meaning.{Finds, IsRefusal, IsTold, Parses, Reads, Tells, budget_in, flag_in, line_in};
@@ -147,6 +148,7 @@ fn run<'a>(alloc: Global, matches: &ArgMatches<'a>) -> Result<CommandLine, Wrong
         budget,
         plan,
         lead,
+        recorded: flag(matches, "record"),
     })
 }
 
@@ -161,6 +163,7 @@ fn one<'a>(alloc: Global, matches: &ArgMatches<'a>) -> Result<CommandLine, Wrong
         budget,
         plan,
         order,
+        recorded: flag(matches, "record"),
     })
 }
 
@@ -182,6 +185,9 @@ fn line<'a>(alloc: Global, name: &str, matches: &ArgMatches<'a>) -> Result<Comma
     }
     if name == "one" {
         return one(alloc, matches);
+    }
+    if name == "check" {
+        return Ok(CommandLine::Check);
     }
     Err(Wrong::Command)
 }
@@ -253,7 +259,7 @@ fn told(alloc: Global, matches: &ArgMatches<'_>) -> Result<CommandLine, ParseFau
 /// words, unless there are none.
 pub fn parse<'a>(alloc: Global, words: &'a [&'a str]) -> Result<CommandLine, ParseFault>
     ensures parsed { Parses (map (λ w. w.now) words.entry.now) result }
-    ensures none { words.entry.now ≡ [] → result ≡ Ok (One true 1000000 None None) }
+    ensures none { words.entry.now ≡ [] → result ≡ Ok (One true 1000000 None None false) }
 {
     if words.is_empty() {
         return Ok(CommandLine::One {
@@ -261,6 +267,7 @@ pub fn parse<'a>(alloc: Global, words: &'a [&'a str]) -> Result<CommandLine, Par
             budget: 1_000_000,
             plan: None,
             order: None,
+            recorded: false,
         });
     }
     match command::rvmc(alloc)?.try_get_matches_from(words) {

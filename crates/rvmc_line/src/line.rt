@@ -17,26 +17,30 @@ pub enum CommandLine {
     /// An image is read, and its listing is written.
     Dis,
     /// An image, or with `source` a source, is read and run with a thread for each rank, each rank for
-    /// at most `budget` turns (1 to 16,777,216), and the report is written. A rank that is more than
-    /// `lead` turns (1 to 65,536) ahead of the slowest that hasn't ended is held back. The harts of a
-    /// rank take turns in the order of `plan`, round and round; without it all take turns in order.
-    /// Whether a hart is there is not known here.
+    /// at most `budget` turns (1 to 16,777,216), and the report is written, or with `recorded` the
+    /// record. A rank that is more than `lead` turns (1 to 65,536) ahead of the slowest that hasn't
+    /// ended is held back. The harts of a rank take turns in the order of `plan`, round and round;
+    /// without it all take turns in order. Whether a hart is there is not known here.
     Run {
         source: bool,
         budget: u64,
         plan: Option<Numbers>,
         lead: u64,
+        recorded: bool,
     },
     /// An image, or with `source` a source, is read and run on one thread, each rank for at most
-    /// `budget` turns (1 to 16,777,216), and the report is written. The ranks take turns in the order
-    /// of `order`, and each rank's harts in that of `plan`, round and round; without them all take
-    /// turns in order. Whether a rank or a hart is there is not known here.
+    /// `budget` turns (1 to 16,777,216), and the report is written, or with `recorded` the record. The
+    /// ranks take turns in the order of `order`, and each rank's harts in that of `plan`, round and
+    /// round; without them all take turns in order. Whether a rank or a hart is there is not known here.
     One {
         source: bool,
         budget: u64,
         plan: Option<Numbers>,
         order: Option<Numbers>,
+        recorded: bool,
     },
+    /// A record is read, and it is written whether its steps are a run in order.
+    Check,
 }
 
 /// Why there is no command line.

@@ -7,4 +7,5 @@ returns c =
     let asm = with_built _ _ _ _ _ c.in_ok-top.ensures c.asm.ensures c.in_ok-command.ensures in
     let dis = with_command _ _ _ _ _ asm c.dis.ensures c.in_ok-command-2.ensures in
     let run = with_built _ _ _ _ _ dis c.run.ensures c.in_ok-command-3.ensures in
-    IfOk-weaker c.with_command-3.result _ _ (λ new adds. with_built _ _ _ _ _ run c.one.ensures adds) c.with_command-3.ensures
+    let one = with_built _ _ _ _ _ run c.one.ensures c.in_ok-command-4.ensures in
+    IfOk-weaker c.subcommand-2.result _ _ (λ new adds. with_command _ _ _ _ new one c.check.ensures adds) c.subcommand-2.ensures
