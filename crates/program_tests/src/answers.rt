@@ -45,6 +45,7 @@ pub fn one_wants_no_thread(
         budget: 1,
         plan,
         order,
+        recorded: false,
     };
     answer_to(alloc, &line, bytes)
 }
@@ -74,6 +75,7 @@ pub fn images_are_no_sources(
         budget: 1,
         plan,
         order,
+        recorded: false,
     };
     answer_to(alloc, &line, &[])
 }

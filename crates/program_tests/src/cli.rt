@@ -3,7 +3,7 @@
 ghost use Rattle.std.specs.Prelude.{◌≡◌, [], ◌∷◌, IfErr, IfOk, IsErr, None, Ok, Some, false, true};
 ghost use Rattle.clap.specs.declared.error.kind.ErrorKind.TheVariants.{DisplayVersion};
 ghost use Rattle.rvmc_cli.specs.Meaning.{IsRefusal};
-ghost use Rattle.rvmc_line.specs.declared.line.CommandLine.TheVariants.{Asm, Dis, One, Run};
+ghost use Rattle.rvmc_line.specs.declared.line.CommandLine.TheVariants.{Asm, Check, Dis, One, Run};
 ghost use Rattle.rvmc_line.specs.declared.line.ParseFault.TheVariants as faults;
 
 use rvmc_cli::parse;
@@ -12,7 +12,7 @@ use std::alloc::Global;
 
 /// Without words a source is run, with a budget of 1,000,000 turns, and no memory is needed to say so.
 pub fn no_words(alloc: Global) -> Result<CommandLine, ParseFault>
-    ensures { result ≡ Ok (One true 1000000 None None) }
+    ensures { result ≡ Ok (One true 1000000 None None false) }
 {
     parse(alloc, &[])
 }
@@ -44,7 +44,7 @@ pub fn from_takes_an_image(alloc: Global) -> Result<CommandLine, ParseFault>
 /// `one` runs an image, each rank for 1,000,000 turns at most.
 #[tactic(auto, unfolding(rvmc_cli::specs::Meaning::faults_in, rvmc_cli::specs::Meaning::command_in, rvmc_cli::specs::Meaning::line_in, clap::proofs::OnLiterals::clap_on_literals))]
 pub fn one_runs_an_image(alloc: Global) -> Result<CommandLine, ParseFault>
-    ensures { IfOk result (λ line. line ≡ One false 1000000 None None) }
+    ensures { IfOk result (λ line. line ≡ One false 1000000 None None false) }
 {
     parse(alloc, &["one"])
 }
@@ -52,7 +52,7 @@ pub fn one_runs_an_image(alloc: Global) -> Result<CommandLine, ParseFault>
 /// `--source` has it run a source.
 #[tactic(auto, unfolding(rvmc_cli::specs::Meaning::faults_in, rvmc_cli::specs::Meaning::command_in, rvmc_cli::specs::Meaning::line_in, clap::proofs::OnLiterals::clap_on_literals))]
 pub fn source_runs_a_source(alloc: Global) -> Result<CommandLine, ParseFault>
-    ensures { IfOk result (λ line. line ≡ One true 1000000 None None) }
+    ensures { IfOk result (λ line. line ≡ One true 1000000 None None false) }
 {
     parse(alloc, &["one", "--source"])
 }
@@ -60,7 +60,7 @@ pub fn source_runs_a_source(alloc: Global) -> Result<CommandLine, ParseFault>
 /// `--budget` bounds the turns, and nothing else.
 #[tactic(auto, unfolding(rvmc_cli::specs::Meaning::faults_in, rvmc_cli::specs::Meaning::command_in, rvmc_cli::specs::Meaning::line_in, clap::proofs::OnLiterals::clap_on_literals, rvmc_line::specs::Number::number_in))]
 pub fn budget_is_heeded(alloc: Global) -> Result<CommandLine, ParseFault>
-    ensures { IfOk result (λ line. line ≡ One false 5 None None) }
+    ensures { IfOk result (λ line. line ≡ One false 5 None None false) }
 {
     parse(alloc, &["one", "--budget", "5"])
 }
@@ -76,7 +76,7 @@ pub fn budget_of_0_is_refused(alloc: Global) -> Result<CommandLine, ParseFault>
 /// The greatest budget is taken.
 #[tactic(auto, unfolding(rvmc_cli::specs::Meaning::faults_in, rvmc_cli::specs::Meaning::command_in, rvmc_cli::specs::Meaning::line_in, clap::proofs::OnLiterals::clap_on_literals, rvmc_line::specs::Number::number_in))]
 pub fn budget_of_16777216_is_heeded(alloc: Global) -> Result<CommandLine, ParseFault>
-    ensures { IfOk result (λ line. line ≡ One false 16777216 None None) }
+    ensures { IfOk result (λ line. line ≡ One false 16777216 None None false) }
 {
     parse(alloc, &["one", "--budget", "16777216"])
 }
@@ -108,7 +108,7 @@ pub fn version_is_no_refusal(alloc: Global) -> Result<CommandLine, ParseFault>
 /// `--plan` lists harts.
 #[tactic(auto, unfolding(rvmc_cli::specs::Meaning::faults_in, rvmc_cli::specs::Meaning::command_in, rvmc_cli::specs::Meaning::line_in, clap::proofs::OnLiterals::clap_on_literals, rvmc_line::specs::Number::number_in, rvmc_line::specs::Number::numbers_in))]
 pub fn plan_is_for_harts(alloc: Global) -> Result<CommandLine, ParseFault>
-    ensures { IfOk result (λ line. line ≡ One false 1000000 (Some (0 ∷ 1 ∷ [])) None) }
+    ensures { IfOk result (λ line. line ≡ One false 1000000 (Some (0 ∷ 1 ∷ [])) None false) }
 {
     parse(alloc, &["one", "--plan", "0,1"])
 }
@@ -116,7 +116,7 @@ pub fn plan_is_for_harts(alloc: Global) -> Result<CommandLine, ParseFault>
 /// `--order` lists ranks.
 #[tactic(auto, unfolding(rvmc_cli::specs::Meaning::faults_in, rvmc_cli::specs::Meaning::command_in, rvmc_cli::specs::Meaning::line_in, clap::proofs::OnLiterals::clap_on_literals, rvmc_line::specs::Number::number_in, rvmc_line::specs::Number::numbers_in))]
 pub fn order_is_for_ranks(alloc: Global) -> Result<CommandLine, ParseFault>
-    ensures { IfOk result (λ line. line ≡ One false 1000000 None (Some (1 ∷ 0 ∷ []))) }
+    ensures { IfOk result (λ line. line ≡ One false 1000000 None (Some (1 ∷ 0 ∷ [])) false) }
 {
     parse(alloc, &["one", "--order", "1,0"])
 }
@@ -132,7 +132,7 @@ pub fn wrong_order_is_refused(alloc: Global) -> Result<CommandLine, ParseFault>
 /// `run` runs an image with a lead of 64 turns.
 #[tactic(auto, unfolding(rvmc_cli::specs::Meaning::faults_in, rvmc_cli::specs::Meaning::command_in, rvmc_cli::specs::Meaning::line_in, clap::proofs::OnLiterals::clap_on_literals))]
 pub fn run_leads_by_64(alloc: Global) -> Result<CommandLine, ParseFault>
-    ensures { IfOk result (λ line. line ≡ Run false 1000000 None 64) }
+    ensures { IfOk result (λ line. line ≡ Run false 1000000 None 64 false) }
 {
     parse(alloc, &["run"])
 }
@@ -140,7 +140,7 @@ pub fn run_leads_by_64(alloc: Global) -> Result<CommandLine, ParseFault>
 /// It takes a source, a budget and a plan as `one` does.
 #[tactic(auto, unfolding(rvmc_cli::specs::Meaning::faults_in, rvmc_cli::specs::Meaning::command_in, rvmc_cli::specs::Meaning::line_in, clap::proofs::OnLiterals::clap_on_literals, rvmc_line::specs::Number::number_in, rvmc_line::specs::Number::numbers_in))]
 pub fn run_takes_what_one_takes(alloc: Global) -> Result<CommandLine, ParseFault>
-    ensures { IfOk result (λ line. line ≡ Run true 5 (Some (0 ∷ 1 ∷ [])) 64) }
+    ensures { IfOk result (λ line. line ≡ Run true 5 (Some (0 ∷ 1 ∷ [])) 64 false) }
 {
     parse(
         alloc,
@@ -151,7 +151,7 @@ pub fn run_takes_what_one_takes(alloc: Global) -> Result<CommandLine, ParseFault
 /// `--lead` bounds the lead, and nothing else.
 #[tactic(auto, unfolding(rvmc_cli::specs::Meaning::faults_in, rvmc_cli::specs::Meaning::command_in, rvmc_cli::specs::Meaning::line_in, clap::proofs::OnLiterals::clap_on_literals, rvmc_line::specs::Number::number_in))]
 pub fn lead_of_1_is_heeded(alloc: Global) -> Result<CommandLine, ParseFault>
-    ensures { IfOk result (λ line. line ≡ Run false 1000000 None 1) }
+    ensures { IfOk result (λ line. line ≡ Run false 1000000 None 1 false) }
 {
     parse(alloc, &["run", "--lead", "1"])
 }
@@ -159,7 +159,7 @@ pub fn lead_of_1_is_heeded(alloc: Global) -> Result<CommandLine, ParseFault>
 /// It may stand behind an equals sign.
 #[tactic(auto, unfolding(rvmc_cli::specs::Meaning::faults_in, rvmc_cli::specs::Meaning::command_in, rvmc_cli::specs::Meaning::line_in, clap::proofs::OnLiterals::clap_on_literals, rvmc_line::specs::Number::number_in))]
 pub fn lead_behind_an_equals_sign_is_heeded(alloc: Global) -> Result<CommandLine, ParseFault>
-    ensures { IfOk result (λ line. line ≡ Run false 1000000 None 5) }
+    ensures { IfOk result (λ line. line ≡ Run false 1000000 None 5 false) }
 {
     parse(alloc, &["run", "--lead=5"])
 }
@@ -167,7 +167,7 @@ pub fn lead_behind_an_equals_sign_is_heeded(alloc: Global) -> Result<CommandLine
 /// The greatest lead is taken.
 #[tactic(auto, unfolding(rvmc_cli::specs::Meaning::faults_in, rvmc_cli::specs::Meaning::command_in, rvmc_cli::specs::Meaning::line_in, clap::proofs::OnLiterals::clap_on_literals, rvmc_line::specs::Number::number_in))]
 pub fn lead_of_65536_is_heeded(alloc: Global) -> Result<CommandLine, ParseFault>
-    ensures { IfOk result (λ line. line ≡ Run false 1000000 None 65536) }
+    ensures { IfOk result (λ line. line ≡ Run false 1000000 None 65536 false) }
 {
     parse(alloc, &["run", "--lead", "65536"])
 }
@@ -210,6 +210,46 @@ pub fn order_of_run_is_refused(alloc: Global) -> Result<CommandLine, ParseFault>
     ensures { IsErr result }
 {
     parse(alloc, &["run", "--order", "1,0"])
+}
+
+/// `--record` asks for the record, and for nothing else.
+#[tactic(auto, unfolding(rvmc_cli::specs::Meaning::faults_in, rvmc_cli::specs::Meaning::command_in, rvmc_cli::specs::Meaning::line_in, clap::proofs::OnLiterals::clap_on_literals))]
+pub fn record_of_run(alloc: Global) -> Result<CommandLine, ParseFault>
+    ensures { IfOk result (λ line. line ≡ Run false 1000000 None 64 true) }
+{
+    parse(alloc, &["run", "--record"])
+}
+
+/// The same of a run on one thread.
+#[tactic(auto, unfolding(rvmc_cli::specs::Meaning::faults_in, rvmc_cli::specs::Meaning::command_in, rvmc_cli::specs::Meaning::line_in, clap::proofs::OnLiterals::clap_on_literals))]
+pub fn record_of_one(alloc: Global) -> Result<CommandLine, ParseFault>
+    ensures { IfOk result (λ line. line ≡ One false 1000000 None None true) }
+{
+    parse(alloc, &["one", "--record"])
+}
+
+/// A record is written of a source's run, too.
+#[tactic(auto, unfolding(rvmc_cli::specs::Meaning::faults_in, rvmc_cli::specs::Meaning::command_in, rvmc_cli::specs::Meaning::line_in, clap::proofs::OnLiterals::clap_on_literals))]
+pub fn record_of_a_source(alloc: Global) -> Result<CommandLine, ParseFault>
+    ensures { IfOk result (λ line. line ≡ One true 1000000 None None true) }
+{
+    parse(alloc, &["one", "--record", "--source"])
+}
+
+/// `check` checks.
+#[tactic(auto, unfolding(rvmc_cli::specs::Meaning::faults_in, rvmc_cli::specs::Meaning::command_in, rvmc_cli::specs::Meaning::line_in, clap::proofs::OnLiterals::clap_on_literals))]
+pub fn check_checks(alloc: Global) -> Result<CommandLine, ParseFault>
+    ensures { IfOk result (λ line. line ≡ Check) }
+{
+    parse(alloc, &["check"])
+}
+
+/// It writes no record.
+#[tactic(auto, unfolding(rvmc_cli::specs::Meaning::faults_in, rvmc_cli::specs::Meaning::command_in, rvmc_cli::specs::Meaning::line_in, clap::proofs::OnLiterals::clap_on_literals))]
+pub fn record_of_a_check_is_refused(alloc: Global) -> Result<CommandLine, ParseFault>
+    ensures { IsErr result }
+{
+    parse(alloc, &["check", "--record"])
 }
 
 /// No other word is a command.
