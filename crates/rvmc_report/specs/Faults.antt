@@ -2,18 +2,22 @@
 use Rattle.std.specs.Prelude.{ℕ}
 use Rattle.cl_record.specs.declared.records.RunFault.{RunFault}
 use Rattle.cl_record.specs.declared.records.RunFault.TheVariants as run
+use Rattle.cl_text.specs.declared.faults.RecordFault.{RecordFault}
+use Rattle.cl_text.specs.declared.faults.RecordFault.TheVariants as recorded
 use Rattle.rv_asm_tokens.specs.declared.fault.AsmFault.{AsmFault}
 use Rattle.rv_asm_tokens.specs.declared.fault.AsmFaultKind.{AsmFaultKind}
 use Rattle.rv_asm_tokens.specs.declared.fault.AsmFaultKind.TheVariants as kinds
 use Rattle.rv_image.specs.declared.faults.ImageFault.{ImageFault}
 use Rattle.rv_image.specs.declared.faults.ImageFault.TheVariants as image
 use Rattle.rvmc_report.specs.declared.faults.Fault.{Fault}
-use Rattle.rvmc_report.specs.declared.faults.Fault.TheVariants.{Source, Image, Plans, Unlike, Memory, Spawn, Read, Write}
+use Rattle.rvmc_report.specs.declared.faults.Fault.TheVariants.{Source, Image, Record, Plans, Unlike, Memory, Spawn, Read}
+use Rattle.rvmc_report.specs.declared.faults.Fault.TheVariants.{Write}
 
 -- 1 for a fault of the input, 5 for memory or a thread, 6 for reads and writes
 abbrev pub fault_status : Fault → ℕ
 fault_status (Source fault) = 1
 fault_status (Image fault) = 1
+fault_status (Record fault) = 1
 fault_status Plans = 1
 fault_status (Unlike rank place) = 1
 fault_status Memory = 5
@@ -32,6 +36,10 @@ fault_of_source fault = fault_of_kind fault.kind fault
 abbrev pub fault_of_image : ImageFault → Fault
 fault_of_image image.Memory = Memory
 fault_of_image fault = Image fault
+
+abbrev pub fault_of_record : RecordFault → Fault
+fault_of_record recorded.Memory = Memory
+fault_of_record fault = Record fault
 
 abbrev pub fault_of_run : RunFault → Fault
 fault_of_run run.Plans = Plans

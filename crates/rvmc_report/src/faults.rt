@@ -1,10 +1,12 @@
 //! Why there is no answer.
 
 ghost use Rattle.std.specs.Prelude.{◌≡◌};
-ghost use Rattle.rvmc_report.specs.Faults.{fault_of_image, fault_of_run, fault_of_source, fault_status};
+ghost use Rattle.rvmc_report.specs.Faults.{fault_of_image, fault_of_record, fault_of_run, fault_of_source};
+ghost use Rattle.rvmc_report.specs.Faults.{fault_status};
 ghost use Rattle.rvmc_report.specs.declared.faults.Fault.TheVariants as faults;
 
 use cl_record::RunFault;
+use cl_text::RecordFault;
 use rv_asm::{AsmFault, AsmFaultKind};
 use rv_image::ImageFault;
 use std::alloc::{AllocError, AllocFailed};
@@ -19,6 +21,9 @@ pub enum Fault {
     /// The image's first fault.
     #[error("image: {0}")]
     Image(ImageFault),
+    /// The record's first fault.
+    #[error("record: {0}")]
+    Record(RecordFault),
     /// The plan or the order names a hart or a rank that isn't there, or the order misses a rank.
     #[error("plans")]
     Plans,
@@ -46,7 +51,11 @@ impl Fault {
         ensures { result ≡ fault_status self }
     {
         match self {
-            Fault::Source(_) | Fault::Image(_) | Fault::Plans | Fault::Unlike { .. } => 1,
+            Fault::Source(_)
+            | Fault::Image(_)
+            | Fault::Record(_)
+            | Fault::Plans
+            | Fault::Unlike { .. } => 1,
             Fault::Memory | Fault::Spawn => 5,
             Fault::Read | Fault::Write => 6,
         }
@@ -71,6 +80,17 @@ impl From<ImageFault> for Fault {
         match fault {
             ImageFault::Memory => Fault::Memory,
             _ => Fault::Image(fault),
+        }
+    }
+}
+
+impl From<RecordFault> for Fault {
+    ghost from_gives = { λ fault e. e ≡ fault_of_record fault };
+
+    fn from(fault: RecordFault) -> Fault {
+        match fault {
+            RecordFault::Memory => Fault::Memory,
+            _ => Fault::Record(fault),
         }
     }
 }

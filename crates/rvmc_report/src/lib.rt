@@ -1,4 +1,5 @@
-//! What rvmc tells and what it takes: the report of a run, the listing of an image, the faults, and the whole input.
+//! What rvmc tells and what it takes: the report of a run, the verdict on a record, the listing of an image, the faults,
+//! and the whole input.
 #![tactic(auto)]
 
 pub mod faults;
@@ -6,3 +7,4 @@ pub mod input;
 pub mod laws;
 pub mod listing;
 pub mod report;
+pub mod verdicts;
