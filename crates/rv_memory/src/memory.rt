@@ -111,6 +111,17 @@ impl RankMemory {
         })
     }
 
+    /// The same bytes and text, in memory of their own. The only error is want of memory.
+    pub fn try_copy(&self, alloc: Global) -> Result<RankMemory, AllocError>
+        ensures { IfOk result (λ copy. copy ≡ self.now) }
+    {
+        let bytes = Vec::from_slice(alloc, self.bytes.as_slice())?;
+        Ok(RankMemory {
+            bytes,
+            text: self.text,
+        })
+    }
+
     /// How many bytes there are, text and all.
     #[inline(always)]
     pub fn size(&self) -> u64
