@@ -17,7 +17,7 @@ pub const HANDLES: usize = 255;
 /// harts; 0 is the null request, which is never open. Contracts see the list of what each handle names, from handle 1
 /// on.
 ///
-/// Nothing after `new` takes memory, and a refusal leaves the table as it was.
+/// Nothing but `new` and `try_copy` takes memory, and a refusal leaves the table as it was.
 #[derive(Drop, Debug)]
 pub struct Requests {
     // handle h has slot h - 1
@@ -41,6 +41,14 @@ impl Requests {
         ensures { IfOk result (λ table. table ≡ no_requests) }
     {
         let slots = vec![in alloc; None; HANDLES]?;
+        Ok(Requests { slots })
+    }
+
+    /// The same requests under the same handles, in memory of their own. The only error is want of memory.
+    pub fn try_copy(&self, alloc: Global) -> Result<Requests, AllocError>
+        ensures { IfOk result (λ copy. copy ≡ self.now) }
+    {
+        let slots = Vec::from_slice(alloc, self.slots.as_slice())?;
         Ok(Requests { slots })
     }
 
