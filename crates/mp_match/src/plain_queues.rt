@@ -130,6 +130,28 @@ fn take_body(bodies: &mut Vec<Option<Bytes>>, place: u64) -> Option<Bytes>
     }
 }
 
+// The bytes of a message in memory of their own, while it is held.
+fn body_copy(alloc: Global, body: &Option<Bytes>) -> Result<Option<Bytes>, AllocError>
+    ensures { IfOk result (λ copy. copy ≡ body.now) }
+{
+    match body {
+        None => Ok(None),
+        Some(bytes) => Ok(Some(bytes.try_copy(alloc)?)),
+    }
+}
+
+// The same bytes of all posts in memory of their own. A copy of no posts takes no memory.
+fn body_copies(alloc: Global, bodies: &[Option<Bytes>]) -> Result<Vec<Option<Bytes>>, AllocError>
+    ensures copy { IfOk result (λ copies. copies.items ≡ bodies.now) }
+    ensures free { bodies.now ≡ [] → IsOk result }
+{
+    let mut copies = Vec::with_capacity(alloc, bodies.len())?;
+    for body in bodies {
+        copies.push(body_copy(alloc, body)?)?;
+    }
+    Ok(copies)
+}
+
 impl Queues {
     /// No posts. Takes no memory.
     pub fn new(alloc: Global) -> Queues
@@ -140,6 +162,21 @@ impl Queues {
             bodies: Vec::new(alloc),
             held: 0,
         }
+    }
+
+    /// The same posts and messages in memory of their own. A copy of no posts takes no memory.
+    pub fn try_copy(&self, alloc: Global) -> Result<Queues, AllocError>
+        ensures copy { IfOk result (λ copy. copy ≡ self.now) }
+        ensures free { self.now ≡ no_posts → IsOk result }
+    {
+        let mut lines = Vec::with_capacity(alloc, self.lines.len())?;
+        lines.extend_from_slice(self.lines.as_slice())?;
+        let bodies = body_copies(alloc, self.bodies.as_slice())?;
+        Ok(Queues {
+            lines,
+            bodies,
+            held: self.held,
+        })
     }
 
     /// How many posts were made, which is the number of the last one.
