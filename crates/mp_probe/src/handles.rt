@@ -7,7 +7,7 @@ ghost use Rattle.mp_match.specs.declared.posts.Post.TheVariants as post;
 
 use mp_match::{Queues, Selection};
 use mp_types::Envelope;
-use std::alloc::Global;
+use std::alloc::{AllocError, Global};
 use std::marker::Model;
 
 /// A claimed message that wasn't received.
@@ -50,6 +50,16 @@ impl Claims {
         Claims {
             waiting: Vec::new(alloc),
         }
+    }
+
+    /// The same messages in memory of their own. A copy of none takes no memory.
+    pub fn try_copy(&self, alloc: Global) -> Result<Claims, AllocError>
+        ensures copy { IfOk result (λ copy. copy ≡ self.now) }
+        ensures free { self.now ≡ [] → IsOk result }
+    {
+        let mut waiting = Vec::with_capacity(alloc, self.waiting.len())?;
+        waiting.extend_from_slice(self.waiting.as_slice())?;
+        Ok(Claims { waiting })
     }
 
     /// Takes a message out of matching where there is one, and gives its handle: the number of the claim's post.
