@@ -1,6 +1,6 @@
 //! All of a rank's phases.
 
-ghost use Rattle.std.specs.Prelude.{◌≡◌, ◌≤◌, length, slice_get, set, get_or, IfOk, IsTrue, not};
+ghost use Rattle.std.specs.Prelude.{◌≡◌, ◌≤◌, [], length, slice_get, set, get_or, IfOk, IsOk, IsTrue, not};
 ghost use Rattle.part_phase.specs.Phases.{IsPhase, begun, changed_at, first_phase, first_phases};
 ghost use Rattle.part_phase.specs.Phases.{is_unshaped_receiving, is_unshaped_sending, on_receiving, on_sending};
 ghost use Rattle.part_phase.specs.Phases.{receiving_at, sending_at};
@@ -102,6 +102,16 @@ impl Phases {
         for link in all {
             list.push(Phase::first(rank, *link))?;
         }
+        Ok(Phases { list })
+    }
+
+    /// The same sides in memory of their own. A copy of no sides takes no memory.
+    pub fn try_copy(&self, alloc: Global) -> Result<Phases, AllocError>
+        ensures copy { IfOk result (λ copy. copy ≡ self.now) }
+        ensures free { self.now ≡ [] → IsOk result }
+    {
+        let mut list = Vec::with_capacity(alloc, self.list.len())?;
+        list.extend_from_slice(self.list.as_slice())?;
         Ok(Phases { list })
     }
 
