@@ -39,7 +39,7 @@ pub enum Did {
 }
 
 /// A hart: 32 registers of 64 bits, of which x0 is 0, a pc and a mode.
-#[derive(Drop)]
+#[derive(Clone, Copy, Drop)]
 pub struct Hart {
     regs: [u64; 32],
     pc: u64,
@@ -53,6 +53,8 @@ impl Model for Hart {
     ghost Value = { State };
 
     ghost view = { λ h. record { regs = h.regs; pc = h.pc; mode = h.mode } };
+
+    ghost inverse = { λ s. record { regs = s.regs; pc = s.pc; mode = s.mode } };
 
     ghost invariant = { λ h. slice_index h.regs 0 ≡ 0 };
 }
