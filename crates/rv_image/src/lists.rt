@@ -1,8 +1,9 @@
 //! The lists that an image holds, which contracts see as lists.
 
-ghost use Rattle.std.specs.Prelude.{◌≡◌};
+ghost use Rattle.std.specs.Prelude.{◌≡◌, [], IfOk, IsOk};
 
 use crate::images::{Link, Symbol};
+use std::alloc::{AllocError, Global};
 use std::marker::Model;
 
 /// Bytes that are loaded one after the other: the text, or the initial data. Contracts see a list of numbers.
@@ -62,6 +63,16 @@ impl Members {
         ensures { result.now ≡ self.now }
     {
         self.ranks.as_slice()
+    }
+
+    /// The same ranks in memory of their own. A copy of none takes no memory.
+    pub fn try_copy(&self, alloc: Global) -> Result<Members, AllocError>
+        ensures copy { IfOk result (λ copy. copy ≡ self.now) }
+        ensures free { self.now ≡ [] → IsOk result }
+    {
+        let mut ranks = Vec::with_capacity(alloc, self.ranks.len())?;
+        ranks.extend_from_slice(self.ranks.as_slice())?;
+        Ok(Members { ranks })
     }
 }
 
@@ -123,6 +134,16 @@ impl Links {
         ensures { result.now ≡ self.now }
     {
         self.links.as_slice()
+    }
+
+    /// The same links in memory of their own. A copy of none takes no memory.
+    pub fn try_copy(&self, alloc: Global) -> Result<Links, AllocError>
+        ensures copy { IfOk result (λ copy. copy ≡ self.now) }
+        ensures free { self.now ≡ [] → IsOk result }
+    {
+        let mut links = Vec::with_capacity(alloc, self.links.len())?;
+        links.extend_from_slice(self.links.as_slice())?;
+        Ok(Links { links })
     }
 }
 
