@@ -4,6 +4,8 @@ ghost use Rattle.std.specs.Prelude.{◌≡◌, ◌<◌, [], length, get_or, vec_
 ghost use Rattle.cl_calls.specs.Site.{members as members_of, member as member_of, place_of};
 ghost use Rattle.cl_calls.specs.Checks.{is_comm as is_comm_of, is_peer as is_peer_of};
 
+mod copies;
+
 use crate::calls::{ANY, NO_RANK};
 use crate::needs::Peer;
 use rv_image::{ImageVersion, Links, Members};
