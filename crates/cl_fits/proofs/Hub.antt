@@ -29,6 +29,7 @@ use Rattle.mp_hub.proofs.CallsSoFar.{hub_on-snoc}
 use Rattle.mp_hub.proofs.SentKept.{sent_law}
 use Rattle.mp_hub.proofs.Transfers.{cut_law}
 use Rattle.cl_fits.specs.Limits.{FitsCut, FitsEnvelope, FitsGot, FitsMessage, FitsReply}
+use Rattle.cl_fits.proofs.Lists.{all-append, all-filter, all_at}
 use Rattle.cl_fits.proofs.Right.{IsRight, IsRightCall}
 
 -- all of the calls
@@ -70,27 +71,6 @@ pub record Numbered (n : ℕ) (h : HubView) : Type 0 where
   pub links : length h.links ≤ 32
   pub claims : AllByRecursion (λ (w : Waiting). w.message ≤ n) h.claims
   pub sides : AllByRecursion (λ (t : Side). t.link < 32) h.sides
-
-all-append : {X : Type 0} (P : X → Type 0) (xs : List X) (x : X) → AllByRecursion P xs → P x
-    → AllByRecursion P (xs ++ x ∷ [])
-all-append P [] x all one = (one, tt)
-all-append P (y ∷ xs) x all one = (all.0, all-append P xs x all.1 one)
-
-all-cond : {X : Type 0} (P : X → Type 0) (b : Bool) (x : X) (xs : List X) → P x → AllByRecursion P xs
-    → AllByRecursion P (cond b (x ∷ xs) xs)
-all-cond P true x xs one all = (one, all)
-all-cond P false x xs one all = all
-
-all-filter : {X : Type 0} (P : X → Type 0) (p : X → Bool) (xs : List X) → AllByRecursion P xs
-    → AllByRecursion P (filter p xs)
-all-filter P p [] all = tt
-all-filter P p (x ∷ xs) all = all-cond P (p x) x (filter p xs) all.0 (all-filter P p xs all.1)
-
-all_at : {X : Type 0} (P : X → Type 0) (xs : List X) (i : ℕ) (x : X) → AllByRecursion P xs → slice_get xs i ≡ Some x
-    → P x
-all_at P [] i x all at = absurd (cc)
-all_at P (y ∷ xs) zero x all at = subst P (same_Some y x at) all.0
-all_at P (y ∷ xs) (suc i) x all at = all_at P xs i x all.1 at
 
 claims_later : (n : ℕ) (ws : List Waiting) → AllByRecursion (λ (w : Waiting). w.message ≤ n) ws
     → AllByRecursion (λ (w : Waiting). w.message ≤ n + 1) ws

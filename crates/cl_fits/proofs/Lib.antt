@@ -1,2 +1,4 @@
 pub mod Right
+pub mod Lists
 pub mod Hub
+pub mod Requests
