@@ -2,3 +2,4 @@ pub mod Right
 pub mod Lists
 pub mod Hub
 pub mod Requests
+pub mod Told
