@@ -1,5 +1,5 @@
 -- A hub that was asked only what is inside the limits answers so.
-use Rattle.std.specs.Prelude.{ℕ, zero, suc, ◌+◌, ◌<◌, ◌≤◌, ◌≡◌, ◌^◌, ◌==◌, ◌&&◌, ◌||◌, not, List, [], ◌∷◌, ◌++◌, length, slice_get, Option, Some, None, Bool, true, false, cond, filter, find, All, option_map}
+use Rattle.std.specs.Prelude.{ℕ, ◌+◌, ◌<◌, ◌≤◌, ◌≡◌, ◌^◌, ◌==◌, ◌&&◌, ◌||◌, not, List, [], ◌∷◌, ◌++◌, length, Option, Some, None, Bool, true, false, cond, filter, find, option_map}
 use Rattle.std.specs.List.{AllByRecursion, list_all, enumerate_from}
 use Rattle.std.specs.Prelude.{nat_lt}
 use Rattle.std.proofs.Common.{refl, subst, sym, ap, ◌∙◌, arith, append-nil, append_assoc, length-append, get_or}
@@ -17,7 +17,7 @@ use Rattle.mp_match.specs.declared.posts.Post.TheVariants as post
 use Rattle.mp_match.specs.declared.posts.Selection.{Selection}
 use Rattle.mp_match.specs.Board.{Board, collect, held_count, is_send_of, line_of, probed, receive_posted, send_posted}
 use Rattle.mp_probe.specs.declared.handles.Waiting.{Waiting}
-use Rattle.mp_probe.specs.Claims.{handle_if, is_claim, may_receive, next_number, received, waiting_if}
+use Rattle.mp_probe.specs.Claims.{handle_if, is_claim, may_receive, next_number, received}
 use Rattle.mp_transfers.specs.declared.sides.Setup.{Setup}
 use Rattle.mp_transfers.specs.declared.sides.Side.{Side}
 use Rattle.mp_transfers.specs.Inits.{is_for, is_other_side, is_receiver, is_same_side, lowest_link, peer_of, same_total, sender_over}
@@ -182,7 +182,7 @@ module _ (n : ℕ) (h : HubView) (low : length h.board.lines ≤ n) (old : Numbe
       (after_received now rank message) (later h.board)
   numbered_more rank (request.All posts) =
       let told = cond (list_all (λ p. is_ready h rank p) posts) (all_collected h (all_got rank h.board posts))
-          (reply.NotYet, h) in
+      (reply.NotYet, h) in
       one_or (are_distinct posts && list_all (λ p. is_known h rank p) posts) told (reply.Code BadRequest, h)
       (one_or (list_all (λ p. is_ready h rank p) posts) (all_collected h (all_got rank h.board posts)) (reply.NotYet, h)
       (later (all_got rank h.board posts).1) (later h.board))
@@ -274,7 +274,7 @@ module _ (links : List Link) (calls : List Call) (right : AreRight calls) (few :
   claim_fits comm source tag None is = tt
   claim_fits comm source tag (Some e) is =
       let sent = sent_law.held links calls rank comm source tag (next_number hub.board) e
-          (ap (λ (o : Option Envelope). held (handle_if (next_number hub.board) o)) is) in
+      (ap (λ (o : Option Envelope). held (handle_if (next_number hub.board) o)) is) in
       (next_low, subst FitsEnvelope sent.2 ((sent_fits links calls right sent.3.0 sent.0 sent.3.2).envelope))
 
   all_fits : (posts : List ℕ) (gots : List (Option Message)) → length posts ≤ 255

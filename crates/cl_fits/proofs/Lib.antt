@@ -3,3 +3,5 @@ pub mod Lists
 pub mod Hub
 pub mod Requests
 pub mod Told
+pub mod Clusters
+pub mod Runs

@@ -1,5 +1,5 @@
 -- Facts on each element of a list.
-use Rattle.std.specs.Prelude.{ℕ, zero, suc, ◌≡◌, List, [], ◌∷◌, ◌++◌, slice_get, Option, Some, None, Bool, true, false, cond, filter, set, get_or, replicate}
+use Rattle.std.specs.Prelude.{ℕ, zero, suc, ◌≡◌, List, [], ◌∷◌, ◌++◌, slice_get, slice_set, Some, Bool, true, false, cond, filter, set, get_or, replicate}
 use Rattle.std.specs.List.{AllByRecursion}
 use Rattle.std.proofs.Common.{subst}
 use Rattle.std.proofs.lemmas.Option.{same_Some}
@@ -40,3 +40,14 @@ all-get_or P (y ∷ xs) (suc i) d all past = all-get_or P xs i d all.1 past
 pub all-replicate : {X : Type 0} (P : X → Type 0) (n : ℕ) (x : X) → P x → AllByRecursion P (replicate n x)
 all-replicate P zero x one = tt
 all-replicate P (suc n) x one = (one, all-replicate P n x one)
+
+-- each element of a list with one changed is that one, or was there
+pub each-set : {X : Type 0} (P : X → Type 0) (xs : List X) (k : ℕ) (x y : X)
+    → ((i : ℕ) (z : X) → slice_get xs i ≡ Some z → P z) → slice_get xs k ≡ Some x → P y
+    → (i : ℕ) (z : X) → slice_get (slice_set xs k y) i ≡ Some z → P z
+each-set P [] k x y each there one i z at = absurd (cc)
+each-set P (w ∷ xs) zero x y each there one zero z at = subst P (same_Some y z at) one
+each-set P (w ∷ xs) zero x y each there one (suc i) z at = each (suc i) z at
+each-set P (w ∷ xs) (suc k) x y each there one zero z at = each zero z at
+each-set P (w ∷ xs) (suc k) x y each there one (suc i) z at =
+    each-set P xs k x y (λ j u. each (suc j) u) there one i z at

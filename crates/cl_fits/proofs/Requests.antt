@@ -1,11 +1,11 @@
 -- What a rank asks of the hub is inside the limits, if its open requests are.
-use Rattle.std.specs.Prelude.{ℕ, zero, suc, ◌%◌, ◌<◌, ◌≤◌, ◌≡◌, ◌^◌, ◌==◌, ◌&&◌, ◌||◌, ⊤, List, [], ◌∷◌, length, drop, get_or, Option, Some, None, Bool, true, false, if◌then◌else◌, IsTrue, is_some, nat_le}
-use Rattle.std.proofs.Common.{refl, subst, sym, ap, arith}
+use Rattle.std.specs.Prelude.{ℕ, zero, suc, ◌%◌, ◌<◌, ◌≤◌, ◌≡◌, ◌==◌, ◌&&◌, ◌||◌, ⊤, List, [], ◌∷◌, length, drop, Option, Some, None, Bool, true, false, if◌then◌else◌, IsTrue, nat_le}
+use Rattle.std.proofs.Common.{refl, subst, arith}
 use Rattle.std.proofs.lemmas.Bool.{and_parts, eqb-true, leb-true}
 use Rattle.std.proofs.lemmas.List.{length-take}
 use Rattle.rv_image.specs.declared.images.ImageVersion.{ImageVersion}
 use Rattle.rv_image.specs.declared.images.ImageVersion.TheVariants.{One, Two}
-use Rattle.rv_memory.specs.Memory.{Memory, bytes_at}
+use Rattle.rv_memory.specs.Memory.{Memory}
 use Rattle.mp_types.specs.declared.requests.Request.{Request}
 use Rattle.mp_types.specs.declared.requests.Request.TheVariants as request
 use Rattle.mp_request.specs.declared.entries.OpenRequest.{OpenRequest}
@@ -25,7 +25,7 @@ use Rattle.cl_calls.specs.Calls.{any, no_message, no_rank}
 use Rattle.cl_calls.specs.Checks.{is_comm, is_count, is_tag, receiving_side, sending_side}
 use Rattle.cl_calls.specs.Handles.{handles_in}
 use Rattle.cl_calls.specs.Needs.{array_at, one_tag, reads}
-use Rattle.cl_calls.specs.Site.{member, members, place_of}
+use Rattle.cl_calls.specs.Site.{member, members}
 use Rattle.cl_calls.proofs.Members.{has_members, is_list}
 use Rattle.cl_state.specs.declared.asking.Ask.{Ask}
 use Rattle.cl_state.specs.declared.asking.Ask.TheVariants as ask
@@ -45,7 +45,7 @@ use Rattle.cl_state.specs.Rank.{Rank}
 use Rattle.cl_state.specs.Several.{asked_all, pendings, posts_of}
 use Rattle.cl_state.specs.Transfers.{asked_transfer, receive_of, send_of, source_of, tag_of}
 use Rattle.cl_state.proofs.Known.{known}
-use Rattle.cl_state.proofs.Passed.{HasPassed, left_holds, passed, right_holds}
+use Rattle.cl_state.proofs.Passed.{HasPassed, passed}
 use Rattle.cl_state_laws.proofs.Asks.{at_most_255}
 use Rattle.cl_fits.specs.Limits.{FitsCut}
 use Rattle.cl_fits.proofs.Lists.{all-get_or}
