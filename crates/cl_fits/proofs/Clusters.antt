@@ -1,5 +1,6 @@
 -- A cluster of an image stays inside the limits, and so does each step from it.
-use Rattle.std.specs.Prelude.{ℕ, zero, suc, ◌<◌, ◌≤◌, ◌≡◌, ◌^◌, List, [], ◌∷◌, length, slice_get, option_map, Option, Some, None}
+use Rattle.std.specs.Prelude.{ℕ, zero, suc, ◌<◌, ◌≤◌, ◌≡◌, ◌^◌, List, [], ◌∷◌, length, slice_get, option_map, Option}
+use Rattle.std.specs.Prelude.{Some, None}
 use Rattle.std.proofs.Common.{refl, sym, subst, ◌∙◌, arith}
 use Rattle.std.proofs.lemmas.List.{length-append, length-map, length-set, map-append}
 use Rattle.std.proofs.lemmas.Option.{same_Some, slice_get-map, slice_get_within}
@@ -81,8 +82,8 @@ first_within image is = record {
 
 -- ---- one step
 
-module _ (image : ImageParts) (is : IsImage image) (old : Cluster) (e : Step) (rank : Rank) (within : IsWithin image old)
-    (there : slice_get old.ranks e.rank ≡ Some rank) (below_2_62 : e.stamp < 2 ^ 62) where
+module _ (image : ImageParts) (is : IsImage image) (old : Cluster) (e : Step) (rank : Rank)
+    (within : IsWithin image old) (there : slice_get old.ranks e.rank ≡ Some rank) (below_2_62 : e.stamp < 2 ^ 62) where
   own : IsRankOf image rank
   own = within.ranks e.rank rank there
 
@@ -155,7 +156,14 @@ module _ (image : ImageParts) (is : IsImage image) (old : Cluster) (e : Step) (r
   by_kind (Kind.Hub reply) new c =
       let q : Request = c.0 in
       let right : IsRight q = asked_right rank e.hart q own.comms own.requests c.1 in
-      let entry : Entry = record { rank = e.rank; hart = e.hart; clock = rank.clock; stamp = e.stamp; request = q; reply = reply } in (
+      let entry : Entry = record {
+        rank = e.rank;
+        hart = e.hart;
+        clock = rank.clock;
+        stamp = e.stamp;
+        request = q;
+        reply = reply;
+      } in (
         omega (arith, c.3),
         subst FitsReply (sym c.2) (call_fits q right),
         subst (IsWithin image) (sym c.4)

@@ -1,5 +1,6 @@
 -- A hub that was asked only what is inside the limits answers so.
-use Rattle.std.specs.Prelude.{ℕ, ◌+◌, ◌<◌, ◌≤◌, ◌≡◌, ◌^◌, ◌==◌, ◌&&◌, ◌||◌, not, List, [], ◌∷◌, ◌++◌, length, Option, Some, None, Bool, true, false, cond, filter, find, option_map}
+use Rattle.std.specs.Prelude.{ℕ, ◌+◌, ◌<◌, ◌≤◌, ◌≡◌, ◌^◌, ◌==◌, ◌&&◌, ◌||◌, not, List, [], ◌∷◌, ◌++◌, length, Option}
+use Rattle.std.specs.Prelude.{Some, None, Bool, true, false, cond, filter, find, option_map}
 use Rattle.std.specs.List.{AllByRecursion, list_all, enumerate_from}
 use Rattle.std.specs.Prelude.{nat_lt}
 use Rattle.std.proofs.Common.{refl, subst, sym, ap, ◌∙◌, arith, append-nil, append_assoc, length-append, get_or}
@@ -20,8 +21,12 @@ use Rattle.mp_probe.specs.declared.handles.Waiting.{Waiting}
 use Rattle.mp_probe.specs.Claims.{handle_if, is_claim, may_receive, next_number, received}
 use Rattle.mp_transfers.specs.declared.sides.Setup.{Setup}
 use Rattle.mp_transfers.specs.declared.sides.Side.{Side}
-use Rattle.mp_transfers.specs.Inits.{is_for, is_other_side, is_receiver, is_same_side, lowest_link, peer_of, same_total, sender_over}
-use Rattle.mp_hub.specs.Hub.{Call, HubView, all_collected, all_got, are_distinct, claim_found, claimed_now, cut_of, got_or, held, hub_after, init_first, init_with, is_complete, is_done, is_known, is_ready, may_collect, message_or, outcome, reply_of, seen, selecting, sending, setup_of, side_added, started, with_board, with_claims}
+use Rattle.mp_transfers.specs.Inits.{is_for, is_other_side, is_receiver, is_same_side, lowest_link, peer_of, same_total}
+use Rattle.mp_transfers.specs.Inits.{sender_over}
+use Rattle.mp_hub.specs.Hub.{Call, HubView, all_collected, all_got, are_distinct, claim_found, claimed_now, cut_of}
+use Rattle.mp_hub.specs.Hub.{got_or, held, hub_after, init_first, init_with, is_complete, is_done, is_known, is_ready}
+use Rattle.mp_hub.specs.Hub.{may_collect, message_or, outcome, reply_of, seen, selecting, sending, setup_of, side_added}
+use Rattle.mp_hub.specs.Hub.{started, with_board, with_claims}
 use Rattle.mp_hub.specs.Laws.{SentAt}
 use Rattle.mp_hub.specs.Transfers.{SenderBegan}
 use Rattle.mp_hub.proofs.BoardKept.{board_law}
@@ -153,8 +158,8 @@ module _ (n : ℕ) (h : HubView) (low : length h.board.lines ≤ n) (old : Numbe
   after_init : (s : Setup) (o : Option Side) → peer_of h.sides s ≡ o → Numbered (n + 1) (init_with h s o).1
   after_init s None is = after_first s (lowest_link h.links h.sides s) refl
   after_init s (Some t) is =
-      one_or (same_total s t.setup) (side_added h s t.link) (reply.Code Shape, h) (after_side s t.link (peer_low s t is))
-      (later h.board)
+      one_or (same_total s t.setup) (side_added h s t.link) (reply.Code Shape, h)
+      (after_side s t.link (peer_low s t is)) (later h.board)
 
   -- one call more
   numbered_more : (rank : ℕ) (q : Request) → Numbered (n + 1) (outcome h rank q).1
@@ -250,7 +255,8 @@ module _ (links : List Link) (calls : List Call) (right : AreRight calls) (few :
   old_low message low = omega (arith, low, below)
 
   message_fits : (q : Request) (m : Message) → reply_of links calls rank q ≡ reply.Got m → FitsMessage m
-  message_fits q m is = (let sent = sent_law.got links calls rank q m is in sent_fits links calls right sent.2.0 m sent.2.2)
+  message_fits q m is =
+      let sent = sent_law.got links calls rank q m is in sent_fits links calls right sent.2.0 m sent.2.2
 
   -- a reply that depends on a test
   fits_or : (c : Bool) (x y : Reply × HubView) → (c ≡ true → FitsReply x.0) → FitsReply y.0 → FitsReply (cond c x y).0
@@ -351,7 +357,8 @@ module _ (links : List Link) (calls : List Call) (right : AreRight calls) (few :
       (message_fits (request.Recv true comm source tag))
   reply_fits (request.Recv false comm source tag) q = next_low
   reply_fits (request.Collect post) q =
-      fits_or (may_collect hub rank post) (got_or hub reply.NotYet (collect hub.board post)) (reply.Code BadRequest, hub)
+      fits_or (may_collect hub rank post) (got_or hub reply.NotYet (collect hub.board post))
+      (reply.Code BadRequest, hub)
       (λ may.
       message_or_fits reply.NotYet (collect hub.board post).0 tt
       (λ m is. message_fits (request.Collect post) m

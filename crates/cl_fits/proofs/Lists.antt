@@ -1,5 +1,6 @@
 -- Facts on each element of a list.
-use Rattle.std.specs.Prelude.{ℕ, zero, suc, ◌≡◌, List, [], ◌∷◌, ◌++◌, slice_get, slice_set, Some, Bool, true, false, cond, filter, set, get_or, replicate}
+use Rattle.std.specs.Prelude.{ℕ, zero, suc, ◌≡◌, List, [], ◌∷◌, ◌++◌, slice_get, slice_set, Some, Bool, true, false}
+use Rattle.std.specs.Prelude.{cond, filter, set, get_or, replicate}
 use Rattle.std.specs.List.{AllByRecursion}
 use Rattle.std.proofs.Common.{subst}
 use Rattle.std.proofs.lemmas.Option.{same_Some}

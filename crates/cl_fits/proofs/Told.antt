@@ -1,5 +1,6 @@
 -- A turn leaves the requests of its rank inside the limits.
-use Rattle.std.specs.Prelude.{ℕ, zero, suc, ◌==◌, ⊤, List, [], ◌∷◌, length, slice_get, Option, Some, None, Bool, true, false, if◌then◌else◌, option_map, option_and_then}
+use Rattle.std.specs.Prelude.{ℕ, zero, suc, ◌==◌, ⊤, List, [], ◌∷◌, length, slice_get, Option, Some, None, Bool, true}
+use Rattle.std.specs.Prelude.{false, if◌then◌else◌, option_map, option_and_then}
 use Rattle.mp_types.specs.declared.messages.Message.{Message}
 use Rattle.mp_types.specs.declared.messages.Envelope.{Envelope}
 use Rattle.mp_types.specs.declared.replies.Reply.{Reply}
@@ -54,8 +55,12 @@ use Rattle.cl_state.specs.Partitions.{awaited, awaited_of_part, side_on}
 use Rattle.cl_state.specs.Pending.{pending_of}
 use Rattle.cl_state.specs.Rank.{Rank}
 use Rattle.cl_state.specs.Several.{completed_each, pendings, posts_of}
-use Rattle.cl_state.specs.Table.{begins, begins_phase, begun, completes, concludes, gathers, holds, polled, row_arrived, row_awaited, row_completing, row_in, row_of, row_of_part, row_ready, starts, takes}
-use Rattle.cl_state.specs.Told.{arrived, arrived_from, completed_all, done, found, found_at, found_nothing, freed, freed_one, gathered_if, made_side_at, not_yet, opened_at, part_readied, phase_begun, received, received_from, received_message, replied, seen_one, taken_one, told, told_row, visited}
+use Rattle.cl_state.specs.Table.{begins, begins_phase, begun, completes, concludes, gathers, holds, polled, row_arrived}
+use Rattle.cl_state.specs.Table.{row_awaited, row_completing, row_in, row_of, row_of_part, row_ready, starts, takes}
+use Rattle.cl_state.specs.Told.{arrived, arrived_from, completed_all, done, found, found_at, found_nothing, freed}
+use Rattle.cl_state.specs.Told.{freed_one, gathered_if, made_side_at, not_yet, opened_at, part_readied, phase_begun}
+use Rattle.cl_state.specs.Told.{received, received_from, received_message, replied, seen_one, taken_one, told, told_row}
+use Rattle.cl_state.specs.Told.{visited}
 use Rattle.cl_state.specs.Transfers.{claimed_of, receive_of, send_of}
 use Rattle.cl_state.proofs.Passed.{AllHold, HasPassed, passed}
 use Rattle.cl_fits.proofs.Lists.{all-set}
