@@ -4,6 +4,7 @@
 #![tactic(auto)]
 
 mod asking;
+mod copies;
 mod doing;
 mod loading;
 mod partitions;

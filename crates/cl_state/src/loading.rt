@@ -10,7 +10,7 @@ use cl_calls::{Communicators, Site};
 use mp_request::Requests;
 use part_phase::Phases;
 use rv_hart::Hart;
-use rv_image::{Comms, Image, ImageParts, Links, Members};
+use rv_image::{Comms, Image, ImageParts, Members};
 use rv_memory::RankMemory;
 use std::alloc::{AllocError, Global};
 
@@ -24,12 +24,6 @@ fn all_ranks(alloc: Global, ranks: u8) -> Result<Members, AllocError>
     Ok(Members::from_vec(list))
 }
 
-fn copy_members(alloc: Global, members: &Members) -> Result<Members, AllocError>
-    ensures { IfOk result (λ copy. copy ≡ members.now) }
-{
-    Ok(Members::from_vec(Vec::from_slice(alloc, members.as_slice())?))
-}
-
 fn all_comms(alloc: Global, ranks: u8, comms: &Comms) -> Result<Communicators, AllocError>
     requires { length comms.now ≤ 7 }
     ensures { IfOk result (λ all. all ≡ below ranks ∷ comms.now) }
@@ -38,15 +32,9 @@ fn all_comms(alloc: Global, ranks: u8, comms: &Comms) -> Result<Communicators, A
     let mut lists = Vec::new(alloc);
     lists.push(all_ranks(alloc, ranks)?)?;
     for i in 0..comms.len() {
-        lists.push(copy_members(alloc, &comms[i])?)?;
+        lists.push(comms[i].try_copy(alloc)?)?;
     }
     Ok(Communicators::from_vec(lists))
-}
-
-fn copy_links(alloc: Global, links: &Links) -> Result<Links, AllocError>
-    ensures { IfOk result (λ copy. copy ≡ links.now) }
-{
-    Ok(Links::from_vec(Vec::from_slice(alloc, links.as_slice())?))
 }
 
 fn all_harts(alloc: Global, parts: &ImageParts, rank: u8) -> Result<Vec<Hart>, AllocError>
@@ -87,7 +75,7 @@ impl RankState {
             number: rank,
             ranks: parts.ranks,
             comms: all_comms(alloc, parts.ranks, &parts.comms)?,
-            links: copy_links(alloc, &parts.links)?,
+            links: parts.links.try_copy(alloc)?,
             version: parts.version,
         };
         let memory = memory(alloc, parts)?;
