@@ -1,5 +1,6 @@
 -- What a turn is, by what it asks: only an instruction asks nothing as one, and only a local call puts bytes out.
-use Rattle.std.specs.Prelude.{ℕ, zero, suc, ◌≡◌, ◌<◌, ◌==◌, if◌then◌else◌, List, [], ◌∷◌, Bool, true, false, Option, Some, None}
+use Rattle.std.specs.Prelude.{ℕ, zero, suc, ◌≡◌, ◌<◌, ◌==◌, if◌then◌else◌, List, [], ◌∷◌, Bool, true, false, Option}
+use Rattle.std.specs.Prelude.{Some, None}
 use Rattle.std.specs.Prelude.{vec_len}
 use Rattle.std.proofs.Common.{refl, sym, ap, ◌∙◌, subst, arith, get_or}
 use Rattle.std.proofs.lemmas.Option.{get_or_from_slice_get, slice_get_read}
@@ -39,7 +40,8 @@ use Rattle.cl_state.specs.declared.pending.Manner.{Manner}
 use Rattle.cl_state.specs.declared.pending.Manner.TheVariants.{Immediate, Blocking, Polling, Posting}
 use Rattle.cl_state.specs.declared.pending.Pending.{Pending}
 use Rattle.cl_state.specs.declared.pending.Pending.TheVariants as pending
-use Rattle.cl_state.specs.Asked.{asked, asked_by, asked_completing, asked_in, asked_poll, asked_start, carried, doing, part_of}
+use Rattle.cl_state.specs.Asked.{asked, asked_by, asked_completing, asked_in, asked_poll, asked_start, carried, doing}
+use Rattle.cl_state.specs.Asked.{part_of}
 use Rattle.cl_state.specs.Asked.{checked, doing_in, go_or_refuse, is_ecall}
 use Rattle.cl_state.specs.Partitions.{asked_arrived, asked_awaited, asked_ready, awaited, awaited_of_part}
 use Rattle.cl_state.specs.Pending.{asked_pending, pending_of}
@@ -98,7 +100,8 @@ more_all : (posts : List ℕ) → IsMore (asked_all posts)
 more_all [] = tt
 more_all (post ∷ posts) = tt
 
-more_ready : (site : Site) (memory : Memory) (part : ℕ) (o : Option Partitions) → IsMore (asked_ready site memory part o)
+more_ready : (site : Site) (memory : Memory) (part : ℕ) (o : Option Partitions)
+    → IsMore (asked_ready site memory part o)
 more_ready site memory part None = tt
 more_ready site memory part (Some side) = tt
 

@@ -149,7 +149,8 @@ module _ (image : ImageParts) (left : List (List Settled)) (boxes : List Box) (a
                     now,
                     link_there,
                     ap (slice_get new_link) (sym at_part.1) ∙ get-set_same h.link (n % 16) h.settled s h.part_there,
-                    ap (slice_get (slice_set boxes n now)) (let e : box_number link part ≡ n = omega (arith, same.1, at_part.1) in e)
+                    ap (slice_get (slice_set boxes n now))
+                        (let e : box_number link part ≡ n = omega (arith, same.1, at_part.1) in e)
                         ∙ get-set_same boxes n h.box now h.box_there,
                     shows,
                   )

@@ -72,12 +72,14 @@ module _ (old : ClusterState) (e : Step) (s : RankState) (at : slice_get old.ran
   pub miss_nowhere : e.kind ≡ Kind.Miss → ¬ IsMiss (rank_of s) e → LeadsNowhere old e
   miss_nowhere is none =
       nowhere Kind.Miss is (λ image cluster next stands c.
-      ⊎_elim (λ look. none (Ask.Look c.0 c.1, tt, (look, c.3))) (λ freed. none (Ask.Freed c.0 c.1, tt, (freed, c.3))) c.2)
+      ⊎_elim (λ look. none (Ask.Look c.0 c.1, tt, (look, c.3))) (λ freed. none (Ask.Freed c.0 c.1, tt, (freed, c.3)))
+      c.2)
 
   pub ready_nowhere : e.kind ≡ Kind.Ready → ¬ IsReady (rank_of s) old.boxes.items e → LeadsNowhere old e
   ready_nowhere is none =
       nowhere Kind.Ready is (λ image cluster next stands c.
-      let h = shown_of_box image old.boxes.items cluster.boxes stands.boxes_show stands.of.boxes (box_number c.0 c.1) c.3 c.5 in
+      let h = shown_of_box image old.boxes.items cluster.boxes stands.boxes_show stands.of.boxes (box_number c.0 c.1)
+      c.3 c.5 in
       none (record {
         link = c.0;
         part = c.1;
@@ -91,7 +93,8 @@ module _ (old : ClusterState) (e : Step) (s : RankState) (at : slice_get old.ran
   pub take_nowhere : e.kind ≡ Kind.Take → ¬ IsTake (rank_of s) old.boxes.items e → LeadsNowhere old e
   take_nowhere is none =
       nowhere Kind.Take is (λ image cluster next stands c.
-      let h = shown_of_box image old.boxes.items cluster.boxes stands.boxes_show stands.of.boxes (box_number c.0 c.1) c.3 c.5 in
+      let h = shown_of_box image old.boxes.items cluster.boxes stands.boxes_show stands.of.boxes (box_number c.0 c.1)
+      c.3 c.5 in
       none (record {
         link = c.0;
         part = c.1;
@@ -105,7 +108,8 @@ module _ (old : ClusterState) (e : Step) (s : RankState) (at : slice_get old.ran
   pub freed_nowhere : e.kind ≡ Kind.Freed → ¬ IsFreed (rank_of s) old.boxes.items e → LeadsNowhere old e
   freed_nowhere is none =
       nowhere Kind.Freed is (λ image cluster next stands c.
-      let h = shown_of_box image old.boxes.items cluster.boxes stands.boxes_show stands.of.boxes (box_number c.0 c.1) c.2 c.4 in
+      let h = shown_of_box image old.boxes.items cluster.boxes stands.boxes_show stands.of.boxes (box_number c.0 c.1)
+      c.2 c.4 in
       none (record {
         link = c.0;
         part = c.1;
@@ -147,8 +151,12 @@ module _ (old : ClusterState) (e : Step) (s : RankState) (at : slice_get old.ran
       let t = takes image.links (calls_of cluster.journal.entries) (has_calls image cluster stands) in (
         rank_of s,
         rank_there image old cluster stands e s at,
-        subst (λ k. KindTakesMemory cluster e (rank_of s) k) (sym is)
-            (t.0, t.1, ⊎_elim (λ carries. inl carries) (λ made. inr (ap (makes t.0) (reply_is image cluster stands t.0) ∙ made)) t.2),
+        subst (λ k. KindTakesMemory cluster e (rank_of s) k) (sym is) (
+          t.0,
+          t.1,
+          ⊎_elim (λ carries. inl carries)
+              (λ made. inr (ap (makes t.0) (reply_is image cluster stands t.0) ∙ made)) t.2,
+        ),
       )
 
   pub quiet_takes : e.kind ≡ Kind.Local → 0 < growth_of (doing s.site (part_of (rank_of s) e.hart)) → TakesMemory old e
@@ -167,7 +175,8 @@ module _ (old : ClusterState) (e : Step) (s : RankState) (at : slice_get old.ran
         pub plain_leads : e.kind ≡ Kind.Plain → AsksNext (rank_of s) e Ask.Plain
             → IsTold (rank_of s) e Answer.Alone (rank_of after) → Leads old e new
         plain_leads is asks by = λ image cluster stands.
-            lead_alone image old cluster stands e s at new after hart low ranks Kind.Plain is Answer.Alone by hub clock boxes
+            lead_alone image old cluster stands e s at new after hart low ranks Kind.Plain is Answer.Alone by hub clock
+            boxes
             (asks.0, asks.1, refl)
 
         pub quiet_leads : (k : Kind) → e.kind ≡ k → IsQuiet (rank_of s) e
@@ -191,7 +200,8 @@ module _ (old : ClusterState) (e : Step) (s : RankState) (at : slice_get old.ran
         pub miss_leads : e.kind ≡ Kind.Miss → IsMiss (rank_of s) e
             → IsTold (rank_of s) e Answer.Missed (rank_of after) → Leads old e new
         miss_leads is miss by = λ image cluster stands.
-            lead_alone image old cluster stands e s at new after hart low ranks Kind.Miss is Answer.Missed by hub clock boxes
+            lead_alone image old cluster stands e s at new after hart low ranks Kind.Miss is Answer.Missed by hub clock
+            boxes
             (case miss.0 cluster miss.1 miss.2)
           where
             case : (ask : Ask) (cluster : Cluster) → IsLook ask → AsksNext (rank_of s) e ask
@@ -210,28 +220,49 @@ module _ (old : ClusterState) (e : Step) (s : RankState) (at : slice_get old.ran
         freed_leads is f by = λ image cluster stands.
             let h = shown_of_settled image old.boxes.items cluster.boxes stands.boxes_show stands.of.boxes
             (box_number f.link f.part) f.settled f.there in
-            lead_alone image old cluster stands e s at new after hart low ranks Kind.Freed is Answer.Freed by hub clock boxes
-            (f.link, f.part, h.0, f.asks, h.1, (h.2.empty f.empty).0, f.stamp ∙ ap (λ n. max s.clock n + 1) h.2.stamp, refl)
+            lead_alone image old cluster stands e s at new after hart low ranks Kind.Freed is Answer.Freed by hub clock
+            boxes (
+              f.link,
+              f.part,
+              h.0,
+              f.asks,
+              h.1,
+              (h.2.empty f.empty).0,
+              f.stamp ∙ ap (λ n. max s.clock n + 1) h.2.stamp,
+              refl,
+            )
 
       pub ready_leads : e.kind ≡ Kind.Ready
           → Readies (rank_of s) old.boxes.items e (rank_of after) new.boxes.items → Leads old e new
       ready_leads is r = λ image cluster stands.
           let n = box_number r.ready.link r.ready.part in
-          let h = shown_of_settled image old.boxes.items cluster.boxes stands.boxes_show stands.of.boxes n r.ready.settled
+          let h = shown_of_settled image old.boxes.items cluster.boxes stands.boxes_show stands.of.boxes n
+          r.ready.settled
           r.ready.there in
           let version = stands.of.versions e.rank (rank_of s) (rank_there image old cluster stands e s at) in
           let spelled : r.ready.bytes ≡ bytes_in image.version r.words =
           r.spelled ∙ ap (λ v. bytes_in v r.words) version in
           lead_boxed image old cluster stands e s at new after hart low ranks Kind.Ready is Answer.Alone r.told n
-          r.ready.settled (filled e.stamp r.words) (with_made h.0 e.stamp r.ready.bytes) hub clock r.ready.there r.changes
-          (shows_made image.version r.ready.settled h.0 h.2 e.stamp r.ready.bytes r.words r.ready.empty spelled)
-          (r.ready.link, r.ready.part, r.ready.bytes, h.0, r.ready.asks.0, h.1, (h.2.empty r.ready.empty).0, r.ready.asks.1, refl)
+          r.ready.settled (filled e.stamp r.words) (with_made h.0 e.stamp r.ready.bytes) hub clock r.ready.there
+          r.changes
+          (shows_made image.version r.ready.settled h.0 h.2 e.stamp r.ready.bytes r.words r.ready.empty spelled) (
+            r.ready.link,
+            r.ready.part,
+            r.ready.bytes,
+            h.0,
+            r.ready.asks.0,
+            h.1,
+            (h.2.empty r.ready.empty).0,
+            r.ready.asks.1,
+            refl,
+          )
 
       pub take_leads : e.kind ≡ Kind.Take
           → Takes (rank_of s) old.boxes.items e (rank_of after) new.boxes.items → Leads old e new
       take_leads is t = λ image cluster stands.
           let n = box_number t.take.link t.take.part in
-          let h = shown_of_settled image old.boxes.items cluster.boxes stands.boxes_show stands.of.boxes n t.take.settled
+          let h = shown_of_settled image old.boxes.items cluster.boxes stands.boxes_show stands.of.boxes n
+          t.take.settled
           t.take.there in
           let version = stands.of.versions e.rank (rank_of s) (rank_there image old cluster stands e s at) in
           let bytes : List ℕ = bytes_in image.version t.take.settled.words in
@@ -239,8 +270,17 @@ module _ (old : ClusterState) (e : Step) (s : RankState) (at : slice_get old.ran
           t.told ∙ ap (λ v. told (rank_of s) e.hart (Answer.Taken (bytes_in v t.take.settled.words)) e.stamp) version in
           lead_boxed image old cluster stands e s at new after hart low ranks Kind.Take is (Answer.Taken bytes) by n
           t.take.settled (vacant e.stamp) (with_taken h.0 e.stamp) hub clock t.take.there t.changes
-          (shows_taken image.version t.take.settled h.0 h.2 e.stamp t.take.full (stands.of.one_thing n h.0 h.1))
-          (t.take.link, t.take.part, bytes, h.0, t.take.asks, h.1, h.2.full t.take.full, t.take.stamp ∙ ap (λ n. max s.clock n + 1) h.2.stamp, refl)
+          (shows_taken image.version t.take.settled h.0 h.2 e.stamp t.take.full (stands.of.one_thing n h.0 h.1)) (
+            t.take.link,
+            t.take.part,
+            bytes,
+            h.0,
+            t.take.asks,
+            h.1,
+            h.2.full t.take.full,
+            t.take.stamp ∙ ap (λ n. max s.clock n + 1) h.2.stamp,
+            refl,
+          )
 
     pub call_leads : (reply : Reply) → e.kind ≡ Kind.Hub reply → new.clock ≡ e.stamp
         → new.boxes.items ≡ old.boxes.items
@@ -257,9 +297,15 @@ module _ (old : ClusterState) (e : Step) (s : RankState) (at : slice_get old.ran
           request = h.call.request;
           reply = reply;
         } in
-        lead_called image old cluster stands e s at new after hart low ranks (Kind.Hub reply) is (Answer.Reply reply) h.told
-        entry clock boxes h.stands
-        (h.call.request, h.call.asks, h.call.gives ∙ sym (reply_is image cluster stands h.call.request), h.call.stamp ∙ ap (λ n. max s.clock n + 1) stands.clock_is, refl)
+        lead_called image old cluster stands e s at new after hart low ranks (Kind.Hub reply) is (Answer.Reply reply)
+        h.told
+        entry clock boxes h.stands (
+          h.call.request,
+          h.call.asks,
+          h.call.gives ∙ sym (reply_is image cluster stands h.call.request),
+          h.call.stamp ∙ ap (λ n. max s.clock n + 1) stands.clock_is,
+          refl,
+        )
 
 -- ---- the code's own facts
 

@@ -1,5 +1,6 @@
 -- What holds of a cluster of an image, wherever a run has come.
-use Rattle.std.specs.Prelude.{ℕ, zero, suc, ◌+◌, ◌*◌, ◌<◌, ◌≤◌, ◌≡◌, List, [], ◌∷◌, ◌++◌, length, map, replicate, slice_get}
+use Rattle.std.specs.Prelude.{ℕ, zero, suc, ◌+◌, ◌*◌, ◌<◌, ◌≤◌, ◌≡◌, List, [], ◌∷◌, ◌++◌, length, map, replicate}
+use Rattle.std.specs.Prelude.{slice_get}
 use Rattle.std.specs.Prelude.{slice_set, Option, Some, None, option_map}
 use Rattle.std.proofs.Common.{refl, sym, ap, ◌∙◌, subst, add-one, arith, inl, inr}
 use Rattle.std.proofs.lemmas.Bool.Decides.{eqb_tells}
@@ -90,7 +91,11 @@ module _ (image : ImageParts) (old : Cluster) (e : Step) (rank : Rank) (of : IsC
   of_called : (answer : Answer) (entry : Entry) → old.journal.clock < entry.stamp
       → IsClusterOf image (record {
         ranks = ranks_told old e rank answer;
-        journal = record { links = old.journal.links; entries = old.journal.entries ++ entry ∷ []; clock = entry.stamp };
+        journal = record {
+          links = old.journal.links;
+          entries = old.journal.entries ++ entry ∷ [];
+          clock = entry.stamp;
+        };
         boxes = old.boxes;
       })
   of_called answer entry later = record {

@@ -1,5 +1,6 @@
 -- A step of a state is a step of the cluster for which it stands.
-use Rattle.std.specs.Prelude.{ℕ, ◌≡◌, ◌<◌, ◌^◌, ◌++◌, ◌∷◌, [], List, length, map, option_map, slice_get, slice_set, Some}
+use Rattle.std.specs.Prelude.{ℕ, ◌≡◌, ◌<◌, ◌^◌, ◌++◌, ◌∷◌, [], List, length, map, option_map, slice_get, slice_set}
+use Rattle.std.specs.Prelude.{Some}
 use Rattle.std.proofs.Common.{refl, sym, ap, ◌∙◌, subst}
 use Rattle.std.proofs.lemmas.List.{map-append, map-set}
 use Rattle.std.proofs.lemmas.Option.{same_Some, slice_get-map}
@@ -83,7 +84,8 @@ module _ (image : ImageParts) (old : ClusterState) (cluster : Cluster) (stands :
         → CaseOf cluster e (rank_of s) k (with_box cluster e (rank_of s) answer n box) → LeadsFrom image cluster e new
     lead_boxed n before now box hub clock there changes shows case =
         lead (with_box cluster e (rank_of s) answer n box) case refl (hub ∙ stands.hub_stands) (clock ∙ stands.clock_is)
-        (shows_changed image old.boxes.items cluster.boxes stands.boxes_show stands.of.boxes n new.boxes.items now box changes
+        (shows_changed image old.boxes.items cluster.boxes stands.boxes_show stands.of.boxes n new.boxes.items now box
+        changes
         before there shows)
 
     -- a step that calls the hub

@@ -34,7 +34,8 @@ run_law image steps n k run below breaks =
     let same = one_end (loaded_cluster image) h.0 breaks.cluster (take k steps) h.2 breaks.run in
     breaks.nowhere h.1 (subst (λ c. IsStep c breaks.step h.1) same h.3)
 
-module _ (image : ImageParts) (steps : List Step) (k : ℕ) (state : ClusterState) (reached : IsReached image steps k state)
+module _ (image : ImageParts) (steps : List Step) (k : ℕ) (state : ClusterState)
+    (reached : IsReached image steps k state)
     (e : Step) (there : slice_get steps k ≡ Some e) where
   -- one step more
   pub reached_more : (new : ClusterState) → Leads state e new → IsReached image steps (k + 1) new

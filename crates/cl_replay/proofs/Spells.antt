@@ -55,9 +55,11 @@ pub next_bytes : (words out out' : List ℕ) (i : ℕ) → i < length words → 
     → out' ≡ flat_map bytes_of_word (take (i + 1) words) ++ replicate (128 - 8 * (i + 1)) 0
 next_bytes words out out' i there low is made =
     subst (λ ws. out' ≡ flat_map bytes_of_word ws ++ replicate (128 - 8 * (i + 1)) 0) (sym (front_next words i there))
-    (more_bytes out out' (take i words) i (get_or words i 0) (length-take-le i words (omega (arith, there))) low is made)
+    (more_bytes out out' (take i words) i (get_or words i 0) (length-take-le i words (omega (arith, there))) low is
+    made)
   where
     front_next : (xs : List ℕ) (k : ℕ) → k < length xs → take (k + 1) xs ≡ take k xs ++ get_or xs k 0 ∷ []
     front_next [] k below = absurd (omega (arith, below))
     front_next (x ∷ xs) zero below = refl
-    front_next (x ∷ xs) (suc k) below = rw add-one (ap (λ ys. x ∷ ys) (rw add-one at (front_next xs k (omega (arith, below)))))
+    front_next (x ∷ xs) (suc k) below = rw add-one
+        (ap (λ ys. x ∷ ys) (rw add-one at (front_next xs k (omega (arith, below)))))

@@ -1,5 +1,6 @@
 -- Verdicts of lists of steps.
-use Rattle.std.specs.Prelude.{ℕ, zero, suc, ◌+◌, ◌-◌, ◌<◌, ◌≤◌, ◌≡◌, ◌↔◌, List, [], ◌∷◌, ◌++◌, Option, None, Some, length}
+use Rattle.std.specs.Prelude.{ℕ, zero, suc, ◌+◌, ◌-◌, ◌<◌, ◌≤◌, ◌≡◌, ◌↔◌, List, [], ◌∷◌, ◌++◌, Option, None, Some}
+use Rattle.std.specs.Prelude.{length}
 use Rattle.std.specs.Prelude.{slice_get, take}
 use Rattle.std.specs.List.{last_or, AllByRecursion}
 use Rattle.std.proofs.Common.{refl, sym, ap, ◌∙◌, subst, add-one, arith}
@@ -10,15 +11,14 @@ use Rattle.cl_machine.specs.Cluster.{Cluster, IsRun, IsStep, loaded_cluster}
 use Rattle.cl_machine.specs.Laws.{ComesAfter, IsGood}
 use Rattle.cl_machine.specs.Order.{Before, InOrder}
 use Rattle.cl_machine.specs.declared.steps.Step.{Step}
-use Rattle.cl_machine.proofs.Tables.{one_end}
 use Rattle.cl_machine.proofs.Verdicts.{one_merge, step_by_step}
 use Rattle.cl_record.specs.Records.{steps_in}
 use Rattle.cl_replay.specs.declared.checking.Verdict.{Verdict}
 use Rattle.cl_replay.specs.declared.states.ClusterState.{ClusterState}
-use Rattle.cl_replay.specs.Checks.{IsOrderedRun, IsVerdict, MergedIsGoodLaw, OneVerdictLaw}
+use Rattle.cl_replay.specs.Checks.{IsOrderedRun, MergedIsGoodLaw, OneVerdictLaw}
 use Rattle.cl_replay.specs.Replays.{IsReached}
 use Rattle.cl_replay.specs.Steps.{Leads, LeadsNowhere}
-use Rattle.cl_replay.proofs.Runs.{reached_more, take_next}
+use Rattle.cl_replay.proofs.Runs.{take_next}
 
 -- ---- the first steps of a run in order are one
 
@@ -55,7 +55,8 @@ take_ordered image es n h =
 not_before : (image : ImageParts) (es : List Step) (n m : ℕ) → ¬ IsOrderedRun image (take (n + 1) es)
     → IsOrderedRun image (take m es) → ¬ (n < m)
 not_before image es n m bad good below =
-    bad (subst (IsOrderedRun image) (take-take (n + 1) m es (omega (arith, below))) (take_ordered image (take m es) (n + 1) good))
+    bad (subst (IsOrderedRun image) (take-take (n + 1) m es (omega (arith, below)))
+    (take_ordered image (take m es) (n + 1) good))
 
 pub one_verdict : OneVerdictLaw
 one_verdict image steps Verdict.Good Verdict.Good p q = refl
@@ -103,7 +104,8 @@ after_last P es n last e step up before here there h =
 
 -- ---- one step more
 
-module _ (image : ImageParts) (steps : List Step) (n : ℕ) (state : ClusterState) (reached : IsReached image steps n state)
+module _ (image : ImageParts) (steps : List Step) (n : ℕ) (state : ClusterState)
+    (reached : IsReached image steps n state)
     (order : StepsInOrder (take n steps)) (e : Step) (there : slice_get steps n ≡ Some e) where
   -- with it the first steps stay a run in order just where it is a step from there that comes after the last
   with_next : IsGood (loaded_cluster image) (take n steps ++ e ∷ [])

@@ -39,11 +39,13 @@ fn comes_next(steps: &[Step], n: usize) -> bool
     n == 0 || is_before(&steps[n - 1], &steps[n])
 }
 
-/// Whether these steps are a run of the image, from its loaded cluster on, in order of their stamps; else the first step
-/// with which they aren't: it doesn't come after the step before it, or the machine has no such step there.
+/// Whether these steps are a run of the image, from its loaded cluster on, in order of their stamps;
+/// else the first step with which they aren't: it doesn't come after the step before it, or the
+/// machine has no such step there.
 ///
-/// It decides by the written machine alone, and needs nothing besides the steps. A second step of one rank and one stamp
-/// is bad; turns of stopped harts, any number of turns, and looks in vain at a box that is full are good.
+/// It decides by the written machine alone, and needs nothing besides the steps. A second step of
+/// one rank and one stamp is bad; turns of stopped harts, any number of turns, and looks in vain at
+/// a box that is full are good.
 ///
 /// Refused only where memory is, for the loaded cluster or for what a step makes.
 pub fn check(alloc: Global, image: &Image, steps: &[Step]) -> Result<Verdict, AllocError>

@@ -17,13 +17,14 @@ pub fn merged_replays_law()
     ensures { MergedReplaysLaw }
 {}
 
-/// A list of steps has one verdict at most: so whoever decides by the machine alone finds what `check` finds.
+/// A list of steps has one verdict at most: so whoever decides by the machine alone finds what
+/// `check` finds.
 pub fn one_verdict_law()
     ensures { OneVerdictLaw }
 {}
 
-/// The events of a record whose merge is a run, in order of their stamps, are good, and nothing else: so a check of them
-/// never finds a bad step.
+/// The events of a record whose merge is a run, in order of their stamps, are good: so a check of
+/// them never finds a bad step.
 pub fn merged_is_good_law()
     ensures { MergedIsGoodLaw }
 {}

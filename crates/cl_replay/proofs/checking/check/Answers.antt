@@ -1,4 +1,4 @@
-use Rattle.std.proofs.Common.{refl, sym, subst, arith, length, ◌<◌}
+use Rattle.std.proofs.Common.{refl, arith, length}
 use Rattle.std.proofs.lemmas.Option.{slice_get_read}
 use Rattle.cl_replay.proofs.Runs.{reached_more}
 use Rattle.cl_replay.proofs.Verdicts.{good_at_end, no_step, order_more, so_far, step_there, too_early}

@@ -1,4 +1,4 @@
-use Rattle.std.proofs.Common.{refl, arith, length, ◌-◌, ◌<◌, IsTrue}
+use Rattle.std.proofs.Common.{refl, arith, length, ◌-◌, IsTrue}
 use Rattle.std.proofs.lemmas.Option.{slice_get_read}
 use Rattle.cl_replay.proofs.Verdicts.{after_last}
 use Rattle.cl_replay.proofs.checking.comes_next.Goals as goal

@@ -10,7 +10,8 @@ returns-in-Err-NotAStep-clause-fault c =
     (omega (arith, c.loop-k-test.true, c.if-n-len.false)) c.index-steps-k.is in (
       c.loop-k-test.true,
       omega (arith, c.if-n-len.false),
-      breaks c.args.image.now steps c.loop-k.k c.loop-k.state c.loop-k.invariant c.index-steps-k.result there (rw c.in-Err-NotAStep.field-0-is at c.in-Err-NotAStep.ensures.fault),
+      breaks c.args.image.now steps c.loop-k.k c.loop-k.state c.loop-k.invariant c.index-steps-k.result there
+          (rw c.in-Err-NotAStep.field-0-is at c.in-Err-NotAStep.ensures.fault),
     )
 
 pub loop-k-preserved : goal.loop-k-preserved

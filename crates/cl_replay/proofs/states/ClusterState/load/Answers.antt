@@ -19,6 +19,7 @@ returns c =
       boxes_show =
           let count = ap (λ links. length links) (c.as_slice-links.ensures
           ∙ ap (λ (p : ImageParts). p.links) c.parts-parts.ensures.parts) in
-          subst (λ left. ShowsAll image left (replicate (16 * length image.links) empty_box)) (sym c.in_ok-no_boxes.ensures)
+          subst (λ left. ShowsAll image left (replicate (16 * length image.links) empty_box))
+          (sym c.in_ok-no_boxes.ensures)
           (shows_loaded image (length c.as_slice-links.result.now) count);
     }

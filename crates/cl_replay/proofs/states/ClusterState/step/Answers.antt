@@ -6,7 +6,8 @@ use Rattle.cl_trace.specs.Traces.{kind_of_bare}
 use Rattle.cl_machine.specs.Turns.{kind_seen}
 use Rattle.cl_replay.specs.declared.states.ClusterState.{ClusterState}
 use Rattle.cl_replay.specs.Turns.{IsFreed, IsReady, IsTake, Readies, Takes}
-use Rattle.cl_replay.proofs.ByKind.{at_step, call_fault, call_leads, changed_items, done_fault, freed_leads, freed_nowhere}
+use Rattle.cl_replay.proofs.ByKind.{at_step, call_fault, call_leads, changed_items, done_fault, freed_leads}
+use Rattle.cl_replay.proofs.ByKind.{freed_nowhere}
 use Rattle.cl_replay.proofs.ByKind.{matched_err, matched_ok, miss_leads, miss_nowhere, plain_leads, plain_nowhere}
 use Rattle.cl_replay.proofs.ByKind.{quiet_fault, quiet_leads, ready_leads, ready_nowhere, take_leads, take_nowhere}
 use Rattle.cl_replay.proofs.states.ClusterState.step.Goals as goal
@@ -103,7 +104,8 @@ returns-in-Freed-clause-leads c =
     let ranks = ap (λ i. slice_set old.ranks.items i c.freed.new.state) rank in
     on_ok_weaker c.done-in-Freed.result (λ yes.
     freed_leads old e s here.there new c.freed.new.state here.hart here.low ranks refl refl refl kind
-    (subst (λ xs. IsFreed (rank_of s) xs e) c.as_slice.ensures.value (c.freed.ensures.goes yes)) (c.freed.ensures.told yes)) c.done-in-Freed.ensures.ok
+    (subst (λ xs. IsFreed (rank_of s) xs e) c.as_slice.ensures.value (c.freed.ensures.goes yes))
+    (c.freed.ensures.told yes)) c.done-in-Freed.ensures.ok
 
 pub returns-in-Freed-clause-fault : goal.returns-in-Freed-clause-fault
 returns-in-Freed-clause-fault c =
@@ -118,7 +120,8 @@ returns-in-Freed-clause-fault c =
     c.if-from-len.false in
     done_fault old e c.done-in-Freed.result c.freed.result (λ not.
     freed_nowhere old e s here.there kind
-    (subst (λ xs. IsFreed (rank_of s) xs e → ⊥) c.as_slice.ensures.value (c.freed.ensures.none not))) c.done-in-Freed.ensures.err
+    (subst (λ xs. IsFreed (rank_of s) xs e → ⊥) c.as_slice.ensures.value (c.freed.ensures.none not)))
+    c.done-in-Freed.ensures.err
 
 pub returns-in-Ready-clause-leads : goal.returns-in-Ready-clause-leads
 returns-in-Ready-clause-leads c =
@@ -139,12 +142,14 @@ returns-in-Ready-clause-leads c =
     } in
     let ranks = ap (λ i. slice_set old.ranks.items i c.ready.new.state) rank in
     on_ok_weaker c.done-in-Ready.result (λ yes.
-    let r = subst (λ xs. Readies (rank_of s) xs e (rank_of c.ready.new.state) c.ready.new.boxes) c.as_mut_slice.ensures.value
+    let r = subst (λ xs. Readies (rank_of s) xs e (rank_of c.ready.new.state) c.ready.new.boxes)
+    c.as_mut_slice.ensures.value
     (c.ready.ensures.goes yes) in
     let items : (with_items old.boxes c.ready.new.boxes).items ≡ c.ready.new.boxes =
     changed_items old.boxes _ _ c.ready.new.boxes r.changes in
     ready_leads old e s here.there new c.ready.new.state here.hart here.low ranks refl refl kind
-    (subst (λ xs. Readies (rank_of s) old.boxes.items e (rank_of c.ready.new.state) xs) (sym items) r)) c.done-in-Ready.ensures.ok
+    (subst (λ xs. Readies (rank_of s) old.boxes.items e (rank_of c.ready.new.state) xs) (sym items) r))
+    c.done-in-Ready.ensures.ok
 
 pub returns-in-Ready-clause-fault : goal.returns-in-Ready-clause-fault
 returns-in-Ready-clause-fault c =
@@ -159,7 +164,8 @@ returns-in-Ready-clause-fault c =
     c.if-from-len.false in
     done_fault old e c.done-in-Ready.result c.ready.result (λ not.
     ready_nowhere old e s here.there kind
-    (subst (λ xs. IsReady (rank_of s) xs e → ⊥) c.as_mut_slice.ensures.value (c.ready.ensures.none not))) c.done-in-Ready.ensures.err
+    (subst (λ xs. IsReady (rank_of s) xs e → ⊥) c.as_mut_slice.ensures.value (c.ready.ensures.none not)))
+    c.done-in-Ready.ensures.err
 
 pub returns-in-Take-clause-leads : goal.returns-in-Take-clause-leads
 returns-in-Take-clause-leads c =
@@ -180,12 +186,14 @@ returns-in-Take-clause-leads c =
     } in
     let ranks = ap (λ i. slice_set old.ranks.items i c.take.new.state) rank in
     on_ok_weaker c.done-in-Take.result (λ yes.
-    let r = subst (λ xs. Takes (rank_of s) xs e (rank_of c.take.new.state) c.take.new.boxes) c.as_mut_slice-in-Take.ensures.value
+    let r = subst (λ xs. Takes (rank_of s) xs e (rank_of c.take.new.state) c.take.new.boxes)
+    c.as_mut_slice-in-Take.ensures.value
     (c.take.ensures.goes yes) in
     let items : (with_items old.boxes c.take.new.boxes).items ≡ c.take.new.boxes =
     changed_items old.boxes _ _ c.take.new.boxes r.changes in
     take_leads old e s here.there new c.take.new.state here.hart here.low ranks refl refl kind
-    (subst (λ xs. Takes (rank_of s) old.boxes.items e (rank_of c.take.new.state) xs) (sym items) r)) c.done-in-Take.ensures.ok
+    (subst (λ xs. Takes (rank_of s) old.boxes.items e (rank_of c.take.new.state) xs) (sym items) r))
+    c.done-in-Take.ensures.ok
 
 pub returns-in-Take-clause-fault : goal.returns-in-Take-clause-fault
 returns-in-Take-clause-fault c =
@@ -200,7 +208,8 @@ returns-in-Take-clause-fault c =
     c.if-from-len.false in
     done_fault old e c.done-in-Take.result c.take.result (λ not.
     take_nowhere old e s here.there kind
-    (subst (λ xs. IsTake (rank_of s) xs e → ⊥) c.as_mut_slice-in-Take.ensures.value (c.take.ensures.none not))) c.done-in-Take.ensures.err
+    (subst (λ xs. IsTake (rank_of s) xs e → ⊥) c.as_mut_slice-in-Take.ensures.value (c.take.ensures.none not)))
+    c.done-in-Take.ensures.err
 
 pub returns-in-Local-clause-leads : goal.returns-in-Local-clause-leads
 returns-in-Local-clause-leads c =
@@ -269,4 +278,5 @@ returns-in-Err-clause-fault c =
     let here = at_step old e c.from-rank.result c.len.result c.from.result c.len-2.result s rank c.len.ensures
     c.if-rank-len.false low c.index_mut-state.ensures.value (c.from.ensures ∙ c.hart.ensures) c.len-2.ensures
     c.if-from-len.false in
-    call_fault old e s here c.in-Hub.reply.now (sym c.kind.ensures ∙ ap kind_seen c.in-Hub.is) c.in-Err.fault c.in-Err.ensures.fault
+    call_fault old e s here c.in-Hub.reply.now (sym c.kind.ensures ∙ ap kind_seen c.in-Hub.is) c.in-Err.fault
+    c.in-Err.ensures.fault
