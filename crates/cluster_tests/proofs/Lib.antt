@@ -2,3 +2,5 @@ pub mod Turning
 pub mod Boxing
 pub mod Planning
 pub mod Merging
+pub mod Checking
+pub mod Ties

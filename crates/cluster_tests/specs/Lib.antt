@@ -2,3 +2,5 @@ pub mod Reads
 pub mod Turns
 pub mod Boxes
 pub mod Runs
+pub mod Checks
+pub mod Merges
