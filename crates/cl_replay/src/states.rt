@@ -5,7 +5,7 @@ ghost use Rattle.cl_state.specs.Rank.{below, loaded};
 ghost use Rattle.cl_state.specs.Room.{rank_of};
 ghost use Rattle.cl_machine.specs.Cluster.{loaded_cluster};
 ghost use Rattle.cl_replay.specs.Boxes.{vacant};
-ghost use Rattle.cl_replay.specs.States.{StandsFor};
+ghost use Rattle.cl_replay.specs.States.{AreSame, StandsAlike, StandsFor};
 
 use cl_state::RankState;
 use mp_hub::HubState;
@@ -54,6 +54,17 @@ fn no_boxes(alloc: Global, links: usize) -> Result<Vec<[Settled; 16]>, AllocErro
     Ok(boxes)
 }
 
+/// The same ranks in memory of their own.
+fn copy_ranks(alloc: Global, ranks: &[RankState]) -> Result<Vec<RankState>, AllocError>
+    ensures { IfOk result (λ copies. map rank_of copies.items ≡ map rank_of ranks.now) }
+{
+    let mut copies = Vec::with_capacity(alloc, ranks.len())?;
+    for rank in ranks {
+        copies.push(rank.try_copy(alloc)?)?;
+    }
+    Ok(copies)
+}
+
 impl ClusterState {
     /// All ranks of the image as they are loaded, a hub that was never called, and all boxes empty.
     pub fn load(alloc: Global, image: &Image) -> Result<ClusterState, AllocError>
@@ -66,6 +77,20 @@ impl ClusterState {
             hub: HubState::new(alloc, image)?,
             clock: 0,
             boxes: no_boxes(alloc, links)?,
+        })
+    }
+
+    /// The same cluster in memory of its own: the same ranks, hub, clock and boxes. A step of one of the two leaves the
+    /// other as it was. The only error is want of memory.
+    pub fn try_copy(&self, alloc: Global) -> Result<ClusterState, AllocError>
+        ensures same { IfOk result (AreSame self.now) }
+        ensures stands { IfOk result (StandsAlike self.now) }
+    {
+        Ok(ClusterState {
+            ranks: copy_ranks(alloc, self.ranks.as_slice())?,
+            hub: self.hub.try_copy(alloc)?,
+            clock: self.clock,
+            boxes: Vec::from_slice(alloc, self.boxes.as_slice())?,
         })
     }
 }
