@@ -14,6 +14,13 @@ pub enum Point {
 /// What each rank passes at each point, on its own thread. It may hold the rank for a while.
 pub trait Gate: Sync {
     fn pass(&self, rank: u8, point: Point);
+
+    /// Passes `Turn` before the rank's turn of this number, counted from 0. A gate that counts turns can do with less
+    /// where it is told.
+    #[inline(always)]
+    fn turn(&self, rank: u8, _number: u64) {
+        self.pass(rank, Point::Turn);
+    }
 }
 
 /// Holds nobody.
@@ -30,6 +37,11 @@ impl<'g, G: Gate> Gate for &'g G {
     #[inline(always)]
     fn pass(&self, rank: u8, point: Point) {
         (**self).pass(rank, point);
+    }
+
+    #[inline(always)]
+    fn turn(&self, rank: u8, number: u64) {
+        (**self).turn(rank, number);
     }
 }
 
@@ -49,8 +61,8 @@ impl<G: Gate + Drop> Passage<G> {
     }
 
     #[inline(always)]
-    pub(crate) fn turn(&self) {
-        self.gate.pass(self.rank, Point::Turn);
+    pub(crate) fn turn(&self, number: u64) {
+        self.gate.turn(self.rank, number);
     }
 }
 

@@ -1,6 +1,6 @@
 //! A gate that keeps ranks together.
 
-ghost use Rattle.std.specs.Prelude.{◌≤◌};
+ghost use Rattle.std.specs.Prelude.{◌<◌, ◌≤◌, IfSome};
 
 use crate::gates::{Gate, Point};
 use crossbeam_utils::CachePadded;
@@ -12,20 +12,24 @@ use std::thread::yield_now;
 /// How often a rank that is held looks for the others, 2^24 times, before it goes on all the same.
 const LOOKS: u32 = 1 << 24;
 
-/// How many of these looks follow at once. Behind each later one the thread lets others run.
-const SPINS: u32 = 64;
+/// How many of these looks follow after a short rest. Behind each later one the thread lets others run.
+const SPINS: u32 = 16;
+
+/// The most turns between two counts of a rank that the others can see, and the longest rest between two looks.
+const MOST: u64 = 64;
 
 /// The most ranks that there are.
 const RANKS: u8 = 8;
 
-/// What is known of one rank. Only its own thread writes it.
+/// What is known of one rank.
 #[derive(Drop)]
 struct Runner {
-    /// How many turns it came to.
+    /// How many turns it came to, as it told last. Only its own thread writes it.
     turns: AtomicU64,
-    /// How many turns the slowest of the others had come to when this one looked last. It may have gone on since, and
-    /// doesn't go back.
-    slowest: AtomicU64,
+    /// The last turn, from 0, that it may take without a look at the others. Only its own thread uses it.
+    reach: AtomicU64,
+    /// The turn at which it tells its count again, or has to look: its own thread sets it. One that waits for it sets 0.
+    due: AtomicU64,
     /// Whether it takes no turn any more.
     ended: OnceBool,
 }
@@ -35,14 +39,25 @@ impl Runner {
     fn new() -> CachePadded<Runner> {
         CachePadded::new(Runner {
             turns: AtomicU64::new(0),
-            slowest: AtomicU64::new(0),
+            reach: AtomicU64::new(0),
+            due: AtomicU64::new(0),
             ended: OnceBool::new(),
         })
     }
 }
 
+/// What a rank saw of the slowest of the others.
+#[derive(Clone, Copy, PartialEq, Eq, Drop)]
+struct Slowest {
+    rank: u8,
+    turns: u64,
+}
+
 /// Holds a rank that is more than `lead` turns ahead of the slowest rank that hasn't ended, begun or not, for at most 2^24
 /// looks at the others.
+///
+/// A rank tells its count now and then, and at once where one that seems too far ahead of it asks. So a rank that isn't
+/// more than `lead` ahead waits for that answer at most.
 ///
 /// A rank whose number isn't below the number of ranks goes by, and holds nobody. One that never comes, nor passes `End`,
 /// holds the others, if only for their looks.
@@ -52,6 +67,10 @@ pub struct Pace {
     ranks: u8,
     /// By how many turns a rank may be ahead.
     lead: u64,
+    /// How many turns a rank takes between two counts that it tells.
+    stride: u64,
+    /// How long a rank that is held rests between two looks: far shorter than the others take for `lead` turns.
+    rest: u64,
     /// Each rank's, in cache lines of its own, so that a turn of one doesn't slow down the others.
     runners: [CachePadded<Runner>; 8],
     ghost few: { ranks ≤ 8 },
@@ -63,6 +82,8 @@ impl Pace {
         Pace {
             ranks: ranks.min(RANKS),
             lead,
+            stride: (lead / 2).clamp(1, MOST),
+            rest: (lead / 64).clamp(1, MOST),
             runners: [
                 Runner::new(),
                 Runner::new(),
@@ -76,39 +97,85 @@ impl Pace {
         }
     }
 
-    /// How many turns the slowest rank came to, of the others that haven't ended: 2^64 - 1 where there is none.
-    fn slowest_other(&self, rank: u8) -> u64 {
-        let mut least = u64::MAX;
+    /// The slowest of the other ranks that haven't ended, None where there is none.
+    fn slowest_other(&self, rank: u8) -> Option<Slowest>
+        ensures { IfSome result (λ slowest. slowest.rank < self.now.ranks) }
+    {
+        let mut slowest: Option<Slowest> = None;
         for other in 0..self.ranks {
             let runner = &self.runners[usize::from(other)];
-            if other != rank && runner.ended.get().is_none() {
-                least = least.min(runner.turns.load(Ordering::SeqCst));
+            if other == rank || runner.ended.get().is_some() {
+                continue;
             }
+            let turns = runner.turns.load(Ordering::SeqCst);
+            slowest = match slowest {
+                Some(seen) if seen.turns <= turns => Some(seen),
+                _ => Some(Slowest { rank: other, turns }),
+            };
         }
-        least
+        slowest
     }
 
-    /// Looks at the others until the rank isn't too far ahead with so many turns.
-    #[inline(never)]
-    fn hold(&self, rank: u8, runner: &Runner, turns: u64) {
+    /// Looks at the others until the rank isn't too far ahead for this turn: the last turn that it may take then.
+    fn reach_of(&self, rank: u8, number: u64) -> u64 {
+        let mut before: Option<Slowest> = None;
         for look in 0..LOOKS {
-            let slowest = self.slowest_other(rank);
-            runner.slowest.store(slowest, Ordering::SeqCst);
-            if turns <= slowest.saturating_add(self.lead) {
-                return;
+            let Some(slowest) = self.slowest_other(rank) else {
+                return u64::MAX;
+            };
+            let reach = slowest.turns.saturating_add(self.lead);
+            if number <= reach {
+                return reach;
             }
-            if look < SPINS {
-                spin_loop();
-            } else {
-                yield_now();
+            if before == Some(slowest) {
+                // it may have taken turns since it told its count
+                self.runners[usize::from(slowest.rank)]
+                    .due
+                    .store(0, Ordering::SeqCst);
             }
+            before = Some(slowest);
+            self.rest_after(look);
         }
+        number
+    }
+
+    /// A rest between two looks, which leaves the slowest the line that both need.
+    fn rest_after(&self, look: u32) {
+        if look < SPINS {
+            for _ in 0..self.rest {
+                spin_loop();
+            }
+        } else {
+            yield_now();
+        }
+    }
+
+    /// Holds a rank at the turn of this number if it is too far ahead of what it saw last.
+    fn hold(&self, rank: u8, runner: &Runner, number: u64) -> u64 {
+        let reach = runner.reach.load(Ordering::SeqCst);
+        if number <= reach {
+            return reach;
+        }
+        let reach = self.reach_of(rank, number);
+        runner.reach.store(reach, Ordering::SeqCst);
+        reach
+    }
+
+    /// Tells the rank's count, and holds it if it is too far ahead.
+    #[inline(never)]
+    fn come(&self, rank: u8, runner: &Runner, number: u64) {
+        runner
+            .turns
+            .store(number.saturating_add(1), Ordering::SeqCst);
+        let reach = self.hold(rank, runner, number);
+        let due = number
+            .saturating_add(self.stride)
+            .min(reach.saturating_add(1));
+        runner.due.store(due, Ordering::SeqCst);
     }
 }
 
 impl Gate for Pace {
-    /// A turn costs one count in the rank's own cache line, unless it is too far ahead of what it saw last.
-    #[inline]
     fn pass(&self, rank: u8, point: Point) {
         if rank >= self.ranks {
             return;
@@ -117,15 +184,24 @@ impl Gate for Pace {
         match point {
             Point::Begin => {}
             Point::Turn => {
-                let turns = runner.turns.fetch_add(1, Ordering::SeqCst);
-                let seen = runner.slowest.load(Ordering::SeqCst);
-                if turns > seen.saturating_add(self.lead) {
-                    self.hold(rank, runner, turns);
-                }
+                let number = runner.turns.fetch_add(1, Ordering::SeqCst);
+                self.hold(rank, runner, number);
             }
             Point::End => {
                 let _ = runner.ended.set(true);
             }
+        }
+    }
+
+    /// Most turns cost one look at the rank's own cache line.
+    #[inline(always)]
+    fn turn(&self, rank: u8, number: u64) {
+        if rank >= self.ranks {
+            return;
+        }
+        let runner: &Runner = &self.runners[usize::from(rank)];
+        if number >= runner.due.load(Ordering::SeqCst) {
+            self.come(rank, runner, number);
         }
     }
 }

@@ -36,8 +36,10 @@ fn take_turns<R: Wait, G: Gate + Drop>(
 {
     let mut desk = LockedDesk { hub };
     let mut next = 0;
+    let mut number: u64 = 0;
     loop {
-        passage.turn();
+        passage.turn(number);
+        number = number.wrapping_add(1);
         let hart = plan.order[next];
         if let Err(stop) = rank.turn(rt, &mut desk, channels, hart) {
             return stop;
