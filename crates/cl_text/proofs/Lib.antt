@@ -1,5 +1,5 @@
 -- The lemmas behind the answers: pieces that are written one after the other, how short a text is; that what is spelled
--- is read again, and that what is read is spelled so, of replies, of steps and of the whole.
+-- is read again, and that what is read is spelled so, of replies, of steps and of the whole; loops.
 pub mod Pieces
 pub mod Short
 pub mod ReadAgainReplies
@@ -8,3 +8,4 @@ pub mod ReadAgain
 pub mod Spelled
 pub mod SpelledReplies
 pub mod Gots
+pub mod Loop
