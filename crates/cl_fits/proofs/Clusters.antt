@@ -19,7 +19,7 @@ use Rattle.cl_machine.specs.Boxes.{Box}
 use Rattle.cl_machine.specs.Cluster.{CaseOf, Cluster, IsStep, loaded_cluster, ranks_told}
 use Rattle.cl_machine.specs.Journal.{Journal, call_of, calls_of, reply_in, with_entry}
 use Rattle.cl_machine.specs.declared.steps.Step.{Step}
-use Rattle.cl_fits.specs.Limits.{FitsKind, FitsReply, FitsStep}
+use Rattle.cl_text.specs.Limits.{FitsKind, FitsReply, FitsStep}
 use Rattle.cl_fits.proofs.Hub.{AreRight, reply_fits}
 use Rattle.cl_fits.proofs.Lists.{all-append, all-replicate, each-set}
 use Rattle.cl_fits.proofs.Requests.{HasFewComms, asked_right}

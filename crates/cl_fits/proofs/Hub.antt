@@ -33,7 +33,7 @@ use Rattle.mp_hub.proofs.BoardKept.{board_law}
 use Rattle.mp_hub.proofs.CallsSoFar.{hub_on-snoc}
 use Rattle.mp_hub.proofs.SentKept.{sent_law}
 use Rattle.mp_hub.proofs.Transfers.{cut_law}
-use Rattle.cl_fits.specs.Limits.{FitsCut, FitsEnvelope, FitsGot, FitsMessage, FitsReply}
+use Rattle.cl_text.specs.Limits.{FitsCut, FitsEnvelope, FitsGot, FitsMessage, FitsReply}
 use Rattle.cl_fits.proofs.Lists.{all-append, all-filter, all_at}
 use Rattle.cl_fits.proofs.Right.{IsRight, IsRightCall}
 

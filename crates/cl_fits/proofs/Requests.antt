@@ -49,7 +49,7 @@ use Rattle.cl_state.specs.Transfers.{asked_transfer, receive_of, send_of, source
 use Rattle.cl_state.proofs.Known.{known}
 use Rattle.cl_state.proofs.Passed.{HasPassed, passed}
 use Rattle.cl_state_laws.proofs.Asks.{at_most_255}
-use Rattle.cl_fits.specs.Limits.{FitsCut}
+use Rattle.cl_text.specs.Limits.{FitsCut}
 use Rattle.cl_fits.proofs.Lists.{all-get_or}
 use Rattle.cl_fits.proofs.Right.{FitsSend, IsRight, IsRightOpen, IsRightTable, IsRightTransfer}
 

@@ -8,7 +8,7 @@ use Rattle.mp_request.specs.declared.entries.Transfer.{Transfer}
 use Rattle.mp_request.specs.declared.entries.Transfer.TheVariants as transfer
 use Rattle.mp_request.specs.Table.{Table}
 use Rattle.mp_hub.specs.Hub.{Call}
-use Rattle.cl_fits.specs.Limits.{FitsCut}
+use Rattle.cl_text.specs.Limits.{FitsCut}
 
 -- what a send hands on
 pub record FitsSend (number label size : ℕ) : Type 0 where

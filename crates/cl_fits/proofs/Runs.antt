@@ -10,7 +10,7 @@ use Rattle.cl_machine.specs.declared.steps.Step.{Step}
 use Rattle.cl_machine.proofs.Verdicts.{one_merge}
 use Rattle.cl_record.specs.Records.{steps_in}
 use Rattle.cl_fits.specs.Laws.{RecordsFitLaw, RunsFitLaw}
-use Rattle.cl_fits.specs.Limits.{FitsStep}
+use Rattle.cl_text.specs.Limits.{FitsStep}
 use Rattle.cl_fits.proofs.Clusters.{IsWithin, first_within, step_within}
 
 steps_fit : (image : ImageParts) (steps : List Step) (old final : Cluster) → IsImage image → IsWithin image old

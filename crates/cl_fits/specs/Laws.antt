@@ -7,7 +7,7 @@ use Rattle.cl_machine.specs.Merge.{IsMerge}
 use Rattle.cl_machine.specs.declared.steps.Step.{Step}
 use Rattle.cl_record.specs.Records.{IsMergedRun, steps_in}
 use Rattle.cl_record.specs.declared.records.Record.{Record}
-use Rattle.cl_fits.specs.Limits.{FitsStep}
+use Rattle.cl_text.specs.Limits.{FitsStep}
 
 -- each step of a run of an image
 abbrev pub RunsFitLaw : Type 0
