@@ -7,5 +7,7 @@ pub mod ReadAgainSteps
 pub mod ReadAgain
 pub mod Spelled
 pub mod SpelledReplies
+pub mod SpelledSteps
+pub mod SpelledWhole
 pub mod Gots
 pub mod Loop

@@ -6,6 +6,7 @@
 
 mod faults;
 mod laws;
+mod numbers;
 mod reading;
 mod replies;
 mod writing;
