@@ -1,13 +1,13 @@
 //! Runs the image on standard input with a thread for each rank, merges what the ranks did into one list of steps, and
 //! replays that on one thread: prints for each rank whether the replay gives the registers, the bytes of memory, the
-//! output and the clock that its thread left, and whether the boxes are the same. That they are is proved; here it is
-//! run.
+//! output and the clock that its thread left, whether the boxes are the same, and whether a check finds what it should.
+//! That they are is proved; here it is run.
 #![tactic(auto)]
 
 use cl_merge::merge;
 use cl_rank::RankState;
 use cl_record::{Plan, Record, RunFault};
-use cl_replay::{ClusterState, replay};
+use cl_replay::{ClusterState, Step, Verdict, check, replay};
 use cl_threads::{Pace, run_threads};
 use part_box::Settled;
 use rv_decode::Reg;
@@ -67,13 +67,29 @@ fn left<R: Threads + Wait + Sync>(
     )
 }
 
-/// The cluster to which all steps of a record lead, in order of their stamps.
-fn replayed(alloc: Global, image: &Image, left: &Record) -> Option<ClusterState> {
+/// All steps of a record, in order of their stamps.
+fn merged(alloc: Global, left: &Record) -> Option<Vec<Step>> {
     if left.traces.len() > 8 {
         return None;
     }
-    let steps = merge(alloc, left).ok()?;
-    replay(alloc, image, steps.as_slice(), steps.len() as u64).ok()
+    merge(alloc, left).ok()
+}
+
+/// What a check has to find of the steps without their first: the next step of the same rank is bad.
+fn without_first(steps: &[Step]) -> Verdict {
+    for n in 1..steps.len() {
+        if steps[n].rank() == steps[0].rank() {
+            return Verdict::BadAt(n as u64 - 1);
+        }
+    }
+    Verdict::Good
+}
+
+/// Whether a check finds all steps good, and is right of them without their first.
+fn are_verdicts_same(alloc: Global, image: &Image, steps: &[Step]) -> bool {
+    let rest = steps.get(1..).unwrap_or(&[]);
+    check(alloc, image, steps) == Ok(Verdict::Good)
+        && check(alloc, image, rest) == Ok(without_first(steps))
 }
 
 /// Whether two harts have the same pc and registers.
@@ -118,16 +134,29 @@ fn print_same(rt: &HostRuntime, left: &Record, state: &ClusterState) -> io::Resu
     println!(rt; "boxes same: {same}")
 }
 
+/// Replays and checks all that the ranks did, and prints what is the same.
+fn print_replay(rt: &HostRuntime, image: &Image, left: &Record) -> io::Result<()> {
+    let Some(steps) = merged(rt.alloc(), left) else {
+        return println!(rt; "no merge");
+    };
+    let steps = steps.as_slice();
+    let Ok(state) = replay(rt.alloc(), image, steps, steps.len() as u64) else {
+        return println!(rt; "no replay");
+    };
+    print_same(rt, left, &state)?;
+    println!(rt;
+        "verdicts same: {}",
+        are_verdicts_same(rt.alloc(), image, steps)
+    )
+}
+
 fn main(rt: HostRuntime) -> io::Result<()> {
     let bytes = input(&rt)?;
     let Ok(image) = read_image(rt.alloc(), bytes.as_slice()) else {
         return println!(rt; "no image");
     };
     match left(&rt, rt.alloc(), &image) {
-        Ok(left) => match replayed(rt.alloc(), &image, &left) {
-            Some(state) => print_same(&rt, &left, &state),
-            None => println!(rt; "no replay"),
-        },
+        Ok(left) => print_replay(&rt, &image, &left),
         Err(fault) => println!(rt; "{fault:?}"),
     }
 }
