@@ -17,7 +17,7 @@ pub const NO_RANK: u64 = u64::MAX - 1;
 pub const NO_MESSAGE: u64 = u64::MAX - 1;
 
 /// The arguments of a send: the bytes, and where to.
-#[derive(Clone, Copy, PartialEq, Eq, Drop, Debug)]
+#[derive(Clone, Copy, Drop)]
 pub struct Sending {
     pub buffer: u64,
     pub count: u64,
@@ -27,7 +27,7 @@ pub struct Sending {
 }
 
 /// The arguments of a receive: where to put the bytes, at most so many, and what is accepted.
-#[derive(Clone, Copy, PartialEq, Eq, Drop, Debug)]
+#[derive(Clone, Copy, Drop)]
 pub struct Receiving {
     pub buffer: u64,
     pub capacity: u64,
@@ -37,7 +37,7 @@ pub struct Receiving {
 }
 
 /// The arguments of a receive of a claimed message: where to put the bytes, and the message's handle.
-#[derive(Clone, Copy, PartialEq, Eq, Drop, Debug)]
+#[derive(Clone, Copy, Drop)]
 pub struct Claimed {
     pub buffer: u64,
     pub capacity: u64,
@@ -45,7 +45,7 @@ pub struct Claimed {
 }
 
 /// The arguments of a probe: what is accepted, and the address of a status, or 0.
-#[derive(Clone, Copy, PartialEq, Eq, Drop, Debug)]
+#[derive(Clone, Copy, Drop)]
 pub struct Probing {
     pub source: u64,
     pub tag: u64,
@@ -54,7 +54,7 @@ pub struct Probing {
 }
 
 /// The arguments of a completing call: the handle of a request, and the address of a status, or 0.
-#[derive(Clone, Copy, PartialEq, Eq, Drop, Debug)]
+#[derive(Clone, Copy, Drop)]
 pub struct Completing {
     pub handle: u64,
     pub status: u64,
@@ -62,7 +62,7 @@ pub struct Completing {
 
 /// The arguments of a call that completes several requests: an array of handles, 8 bytes each, how many there are, and
 /// the address of as many statuses, or 0.
-#[derive(Clone, Copy, PartialEq, Eq, Drop, Debug)]
+#[derive(Clone, Copy, Drop)]
 pub struct Several {
     pub array: u64,
     pub count: u64,
@@ -71,7 +71,7 @@ pub struct Several {
 
 /// The arguments of a call that begins one side of a partitioned transfer: where its partitions stand, how many there
 /// are, the bytes of each, and the other side.
-#[derive(Clone, Copy, PartialEq, Eq, Drop, Debug)]
+#[derive(Clone, Copy, Drop)]
 pub struct Partitioning {
     pub buffer: u64,
     pub parts: u64,
@@ -82,7 +82,7 @@ pub struct Partitioning {
 }
 
 /// A call, with its arguments as the registers spell them. The sections are those of MPI 4.1.
-#[derive(Clone, Copy, PartialEq, Eq, Drop, Debug)]
+#[derive(Clone, Copy, Drop)]
 pub enum Call {
     /// Ends the hart.
     Exit { code: u64 },

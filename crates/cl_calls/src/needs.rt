@@ -10,7 +10,7 @@ ghost use Rattle.cl_calls.specs.Needs.{region_read, region_written, source as so
 use crate::calls::{Call, Claimed, Completing, Partitioning, Probing, Receiving, Sending, Several};
 
 /// A rank argument, and which of the wildcard and the null process may stand for it.
-#[derive(Clone, Copy, PartialEq, Eq, Drop, Debug)]
+#[derive(Clone, Copy, Drop)]
 pub struct Peer {
     pub rank: u64,
     pub any: bool,
@@ -18,14 +18,14 @@ pub struct Peer {
 }
 
 /// A tag argument, and whether the wildcard may stand for it.
-#[derive(Clone, Copy, PartialEq, Eq, Drop, Debug)]
+#[derive(Clone, Copy, Drop)]
 pub struct Tag {
     pub tag: u64,
     pub any: bool,
 }
 
 /// Bytes of the memory that a call reads or writes.
-#[derive(Clone, Copy, PartialEq, Eq, Drop, Debug)]
+#[derive(Clone, Copy, Drop)]
 pub struct Range {
     pub address: u64,
     pub count: u64,
@@ -33,21 +33,21 @@ pub struct Range {
 }
 
 /// An array of handles, 8 bytes each.
-#[derive(Clone, Copy, PartialEq, Eq, Drop, Debug)]
+#[derive(Clone, Copy, Drop)]
 pub struct Array {
     pub address: u64,
     pub count: u64,
 }
 
 /// Statuses that a call writes, 24 bytes each and one after the other. Address 0 means that none is wanted.
-#[derive(Clone, Copy, PartialEq, Eq, Drop, Debug)]
+#[derive(Clone, Copy, Drop)]
 pub struct Statuses {
     pub address: u64,
     pub count: u64,
 }
 
 /// What a handle argument has to name.
-#[derive(Clone, Copy, PartialEq, Eq, Drop, Debug)]
+#[derive(Clone, Copy, Drop)]
 pub enum Named {
     /// The call takes no handle.
     Nothing,
@@ -64,7 +64,7 @@ pub enum Named {
 }
 
 /// The partitions of a transfer: so many of so many bytes, from an address on, which the transfer reads or writes.
-#[derive(Clone, Copy, PartialEq, Eq, Drop, Debug)]
+#[derive(Clone, Copy, Drop)]
 pub struct Region {
     pub address: u64,
     pub parts: u64,
@@ -73,7 +73,7 @@ pub struct Region {
 }
 
 /// What a call needs to be right. Where it needs nothing of a kind, that field is None, 0 or false.
-#[derive(Clone, Copy, PartialEq, Eq, Drop, Debug)]
+#[derive(Clone, Copy, Drop)]
 pub struct Needs {
     /// There is such a call.
     pub known: bool,

@@ -11,7 +11,7 @@ use part_channel::{Channel, Progress, RecvSide, SendSide, Take};
 use part_phase::{RecvPhase, SendPhase};
 
 /// A box of the cluster, by the number of its link and its number there.
-#[derive(Clone, Copy, PartialEq, Eq, Drop, Debug)]
+#[derive(Clone, Copy, Drop)]
 pub struct BoxPlace {
     pub link: u8,
     pub part: u8,

@@ -6,7 +6,7 @@ ghost use Rattle.cl_rank.specs.Turns.{stop_of as stop_of_fault};
 use cl_journal::HubFault;
 
 /// Why a turn was not taken. The rank is then as it was.
-#[derive(Clone, Copy, PartialEq, Eq, Drop, Debug)]
+#[derive(Clone, Copy, Drop, Debug)]
 pub enum Stop {
     /// 1: there are as many events as the budget allows.
     Budget,

@@ -9,7 +9,7 @@ use rv_image::Image;
 pub const BUDGET_MAX: u64 = 16_777_216;
 
 /// What is laid down of one rank's turns.
-#[derive(Drop, Debug)]
+#[derive(Drop)]
 pub struct Plan {
     /// The harts that take the turns, by their numbers, used round and round.
     pub order: Vec<u8>,

@@ -22,7 +22,7 @@ use part_phase::{Contents, Phases, RecvPhase, SendPhase, box_words};
 use rv_image::ImageVersion;
 
 /// What a partitioned request awaits in a phase (MPI 4.1, chapter 4.2).
-#[derive(Clone, Copy, PartialEq, Eq, Drop, Debug)]
+#[derive(Clone, Copy, Drop)]
 pub enum Awaited {
     /// Nothing: all partitions are freed or taken, or no phase is going on.
     Nothing,

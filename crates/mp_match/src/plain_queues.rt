@@ -14,7 +14,7 @@ use std::marker::Model;
 pub const HELD_MAX: u64 = 65_536;
 
 /// Why a send wasn't posted.
-#[derive(Clone, Copy, PartialEq, Eq, Debug)]
+#[derive(Clone, Copy)]
 pub enum PostFault {
     /// 65,536 messages are held.
     Full,

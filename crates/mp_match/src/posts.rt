@@ -3,7 +3,7 @@
 use mp_types::Envelope;
 
 /// A send. Ranks are ranks of the cluster.
-#[derive(Clone, Copy, PartialEq, Eq, Debug)]
+#[derive(Clone, Copy)]
 pub struct Sent {
     /// Whether the send is synchronous: complete only once a receive has its message (MPI 4.1, chapter 3.4).
     pub sync: bool,
@@ -13,7 +13,7 @@ pub struct Sent {
 }
 
 /// What a receive, a probe or a claim selects (MPI 4.1, chapter 3.2.4). A source or tag of None is any.
-#[derive(Clone, Copy, PartialEq, Eq, Debug)]
+#[derive(Clone, Copy)]
 pub struct Selection {
     /// The rank that asks.
     pub rank: u8,
@@ -23,7 +23,7 @@ pub struct Selection {
 }
 
 /// A send, a receive or a successful claim.
-#[derive(Clone, Copy, PartialEq, Eq, Debug)]
+#[derive(Clone, Copy)]
 pub enum Post {
     Send(Sent),
     Receive(Selection),
@@ -31,7 +31,7 @@ pub enum Post {
 }
 
 /// A post with the place of its partner, which is the partner's number less 1.
-#[derive(Clone, Copy, PartialEq, Eq, Debug)]
+#[derive(Clone, Copy)]
 pub struct Line {
     pub post: Post,
     pub partner: Option<u64>,

@@ -11,7 +11,7 @@ use std::alloc::{AllocError, Global};
 use std::marker::Model;
 
 /// A claimed message that wasn't received.
-#[derive(Clone, Copy, PartialEq, Eq, Debug)]
+#[derive(Clone, Copy)]
 pub struct Waiting {
     /// The message's handle, which is the number of its claim.
     pub message: u64,
@@ -20,7 +20,7 @@ pub struct Waiting {
 }
 
 /// Why a message wasn't claimed or received.
-#[derive(Clone, Copy, PartialEq, Eq, Debug)]
+#[derive(Clone, Copy)]
 pub enum ClaimFault {
     /// The handle isn't that of a message which the rank claimed and hasn't received.
     BadMessage,

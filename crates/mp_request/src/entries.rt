@@ -5,7 +5,7 @@ ghost use Rattle.std.specs.Prelude.{◌≡◌};
 ghost use Rattle.mp_request.specs.Entries as entry;
 
 /// What a request moves, with the arguments of the call that made it.
-#[derive(Clone, Copy, PartialEq, Eq, Debug, Drop)]
+#[derive(Clone, Copy, Drop)]
 pub enum Transfer {
     /// A send to the null process, which moves nothing (MPI 4.1, chapter 3.11).
     SendToNull,
@@ -43,7 +43,7 @@ pub enum Transfer {
 }
 
 /// One side of a partitioned transfer (MPI 4.1, chapter 4.2).
-#[derive(Clone, Copy, PartialEq, Eq, Debug, Drop)]
+#[derive(Clone, Copy, Drop)]
 pub struct Partitions {
     /// The number of the link that the hub reserved.
     pub link: u8,
@@ -60,7 +60,7 @@ pub struct Partitions {
 }
 
 /// How far an active request is.
-#[derive(Clone, Copy, PartialEq, Eq, Debug, Drop)]
+#[derive(Clone, Copy, Drop)]
 pub enum Progress {
     /// Nothing is awaited: a standard send, a synchronous one that is known to be received, or a transfer with the
     /// null process.
@@ -72,7 +72,7 @@ pub enum Progress {
 }
 
 /// How long a request lasts, and how far it is.
-#[derive(Clone, Copy, PartialEq, Eq, Debug, Drop)]
+#[derive(Clone, Copy, Drop)]
 pub enum State {
     /// It is active from the call that opened it, and gone when it completes (MPI 4.1, chapter 3.7.3).
     Ordinary(Progress),
@@ -83,7 +83,7 @@ pub enum State {
 }
 
 /// One open request.
-#[derive(Clone, Copy, PartialEq, Eq, Debug, Drop)]
+#[derive(Clone, Copy, Drop)]
 pub struct OpenRequest {
     pub transfer: Transfer,
     pub state: State,

@@ -6,7 +6,7 @@ ghost use Rattle.mp_request.specs.Refusals.{code_of};
 use mp_types::Code;
 
 /// Why the table refused. It is as it was before the call.
-#[derive(Clone, Copy, PartialEq, Eq, Debug, Drop)]
+#[derive(Clone, Copy, Drop)]
 pub enum Refusal {
     /// The handle isn't open, or its request isn't of a kind that the call takes. Code 6.
     BadRequest,

@@ -18,7 +18,7 @@ pub const HANDLES: usize = 255;
 /// on.
 ///
 /// Nothing but `new` and `try_copy` takes memory, and a refusal leaves the table as it was.
-#[derive(Drop, Debug)]
+#[derive(Drop)]
 pub struct Requests {
     // handle h has slot h - 1
     slots: Vec<Option<OpenRequest>>,

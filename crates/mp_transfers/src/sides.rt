@@ -6,7 +6,7 @@ ghost use Rattle.mp_transfers.specs.Inits.{is_for, is_other_side, is_receiver, i
 use rv_image::Link;
 
 /// One side of a partitioned transfer as a rank asks for it (MPI 4.1, chapter 4.2).
-#[derive(Clone, Copy, PartialEq, Eq, Debug)]
+#[derive(Clone, Copy)]
 pub struct Setup {
     /// Whether it is the sender's side.
     pub sending: bool,
@@ -23,7 +23,7 @@ pub struct Setup {
 }
 
 /// A side that was initialised.
-#[derive(Clone, Copy, PartialEq, Eq, Debug)]
+#[derive(Clone, Copy)]
 pub struct Side {
     pub setup: Setup,
     /// The number of its link in the image.

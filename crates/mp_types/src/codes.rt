@@ -4,7 +4,7 @@ ghost use Rattle.std.specs.Prelude.{◌≡◌, ◌<◌, ◌↔◌, IfSome, IsNon
 ghost use Rattle.mp_types.specs.Codes.{code_number};
 
 /// How a call ended. The numbers are what a guest finds in a0.
-#[derive(Clone, Copy, PartialEq, Eq, Debug, Drop)]
+#[derive(Clone, Copy, PartialEq, Eq, Drop)]
 pub enum Code {
     /// The call did what was asked.
     Ok = 0,

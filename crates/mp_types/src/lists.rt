@@ -11,7 +11,7 @@ use std::marker::Model;
 pub const MESSAGE_MAX: usize = 4096;
 
 /// The bytes of a message, at most 4,096 of them. Contracts see a list of numbers.
-#[derive(Drop, Debug)]
+#[derive(Drop)]
 pub struct Bytes {
     items: Vec<u8>,
 }
@@ -96,7 +96,7 @@ impl Bytes {
 }
 
 /// Numbers of posts. Contracts see a list of numbers.
-#[derive(Drop, Debug)]
+#[derive(Drop)]
 pub struct Posts {
     items: Vec<u64>,
 }

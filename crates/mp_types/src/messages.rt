@@ -11,7 +11,7 @@ pub type Stamp = u64;
 
 /// Who sent a message, in which communicator, with which tag, and how many bytes it has.
 /// (MPI 4.1, chapter 3.2.3; the destination is the rank that is told.)
-#[derive(Clone, Copy, PartialEq, Eq, Debug, Drop)]
+#[derive(Clone, Copy, PartialEq, Eq, Drop)]
 pub struct Envelope {
     /// The communicator's number, from 0 to 7.
     pub comm: u8,
@@ -24,7 +24,7 @@ pub struct Envelope {
 }
 
 /// A message with its bytes.
-#[derive(PartialEq, Eq, Drop, Debug)]
+#[derive(PartialEq, Eq, Drop)]
 pub struct Message {
     pub envelope: Envelope,
     pub bytes: Bytes,
@@ -45,7 +45,7 @@ impl Message {
 }
 
 /// What a guest finds in the 24 bytes of a status (MPI 4.1, chapter 3.2.5).
-#[derive(Clone, Copy, PartialEq, Eq, Debug, Drop)]
+#[derive(Clone, Copy, PartialEq, Eq, Drop)]
 pub struct Status {
     /// The sender's position in the communicator, -1 for none, -2 for the null process.
     pub source: i64,
@@ -72,7 +72,7 @@ impl Status {
 }
 
 /// What several posts gave, each a message or, for a send, None. Contracts see a list.
-#[derive(Drop, Debug)]
+#[derive(Drop)]
 pub struct Gots {
     items: Vec<Option<Message>>,
 }

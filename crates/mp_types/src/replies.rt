@@ -8,7 +8,7 @@ use crate::messages::{Envelope, Gots, Message};
 use std::alloc::{AllocError, Global};
 
 /// What the hub answers.
-#[derive(PartialEq, Eq, Drop, Debug)]
+#[derive(PartialEq, Eq, Drop)]
 pub enum Reply {
     /// The request was refused.
     Code(Code),

@@ -7,7 +7,7 @@ use crate::lists::{Bytes, Posts};
 use std::alloc::{AllocError, Global};
 
 /// What a rank asks of the hub. Ranks are ranks of the cluster; a source or tag of None is any.
-#[derive(PartialEq, Eq, Drop, Debug)]
+#[derive(PartialEq, Eq, Drop)]
 pub enum Request {
     /// Sends a message, in standard or in synchronous mode (MPI 4.1, chapter 3.4).
     Send {

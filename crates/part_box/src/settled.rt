@@ -1,7 +1,7 @@
 //! What a box is left with.
 
 /// What lies in a box at the end.
-#[derive(Clone, Copy, Debug, PartialEq, Eq)]
+#[derive(Clone, Copy, PartialEq, Eq)]
 pub struct Settled {
     /// Whether one thing that was made ready wasn't taken.
     pub full: bool,

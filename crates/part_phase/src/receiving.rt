@@ -10,7 +10,7 @@ use crate::marks::{is_marked, with_mark};
 use rv_image::ImageVersion;
 
 /// The receiver's side of a link: its shape, the sender's cut, and how far this phase is.
-#[derive(Clone, Copy, PartialEq, Eq, Drop)]
+#[derive(Clone, Copy, Drop)]
 pub struct RecvPhase {
     /// How many partitions there are, 1 to 16, and the bytes of each. Both are 0 until a transfer has the side.
     pub parts: u8,

@@ -8,7 +8,7 @@ ghost use Rattle.part_phase.specs.Sending.{shaped_sending, unshaped_sending};
 use crate::marks::{is_marked, with_mark};
 
 /// The sender's side of a link: its shape, and how far this phase is.
-#[derive(Clone, Copy, PartialEq, Eq, Drop)]
+#[derive(Clone, Copy, Drop)]
 pub struct SendPhase {
     /// How many partitions there are, 1 to 16, and the bytes of each. Both are 0 until a transfer has the side.
     pub parts: u8,

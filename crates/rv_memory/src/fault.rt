@@ -3,7 +3,7 @@ ghost use Rattle.std.specs.Prelude.{◌≡◌};
 ghost use Rattle.rv_memory.specs.Fault.{cause_number};
 
 /// Why a hart traps.
-#[derive(Clone, Copy, PartialEq, Eq, Debug, Drop)]
+#[derive(Clone, Copy, Drop)]
 pub enum Cause {
     /// 0: a jump or a branch that is taken goes to an address that isn't a multiple of 4.
     InstructionMisaligned,
@@ -42,7 +42,7 @@ impl Cause {
 }
 
 /// Why a store isn't done.
-#[derive(Clone, Copy, PartialEq, Eq, Debug, Drop)]
+#[derive(Clone, Copy, Drop)]
 pub enum StoreFault {
     /// 1: the store traps.
     Trap(Cause),
@@ -51,7 +51,7 @@ pub enum StoreFault {
 }
 
 /// Why bytes aren't read or written.
-#[derive(Clone, Copy, PartialEq, Eq, Debug, Drop)]
+#[derive(Clone, Copy, Drop)]
 pub enum BytesFault {
     /// 1: some of them are outside the memory, or would be written over the text.
     Range,
