@@ -11,3 +11,6 @@ pub mod SpelledSteps
 pub mod SpelledWhole
 pub mod Gots
 pub mod Loop
+pub mod OrderFollows
+pub mod OrderSteps
+pub mod Order
