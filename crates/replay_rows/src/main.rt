@@ -1,7 +1,8 @@
 //! Runs the image on standard input with a thread for each rank, merges what the ranks did into one list of steps, and
 //! replays that on one thread: prints for each rank whether the replay gives the registers, the bytes of memory, the
 //! output and the clock that its thread left, whether the boxes are the same, and whether a check finds what it should.
-//! That they are is proved; here it is run.
+//! Half way the cluster is copied, and both go on to the end, one after the other: the copy's lines say the same of it.
+//! That they are the same is proved; here it is run.
 #![tactic(auto)]
 
 use cl_merge::merge;
@@ -92,6 +93,36 @@ fn are_verdicts_same(alloc: Global, image: &Image, steps: &[Step]) -> bool {
         && check(alloc, image, rest) == Ok(without_first(steps))
 }
 
+/// Where steps lead: in one go, and from a copy that was made half way.
+#[derive(Drop)]
+struct Reached {
+    whole: ClusterState,
+    copied: ClusterState,
+}
+
+/// Whether a cluster does all of these steps.
+fn does_all(state: &mut ClusterState, steps: &[Step]) -> bool {
+    for step in steps {
+        if state.step(step).is_err() {
+            return false;
+        }
+    }
+    true
+}
+
+/// Where all of these steps lead.
+fn replayed(alloc: Global, image: &Image, steps: &[Step]) -> Option<Reached> {
+    let half = steps.len() / 2;
+    let mut whole = replay(alloc, image, steps, half as u64).ok()?;
+    let mut copied = whole.try_copy(alloc).ok()?;
+    let rest = &steps[half..];
+    if does_all(&mut whole, rest) && does_all(&mut copied, rest) {
+        Some(Reached { whole, copied })
+    } else {
+        None
+    }
+}
+
 /// Whether two harts have the same pc and registers.
 fn is_same_hart(one: &Hart, other: &Hart) -> bool {
     one.pc() == other.pc()
@@ -121,17 +152,17 @@ fn are_same_boxes(one: &[Settled; 16], other: &[Settled; 16]) -> bool {
     one.iter().zip(other.iter()).all(|(a, b)| a == b)
 }
 
-/// Prints for each rank whether its replay is the same, and whether the boxes are.
-fn print_same(rt: &HostRuntime, left: &Record, state: &ClusterState) -> io::Result<()> {
+/// Prints for each rank whether its replay is the same, and whether the boxes are. Each line begins with `of`.
+fn print_same(rt: &HostRuntime, of: &str, left: &Record, state: &ClusterState) -> io::Result<()> {
     for rank in 0..left.ranks.len().min(state.ranks.len()) {
         let same = is_same_rank(&left.ranks[rank], &state.ranks[rank]);
-        println!(rt; "rank {rank} same: {same}")?;
+        println!(rt; "{of}rank {rank} same: {same}")?;
     }
     let mut same = left.boxes.len() == state.boxes.len() && left.ranks.len() == state.ranks.len();
     for link in 0..left.boxes.len().min(state.boxes.len()) {
         same = same && are_same_boxes(&left.boxes[link], &state.boxes[link]);
     }
-    println!(rt; "boxes same: {same}")
+    println!(rt; "{of}boxes same: {same}")
 }
 
 /// Replays and checks all that the ranks did, and prints what is the same.
@@ -140,10 +171,11 @@ fn print_replay(rt: &HostRuntime, image: &Image, left: &Record) -> io::Result<()
         return println!(rt; "no merge");
     };
     let steps = steps.as_slice();
-    let Ok(state) = replay(rt.alloc(), image, steps, steps.len() as u64) else {
+    let Some(reached) = replayed(rt.alloc(), image, steps) else {
         return println!(rt; "no replay");
     };
-    print_same(rt, left, &state)?;
+    print_same(rt, "", left, &reached.whole)?;
+    print_same(rt, "copy: ", left, &reached.copied)?;
     println!(rt;
         "verdicts same: {}",
         are_verdicts_same(rt.alloc(), image, steps)
