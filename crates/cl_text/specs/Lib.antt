@@ -4,3 +4,4 @@ pub mod Replies
 pub mod Reading
 pub mod Order
 pub mod Whole
+pub mod Worked
