@@ -1,7 +1,10 @@
 //! What a turn does to a rank.
 
 ghost use Rattle.std.specs.Prelude.{◌≡◌, ◌<◌, ◌+◌, ◌^◌, ℕ, List, length, vec_len, IfErr, OnOk};
-ghost use Rattle.std.specs.Prelude.{OnErr, IsTrue, IsFalse};
+ghost use Rattle.std.specs.Prelude.{OnErr, IsTrue, IsFalse, Some, slice_get, true};
+ghost use Rattle.rv_hart.specs.State.{State};
+ghost use Rattle.rv_hart.specs.declared.state.Mode.TheVariants.{Running};
+ghost use Rattle.rv_memory.specs.Access.{word_at};
 ghost use Rattle.mp_types.specs.declared.replies.Reply.{Reply};
 ghost use Rattle.part_channel.specs.Channels.{ChannelView};
 ghost use Rattle.cl_state.specs.declared.asking.Ask.TheVariants as ask;
@@ -39,16 +42,19 @@ fn is_ecall(word: Option<u32>) -> bool
     }
 }
 
-/// Does the instruction of a running hart, where it is no ECALL. Else nothing is done.
+/// Does the instruction of a running hart, where it is no ECALL, at this stamp. Else nothing is done: the hart isn't
+/// running, or its word is ECALL's.
 #[inline(always)]
 #[tactic(auto, unfolding(cl_state::specs::Asked::asked, cl_state::specs::Told::told, cl_state::specs::Asked::doing))]
-pub(crate) fn step_plain(state: &mut RankState, hart: u8, stamp: Stamp) -> bool
+pub fn step_plain(state: &mut RankState, hart: u8, stamp: Stamp) -> bool
     requires { hart < vec_len state.old.harts }
     ensures asked { IsTrue result → asked (rank_of state.old) hart ≡ ask.Plain }
     ensures told { IsTrue result → rank_of state.new ≡ told (rank_of state.old) hart Alone stamp }
     ensures active { IsTrue result → ¬ (AllStopped (rank_of state.old)) }
     ensures clock { IsTrue result → state.new.clock ≡ stamp }
     ensures none { IsFalse result → state.new ≡ state.old }
+    ensures other { IsFalse result → (at : State) → slice_get state.old.harts.items hart ≡ Some at → at.mode ≡ Running
+        → is_ecall_of (word_at state.old.memory at.pc) ≡ true }
     ensures harts { vec_len state.new.harts ≡ vec_len state.old.harts }
 {
     let at = &state.harts[hart as usize];

@@ -1,9 +1,9 @@
 -- What a turn is, by what it asks: only an instruction asks nothing as one, and only a local call puts bytes out.
 use Rattle.std.specs.Prelude.{ℕ, zero, suc, ◌≡◌, ◌<◌, ◌==◌, if◌then◌else◌, List, [], ◌∷◌, Bool, true, false, Option}
 use Rattle.std.specs.Prelude.{Some, None}
-use Rattle.std.specs.Prelude.{vec_len}
+use Rattle.std.specs.Prelude.{length, slice_get, vec_len}
 use Rattle.std.proofs.Common.{refl, sym, ap, ◌∙◌, subst, arith, get_or}
-use Rattle.std.proofs.lemmas.Option.{get_or_from_slice_get, slice_get_read}
+use Rattle.std.proofs.lemmas.Option.{slice_get-get_or}
 use Rattle.rv_hart.specs.State.{State}
 use Rattle.cl_state.specs.declared.state.RankState.{RankState}
 use Rattle.cl_state.specs.Asked.{no_hart}
@@ -268,11 +268,13 @@ runs r hart asks =
     by_mode (Ended code) e = absurd (cc)
     by_mode (Trapped cause pc) e = absurd (cc)
 
--- of the hart as it was read
-pub runs_at : (s : RankState) (hart : ℕ) (x : State) → hart < vec_len s.harts → x ≡ get_or s.harts.items hart x
-    → asked (rank_of s) hart ≡ ask.Plain → (x.mode ≡ Running) × (is_ecall (word_at s.memory x.pc) ≡ false)
-runs_at s hart x there value asks =
-    let is = get_or_from_slice_get s.harts.items hart x no_hart
-    (slice_get_read s.harts.items (vec_len s.harts) hart x s.harts.ok.0 there value) in
+-- where each running hart's word is an ECALL, none does an instruction
+pub asks_no_plain : (s : RankState) (hart : ℕ) → hart < vec_len s.harts
+    → ((at : State) → slice_get s.harts.items hart ≡ Some at → at.mode ≡ Running
+    → is_ecall (word_at s.memory at.pc) ≡ true)
+    → asked (rank_of s) hart ≡ ask.Plain → ⊥
+asks_no_plain s hart there other asks =
     let run = runs (rank_of s) hart asks in
-    (ap (λ (h : State). h.mode) (sym is) ∙ run.0, ap (λ (h : State). is_ecall (word_at s.memory h.pc)) (sym is) ∙ run.1)
+    let below : hart < length s.harts.items = omega (arith, there, s.harts.ok.0) in
+    let calls = other (get_or s.harts.items hart no_hart) (slice_get-get_or s.harts.items hart no_hart below) run.0 in
+    absurd (cc)

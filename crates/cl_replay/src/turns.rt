@@ -3,7 +3,6 @@
 ghost use Rattle.std.specs.Prelude.{◌≡◌, ◌<◌, ◌+◌, ◌↔◌, ◌^◌, IsFalse, IsTrue, MatchResult, max, vec_len, Some};
 ghost use Rattle.cl_state.specs.declared.asking.Ask.TheVariants as ask;
 ghost use Rattle.cl_state.specs.declared.asking.Answer.TheVariants as answer;
-ghost use Rattle.cl_state.specs.Asked.{is_ecall as is_ecall_of};
 ghost use Rattle.cl_state.specs.Right.{growth_of};
 ghost use Rattle.cl_state.specs.Room.{IsNext, rank_of};
 ghost use Rattle.cl_state.specs.Told.{told};
@@ -15,11 +14,11 @@ use crate::boxes::{get, number_of, set};
 use crate::faults::StepFault;
 use crate::words::{contents, to_words};
 use cl_machine::{KindRef, Step};
+use cl_rank::step_plain;
 use cl_state::{Answer, Ask, Doing, RankState};
 use cl_trace::Bare;
 use mp_types::Stamp;
 use part_box::Settled;
-use rv_hart::{Mode, step as step_hart};
 
 /// Whether a stamp comes next after a clock.
 #[inline(always)]
@@ -37,44 +36,16 @@ pub(crate) fn follows_both(clock: Stamp, other: Stamp, stamp: Stamp) -> bool
     follows(clock.max(other), stamp)
 }
 
-/// Whether a word is ECALL's.
-#[inline(always)]
-fn is_ecall(word: Option<u32>) -> bool
-    ensures { result ≡ is_ecall_of word }
-{
-    match word {
-        None => false,
-        Some(word) => word == 0x73,
-    }
-}
-
 /// Does the instruction of a running hart, where it is no ECALL and the stamp is the next. Else
 /// nothing is done.
 #[inline(always)]
-#[tactic(auto, unfolding(cl_state::specs::Asked::asked, cl_state::specs::Told::told, cl_state::specs::Asked::doing))]
 pub(crate) fn plain(state: &mut RankState, step: &Step) -> bool
     requires { step.now.hart < vec_len state.old.harts }
     ensures goes { IsTrue result → AsksNext (rank_of state.old) step.now ask.Plain }
     ensures told { IsTrue result → IsTold (rank_of state.old) step.now answer.Alone (rank_of state.new) }
     ensures none { IsFalse result → ¬ AsksNext (rank_of state.old) step.now ask.Plain }
 {
-    if !follows(state.clock, step.stamp()) {
-        return false;
-    }
-    let hart = step.hart() as usize;
-    let at = &state.harts[hart];
-    match at.mode() {
-        Mode::Running => {}
-        _ => return false,
-    }
-    if is_ecall(state.memory.text_word(at.pc())) {
-        return false;
-    }
-    let Ok(_) = step_hart(&mut state.harts[hart], &mut state.memory) else {
-        unreachable!()
-    };
-    state.clock = step.stamp();
-    true
+    follows(state.clock, step.stamp()) && step_plain(state, step.hart(), step.stamp())
 }
 
 /// Tells a rank the answer to a turn that puts nothing out: for that no memory is taken.
