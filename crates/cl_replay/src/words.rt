@@ -1,27 +1,12 @@
 //! The bytes of a partition as data words of a box, and back.
 
-ghost use Rattle.std.specs.Prelude.{◌≡◌, ◌*◌, ◌+◌, ◌%◌, ◌<◌, ◌≤◌, ◌++◌, ◌-◌, length, replicate, take, drop};
-ghost use Rattle.std.specs.Int.{w64, to_le_bytes};
-ghost use Rattle.part_channel.specs.Words.{bytes_of, word_at, words_of};
+ghost use Rattle.std.specs.Prelude.{◌≡◌, ◌%◌, ◌≤◌, ◌++◌, ◌-◌, length, replicate};
+ghost use Rattle.part_channel.specs.Words.{bytes_of};
 ghost use Rattle.cl_record.specs.Keys.{bytes_in};
 
+use part_channel::{put_word, word};
 use part_phase::{Contents, box_words};
 use rv_image::ImageVersion;
-
-/// Word i of the bytes, and 0 past them.
-fn word(bytes: &[u8], i: usize) -> u64
-    requires whole { length bytes.now % 8 ≡ 0 }
-    requires low { i < 16 }
-    ensures { result ≡ word_at bytes.now i }
-{
-    if 8 * i < bytes.len() {
-        let mut eight = [0; 8];
-        eight.copy_from_slice(&bytes[8 * i..8 * i + 8]);
-        u64::from_le_bytes(eight)
-    } else {
-        0
-    }
-}
 
 /// The sixteen words of the bytes, 0 past them.
 pub(crate) fn to_words(bytes: &[u8]) -> [u64; 16]
@@ -34,14 +19,6 @@ pub(crate) fn to_words(bytes: &[u8]) -> [u64; 16]
         words[i] = word(bytes, i);
     }
     words
-}
-
-/// Puts a word behind the first `i` ones.
-fn put_word(out: &mut [u8; 128], i: usize, word: u64)
-    requires { i < 16 }
-    ensures { out.new ≡ take (8 * i) out.old ++ (to_le_bytes w64 word ++ drop (8 * i + 8) out.old) }
-{
-    out[8 * i..8 * i + 8].copy_from_slice(&word.to_le_bytes());
 }
 
 /// The bytes of sixteen words.

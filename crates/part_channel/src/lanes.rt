@@ -11,8 +11,8 @@ use crate::progress::Take;
 use mp_types::Stamp;
 use part_box::{PartBox, RecvKey, SendKey};
 
-// Word i of the bytes, and 0 past them.
-fn word(bytes: &[u8], i: usize) -> u64
+/// Word i of the bytes, low byte first, and 0 past them.
+pub fn word(bytes: &[u8], i: usize) -> u64
     requires whole { length bytes.now % 8 ≡ 0 }
     requires low { i < 16 }
     ensures { result ≡ word_at bytes.now i }
@@ -41,8 +41,8 @@ pub(crate) fn put(place: &PartBox, key: &mut SendKey, width: usize, bytes: &[u8]
     place.ready(key, stamp);
 }
 
-// Puts a word behind the first `i` ones.
-fn put_word(out: &mut [u8; 128], i: usize, word: u64)
+/// Puts a word, low byte first, behind the first `i` ones.
+pub fn put_word(out: &mut [u8; 128], i: usize, word: u64)
     requires { i < 16 }
     ensures { out.new ≡ take (8 * i) out.old ++ (to_le_bytes w64 word ++ drop (8 * i + 8) out.old) }
 {

@@ -14,6 +14,7 @@ mod receiving;
 mod sending;
 
 pub use channel::Channel;
+pub use lanes::{put_word, word};
 pub use laws::bytes_law;
 pub use progress::{Progress, Take};
 pub use receiving::RecvSide;
