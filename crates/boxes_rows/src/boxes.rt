@@ -91,7 +91,7 @@ fn settled_after_ready(alloc: Global, width: usize, stamp: u64) -> Result<Settle
 }
 
 /// What one thing showed on its way, made ready under stamp 5 and taken under stamp 9.
-#[derive(Clone, Copy, Debug, PartialEq, Eq)]
+#[derive(Clone, Copy, PartialEq, Eq)]
 struct Showed {
     early_look: Option<u64>,
     early_freed: Option<u64>,

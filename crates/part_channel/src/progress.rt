@@ -3,7 +3,7 @@
 use mp_types::Stamp;
 
 /// What a test found.
-#[derive(Clone, Copy, Drop)]
+#[derive(Clone, Copy, PartialEq, Eq, Drop)]
 pub enum Progress {
     /// No partition of this phase is left. Nothing was looked at.
     AllFreed,
@@ -16,7 +16,7 @@ pub enum Progress {
 }
 
 /// What a take gave.
-#[derive(Clone, Copy, Drop)]
+#[derive(Clone, Copy, PartialEq, Eq, Drop)]
 pub enum Take {
     /// The bytes of the box, 0 past its width. The stamp is above the clock and the thing's.
     Taken([u8; 128], Stamp),
