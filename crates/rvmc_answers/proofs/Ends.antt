@@ -68,15 +68,15 @@ fits plan state trace (ClockFull clock) least (full, inr refused) = (not_true _ 
 fits plan state trace (Calls count) least is = (not_true _ is.1.runs, is.1.left)
 
 pub stops_fit : StopsFitLaw
-stops_fit image budget harts plans text status of reported =
-    let left = reported.left in
-    let run = reported.run.apart in
+stops_fit image budget harts plans text status of of_run =
+    let left = of_run.left in
+    let run = of_run.run.apart in
     let states = left.ranks.items in
     let traces = left.traces.items in
     let stops = left.stops.items in
     let count = each_ends states traces stops (run.traces_count ∙ sym run.ranks_count) (run.stops_count ∙ sym run.ranks_count) ∙ run.ranks_count in (
       rank_ends left,
-      reported.told,
+      of_run.told,
       count,
       λ r end at.
           let found = end_at states traces stops r end at in

@@ -1,18 +1,26 @@
 -- What each command answers: the text on standard output, and the status.
-use Rattle.std.specs.Prelude.{◌≡◌, ⊤, ℕ, Bool, true, false, List, [], MatchResult, Option}
+use Rattle.std.specs.Prelude.{◌≡◌, ⊤, ℕ, Bool, true, false, List, [], length, MatchResult, Option, Err}
+use Rattle.cl_machine.specs.Merge.{IsMerge}
+use Rattle.cl_machine.specs.declared.steps.Step.{Step}
 use Rattle.cl_record.specs.Plans.{ArePlans, HasPlans}
-use Rattle.cl_record.specs.Records.{IsMergedRun}
+use Rattle.cl_record.specs.Records.{IsMergedRun, steps_in}
 use Rattle.cl_record.specs.declared.plans.Plan.{Plan}
 use Rattle.cl_record.specs.declared.records.Record.{Record}
+use Rattle.cl_replay.specs.Checks.{IsVerdict}
+use Rattle.cl_replay.specs.declared.checking.Verdict.{Verdict}
 use Rattle.cl_run.specs.Runs.{IsOneRun}
+use Rattle.cl_text.specs.Reading.{reading_record}
+use Rattle.cl_text.specs.Text.{record_text}
+use Rattle.cl_text.specs.Whole.{IsRecord}
 use Rattle.cl_threads.specs.Runs.{IsThreadRun}
-use Rattle.rv_image.specs.Image.{in_version_two}
+use Rattle.rv_image.specs.Image.{IsImage, in_version_two}
 use Rattle.rv_image.specs.Text.{image_text}
 use Rattle.rv_image.specs.declared.images.ImageParts.{ImageParts}
 use Rattle.rvmc_line.specs.declared.line.CommandLine.{CommandLine}
-use Rattle.rvmc_line.specs.declared.line.CommandLine.TheVariants.{Asm, Dis, One, Run}
+use Rattle.rvmc_line.specs.declared.line.CommandLine.TheVariants.{Asm, Check, Dis, One, Run}
 use Rattle.rvmc_report.specs.Listing.{listing}
-use Rattle.rvmc_report.specs.Report.{rank_ends, report, status_of}
+use Rattle.rvmc_report.specs.Report.{HasEachRank, rank_ends, report, status_of}
+use Rattle.rvmc_report.specs.Verdicts.{verdict_status, verdict_text}
 use Rattle.rvmc_report.specs.declared.faults.Fault.{Fault}
 use Rattle.rvmc_report.specs.declared.faults.Fault.TheVariants as faults
 use Rattle.rvmc_answers.specs.Images.{IsFaultIn, image_in}
@@ -27,16 +35,31 @@ IsFaulty text status = (text ≡ []) × (status ≡ 1)
 abbrev pub IsDone : List ℕ → List ℕ → ℕ → Type 0
 IsDone meant text status = (text ≡ meant) × (status ≡ 0)
 
--- the report and the status of what a run leaves
-pub record IsReported (Leaves : Record → Type 0) (text : List ℕ) (status : ℕ) : Type 0 where
+-- the text of a record: of the steps of all its ranks in order of their stamps, which are inside the limits of what can
+-- be read again
+pub record IsRecordOf (image : ImageParts) (left : Record) (text : List ℕ) : Type 0 where
+  pub steps : List Step
+  pub sorted : IsMerge (steps_in left) steps
+  pub inside : IsRecord image steps
+  pub spelled : text ≡ record_text image steps
+
+-- the report of a record, or with `--record` its own text
+abbrev pub IsTextOf : Bool → ImageParts → Record → List ℕ → Type 0
+IsTextOf false image left text = text ≡ report (rank_ends left)
+IsTextOf true image left text = IsRecordOf image left text
+
+-- what is told of the record that a run leaves, and the status of the run
+pub record IsTold (Leaves : Record → Type 0) (IsText : Record → List ℕ → Type 0) (text : List ℕ) (status : ℕ)
+    : Type 0 where
   pub left : Record
   pub run : Leaves left
-  pub told : text ≡ report (rank_ends left)
+  pub told : IsText left text
   pub status_is : status ≡ status_of (rank_ends left)
 
 -- a run, if its plans are right: else there is a fault
-pub record IsRunBy (Right : Type 0) (Leaves : Record → Type 0) (text : List ℕ) (status : ℕ) : Type 0 where
-  pub reported : Right → IsReported Leaves text status
+pub record IsRunBy (Right : Type 0) (Leaves : Record → Type 0) (IsText : Record → List ℕ → Type 0) (text : List ℕ)
+    (status : ℕ) : Type 0 where
+  pub told : Right → IsTold Leaves IsText text status
   pub refused : ¬ Right → IsFaulty text status
 
 -- the same plan for each rank, and this holds of them. What isn't listed is all, in order
@@ -50,48 +73,74 @@ pub record IsLeftByThreads (image : ImageParts) (plans : List Plan) (left : Reco
   pub apart : IsThreadRun image plans left
   pub merged : IsMergedRun image left
 
+-- what ranks leave that ran on one thread, in this order: their events are a run of the written machine, as they were
+-- taken and in order of their stamps, and it ends in the record
+pub record IsLeftByOne (image : ImageParts) (plans : List Plan) (order : List ℕ) (left : Record) : Type 0 where
+  pub turns : IsOneRun image plans order left
+  pub merged : IsMergedRun image left
+
 -- `run`: each rank on a thread of its own
-abbrev pub IsRun : ImageParts → ℕ → Option (List ℕ) → List ℕ → ℕ → Type 0
-IsRun image budget harts text status =
-    ByPlans image budget harts (λ plans. IsRunBy (HasPlans image plans) (IsLeftByThreads image plans) text status)
+abbrev pub IsRun : ImageParts → ℕ → Option (List ℕ) → Bool → List ℕ → ℕ → Type 0
+IsRun image budget harts recorded text status =
+    ByPlans image budget harts (λ plans.
+    IsRunBy (HasPlans image plans) (IsLeftByThreads image plans) (IsTextOf recorded image) text status)
 
 -- `one`: all ranks on one thread, in this order
-abbrev pub IsOne : ImageParts → ℕ → Option (List ℕ) → Option (List ℕ) → List ℕ → ℕ → Type 0
-IsOne image budget harts ranks text status =
+abbrev pub IsOne : ImageParts → ℕ → Option (List ℕ) → Option (List ℕ) → Bool → List ℕ → ℕ → Type 0
+IsOne image budget harts ranks recorded text status =
     ByPlans image budget harts (λ plans.
     let order = listed ranks image.ranks in
-    IsRunBy (ArePlans image plans order) (IsOneRun image plans order) text status)
+    IsRunBy (ArePlans image plans order) (IsLeftByOne image plans order) (IsTextOf recorded image) text status)
 
--- one case a command, of the image that it takes
+-- one case a command, of the image that it takes; `check` takes none
 abbrev pub Makes : CommandLine → ImageParts → List ℕ → ℕ → Type 0
 Makes (Asm false) image text status = IsDone (image_text image) text status
 Makes (Asm true) image text status = IsDone (image_text (in_version_two image)) text status
 Makes Dis image text status = IsDone (listing image) text status
-Makes (Run source budget plan lead) image text status = IsRun image budget plan text status
-Makes (One source budget plan order) image text status = IsOne image budget plan order text status
+Makes (Run source budget plan lead recorded) image text status = IsRun image budget plan recorded text status
+Makes (One source budget plan order recorded) image text status = IsOne image budget plan order recorded text status
+Makes Check image text status = ⊥
+
+-- what a command says that takes an image from the bytes
+abbrev pub SaysOfImage : CommandLine → List ℕ → List ℕ → ℕ → Type 0
+SaysOfImage line bytes text status =
+    MatchResult (image_in line bytes) (λ image. Makes line image text status) (λ _. IsFaulty text status)
+
+-- the verdict on the steps of a record, and its status
+pub record IsChecked (image : ImageParts) (steps : List Step) (text : List ℕ) (status : ℕ) : Type 0 where
+  pub verdict : Verdict
+  pub found : IsVerdict image steps verdict
+  pub told : text ≡ verdict_text verdict (length steps)
+  pub status_is : status ≡ verdict_status verdict
+
+-- what `check` says of the record that the bytes spell
+abbrev pub SaysOfRecord : List ℕ → List ℕ → ℕ → Type 0
+SaysOfRecord bytes text status =
+    MatchResult (reading_record bytes) (λ read. IsChecked read.0 read.1 text status) (λ _. IsFaulty text status)
 
 -- what a command line says of the bytes that are read
 abbrev pub Says : CommandLine → List ℕ → List ℕ → ℕ → Type 0
-Says line bytes text status =
-    MatchResult (image_in line bytes) (λ image. Makes line image text status) (λ _. IsFaulty text status)
+Says Check bytes text status = SaysOfRecord bytes text status
+Says line bytes text status = SaysOfImage line bytes text status
 
 -- ---- which fault is told
 
 -- whether a command needs threads
 abbrev pub needs_threads : CommandLine → Bool
-needs_threads (Run source budget plan lead) = true
+needs_threads (Run source budget plan lead recorded) = true
 needs_threads other = false
 
 -- the plan is wrong, or the order of the ranks
 abbrev pub IsMisplanned : CommandLine → ImageParts → Type 0
-IsMisplanned (Run source budget plan lead) image = ByPlans image budget plan (λ plans. ¬ (HasPlans image plans))
-IsMisplanned (One source budget plan order) image =
+IsMisplanned (Run source budget plan lead recorded) image =
+    ByPlans image budget plan (λ plans. ¬ (HasPlans image plans))
+IsMisplanned (One source budget plan order recorded) image =
     ByPlans image budget plan (λ plans. ¬ (ArePlans image plans (listed order image.ranks)))
 IsMisplanned other image = ⊥
 
 -- threads are started: the plan is right
 abbrev pub HasThreads : CommandLine → ImageParts → Type 0
-HasThreads (Run source budget plan lead) image = ByPlans image budget plan (HasPlans image)
+HasThreads (Run source budget plan lead recorded) image = ByPlans image budget plan (HasPlans image)
 HasThreads other image = ⊥
 
 -- Plans where they are wrong; of threads that were started, that one was refused, or that what they left doesn't fit
@@ -108,6 +157,26 @@ abbrev pub Refuses : CommandLine → ImageParts → Fault → Type 0
 Refuses line image fault = IsRunFault (IsMisplanned line image) (HasThreads line image) fault
 
 -- of the bytes that are read: their own fault, or else one of their image
-abbrev pub IsFaultOf : CommandLine → List ℕ → Fault → Type 0
-IsFaultOf line bytes fault =
+abbrev pub IsImageFault : CommandLine → List ℕ → Fault → Type 0
+IsImageFault line bytes fault =
     MatchResult (image_in line bytes) (λ image. Refuses line image fault) (λ _. IsFaultIn (image_in line bytes) fault)
+
+-- of bytes that are read as a record: their first fault, unless memory was refused
+abbrev pub IsRecordFault : List ℕ → Fault → Type 0
+IsRecordFault bytes faults.Memory = ⊤
+IsRecordFault bytes (faults.Record fault) = reading_record bytes ≡ Err fault
+IsRecordFault bytes other = ⊥
+
+-- of what a command takes from the bytes
+abbrev pub IsFaultOf : CommandLine → List ℕ → Fault → Type 0
+IsFaultOf Check bytes fault = IsRecordFault bytes fault
+IsFaultOf line bytes fault = IsImageFault line bytes fault
+
+-- ---- the steps to an answer
+
+-- a record of all ranks of an image, whose events, in order of their stamps, are a run of the written machine
+pub record IsLeft (image : ImageParts) (left : Record) : Type 0 where
+  pub limits : IsImage image
+  pub ranks : length left.traces.items ≡ image.ranks
+  pub each : HasEachRank left
+  pub merged : IsMergedRun image left

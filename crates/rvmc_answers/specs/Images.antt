@@ -1,5 +1,6 @@
 -- The image that a command takes from its input, or the input's fault.
-use Rattle.std.specs.Prelude.{◌≡◌, ⊤, ℕ, ◌+◌, ◌==◌, if◌then◌else◌, Bool, false, List, length, not, take, count_by}
+use Rattle.std.specs.Prelude.{◌≡◌, ⊤, ℕ, ◌+◌, ◌==◌, if◌then◌else◌, Bool, true, false, List, length, not, take}
+use Rattle.std.specs.Prelude.{count_by}
 use Rattle.std.specs.Prelude.{Result, Ok, Err}
 use Rattle.std.specs.Result.{result_map_both}
 use Rattle.std.specs.Str.Lossy.{utf8_valid_len}
@@ -8,7 +9,7 @@ use Rattle.rv_asm_tokens.specs.declared.fault.AsmFaultKind.TheVariants as kinds
 use Rattle.rv_image.specs.Reading.{reading}
 use Rattle.rv_image.specs.declared.images.ImageParts.{ImageParts}
 use Rattle.rvmc_line.specs.declared.line.CommandLine.{CommandLine}
-use Rattle.rvmc_line.specs.declared.line.CommandLine.TheVariants.{Asm, Dis, One, Run}
+use Rattle.rvmc_line.specs.declared.line.CommandLine.TheVariants.{Asm, Check, Dis, One, Run}
 use Rattle.rvmc_report.specs.Faults.{fault_of_image, fault_of_source}
 use Rattle.rvmc_report.specs.declared.faults.Fault.{Fault}
 use Rattle.rvmc_report.specs.declared.faults.Fault.TheVariants as faults
@@ -35,8 +36,14 @@ spelled_image bytes = result_map_both (λ image. image) fault_of_image (reading 
 abbrev pub takes_source : CommandLine → Bool
 takes_source (Asm from) = not from
 takes_source Dis = false
-takes_source (Run source budget plan lead) = source
-takes_source (One source budget plan order) = source
+takes_source (Run source budget plan lead recorded) = source
+takes_source (One source budget plan order recorded) = source
+takes_source Check = false
+
+-- whether a command takes a record, and not an image
+abbrev pub takes_record : CommandLine → Bool
+takes_record Check = true
+takes_record other = false
 
 -- the image that a command takes from the bytes
 abbrev pub image_in : CommandLine → List ℕ → Result ImageParts Fault

@@ -1,4 +1,5 @@
 pub mod Plans
 pub mod Images
+pub mod Outputs
 pub mod Answers
 pub mod Laws

@@ -2,10 +2,15 @@
 
 ghost use Rattle.std.specs.Prelude.{◌≡◌, IfErr, IfOk, false};
 ghost use Rattle.rv_image.specs.Text.{image_text};
-ghost use Rattle.rvmc_answers.specs.Answers.{IsDone, IsFaultOf, Makes, Refuses, Says, needs_threads};
+ghost use Rattle.rvmc_answers.specs.Answers.{IsDone, IsFaultOf, IsImageFault, Makes, Refuses, Says, SaysOfImage};
+ghost use Rattle.rvmc_answers.specs.Answers.{needs_threads};
+ghost use Rattle.rvmc_answers.specs.Images.{takes_record};
+ghost use Rattle.rvmc_answers.specs.Outputs.{output_bytes};
 ghost use Rattle.rvmc_report.specs.Listing.{listing};
 
+use crate::checks::checked;
 use crate::images::image_in;
+use crate::outputs::Output;
 use crate::runs::{one, run};
 use rv_image::{Image, write_image};
 use rvmc_line::CommandLine;
@@ -15,33 +20,34 @@ use std::alloc::{AllocError, Global};
 use std::sync::Wait;
 use std::thread::Threads;
 
-/// The text for standard output, and the status.
+/// What stands on standard output, and the status.
 #[derive(Drop)]
 pub struct Answer {
-    pub text: Vec<u8>,
+    pub output: Output,
     pub status: u8,
 }
 
 /// The bytes of an image.
 fn written(alloc: Global, image: &Image) -> Result<Answer, AllocError>
-    ensures { IfOk result (λ answer. IsDone (image_text image.now) answer.text.items answer.status) }
+    ensures { IfOk result (λ answer. IsDone (image_text image.now) (output_bytes answer.output) answer.status) }
 {
-    let text = write_image(alloc, image)?;
-    Ok(Answer { text, status: 0 })
+    let output = Output::Text(write_image(alloc, image)?);
+    Ok(Answer { output, status: 0 })
 }
 
 /// The listing of an image.
 fn listed(alloc: Global, image: &Image) -> Result<Answer, AllocError>
-    ensures { IfOk result (λ answer. IsDone (listing image.now) answer.text.items answer.status) }
+    ensures { IfOk result (λ answer. IsDone (listing image.now) (output_bytes answer.output) answer.status) }
 {
-    let text = listing(alloc, image)?;
-    Ok(Answer { text, status: 0 })
+    let output = Output::Text(listing(alloc, image)?);
+    Ok(Answer { output, status: 0 })
 }
 
-/// What a command that needs no threads makes of an image.
+/// What a command makes of its image that needs no threads.
 fn made(alloc: Global, line: &CommandLine, image: Image) -> Result<Answer, Fault>
-    requires { needs_threads line.now ≡ false }
-    ensures says { IfOk result (λ answer. Makes line.now image answer.text.items answer.status) }
+    requires plain { needs_threads line.now ≡ false }
+    requires image { takes_record line.now ≡ false }
+    ensures says { IfOk result (λ answer. Makes line.now image (output_bytes answer.output) answer.status) }
     ensures fault { IfErr result (Refuses line.now image) }
 {
     match line {
@@ -52,10 +58,22 @@ fn made(alloc: Global, line: &CommandLine, image: Image) -> Result<Answer, Fault
             budget,
             plan,
             order,
+            recorded,
             ..
-        } => one(alloc, &image, *budget, plan, order),
-        CommandLine::Run { .. } => unreachable!(),
+        } => one(alloc, &image, *budget, plan, order, *recorded),
+        CommandLine::Run { .. } | CommandLine::Check => unreachable!(),
     }
+}
+
+/// What a command answers to its input that takes an image, and needs no threads.
+fn answer_of_image(alloc: Global, line: &CommandLine, bytes: &[u8]) -> Result<Answer, Fault>
+    requires plain { needs_threads line.now ≡ false }
+    requires image { takes_record line.now ≡ false }
+    ensures says { IfOk result (λ answer. SaysOfImage line.now bytes.now (output_bytes answer.output) answer.status) }
+    ensures fault { IfErr result (IsImageFault line.now bytes.now) }
+{
+    let image = image_in(alloc, line, bytes)?;
+    made(alloc, line, image)
 }
 
 /// Whether a command needs threads: `run` alone does.
@@ -67,15 +85,17 @@ pub fn needs_threads(line: &CommandLine) -> bool
 
 /// What a command that needs no threads answers to its input.
 ///
-/// A fault of the input is an `Err`, as want of memory is: the first fault of the source or of the image, or `Plans`
-/// where a run's plan or order is wrong.
+/// A fault of the input is an `Err`, as want of memory is: the first fault of the source, the image or the record, or
+/// `Plans` where a run's plan or order is wrong.
 pub fn answer_to(alloc: Global, line: &CommandLine, bytes: &[u8]) -> Result<Answer, Fault>
     requires plain { needs_threads line.now ≡ false }
-    ensures says { IfOk result (λ answer. Says line.now bytes.now answer.text.items answer.status) }
+    ensures says { IfOk result (λ answer. Says line.now bytes.now (output_bytes answer.output) answer.status) }
     ensures fault { IfErr result (IsFaultOf line.now bytes.now) }
 {
-    let image = image_in(alloc, line, bytes)?;
-    made(alloc, line, image)
+    match line {
+        CommandLine::Check => checked(alloc, bytes),
+        _ => answer_of_image(alloc, line, bytes),
+    }
 }
 
 /// What any command answers to its input. It waits for the threads of `run`, and what it promises holds if it returns.
@@ -88,17 +108,20 @@ pub fn answer_with_threads<R: Threads + Wait + Sync>(
     line: &CommandLine,
     bytes: &[u8],
 ) -> Result<Answer, Fault>
-    ensures says { IfOk result (λ answer. Says line.now bytes.now answer.text.items answer.status) }
+    ensures says { IfOk result (λ answer. Says line.now bytes.now (output_bytes answer.output) answer.status) }
     ensures fault { IfErr result (IsFaultOf line.now bytes.now) }
 {
-    let image = image_in(alloc, line, bytes)?;
     match line {
         CommandLine::Run {
             budget,
             plan,
             lead,
+            recorded,
             ..
-        } => run(rt, alloc, &image, *budget, plan, *lead),
-        _ => made(alloc, line, image),
+        } => {
+            let image = image_in(alloc, line, bytes)?;
+            run(rt, alloc, &image, *budget, plan, *lead, *recorded)
+        }
+        _ => answer_to(alloc, line, bytes),
     }
 }

@@ -2,7 +2,9 @@
 #![tactic(auto)]
 
 pub mod answers;
+mod checks;
 mod images;
 pub mod laws;
+pub mod outputs;
 pub mod plans;
 mod runs;

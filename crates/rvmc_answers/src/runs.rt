@@ -2,15 +2,20 @@
 
 ghost use Rattle.std.specs.Prelude.{◌≡◌, IfErr, IfOk};
 ghost use Rattle.cl_record.specs.Plans.{ArePlans, HasPlans};
-ghost use Rattle.cl_run.specs.Runs.{IsOneRun};
-ghost use Rattle.rvmc_answers.specs.Answers.{ByPlans, IsLeftByThreads, IsOne, IsRun, IsRunBy, IsRunFault};
+ghost use Rattle.rv_image.specs.Image.{IsImage};
+ghost use Rattle.rvmc_answers.specs.Answers.{ByPlans, IsLeft, IsLeftByOne, IsLeftByThreads, IsOne, IsRecordOf};
+ghost use Rattle.rvmc_answers.specs.Answers.{IsRun, IsRunBy, IsRunFault, IsTextOf};
+ghost use Rattle.rvmc_answers.specs.Outputs.{output_bytes};
 ghost use Rattle.rvmc_answers.specs.Plans.{listed};
-ghost use Rattle.rvmc_report.specs.Report.{HasEachRank, rank_ends, report, status_of};
+ghost use Rattle.rvmc_report.specs.Report.{rank_ends, status_of};
 
 use crate::answers::Answer;
+use crate::outputs::Output;
 use crate::plans::{listed, plans_of};
+use cl_merge::merge;
 use cl_record::{Plan, Record};
 use cl_run::run_one;
+use cl_text::RecordText;
 use cl_threads::{Pace, run_threads};
 use rv_image::Image;
 use rvmc_line::Numbers;
@@ -20,26 +25,61 @@ use std::alloc::{AllocError, Global};
 use std::sync::Wait;
 use std::thread::Threads;
 
-/// The report of a record, and its status.
-fn told(alloc: Global, left: &Record) -> Result<Answer, AllocError>
-    requires { HasEachRank left.now }
-    ensures { IfOk result (λ answer. (answer.text.items ≡ report (rank_ends left.now))
-        × (answer.status ≡ status_of (rank_ends left.now))) }
+/// The text of a record. The record is dropped as soon as its steps are copied, so that only one of the two stands in
+/// memory while the text is made ready and written.
+fn record_of(alloc: Global, image: &Image, left: Record) -> Result<RecordText, AllocError>
+    requires { IsLeft image.now left }
+    ensures { IfOk result (IsRecordOf image.now left) }
 {
-    let text = report(alloc, left)?;
-    let status = status(left);
-    Ok(Answer { text, status })
+    let steps = merge(alloc, &left)?;
+    drop(left);
+    RecordText::new(alloc, image, steps)
+}
+
+/// What is told of a run: its report, or the text of its record.
+fn output_of(
+    alloc: Global,
+    image: &Image,
+    left: Record,
+    recorded: bool,
+) -> Result<Output, AllocError>
+    requires { IsLeft image.now left }
+    ensures { IfOk result (λ output. IsTextOf recorded image.now left (output_bytes output)) }
+{
+    if recorded {
+        Ok(Output::Record(record_of(alloc, image, left)?))
+    } else {
+        Ok(Output::Text(report(alloc, &left)?))
+    }
+}
+
+/// The same, with the status of the run.
+fn told(alloc: Global, image: &Image, left: Record, recorded: bool) -> Result<Answer, AllocError>
+    requires { IsLeft image.now left }
+    ensures text { IfOk result (λ answer. IsTextOf recorded image.now left (output_bytes answer.output)) }
+    ensures status { IfOk result (λ answer. answer.status ≡ status_of (rank_ends left)) }
+{
+    let status = status(&left);
+    let output = output_of(alloc, image, left, recorded)?;
+    Ok(Answer { output, status })
 }
 
 /// A run by these plans on one thread, with the ranks in this order.
-fn one_by(alloc: Global, image: &Image, plans: &[Plan], order: &[u8]) -> Result<Answer, Fault>
+fn one_by(
+    alloc: Global,
+    image: &Image,
+    plans: &[Plan],
+    order: &[u8],
+    recorded: bool,
+) -> Result<Answer, Fault>
+    requires { IsImage image.now }
     ensures says { IfOk result (λ answer.
-        IsRunBy (ArePlans image.now plans.now order.now) (IsOneRun image.now plans.now order.now)
-        answer.text.items answer.status) }
+        IsRunBy (ArePlans image.now plans.now order.now) (IsLeftByOne image.now plans.now order.now)
+        (IsTextOf recorded image.now) (output_bytes answer.output) answer.status) }
     ensures fault { IfErr result (IsRunFault (¬ (ArePlans image.now plans.now order.now)) ⊥) }
 {
     let left = run_one(alloc, image, plans, order)?;
-    Ok(told(alloc, &left)?)
+    Ok(told(alloc, image, left, recorded)?)
 }
 
 /// `one`: a run by the same plan for each rank, all ranks on one thread.
@@ -49,16 +89,17 @@ pub(crate) fn one(
     budget: u64,
     harts: &Option<Numbers>,
     ranks: &Option<Numbers>,
+    recorded: bool,
 ) -> Result<Answer, Fault>
     ensures says { IfOk result (λ answer.
-        IsOne image.now budget harts.now ranks.now answer.text.items answer.status) }
+        IsOne image.now budget harts.now ranks.now recorded (output_bytes answer.output) answer.status) }
     ensures fault { IfErr result (IsRunFault
         (ByPlans image.now budget harts.now (λ plans. ¬ (ArePlans image.now plans (listed ranks.now image.now.ranks))))
         ⊥) }
 {
     let plans = plans_of(alloc, image, budget, harts)?;
     let order = listed(alloc, ranks, image.parts().ranks)?;
-    one_by(alloc, image, &plans, &order)
+    one_by(alloc, image, &plans, &order, recorded)
 }
 
 /// A run by these plans with a thread for each rank, which is held back where it is more than `lead` turns ahead.
@@ -68,14 +109,16 @@ fn run_by<R: Threads + Wait + Sync>(
     image: &Image,
     plans: &[Plan],
     lead: u64,
+    recorded: bool,
 ) -> Result<Answer, Fault>
     ensures says { IfOk result (λ answer.
-        IsRunBy (HasPlans image.now plans.now) (IsLeftByThreads image.now plans.now) answer.text.items answer.status) }
+        IsRunBy (HasPlans image.now plans.now) (IsLeftByThreads image.now plans.now) (IsTextOf recorded image.now)
+        (output_bytes answer.output) answer.status) }
     ensures fault { IfErr result (IsRunFault (¬ (HasPlans image.now plans.now)) (HasPlans image.now plans.now)) }
 {
     let pace = Pace::new(image.parts().ranks, lead);
     let left = run_threads(rt, alloc, image, plans, &pace)?;
-    Ok(told(alloc, &left)?)
+    Ok(told(alloc, image, left, recorded)?)
 }
 
 /// `run`: a run by the same plan for each rank, each rank on a thread of its own.
@@ -86,13 +129,14 @@ pub(crate) fn run<R: Threads + Wait + Sync>(
     budget: u64,
     harts: &Option<Numbers>,
     lead: u64,
+    recorded: bool,
 ) -> Result<Answer, Fault>
     ensures says { IfOk result (λ answer.
-        IsRun image.now budget harts.now answer.text.items answer.status) }
+        IsRun image.now budget harts.now recorded (output_bytes answer.output) answer.status) }
     ensures fault { IfErr result (IsRunFault
         (ByPlans image.now budget harts.now (λ plans. ¬ (HasPlans image.now plans)))
         (ByPlans image.now budget harts.now (HasPlans image.now))) }
 {
     let plans = plans_of(alloc, image, budget, harts)?;
-    run_by(rt, alloc, image, &plans, lead)
+    run_by(rt, alloc, image, &plans, lead, recorded)
 }

@@ -10,8 +10,8 @@ use Rattle.rv_asm_tokens.specs.declared.fault.AsmFaultKind.TheVariants as kinds
 use Rattle.rv_image.specs.declared.faults.ImageFault.{ImageFault}
 use Rattle.rv_image.specs.declared.faults.ImageFault.TheVariants as image
 use Rattle.rvmc_report.specs.declared.faults.Fault.{Fault}
-use Rattle.rvmc_report.specs.declared.faults.Fault.TheVariants.{Source, Image, Record, Plans, Unlike, Memory, Spawn, Read}
-use Rattle.rvmc_report.specs.declared.faults.Fault.TheVariants.{Write}
+use Rattle.rvmc_report.specs.declared.faults.Fault.TheVariants.{Source, Image, Record, Plans, Unlike}
+use Rattle.rvmc_report.specs.declared.faults.Fault.TheVariants.{Memory, Spawn, Read, Write}
 
 -- 1 for a fault of the input, 5 for memory or a thread, 6 for reads and writes
 abbrev pub fault_status : Fault → ℕ

@@ -1,5 +1,5 @@
-//! What rvmc tells and what it takes: the report of a run, the verdict on a record, the listing of an image, the faults,
-//! and the whole input.
+//! What rvmc tells and what it takes: the report of a run, the verdict on a record, the listing of an image, the
+//! faults, and the whole input.
 #![tactic(auto)]
 
 pub mod faults;

@@ -2,12 +2,16 @@
 use Rattle.std.proofs.Common.{◌≤◌, ℕ, ◌∙◌, List, [], Option, Some, None, length, inl, inr, refl, sym, subst, append-nil}
 use Rattle.std.specs.Prelude.{◌⊎◌, IfOk, IfErr, MatchResult, Result, Ok, Err}
 use Rattle.std.specs.Io.KnownBytes.{Appends, Keeps}
+use Rattle.cl_machine.specs.declared.steps.Step.{Step}
+use Rattle.cl_text.specs.declared.faults.RecordFault.{RecordFault}
 use Rattle.rv_image.specs.declared.images.ImageParts.{ImageParts}
-use Rattle.rvmc_answers.specs.Answers.{HasThreads, IsFaultOf, IsFaulty, IsMisplanned, Makes, Refuses, Says}
+use Rattle.rvmc_answers.specs.Answers.{HasThreads, IsChecked, IsFaultOf, IsFaulty, IsMisplanned, IsRecordFault, Makes}
+use Rattle.rvmc_answers.specs.Answers.{Refuses, Says, SaysOfRecord}
 use Rattle.rvmc_answers.specs.Images.{IsFaultIn, image_in}
+use Rattle.rvmc_answers.specs.Outputs.{output_bytes}
 use Rattle.rvmc_answers.specs.declared.answers.Answer.{Answer}
 use Rattle.rvmc_line.specs.declared.line.CommandLine.{CommandLine}
-use Rattle.rvmc_line.specs.declared.line.CommandLine.TheVariants.{Asm, Dis, One, Run}
+use Rattle.rvmc_line.specs.declared.line.CommandLine.TheVariants.{Asm, Check, Dis, One, Run}
 use Rattle.rvmc_report.specs.Faults.{fault_status}
 use Rattle.rvmc_report.specs.declared.faults.Fault.{Fault}
 use Rattle.rvmc_report.specs.declared.faults.Fault.TheVariants as faults
@@ -15,12 +19,13 @@ use Rattle.rvmc_tool.specs.Tool.{Answers, IsRefused, IsSaid, IsUnlike, Tells}
 
 -- wrong plans are a fault of the input
 misplanned : (line : CommandLine) (image : ImageParts) → IsMisplanned line image → Makes line image [] 1
-misplanned (Run source budget plan lead) image (plans, of, wrong) =
-    (plans, of, record { reported = λ right. absurd (wrong right); refused = λ _. (refl, refl) })
-misplanned (One source budget plan order) image (plans, of, wrong) =
-    (plans, of, record { reported = λ right. absurd (wrong right); refused = λ _. (refl, refl) })
+misplanned (Run source budget plan lead recorded) image (plans, of, wrong) =
+    (plans, of, record { told = λ right. absurd (wrong right); refused = λ _. (refl, refl) })
+misplanned (One source budget plan order recorded) image (plans, of, wrong) =
+    (plans, of, record { told = λ right. absurd (wrong right); refused = λ _. (refl, refl) })
 misplanned (Asm from) image wrong = absurd wrong
 misplanned Dis image wrong = absurd wrong
+misplanned Check image wrong = absurd wrong
 
 -- what a fault leaves: nothing, as the command line says, or for want of memory or of a thread
 abbrev Leaves : CommandLine → Result ImageParts Fault → Fault → Type 0
@@ -29,9 +34,11 @@ Leaves line meant fault =
     ⊎ (IsFaulty [] (fault_status fault) × MatchResult meant (λ image. HasThreads line image) (λ _. ⊥)))
     ⊎ IsRefused [] (fault_status fault)
 
-leaves : (line : CommandLine) (meant : Result ImageParts Fault) (fault : Fault) → MatchResult meant (λ image. Refuses line image fault) (λ _. IsFaultIn meant fault) → Leaves line meant fault
+leaves : (line : CommandLine) (meant : Result ImageParts Fault) (fault : Fault)
+    → MatchResult meant (λ image. Refuses line image fault) (λ _. IsFaultIn meant fault) → Leaves line meant fault
 leaves line (Ok image) (faults.Source fault) is = absurd is
 leaves line (Ok image) (faults.Image fault) is = absurd is
+leaves line (Ok image) (faults.Record fault) is = absurd is
 leaves line (Ok image) faults.Plans is = inl (inl (misplanned line image is))
 leaves line (Ok image) (faults.Unlike rank place) is = inl (inr ((refl, refl), is))
 leaves line (Ok image) faults.Memory is = inr (refl, refl)
@@ -40,12 +47,53 @@ leaves line (Ok image) faults.Read is = absurd is
 leaves line (Ok image) faults.Write is = absurd is
 leaves line (Err meant) (faults.Source fault) is = inl (inl (refl, refl))
 leaves line (Err meant) (faults.Image fault) is = inl (inl (refl, refl))
+leaves line (Err meant) (faults.Record fault) is = absurd is
 leaves line (Err meant) faults.Plans is = absurd is
 leaves line (Err meant) (faults.Unlike rank place) is = absurd is
 leaves line (Err meant) faults.Memory is = inr (refl, refl)
 leaves line (Err meant) faults.Spawn is = absurd is
 leaves line (Err meant) faults.Read is = absurd is
 leaves line (Err meant) faults.Write is = absurd is
+
+-- what the fault of a record leaves
+abbrev LeavesRecord : List ℕ → Fault → Type 0
+LeavesRecord bytes fault = SaysOfRecord bytes [] (fault_status fault) ⊎ IsRefused [] (fault_status fault)
+
+-- what is said of a reading, where the output is empty
+abbrev SaysNothing : Result (ImageParts × List Step) RecordFault → Type 0
+SaysNothing read = MatchResult read (λ found. IsChecked found.0 found.1 [] 1) (λ _. IsFaulty [] 1)
+
+leaves_record : (bytes : List ℕ) (fault : Fault) → IsRecordFault bytes fault → LeavesRecord bytes fault
+leaves_record bytes (faults.Source fault) is = absurd is
+leaves_record bytes (faults.Image fault) is = absurd is
+leaves_record bytes (faults.Record fault) is =
+    inl (subst SaysNothing (sym is) (refl, refl))
+leaves_record bytes faults.Plans is = absurd is
+leaves_record bytes (faults.Unlike rank place) is = absurd is
+leaves_record bytes faults.Memory is = inr (refl, refl)
+leaves_record bytes faults.Spawn is = absurd is
+leaves_record bytes faults.Read is = absurd is
+leaves_record bytes faults.Write is = absurd is
+
+-- what a fault leaves, of whatever a command takes
+abbrev LeavesOf : CommandLine → List ℕ → Fault → Type 0
+LeavesOf line bytes fault =
+    (Says line bytes [] (fault_status fault) ⊎ IsUnlike line bytes [] (fault_status fault))
+    ⊎ IsRefused [] (fault_status fault)
+
+leaves_of : (line : CommandLine) (bytes : List ℕ) (fault : Fault) → IsFaultOf line bytes fault
+    → LeavesOf line bytes fault
+leaves_of (Asm from) bytes fault is = leaves (Asm from) (image_in (Asm from) bytes) fault is
+leaves_of Dis bytes fault is = leaves Dis (image_in Dis bytes) fault is
+leaves_of (Run source budget plan lead recorded) bytes fault is =
+    leaves (Run source budget plan lead recorded) (image_in (Run source budget plan lead recorded) bytes) fault is
+leaves_of (One source budget plan order recorded) bytes fault is =
+    leaves (One source budget plan order recorded) (image_in (One source budget plan order recorded) bytes) fault is
+leaves_of Check bytes fault is = go (leaves_record bytes fault is)
+  where
+    go : LeavesRecord bytes fault → LeavesOf Check bytes fault
+    go (inl says) = inl (inl says)
+    go (inr refused) = inr refused
 
 -- what stays grows by nothing
 pub nothing_more : (old new : Option (List ℕ)) → Keeps old new → Appends old new []
@@ -55,12 +103,12 @@ nothing_more (Some xs) (Some ys) keeps = keeps ∙ sym (append-nil xs)
 
 -- an answer that is what the command line says, or a fault that is, as it is told
 pub answered : (line : CommandLine) (bytes : List ℕ) (answer : Result Answer Fault) (status : ℕ) (old new : Option (List ℕ)) → length bytes ≤ 67108864
-    → IfOk answer (λ a. Says line bytes a.text.items a.status) → IfErr answer (IsFaultOf line bytes) → Tells answer status old new → Answers line bytes status old new
+    → IfOk answer (λ a. Says line bytes (output_bytes a.output) a.status) → IfErr answer (IsFaultOf line bytes) → Tells answer status old new → Answers line bytes status old new
 answered line bytes (Ok answer) status old new short says fault (is, grows) =
-    (answer.text.items, inl (record { short = short; says = inl (subst (λ s. Says line bytes answer.text.items s) (sym is) says) }), grows)
-answered line bytes (Err fault) status old new short says is (status_is, keeps) = ([], go (leaves line (image_in line bytes) fault is), nothing_more old new keeps)
+    (output_bytes answer.output, inl (record { short = short; says = inl (subst (λ s. Says line bytes (output_bytes answer.output) s) (sym is) says) }), grows)
+answered line bytes (Err fault) status old new short says is (status_is, keeps) = ([], go (leaves_of line bytes fault is), nothing_more old new keeps)
   where
-    go : Leaves line (image_in line bytes) fault → IsSaid line bytes [] status ⊎ IsRefused [] status
+    go : LeavesOf line bytes fault → IsSaid line bytes [] status ⊎ IsRefused [] status
     go (inl (inl made)) = inl (record { short = short; says = inl (subst (λ s. Says line bytes [] s) (sym status_is) made) })
     go (inl (inr unlike)) = inl (record { short = short; says = inr (subst (λ s. IsUnlike line bytes [] s) (sym status_is) unlike) })
     go (inr refused) = inr (subst (λ s. IsRefused [] s) (sym status_is) refused)

@@ -4,6 +4,7 @@ use Rattle.std.specs.Prelude.{IfSome, MatchResult, Option, None, Some, option_an
 use Rattle.std.specs.Io.KnownBytes.{Appends, Keeps}
 use Rattle.rvmc_answers.specs.Answers.{HasThreads, IsFaulty, Says, needs_threads}
 use Rattle.rvmc_answers.specs.Images.{image_in}
+use Rattle.rvmc_answers.specs.Outputs.{output_bytes}
 use Rattle.rvmc_answers.specs.declared.answers.Answer.{Answer}
 use Rattle.rvmc_cli.specs.Meaning.{Parses, meaning_of}
 use Rattle.rvmc_line.specs.declared.line.CommandLine.{CommandLine}
@@ -16,7 +17,7 @@ use Rattle.rvmc_report.specs.declared.faults.Fault.{Fault}
 abbrev pub IsRefused : List ℕ → ℕ → Type 0
 IsRefused text status = (text ≡ []) × (status ≡ 5)
 
--- of `run` with a right plan: what its threads left doesn't fit together, so there is no report of it
+-- of `run` with a right plan: what its threads left doesn't fit together, so there is no report and no record of it
 abbrev pub IsUnlike : CommandLine → List ℕ → List ℕ → ℕ → Type 0
 IsUnlike line bytes text status =
     IsFaulty text status × MatchResult (image_in line bytes) (λ image. HasThreads line image) (λ _. ⊥)
@@ -65,5 +66,5 @@ pub record IsWhole (known : Option (List ℕ)) (bytes : List ℕ) : Type 0 where
 
 -- the output of an answer, and its status; of a fault nothing
 abbrev pub Tells : Result Answer Fault → ℕ → Option (List ℕ) → Option (List ℕ) → Type 0
-Tells (Ok answer) status old new = (status ≡ answer.status) × Appends old new answer.text.items
+Tells (Ok answer) status old new = (status ≡ answer.status) × Appends old new (output_bytes answer.output)
 Tells (Err fault) status old new = (status ≡ fault_status fault) × Keeps old new

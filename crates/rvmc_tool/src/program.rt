@@ -3,6 +3,7 @@
 ghost use Rattle.std.specs.Prelude.{◌≡◌, ◌≢◌, IfErr, IfOk, List, OnOk, ℕ, None, Some, false, map, true};
 ghost use Rattle.std.specs.Io.KnownBytes.{Appends, Keeps};
 ghost use Rattle.rvmc_answers.specs.Answers.{needs_threads};
+ghost use Rattle.rvmc_answers.specs.Outputs.{output_bytes};
 ghost use Rattle.rvmc_cli.specs.Meaning.{meaning_of};
 ghost use Rattle.rvmc_line.specs.declared.line.CommandLine.{CommandLine as Line};
 ghost use Rattle.rvmc_tool.specs.Tool.{Answers, IsWhole, Refuses, RefusesPlain, Shows, Tells, is_quiet};
@@ -11,6 +12,7 @@ ghost use Rattle.rvmc_report.specs.Faults.{fault_status};
 ghost use Rattle.rvmc_report.specs.Input.{TakesAtMost};
 
 use rvmc_answers::answers::{Answer, answer_to, answer_with_threads, needs_threads};
+use rvmc_answers::outputs::Output;
 use rvmc_cli::parse;
 use rvmc_line::{CommandLine, ParseFault};
 use rvmc_report::faults::Fault;
@@ -39,16 +41,37 @@ fn fail<E: Write>(err: &mut E, fault: Fault) -> u8
     }
 }
 
+/// The status where a writer took all, or else tells that a write failed.
+fn ended<E: Write>(err: &mut E, taken: bool, status: u8) -> u8
+    ensures taken { result ≢ 6 → taken ≡ true }
+    ensures status { result ≢ 6 → result ≡ status }
+    ensures quiet { is_quiet result ≡ true → Keeps (E.contents err.old) (E.contents err.new) }
+{
+    if taken {
+        status
+    } else {
+        fail(err, Fault::Write)
+    }
+}
+
 /// Writes a text on standard output with this status, or else tells that a write failed.
 fn finish<O: Write, E: Write>(out: &mut O, err: &mut E, text: &[u8], status: u8) -> u8
     ensures written { result ≢ 6 → Appends (O.contents out.old) (O.contents out.new) text.now }
     ensures status { result ≢ 6 → result ≡ status }
     ensures quiet { is_quiet result ≡ true → Keeps (E.contents err.old) (E.contents err.new) }
 {
-    if put(out, text) {
-        status
-    } else {
-        fail(err, Fault::Write)
+    let taken = put(out, text);
+    ended(err, taken, status)
+}
+
+/// Writes an output, and tells whether the writer took all of it. No memory is asked for here: a record is written in
+/// pieces.
+fn put_output<W: Write>(out: &mut W, output: &Output) -> bool
+    ensures { result ≡ true → Appends (W.contents out.old) (W.contents out.new) (output_bytes output.now) }
+{
+    match output {
+        Output::Text(text) => put(out, text),
+        Output::Record(text) => text.put(out).is_ok() && out.flush().is_ok(),
     }
 }
 
@@ -73,7 +96,10 @@ fn tell<O: Write, E: Write>(answer: Result<Answer, Fault>, out: &mut O, err: &mu
     ensures quiet { is_quiet result ≡ true → Keeps (E.contents err.old) (E.contents err.new) }
 {
     match answer {
-        Ok(answer) => finish(out, err, &answer.text, answer.status),
+        Ok(answer) => {
+            let taken = put_output(out, &answer.output);
+            ended(err, taken, answer.status)
+        }
         Err(fault) => fail(err, fault),
     }
 }
