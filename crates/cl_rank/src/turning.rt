@@ -23,24 +23,13 @@ use crate::ranks::Rank;
 use crate::sides::{BoxPlace, begin, follow_receiver, follow_sender, make_ready, take, test};
 use crate::stops::{Stop, stop_of};
 use cl_calls::Call;
-use cl_state::{Answer, Ask, Doing, RankState};
+use cl_state::{Answer, Ask, Doing, RankState, is_ecall};
 use cl_trace::{Event, Kind};
 use mp_request::{OpenRequest, Requests, Transfer};
 use mp_types::{Reply, Request, Stamp};
 use part_channel::{Channel, Progress, Take};
 use part_phase::{Contents, box_words};
 use rv_hart::{Hart, Mode, step};
-
-/// Whether a word is ECALL's.
-#[inline(always)]
-fn is_ecall(word: Option<u32>) -> bool
-    ensures { result ≡ is_ecall_of word }
-{
-    match word {
-        None => false,
-        Some(word) => word == 0x73,
-    }
-}
 
 /// Does the instruction of a running hart, where it is no ECALL, at this stamp. Else nothing is done: the hart isn't
 /// running, or its word is ECALL's.

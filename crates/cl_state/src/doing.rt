@@ -25,7 +25,7 @@ use std::alloc::{AllocError, Global};
 
 /// Whether a word is ECALL's.
 #[inline(always)]
-pub(crate) fn is_ecall(word: Option<u32>) -> bool
+pub fn is_ecall(word: Option<u32>) -> bool
     ensures { result ≡ is_ecall_of word }
 {
     match word {

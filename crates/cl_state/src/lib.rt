@@ -19,6 +19,7 @@ mod transfers;
 mod turn;
 
 pub use asking::{Answer, Ask, Doing};
+pub use doing::is_ecall;
 pub use partitions::Awaited;
 pub use pending::{Manner, Pending, Target};
 pub use row::{Outcome, Purpose, Row, Visit, Wanted};
