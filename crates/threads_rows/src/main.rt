@@ -1,10 +1,14 @@
 //! Runs two ranks on threads of their own and prints what they leave. Each waits at its first turn until the other has
 //! come to its own: that they run at the same time no clause says, and a driver that runs one rank after the other, or
-//! gives them turns on one thread, doesn't get past it. `stdout` was written by hand.
+//! gives them turns on one thread, doesn't get past it. Then two ranks loop under a pace, and the turns are counted that
+//! were further ahead than its lead. `stdout` was written by hand.
 #![tactic(auto)]
+
+mod watching;
 
 ghost use Rattle.std.specs.Prelude.{◌<◌};
 
+use crate::watching::Watched;
 use cl_record::{Plan, Record, RunFault};
 use cl_threads::{Gate, NoGate, Pace, Point, run_threads};
 use rv_image::{Image, read_image};
@@ -21,6 +25,12 @@ const IMAGE: [u8; 68] = [
     0x93, 0x82, 0x82, 0x96, 0x23, 0x3c, 0x51, 0xfe, 0x13, 0x05, 0x81, 0xff, 0x93, 0x05, 0x30, 0x00,
     0x93, 0x08, 0x10, 0x00, 0x73, 0x00, 0x00, 0x00, 0x13, 0x05, 0x00, 0x00, 0x93, 0x08, 0x00, 0x00,
     0x73, 0x00, 0x00, 0x00,
+];
+
+/// An image of 2 ranks of 4096 bytes each, whose harts jump to where they are, for ever.
+const LOOP: [u8; 32] = [
+    0x52, 0x56, 0x4d, 0x43, 0x01, 0x00, 0x02, 0x01, 0x00, 0x10, 0x00, 0x00, 0x00, 0x00, 0x00, 0x00,
+    0x04, 0x00, 0x00, 0x00, 0x00, 0x00, 0x00, 0x00, 0x00, 0x00, 0x00, 0x00, 0x6f, 0x00, 0x00, 0x00,
 ];
 
 /// How often a rank looks for the other.
@@ -96,20 +106,43 @@ fn plans(alloc: Global, budget: u64) -> Result<Vec<Plan>, AllocError> {
     Ok(plans)
 }
 
-/// A run of the image, by a plan of so many turns.
-fn run<R: Threads + Wait + Sync, G: Gate>(
+/// A run of an image, by a plan of so many turns.
+fn run_of<R: Threads + Wait + Sync, G: Gate>(
     rt: &R,
     alloc: Global,
+    bytes: &[u8],
     budget: u64,
     gate: &G,
 ) -> Result<Record, RunFault> {
-    let Ok(image) = read_image(alloc, &IMAGE) else {
+    let Ok(image) = read_image(alloc, bytes) else {
         return Err(RunFault::Memory);
     };
     let Ok(plans) = plans(alloc, budget) else {
         return Err(RunFault::Memory);
     };
     run_threads(rt, alloc, &image, plans.as_slice(), gate)
+}
+
+/// A run of the image that puts out `hi`.
+fn run<R: Threads + Wait + Sync, G: Gate>(
+    rt: &R,
+    alloc: Global,
+    budget: u64,
+    gate: &G,
+) -> Result<Record, RunFault> {
+    run_of(rt, alloc, &IMAGE, budget, gate)
+}
+
+/// A run of two ranks that loop for so many turns under a pace of this lead: how many turns were too far ahead.
+fn far<R: Threads + Wait + Sync>(
+    rt: &R,
+    alloc: Global,
+    lead: u64,
+    budget: u64,
+) -> Result<u64, RunFault> {
+    let watched = Watched::new(lead);
+    run_of(rt, alloc, &LOOP, budget, &watched)?;
+    Ok(watched.far())
 }
 
 /// Prints what each rank put out, after how many turns it stopped, and why.
@@ -152,5 +185,13 @@ fn main(rt: HostRuntime) -> io::Result<()> {
     print_points(&rt, &meet)?;
     print_record(&rt, "no gate", run(&rt, alloc, 1000, &NoGate))?;
     print_record(&rt, "pace", run(&rt, alloc, 3, &Pace::new(2, 1)))?;
-    print_record(&rt, "no turns", run(&rt, alloc, 0, &NoGate))
+    print_record(&rt, "no turns", run(&rt, alloc, 0, &NoGate))?;
+    println!(rt;
+        "lead 1, turns too far ahead: {:?}",
+        far(&rt, alloc, 1, 1000)
+    )?;
+    println!(rt;
+        "lead 100, turns too far ahead: {:?}",
+        far(&rt, alloc, 100, 100_000)
+    )
 }
