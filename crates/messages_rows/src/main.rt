@@ -20,8 +20,8 @@ use std::alloc::{AllocError, Global};
 use std::io;
 use std::io::Write;
 
-/// A hub of two ranks, with so many links from rank 0 to rank 1.
-fn hub(alloc: Global, links: u8) -> Result<Hub, ImageFault> {
+/// The text of an image of two ranks, with so many links from rank 0 to rank 1.
+fn image_text(alloc: Global, links: u8) -> Result<Vec<u8>, AllocError> {
     let header = b"RVMC\x01\0\x02\x01\0\x10\0\0\0\0\0\0\x04\0\0\0\0\0\0\0\0";
     let mut bytes = Vec::from_slice(alloc, header)?;
     bytes.extend_from_slice(&[links, 0, 0])?;
@@ -29,7 +29,19 @@ fn hub(alloc: Global, links: u8) -> Result<Hub, ImageFault> {
         bytes.extend_from_slice(&[0, 1])?;
     }
     bytes.extend_from_slice(&[0x13, 0, 0, 0])?;
-    Ok(Hub::start(alloc, &read_image(alloc, &bytes)?)?)
+    Ok(bytes)
+}
+
+/// A hub of the image that these bytes spell.
+fn hub_of(alloc: Global, bytes: &[u8]) -> Result<Hub, ImageFault> {
+    let image = read_image(alloc, bytes)?;
+    Ok(Hub::start(alloc, &image)?)
+}
+
+/// A hub of two ranks, with so many links from rank 0 to rank 1.
+fn hub(alloc: Global, links: u8) -> Result<Hub, ImageFault> {
+    let bytes = image_text(alloc, links)?;
+    hub_of(alloc, &bytes)
 }
 
 /// Calls the hub as the row says, and tells `copied` where a copy of the request is the same.
@@ -54,11 +66,11 @@ fn print_answer<W: Write>(
         Ok((reply, stamp)) => {
             write!(out, "{stamp}: ")?;
             if reply.try_copy(alloc)? != *reply {
-                write!(out, "! ")?;
+                out.write_all(b"! ")?;
             }
             print_reply(out, reply)
         }
-        Err(HubFault::Memory) => writeln!(out, "memory"),
+        Err(HubFault::Memory) => out.write_all(b"memory\n"),
         Err(HubFault::ClockFull(clock)) => writeln!(out, "clock {clock}"),
         Err(HubFault::Calls(count)) => writeln!(out, "calls {count}"),
     }
@@ -75,14 +87,14 @@ fn repeat<W: Write>(
     for turn in 0..times {
         row.turn = turn;
         let Some(request) = request(alloc, row)? else {
-            return writeln!(out, "no request");
+            return out.write_all(b"no request\n");
         };
         let (copied, answer) = call(alloc, hub, row, request)?;
         if turn + 1 < times {
             continue;
         }
         if !copied {
-            write!(out, "! ")?;
+            out.write_all(b"! ")?;
         }
         print_answer(alloc, out, &answer)?;
     }
@@ -93,8 +105,47 @@ fn repeat<W: Write>(
 fn print_entries<W: Write>(out: &mut W, hub: &Hub) -> io::Result<()> {
     match hub.entries().last() {
         Some(entry) => writeln!(out, "{} entries, hart {}", hub.entries().len(), entry.hart),
-        None => writeln!(out, "no entries"),
+        None => out.write_all(b"no entries\n"),
     }
+}
+
+/// Starts the hub anew, with so many links. Where there is no memory it stays.
+fn start_anew(alloc: Global, current: &mut Hub, links: u8) {
+    if let Ok(next) = hub(alloc, links) {
+        *current = next;
+    }
+}
+
+/// Does what a row says. `times` is how often the next call is made.
+fn take_row<W: Write>(
+    alloc: Global,
+    out: &mut W,
+    current: &mut Hub,
+    row: &mut Row<'_>,
+    times: &mut u64,
+) -> io::Result<()> {
+    match row.words.first() {
+        Some(&"hub") => start_anew(alloc, current, byte(row, 1)),
+        Some(&"times") => *times = number(row, 1),
+        Some(&"entries") => print_entries(out, current)?,
+        _ => {
+            repeat(alloc, out, current, row, *times)?;
+            *times = 1;
+        }
+    }
+    Ok(())
+}
+
+/// Does what a line says.
+fn take_line<W: Write>(
+    alloc: Global,
+    out: &mut W,
+    current: &mut Hub,
+    line: &str,
+    times: &mut u64,
+) -> io::Result<()> {
+    let words: Vec<&str> = line.split(' ').collect(alloc)?;
+    take_row(alloc, out, current, &mut Row { words, turn: 0 }, times)
 }
 
 fn main(rt: HostRuntime) -> io::Result<()> {
@@ -104,21 +155,7 @@ fn main(rt: HostRuntime) -> io::Result<()> {
     };
     let mut times = 1;
     for line in rt.lines(alloc) {
-        let line = line?;
-        let words: Vec<&str> = line.split(' ').collect(alloc)?;
-        let mut row = Row { words, turn: 0 };
-        if line.starts_with("hub") {
-            if let Ok(next) = hub(alloc, byte(&row, 1)) {
-                current = next;
-            }
-        } else if line.starts_with("times") {
-            times = number(&row, 1);
-        } else if line.starts_with("entries") {
-            print_entries(&mut rt.stdout(), &current)?;
-        } else {
-            repeat(alloc, &mut rt.stdout(), &mut current, &mut row, times)?;
-            times = 1;
-        }
+        take_line(alloc, &mut rt.stdout(), &mut current, &line?, &mut times)?;
     }
     Ok(())
 }
