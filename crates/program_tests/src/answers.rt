@@ -1,7 +1,8 @@
 //! What commands answer to their input, and the plans that a command line stands for.
 
-ghost use Rattle.std.specs.Prelude.{◌≡◌, ◌≢◌, ℕ, [], ◌∷◌, Err, IfOk, false, length};
+ghost use Rattle.std.specs.Prelude.{◌≡◌, ◌≢◌, ◌⊎◌, ℕ, [], ◌∷◌, Err, IfErr, IfOk, false, length};
 ghost use Rattle.cl_record.specs.declared.plans.Plan.{Plan as Held};
+ghost use Rattle.cl_text.specs.declared.faults.RecordFault.TheVariants.{Short};
 ghost use Rattle.rv_asm_tokens.specs.declared.fault.AsmFault.{AsmFault};
 ghost use Rattle.rvmc_answers.specs.Answers.{needs_threads};
 ghost use Rattle.rvmc_report.specs.declared.faults.Fault.TheVariants as faults;
@@ -78,6 +79,22 @@ pub fn images_are_no_sources(
         recorded: false,
     };
     answer_to(alloc, &line, &[])
+}
+
+/// Nor is a record: no bytes are one that is too short, and never a good one.
+#[tactic(auto, unfolding(cl_text::specs::Reading::reading_record))]
+pub fn nothing_is_no_record(alloc: Global) -> Result<Answer, Fault>
+    ensures status { IfOk result (λ answer. answer.status ≡ 1) }
+    ensures short { IfErr result (λ fault. (fault ≡ faults.Memory) ⊎ (fault ≡ faults.Record (Short 0))) }
+{
+    answer_to(alloc, &CommandLine::Check, &[])
+}
+
+/// A check wants no plans: none are told of.
+pub fn check_has_no_plans(alloc: Global, bytes: &[u8]) -> Result<Answer, Fault>
+    ensures { result ≢ Err faults.Plans }
+{
+    answer_to(alloc, &CommandLine::Check, bytes)
 }
 
 /// Without a list all take turns, the last too.

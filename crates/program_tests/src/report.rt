@@ -1,6 +1,7 @@
-//! The faults, the status of a run, and the input.
+//! The faults, the status of a run, the verdict on a record, and the input.
 
-ghost use Rattle.std.specs.Prelude.{◌≡◌, ◌≢◌, ◌<◌, [], ◌∷◌, Err, IfOk, IsErr, false, length, map, true};
+ghost use Rattle.std.specs.Prelude.{◌≡◌, ◌≢◌, ◌<◌, [], ◌∷◌, Err, IfOk, IsErr, codes, false, length, map};
+ghost use Rattle.std.specs.Prelude.{string_bytes, true};
 ghost use Rattle.std.specs.List.{list_any};
 ghost use Rattle.cl_rank.specs.declared.stops.Stop.{Stop};
 ghost use Rattle.cl_rank.specs.declared.stops.Stop.TheVariants.{ClockFull};
@@ -10,13 +11,16 @@ ghost use Rattle.rvmc_report.specs.Report.{HasEachRank, ends_of, has_trapped, is
 ghost use Rattle.rvmc_report.specs.declared.faults.Fault.TheVariants as faults;
 ghost use Rattle.rvmc_report.specs.declared.input.InputFault.TheVariants as input;
 
+use cl_replay::Verdict;
 use cl_run::{Record, RunFault};
+use cl_text::RecordFault;
 use rv_asm::{AsmFault, AsmFaultKind};
 use rv_image::ImageFault;
 use rvmc_report::faults::Fault;
 use rvmc_report::input::{InputFault, read_input};
 use rvmc_report::report::status;
-use std::alloc::Global;
+use rvmc_report::verdicts::{verdict_status, verdict_text};
+use std::alloc::{AllocError, Global};
 
 /// A wrong plan is a fault of the input.
 pub fn wrong_plans_end_with_1() -> u8
@@ -68,6 +72,41 @@ pub fn want_of_memory_is_no_fault_of_an_image() -> Fault
     ensures { result ≡ faults.Memory }
 {
     Fault::from(ImageFault::Memory)
+}
+
+/// Nor of a record.
+pub fn want_of_memory_is_no_fault_of_a_record() -> Fault
+    ensures { result ≡ faults.Memory }
+{
+    Fault::from(RecordFault::Memory)
+}
+
+/// A fault of a record is a fault of the input.
+pub fn wrong_record_ends_with_1() -> u8
+    ensures { result ≡ 1 }
+{
+    Fault::from(RecordFault::Short(247)).status()
+}
+
+/// So is a bad step.
+pub fn bad_step_ends_with_1(n: u64) -> u8
+    ensures { result ≡ 1 }
+{
+    verdict_status(Verdict::BadAt(n))
+}
+
+/// Good steps are told with their number.
+pub fn good_steps_are_counted(alloc: Global) -> Result<String, AllocError>
+    ensures { IfOk result (λ text. string_bytes text ≡ codes "good 10\n") }
+{
+    verdict_text(alloc, Verdict::Good, 10)
+}
+
+/// A bad step is told by its number, whatever the number of steps.
+pub fn bad_step_is_named(alloc: Global, count: usize) -> Result<String, AllocError>
+    ensures { IfOk result (λ text. string_bytes text ≡ codes "bad 3\n") }
+{
+    verdict_text(alloc, Verdict::BadAt(3), count)
 }
 
 /// Want of memory for a rank outweighs a trap and a budget.
