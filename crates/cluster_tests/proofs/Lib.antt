@@ -4,3 +4,4 @@ pub mod Planning
 pub mod Merging
 pub mod Checking
 pub mod Ties
+pub mod Replaying

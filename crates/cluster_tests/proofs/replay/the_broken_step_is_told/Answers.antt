@@ -1,0 +1,12 @@
+use Rattle.cl_replay.specs.Replays.{ReplayFaultHolds}
+use Rattle.cl_replay.specs.declared.replaying.ReplayFault.{ReplayFault}
+use Rattle.cluster_tests.proofs.Replaying.{of_fault, one_break}
+use Rattle.cluster_tests.proofs.replay.the_broken_step_is_told.Goals as goal
+
+pub returns : goal.returns
+returns c = λ k told at is.
+    let image = c.args.image.now in
+    let steps = c.args.steps.now in
+    let holds = of_fault (ReplayFaultHolds image steps c.args.n) c.replay.result (ReplayFault.Step told) is
+    c.replay.ensures.fault in
+    one_break image steps told k holds.2 at
