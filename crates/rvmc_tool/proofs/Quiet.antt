@@ -3,7 +3,8 @@ use Rattle.std.proofs.Common.{◌≡◌, ℕ, List, Option, Some, None, false, r
 use Rattle.std.specs.Io.KnownBytes.{Keeps}
 use Rattle.rvmc_report.specs.Faults.{fault_status}
 use Rattle.rvmc_report.specs.declared.faults.Fault.{Fault}
-use Rattle.rvmc_report.specs.declared.faults.Fault.TheVariants.{Source, Image, Record, Plans, Unlike, Memory, Spawn, Read, Write}
+use Rattle.rvmc_report.specs.declared.faults.Fault.TheVariants.{Source, Image, Record, Plans, Unlike}
+use Rattle.rvmc_report.specs.declared.faults.Fault.TheVariants.{Memory, Spawn, Read, Write}
 use Rattle.rvmc_tool.specs.Tool.{is_quiet}
 
 -- each fault has a line

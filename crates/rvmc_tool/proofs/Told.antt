@@ -102,13 +102,19 @@ nothing_more (Some xs) None keeps = keeps
 nothing_more (Some xs) (Some ys) keeps = keeps ∙ sym (append-nil xs)
 
 -- an answer that is what the command line says, or a fault that is, as it is told
-pub answered : (line : CommandLine) (bytes : List ℕ) (answer : Result Answer Fault) (status : ℕ) (old new : Option (List ℕ)) → length bytes ≤ 67108864
-    → IfOk answer (λ a. Says line bytes (output_bytes a.output) a.status) → IfErr answer (IsFaultOf line bytes) → Tells answer status old new → Answers line bytes status old new
+pub answered : (line : CommandLine) (bytes : List ℕ) (answer : Result Answer Fault) (status : ℕ)
+    (old new : Option (List ℕ)) → length bytes ≤ 67108864
+    → IfOk answer (λ a. Says line bytes (output_bytes a.output) a.status) → IfErr answer (IsFaultOf line bytes)
+    → Tells answer status old new → Answers line bytes status old new
 answered line bytes (Ok answer) status old new short says fault (is, grows) =
-    (output_bytes answer.output, inl (record { short = short; says = inl (subst (λ s. Says line bytes (output_bytes answer.output) s) (sym is) says) }), grows)
-answered line bytes (Err fault) status old new short says is (status_is, keeps) = ([], go (leaves_of line bytes fault is), nothing_more old new keeps)
+    let told = subst (λ s. Says line bytes (output_bytes answer.output) s) (sym is) says in
+    (output_bytes answer.output, inl (record { short = short; says = inl told }), grows)
+answered line bytes (Err fault) status old new short says is (status_is, keeps) =
+    ([], go (leaves_of line bytes fault is), nothing_more old new keeps)
   where
     go : LeavesOf line bytes fault → IsSaid line bytes [] status ⊎ IsRefused [] status
-    go (inl (inl made)) = inl (record { short = short; says = inl (subst (λ s. Says line bytes [] s) (sym status_is) made) })
-    go (inl (inr unlike)) = inl (record { short = short; says = inr (subst (λ s. IsUnlike line bytes [] s) (sym status_is) unlike) })
+    go (inl (inl made)) =
+        inl (record { short = short; says = inl (subst (λ s. Says line bytes [] s) (sym status_is) made) })
+    go (inl (inr unlike)) =
+        inl (record { short = short; says = inr (subst (λ s. IsUnlike line bytes [] s) (sym status_is) unlike) })
     go (inr refused) = inr (subst (λ s. IsRefused [] s) (sym status_is) refused)
