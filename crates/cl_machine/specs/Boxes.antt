@@ -27,7 +27,11 @@ abbrev pub Holds : Box → List ℕ → Type 0
 Holds box bytes = slice_get box.made box.taken ≡ Some (record { stamp = box.stamp; bytes = bytes })
 
 abbrev pub with_made : Box → ℕ → List ℕ → Box
-with_made box stamp bytes = record { made = box.made ++ record { stamp = stamp; bytes = bytes } ∷ []; taken = box.taken; stamp = stamp }
+with_made box stamp bytes = record {
+  made = box.made ++ record { stamp = stamp; bytes = bytes } ∷ [];
+  taken = box.taken;
+  stamp = stamp;
+}
 
 abbrev pub with_taken : Box → ℕ → Box
 with_taken box stamp = record { made = box.made; taken = box.taken + 1; stamp = stamp }

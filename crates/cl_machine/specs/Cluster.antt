@@ -36,7 +36,11 @@ only_told old e rank answer = record { ranks = ranks_told old e rank answer; jou
 
 -- one box changed
 abbrev pub with_box : Cluster → Step → Rank → Answer → ℕ → Box → Cluster
-with_box old e rank answer number box = record { ranks = ranks_told old e rank answer; journal = old.journal; boxes = slice_set old.boxes number box }
+with_box old e rank answer number box = record {
+  ranks = ranks_told old e rank answer;
+  journal = old.journal;
+  boxes = slice_set old.boxes number box;
+}
 
 -- what leads from one cluster to another by a step of this kind, of a hart of this rank
 abbrev pub CaseOf : Cluster → Step → Rank → Kind → Cluster → Type 0
@@ -56,7 +60,14 @@ CaseOf old e rank (Kind.Hub reply) new =
     × (new ≡ record {
       ranks = ranks_told old e rank (Answer.Reply reply);
       journal = with_entry old.journal
-          (record { rank = e.rank; hart = e.hart; clock = rank.clock; stamp = e.stamp; request = request; reply = reply });
+          (record {
+            rank = e.rank;
+            hart = e.hart;
+            clock = rank.clock;
+            stamp = e.stamp;
+            request = request;
+            reply = reply;
+          });
       boxes = old.boxes;
     })
 CaseOf old e rank Kind.Ready new =

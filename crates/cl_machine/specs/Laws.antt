@@ -23,7 +23,8 @@ abbrev pub ComesAfter : Option Step → Step → Type 0
 ComesAfter None e = ⊤
 ComesAfter (Some last) e = Before (λ (e : Step). e.stamp) (λ (e : Step). e.rank) last e
 
--- with e behind it a run in order stays one just where e is a step of the cluster that was reached and comes after the step before it
+-- with e behind it a run in order stays one just where e is a step of the cluster that was reached and comes after the
+-- step before it
 abbrev pub StepByStep : Type 0
 StepByStep =
     (start end : Cluster) (es : List Step) (e : Step) → IsRun start es end

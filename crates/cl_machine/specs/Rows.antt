@@ -161,13 +161,16 @@ SendsFirst = Arrives (step 0 9 (Kind.Hub (reply.Posted 1 true)) ∷ step 1 10 (K
 -- the receive first: it is posted at 9, the send has 10, and the receive is collected at 11
 abbrev pub ReceivesFirst : Type 0
 ReceivesFirst =
-    Arrives (step 1 9 (Kind.Hub (reply.Posted 1 false)) ∷ step 0 10 (Kind.Hub (reply.Posted 2 true)) ∷ step 1 11 (Kind.Hub (reply.Got sent_message)) ∷ [])
+    Arrives (step 1 9 (Kind.Hub (reply.Posted 1 false)) ∷ step 0 10 (Kind.Hub (reply.Posted 2 true))
+    ∷ step 1 11 (Kind.Hub (reply.Got sent_message)) ∷ [])
 
 -- a message that nobody sent yet isn't got, at any stamp
 abbrev pub NothingSent : Type 0
 NothingSent = (stamp : ℕ) (new : Cluster) → IsStep meeting (step 1 stamp (Kind.Hub (reply.Got sent_message))) new → ⊥
 
--- a call whose stamp leaves out the hub's clock is no step: after the send at 9 the receive has 10, and not its own clock's 9
+-- a call whose stamp leaves out the hub's clock is no step: after the send at 9 the receive has 10, and not its own
+-- clock's 9
 abbrev pub StampTooLow : Type 0
 StampTooLow = (new : Cluster)
-    → IsRun meeting (step 0 9 (Kind.Hub (reply.Posted 1 true)) ∷ step 1 9 (Kind.Hub (reply.Got sent_message)) ∷ []) new → ⊥
+    → IsRun meeting (step 0 9 (Kind.Hub (reply.Posted 1 true)) ∷ step 1 9 (Kind.Hub (reply.Got sent_message)) ∷ []) new
+    → ⊥

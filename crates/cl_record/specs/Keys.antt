@@ -59,8 +59,8 @@ pub record IsBoxOf (version : ImageVersion) (from to : Sides) (link part : ℕ) 
   pub agree : AgreeOn version sender receiver
   pub box_is : box ≡ Some (box_of version sender receiver)
 
--- what a box is left with shows it: full exactly where one thing that was made wasn't taken, and then with its stamp and
--- its bytes; else with the stamp of the last take, 0 at first, and words 0
+-- what a box is left with shows it: full exactly where one thing that was made wasn't taken, and then with its stamp
+-- and its bytes; else with the stamp of the last take, 0 at first, and words 0
 pub record Shows (version : ImageVersion) (left : Settled) (box : Box) : Type 0 where
   pub stamp : left.stamp ≡ box.stamp
   pub full : left.full ≡ true → Holds box (bytes_in version left.words)

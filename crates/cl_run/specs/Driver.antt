@@ -217,7 +217,8 @@ pub record IsRecordOf (driver : Driver) (left_behind : Record) : Type 0 where
 -- all ranks as they are loaded, a hub that was never called, and a new channel for each link
 pub record IsDriver (image : ImageParts) (plans : List Plan) (driver : Driver) : Type 0 where
   pub count_is : length driver.seats.items ≡ image.ranks
-  pub ranks_are : map (λ (seat : Seat). rank_of seat.rank.state) driver.seats.items ≡ map (loaded image) (below image.ranks)
+  pub ranks_are : map (λ (seat : Seat). rank_of seat.rank.state) driver.seats.items
+      ≡ map (loaded image) (below image.ranks)
   pub fresh : AreFresh image plans driver.channels.items driver.seats.items
   pub channels_are : length driver.channels.items ≡ length image.links
   pub few_links : length image.links ≤ 32

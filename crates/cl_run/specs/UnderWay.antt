@@ -41,7 +41,8 @@ pub record IsSoFar (steps : List Step) (entries : List Entry) (r : ℕ) (plan : 
   pub next_is : s.next ≡ length s.events % length plan.order.items
   pub steps_are : of_rank (λ (e : Step). e.rank) r steps ≡ map (step_by r) s.events
   pub requests_stand : All (λ (e : Event). is_some e.request ≡ is_hub e.kind) s.events
-  pub requests_are : filter_map (λ (e : Event). e.request) s.events ≡ map (λ (e : Entry). e.request) (entries_by r entries)
+  pub requests_are : filter_map (λ (e : Event). e.request) s.events
+      ≡ map (λ (e : Entry). e.request) (entries_by r entries)
   pub follows_plan : FollowsPlan plan s.events
   pub calls_are : hub_calls s.events ≡ length (entries_by r entries)
   pub few_calls : length (entries_by r entries) ≤ 1048576
@@ -63,7 +64,8 @@ AreBoxes image ss boxes =
     × IsBoxOf image.version from.sides to.sides link part (slice_get boxes (box_number link part))
 
 -- the steps so far, with all slots below this one gone through
-pub record IsUnderWay (image : ImageParts) (plans : List Plan) (order : List ℕ) (ss : List Station) (hub : Journal) (slot : ℕ) : Type 0 where
+pub record IsUnderWay (image : ImageParts) (plans : List Plan) (order : List ℕ) (ss : List Station) (hub : Journal)
+    (slot : ℕ) : Type 0 where
   pub links_are : hub.links ≡ image.links
   pub low : clock_of hub < 2 ^ 62
   pub sites : (r : ℕ) (s : Station) → slice_get ss r ≡ Some s → s.rank.site ≡ site_of image r
