@@ -1,8 +1,7 @@
 -- What a step on a box makes of it, by its two keys.
-use Rattle.std.specs.Prelude.{ℕ, ◌≡◌, ◌<◌, ◌+◌, ◌==◌, ◌⊎◌, List, [], ◌∷◌, ◌++◌, length, map, slice_get, Bool, true}
-use Rattle.std.specs.Prelude.{false}
-use Rattle.std.specs.Prelude.{Option, Some, None, option_map, unwrap_or, if◌then◌else◌}
-use Rattle.std.proofs.Common.{zero, suc, refl, sym, ap, ◌∙◌, arith, inl, inr, ⊎_elim}
+use Rattle.std.specs.Prelude.{ℕ, ◌≡◌, ◌+◌, List, [], ◌∷◌, ◌++◌, length, map, slice_get, Bool, true}
+use Rattle.std.specs.Prelude.{Option, Some, option_map, unwrap_or, if◌then◌else◌}
+use Rattle.std.proofs.Common.{zero, suc, refl, sym, ap, ◌∙◌, arith, ⊎_elim}
 use Rattle.std.proofs.lemmas.Bool.{eq-eqb, ne_eqb}
 use Rattle.std.proofs.lemmas.List.{length-append, length-map, map-append}
 use Rattle.std.proofs.lemmas.Option.{slice_get-map, slice_get_within}
@@ -17,7 +16,7 @@ use Rattle.part_box.specs.Steps as key
 use Rattle.part_box.proofs.Agreed.{freed_now, got_is_made, made_is, open_is_empty}
 use Rattle.part_box.proofs.Lists.{last_take-push}
 use Rattle.part_phase.specs.Limits.{box_words}
-use Rattle.cl_machine.specs.Boxes.{Box, Thing, Holds, IsEmpty, with_made, with_taken}
+use Rattle.cl_machine.specs.Boxes.{Holds, IsEmpty, with_made, with_taken}
 use Rattle.cl_record.specs.Keys.{AgreeOn, box_of, bytes_in, last_stamp, thing_of}
 
 pub last_ready-push : (made : List Made) (m : Made) → last_ready (made ++ m ∷ []) ≡ m.stamp

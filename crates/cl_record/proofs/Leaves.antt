@@ -1,9 +1,9 @@
 -- What a box is left with shows it.
-use Rattle.std.specs.Prelude.{ℕ, zero, suc, ◌≡◌, ◌<◌, ◌≤◌, ◌+◌, ◌*◌, ◌-◌, ◌⊎◌, List, [], ◌∷◌, ◌++◌, length, map, take}
-use Rattle.std.specs.Prelude.{drop, replicate}
-use Rattle.std.specs.Prelude.{slice_get, Bool, true, false, Option, Some, None, option_map, if◌then◌else◌}
+use Rattle.std.specs.Prelude.{ℕ, zero, suc, ◌≡◌, ◌≤◌, ◌+◌, ◌*◌, List, [], ◌∷◌, ◌++◌, length, take}
+use Rattle.std.specs.Prelude.{drop}
+use Rattle.std.specs.Prelude.{slice_get, Bool, true, false, Some, option_map, if◌then◌else◌}
 use Rattle.std.specs.List.{flat_map}
-use Rattle.std.proofs.Common.{refl, sym, ap, ◌∙◌, subst, arith, inl, inr, ⊎_elim}
+use Rattle.std.proofs.Common.{refl, sym, ap, ◌∙◌, arith, ⊎_elim}
 use Rattle.std.proofs.Math.Seq.{take-append_seam}
 use Rattle.std.proofs.lemmas.Bool.{cases_lt}
 use Rattle.std.proofs.lemmas.Grind.{flat_map-append}
@@ -17,11 +17,11 @@ use Rattle.part_box.specs.declared.view.Receiving.{Receiving}
 use Rattle.part_box.specs.declared.view.Sending.{Sending}
 use Rattle.part_box.specs.Gate.{last_ready, last_take, things_of}
 use Rattle.part_box.specs.Gate as gate
-use Rattle.part_box.specs.Settling.{IsSettled, leftover}
-use Rattle.part_channel.specs.Words.{bytes_of, bytes_of_word}
+use Rattle.part_box.specs.Settling.{IsSettled}
+use Rattle.part_channel.specs.Words.{bytes_of_word}
 use Rattle.part_channel.proofs.Words.{length-bytes}
 use Rattle.part_phase.specs.Limits.{box_words}
-use Rattle.cl_machine.specs.Boxes.{Box, Holds, IsEmpty}
+use Rattle.cl_machine.specs.Boxes.{Holds}
 use Rattle.cl_record.specs.Keys.{Shows, box_of, bytes_in, last_stamp, thing_of}
 use Rattle.cl_record.proofs.Keys.{last_ready-push, stamp_of_empty, stamp_of_full}
 

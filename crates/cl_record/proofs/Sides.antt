@@ -1,7 +1,7 @@
 -- Sides that are taken out of their ranks' lists.
 use Rattle.std.specs.Prelude.{ℕ, zero, suc, ◌≡◌, ◌≢◌, ◌<◌, ◌≤◌, ◌+◌, ◌==◌, List, [], ◌∷◌, ◌++◌, length, remove}
 use Rattle.std.specs.Prelude.{slice_get, slice_set}
-use Rattle.std.specs.Prelude.{Bool, Option, Some, None, get_or, if◌then◌else◌}
+use Rattle.std.specs.Prelude.{Bool, Some, None, get_or, if◌then◌else◌}
 use Rattle.std.proofs.Common.{refl, sym, ap, ◌∙◌, subst, arith, inl, inr}
 use Rattle.std.proofs.lemmas.Bool.{eq-eqb, ne_eqb}
 use Rattle.std.proofs.lemmas.Bool.Decides.{eqb_tells}

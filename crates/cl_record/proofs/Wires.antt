@@ -1,12 +1,11 @@
 -- The ends that ranks have before their first turn.
-use Rattle.std.specs.Prelude.{ℕ, zero, suc, ◌≡◌, ◌≢◌, ◌<◌, ◌≤◌, ◌+◌, ◌*◌, ◌==◌, List, [], ◌∷◌, ◌++◌, length, map}
-use Rattle.std.specs.Prelude.{replicate, slice_get, slice_set}
+use Rattle.std.specs.Prelude.{ℕ, zero, suc, ◌≡◌, ◌≢◌, ◌<◌, ◌==◌, List, [], ◌∷◌, length, map}
+use Rattle.std.specs.Prelude.{slice_get}
 use Rattle.std.specs.Prelude.{Bool, true, false, Option, Some, None, option_map, if◌then◌else◌}
 use Rattle.std.proofs.Common.{refl, sym, ap, ◌∙◌, subst, arith, inl, inr}
-use Rattle.std.proofs.lemmas.Bool.{eq-eqb, ne_eqb}
+use Rattle.std.proofs.lemmas.Bool.{eq-eqb}
 use Rattle.std.proofs.lemmas.Bool.Decides.{eqb_tells}
-use Rattle.std.proofs.lemmas.List.{length-map}
-use Rattle.std.proofs.lemmas.Option.{same_Some, slice_get-map, slice_get_past, slice_get_within}
+use Rattle.std.proofs.lemmas.Option.{same_Some, slice_get-map}
 use Rattle.rv_image.specs.declared.images.ImageVersion.{ImageVersion}
 use Rattle.rv_image.specs.declared.images.Link.{Link}
 use Rattle.part_box.specs.Keys.{BoxId, new_receiver, new_sender}
@@ -16,12 +15,11 @@ use Rattle.part_box.specs.Steps.{nothing_received, nothing_sent}
 use Rattle.part_channel.specs.Channels.{ChannelView, receiver_box, sender_box}
 use Rattle.part_channel.specs.Receiving.{RecvView, new_recv_side}
 use Rattle.part_channel.specs.Sending.{SendView, new_send_side}
-use Rattle.part_phase.specs.declared.phases.Phase.{Phase}
 use Rattle.part_phase.specs.Limits.{box_words}
-use Rattle.part_phase.specs.Phases.{first_phase, first_phases}
+use Rattle.part_phase.specs.Phases.{first_phase}
 use Rattle.cl_rank.specs.Sides.{AreChannelsOf, AreNewSides, HasReceiver, HasSender, PhaseFits, Sides, receiver_key}
-use Rattle.cl_rank.specs.Sides.{receiver_of, receiver_view}
-use Rattle.cl_rank.specs.Sides.{sender_key, sender_of, sender_view, side_of}
+use Rattle.cl_rank.specs.Sides.{receiver_of}
+use Rattle.cl_rank.specs.Sides.{sender_key, sender_of, side_of}
 use Rattle.cl_record.specs.Keys.{HasKeysOf}
 use Rattle.cl_record.specs.Wiring.{AreNewEnds, IsNewEnd}
 

@@ -1,5 +1,5 @@
 -- Boxes, as their two keys tell them, and as they are left in the end.
-use Rattle.std.specs.Prelude.{ℕ, ◌≡◌, ◌<◌, ◌==◌, List, length, map, replicate, slice_get, take, Bool, true, false}
+use Rattle.std.specs.Prelude.{ℕ, ◌≡◌, ◌<◌, ◌==◌, List, length, map, replicate, slice_get, take, true, false}
 use Rattle.std.specs.Prelude.{Option, Some, if◌then◌else◌}
 use Rattle.rv_image.specs.declared.images.ImageParts.{ImageParts}
 use Rattle.rv_image.specs.declared.images.ImageVersion.{ImageVersion}

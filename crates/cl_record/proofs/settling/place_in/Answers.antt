@@ -1,4 +1,4 @@
-use Rattle.std.proofs.Common.{◌≡◌, ◌∙◌, sym, ap, arith, length, None, Some, slice_get, slice_index_or, inl, inr}
+use Rattle.std.proofs.Common.{◌∙◌, sym, ap, arith, Some, slice_get, slice_index_or, inl, inr}
 use Rattle.std.proofs.lemmas.Bool.Decides.{eqb_tells}
 use Rattle.std.proofs.lemmas.Option.{same_Some, slice_get-get_or}
 use Rattle.cl_record.proofs.Sides.{none_of}

@@ -1,9 +1,8 @@
-use Rattle.std.proofs.Common.{◌≡◌, ◌∙◌, ◌∷◌, ◌++◌, [], refl, sym, ap, subst, arith, length, map, slice_get, Some}
+use Rattle.std.proofs.Common.{◌∙◌, ◌∷◌, ◌++◌, [], refl, sym, ap, length}
 use Rattle.std.proofs.lemmas.List.{length-map, length-set}
 use Rattle.std.proofs.lemmas.Option.{slice_get_read}
 use Rattle.part_box.specs.Keys.{new_sender}
-use Rattle.part_channel.specs.Receiving.{RecvView, new_recv_side}
-use Rattle.part_channel.specs.Sending.{SendView, new_send_side}
+use Rattle.part_channel.specs.Sending.{SendView}
 use Rattle.cl_machine.proofs.Lists.{get-set_other}
 use Rattle.cl_record.specs.declared.wiring.Ends.{Ends}
 use Rattle.cl_record.proofs.Links.{wired_more}

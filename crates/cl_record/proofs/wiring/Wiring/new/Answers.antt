@@ -1,4 +1,4 @@
-use Rattle.std.proofs.Common.{◌≡◌, ◌∙◌, ◌+◌, ◌∷◌, [], refl, sym, ap, subst, arith, length, inl, inr, slice_get, Some}
+use Rattle.std.proofs.Common.{◌≡◌, ◌∙◌, ◌+◌, ◌∷◌, [], sym, ap, subst, arith, length, inl, inr, slice_get, Some}
 use Rattle.std.proofs.lemmas.List.{length-append}
 use Rattle.cl_record.specs.declared.wiring.Ends.{Ends}
 use Rattle.cl_record.proofs.Links.{no_ends}

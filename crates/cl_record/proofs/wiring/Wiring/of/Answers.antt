@@ -1,1 +1,0 @@
-use Rattle.cl_record.proofs.wiring.Wiring.of.Goals as goal
