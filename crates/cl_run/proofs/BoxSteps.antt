@@ -1,15 +1,13 @@
 -- A rank's turn as a step of the boxes: its deed moves the keys of one box at most, and these agree before and after.
-use Rattle.std.specs.Prelude.{ℕ, ◌≡◌, ◌≢◌, ◌<◌, ◌+◌, ◌*◌, ◌==◌, ◌&&◌, ◌⊎◌, List, length, slice_get, slice_set, Bool}
+use Rattle.std.specs.Prelude.{ℕ, ◌≡◌, ◌≢◌, ◌<◌, ◌==◌, ◌&&◌, List, slice_get, slice_set, Bool}
 use Rattle.std.specs.Prelude.{true, false}
-use Rattle.std.specs.Prelude.{Option, Some, None, All, eqb}
+use Rattle.std.specs.Prelude.{Option, Some, None}
 use Rattle.std.proofs.Common.{refl, sym, ap, ◌∙◌, subst, arith, inl, inr, ⊎_elim}
-use Rattle.std.proofs.lemmas.Bool.{eq-eqb, ne_eqb}
+use Rattle.std.proofs.lemmas.Bool.{eq-eqb}
 use Rattle.std.proofs.lemmas.Bool.Decides.{eqb_tells}
-use Rattle.std.proofs.lemmas.Option.{get_or_from_slice_get, same_Some, slice_get_within}
+use Rattle.std.proofs.lemmas.Option.{same_Some}
 use Rattle.rv_image.specs.declared.images.ImageParts.{ImageParts}
-use Rattle.rv_image.specs.declared.images.ImageVersion.{ImageVersion}
 use Rattle.rv_image.specs.declared.images.Link.{Link}
-use Rattle.rv_image.specs.Image.{IsLink}
 use Rattle.part_box.specs.declared.view.Receiving.{Receiving}
 use Rattle.part_box.specs.declared.view.Sending.{Sending}
 use Rattle.cl_rank.specs.Deeds.{Act}
@@ -17,9 +15,9 @@ use Rattle.cl_rank.specs.Sides.{HasKey, KeyMoves, KeysMove, ReceiverActs, Sender
 use Rattle.cl_rank.specs.Sides.{receiver_of, sender_of}
 use Rattle.cl_machine.specs.Boxes.{Box, Holds, box_number, with_made}
 use Rattle.cl_machine.specs.Parts.{PartsMove, PartsMoveAt}
-use Rattle.cl_machine.specs.Product.{BoxActs, BoxMoves, box_at, box_for}
+use Rattle.cl_machine.specs.Product.{BoxMoves, box_at, box_for}
 use Rattle.cl_machine.proofs.Lists.{get-set_other, get-set_same}
-use Rattle.cl_run.specs.Driver.{Agree, KeysAgree, Station}
+use Rattle.cl_run.specs.Driver.{Agree, Station}
 use Rattle.cl_record.specs.Keys.{AgreeOn, HasKeysOf, IsBoxOf, box_of}
 use Rattle.cl_run.specs.UnderWay.{AreBoxes}
 use Rattle.cl_record.proofs.Keys.{freed_empty, freed_stamp, ready_box, ready_empty, take_box, take_holds, take_stamp}

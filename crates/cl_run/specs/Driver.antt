@@ -1,7 +1,7 @@
 -- The driver of a run on one thread: what it keeps of each rank, and what one slot of the order does to that.
 use Rattle.std.specs.Prelude.{ℕ, ◌≡◌, ◌<◌, ◌≤◌, ◌+◌, ◌-◌, ◌%◌, ◌⊎◌, ⊤, List, [], ◌∷◌, ◌++◌, length, map, sum_by, All}
 use Rattle.std.specs.Prelude.{slice_get, slice_set, slice_index, Option, None, Some, Bool, true, false, is_some}
-use Rattle.std.specs.Prelude.{if◌then◌else◌, vec_capacity, vec_len}
+use Rattle.std.specs.Prelude.{if◌then◌else◌, vec_len}
 use Rattle.part_box.specs.declared.settled.Settled.{Settled}
 use Rattle.part_box.specs.declared.view.Receiving.{Receiving}
 use Rattle.part_box.specs.declared.view.Sending.{Sending}

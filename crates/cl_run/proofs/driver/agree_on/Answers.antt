@@ -1,4 +1,4 @@
-use Rattle.std.proofs.Common.{◌≡◌, arith, slice_index_or, slice_get, Some}
+use Rattle.std.proofs.Common.{arith, slice_index_or}
 use Rattle.cl_run.proofs.Pairs.{both_agree, have_both, high_at, low_at}
 use Rattle.cl_run.proofs.driver.agree_on.Goals as goal
 

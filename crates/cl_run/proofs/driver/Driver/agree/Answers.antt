@@ -1,4 +1,4 @@
-use Rattle.std.proofs.Common.{◌≡◌, ◌<◌, ◌∙◌, sym, ap, subst, arith, length, List, map, slice_get, slice_index_or, Some}
+use Rattle.std.proofs.Common.{◌∙◌, sym, ap, subst, arith, length, List, map, slice_index_or}
 use Rattle.std.proofs.lemmas.List.{with_items_is}
 use Rattle.std.proofs.lemmas.Option.{slice_get-get_or, slice_get_read}
 use Rattle.rv_image.specs.declared.images.Link.{Link}

@@ -1,4 +1,4 @@
-use Rattle.std.proofs.Common.{◌≡◌, ◌∙◌, Some, map, arith, sym, ap, subst}
+use Rattle.std.proofs.Common.{◌∙◌, Some, map, arith, sym, ap, subst}
 use Rattle.std.proofs.lemmas.List.{length-map}
 use Rattle.cl_run.specs.declared.driver.Seat.{Seat}
 use Rattle.cl_run.specs.Driver.{ends_of}

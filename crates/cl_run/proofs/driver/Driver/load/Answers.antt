@@ -1,4 +1,3 @@
-use Rattle.std.proofs.Common.{◌≡◌, ◌∙◌, sym, ap, subst, arith}
 use Rattle.cl_run.proofs.driver.Driver.load.Goals as goal
 
 pub load_seats-requires-clause-ends : goal.load_seats-requires-clause-ends
