@@ -25,6 +25,23 @@ impl Write for Stuck {
     }
 }
 
+/// A writer that counts the bytes that it takes, and asks for no memory.
+#[derive(Drop)]
+struct Counter {
+    held: usize,
+}
+
+impl Write for Counter {
+    fn write(&mut self, bytes: &[u8]) -> io::Result<usize> {
+        self.held = self.held.saturating_add(bytes.len());
+        Ok(bytes.len())
+    }
+
+    fn flush(&mut self) -> io::Result<()> {
+        Ok(())
+    }
+}
+
 /// Of help on standard output, the line tells.
 #[test]
 fn a_text_that_cannot_be_flushed_is_told(rt: HostRuntime) {
@@ -46,4 +63,29 @@ fn a_line_that_cannot_be_flushed_gives_the_status(rt: HostRuntime) {
         let status = tool_plain(rt.alloc(), words, &mut reader, &mut out, &mut err);
         assert_eq!(rt; status, 6);
     }
+}
+
+/// Of a record, which is written in pieces, the line tells too.
+#[test]
+fn a_record_that_cannot_be_flushed_is_told(rt: HostRuntime) {
+    let mut reader: &[u8] = b"nop\n";
+    let mut out = Stuck { held: 0 };
+    let mut err = Vec::new(rt.alloc());
+    let words = ["one", "--source", "--record"];
+    let status = tool_plain(rt.alloc(), &words, &mut reader, &mut out, &mut err);
+    assert_eq!(rt; status, 6);
+    assert_eq!(rt; err.as_slice(), b"rvmc: write\n".as_slice());
+}
+
+/// A record stands on the output as a whole, or where memory was refused not at all: with `--fail-alloc 1..` each
+/// request is refused in turn. Its image has 32 bytes, and there are two steps.
+#[test]
+fn a_record_is_written_whole_or_not_at_all(rt: HostRuntime) {
+    let mut reader: &[u8] = b"nop\n";
+    let mut out = Counter { held: 0 };
+    let mut err = Counter { held: 0 };
+    let words = ["one", "--source", "--record"];
+    let status = tool_plain(rt.alloc(), &words, &mut reader, &mut out, &mut err);
+    let told = (status, out.held);
+    assert!(rt; told == (3, 84) || told == (5, 0));
 }
