@@ -18,7 +18,6 @@ use Rattle.rvmc_answers.specs.Answers.{SaysOfRecord}
 use Rattle.rvmc_answers.specs.Images.{image_in}
 use Rattle.rvmc_answers.specs.Laws.{RecordedIsGoodLaw}
 use Rattle.rvmc_answers.proofs.Reading.{ok≢err}
-use Rattle.rvmc_line.specs.declared.line.CommandLine.{CommandLine}
 use Rattle.rvmc_line.specs.declared.line.CommandLine.TheVariants.{Asm, Check, Dis, One, Run}
 use Rattle.rvmc_report.specs.Verdicts.{verdict_status, verdict_text}
 use Rattle.rvmc_report.specs.declared.faults.Fault.{Fault}
