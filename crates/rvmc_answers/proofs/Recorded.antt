@@ -42,7 +42,8 @@ is_good (BadAt n) = false
 
 -- and no step of it is bad
 not_bad : (text : List ℕ) (image : ImageParts) (steps : List Step) (told : List ℕ) (ended : ℕ)
-    (checked : IsChecked image steps told ended) → reading_record text ≡ Ok (image, steps) → IsMergedText text → is_good checked.verdict ≡ true
+    (checked : IsChecked image steps told ended) → reading_record text ≡ Ok (image, steps) → IsMergedText text
+    → is_good checked.verdict ≡ true
 not_bad text image steps told ended checked read is =
     let same : (image, steps) ≡ (is.image, is.spells.steps) =
     ap (λ (r : Read). result_unwrap_or r (image, steps)) (sym read ∙ reads text is) in

@@ -77,8 +77,8 @@ fn a_record_that_cannot_be_flushed_is_told(rt: HostRuntime) {
     assert_eq!(rt; err.as_slice(), b"rvmc: write\n".as_slice());
 }
 
-/// A record stands on the output as a whole, or where memory was refused not at all: with `--fail-alloc 1..` each
-/// request is refused in turn. Its image has 32 bytes, and there are two steps.
+/// A record stands on the output as a whole, or where memory was refused not at all: with `--fail-alloc N` the
+/// N-th request is refused. Its image has 32 bytes, and there are two steps.
 #[test]
 fn a_record_is_written_whole_or_not_at_all(rt: HostRuntime) {
     let mut reader: &[u8] = b"nop\n";
