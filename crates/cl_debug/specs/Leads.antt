@@ -1,0 +1,37 @@
+-- Where steps lead from one place to another, and what a debugger keeps on its way.
+use Rattle.std.specs.Prelude.{ℕ, ◌≡◌, ◌<◌, ◌≤◌, ◌*◌, List, length, slice_get, Some}
+use Rattle.rv_image.specs.declared.images.ImageParts.{ImageParts}
+use Rattle.cl_machine.specs.declared.steps.Step.{Step}
+use Rattle.cl_replay.specs.declared.states.ClusterState.{ClusterState}
+use Rattle.cl_replay.specs.Replays.{BreaksAt, IsReached, IsRunUpTo}
+use Rattle.cl_debug.specs.Spacing.{IsSpacing, multiples}
+use Rattle.cl_debug.specs.declared.faults.DebugFault.{DebugFault}
+
+-- of whichever image the old state is the cluster at one place, the new state is the one at the other
+abbrev pub LeadsTo : List Step → ℕ → ClusterState → ℕ → ClusterState → Type 0
+LeadsTo steps from old to new =
+    (image : ImageParts) → IsReached image steps from old → IsReached image steps to new
+
+-- why steps before a place weren't done: the machine doesn't have this one where the steps before it lead, or memory
+-- was refused
+abbrev pub LeadFaultHolds : List Step → ℕ → ClusterState → ℕ → DebugFault → Type 0
+LeadFaultHolds steps from old to (DebugFault.NotARun n) =
+    (n < to) × ((image : ImageParts) → IsReached image steps from old → BreaksAt image steps n)
+LeadFaultHolds steps from old to DebugFault.Memory = Unit {0}
+LeadFaultHolds steps from old to _ = ⊥
+
+-- the clusters at all multiples of the spacing, from the loaded one on
+pub record AreKept (image : ImageParts) (steps : List Step) (spacing : ℕ) (kept : List ClusterState) : Type 0 where
+  pub count : length kept ≡ multiples spacing (length steps)
+  pub reached : (k : ℕ) (state : ClusterState) → slice_get kept k ≡ Some state
+      → IsReached image steps (k * spacing) state
+
+-- what always holds of a debugger: the steps are a run, the state is the cluster at the place, and the kept states are
+-- as far apart as the number of steps wants
+pub record IsDebugger (image : ImageParts) (steps : List Step) (place : ℕ) (state : ClusterState) (spacing : ℕ)
+    (kept : List ClusterState) : Type 0 where
+  pub run : IsRunUpTo image steps (length steps)
+  pub inside : place ≤ length steps
+  pub here : IsReached image steps place state
+  pub spaced : IsSpacing (length steps) spacing
+  pub kept_there : AreKept image steps spacing kept

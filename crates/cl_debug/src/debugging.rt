@@ -1,0 +1,114 @@
+//! The debugger, and what it tells of itself.
+
+ghost use Rattle.std.specs.Prelude.{◌≡◌, ◌≤◌, [], length, IfErr, IfNone, IfOk, IfSome};
+ghost use Rattle.cl_replay.specs.Replays.{IsReached, IsRunUpTo};
+ghost use Rattle.cl_debug.specs.Faults.{OpenFaultHolds};
+ghost use Rattle.cl_debug.specs.Shown.{HasNoSymbol, IsSymbolOf};
+ghost use Rattle.cl_debug.specs.Spacing.{IsSpacing};
+
+use crate::breaks::Break;
+use crate::faults::DebugFault;
+use crate::spacing::spacing_for;
+use crate::stepping::{kept_states, led_copy};
+use cl_replay::{ClusterState, Step};
+use rv_image::Image;
+use std::alloc::Global;
+use std::marker::Model;
+
+/// A record that is walked through. It stands at a place: so many of the steps are done. States are kept at all
+/// multiples of the spacing, from the loaded cluster on, so that any place is reached by less than one spacing of
+/// steps.
+#[derive(Drop)]
+pub struct Debugger {
+    pub(crate) alloc: Global,
+    pub(crate) image: Image,
+    pub(crate) steps: Vec<Step>,
+    /// The cluster at the place.
+    pub(crate) state: ClusterState,
+    pub(crate) place: u64,
+    pub(crate) breaks: Vec<Break>,
+    pub(crate) spacing: u64,
+    /// The cluster at each multiple of the spacing.
+    pub(crate) kept: Vec<ClusterState>,
+}
+
+impl Model for Debugger {
+    ghost use Rattle.cl_debug.specs.Debugging.{Debugging};
+
+    ghost Value = { Debugging };
+
+    ghost view = { λ d. record { image = d.image; steps = d.steps.items; place = d.place; breaks = d.breaks.items } };
+
+    ghost use Rattle.cl_debug.specs.Leads.{IsDebugger};
+
+    ghost invariant = { λ d. IsDebugger d.image d.steps.items d.place d.state d.spacing d.kept.items };
+}
+
+impl Debugger {
+    /// Opens a record at its start. NotARun where the steps are no run of the image, with the number of the first that
+    /// isn't the machine's; else Memory.
+    pub fn open(alloc: Global, image: Image, steps: Vec<Step>) -> Result<Debugger, DebugFault>
+        ensures opened { IfOk result
+            (λ debugger. debugger ≡ record { image = image; steps = steps.items; place = 0; breaks = [] }) }
+        ensures fault { IfErr result (OpenFaultHolds image steps.items) }
+    {
+        let spacing = spacing_for(steps.len() as u64);
+        let kept = kept_states(alloc, &image, steps.as_slice(), spacing)?;
+        let state = kept[0].try_copy(alloc)?;
+        Ok(Debugger {
+            alloc,
+            image,
+            steps,
+            state,
+            place: 0,
+            breaks: Vec::new(alloc),
+            spacing,
+            kept,
+        })
+    }
+
+    /// The cluster at a place, from a cluster at an earlier one. The only error is want of memory.
+    pub(crate) fn led(
+        &self,
+        start: &ClusterState,
+        from: u64,
+        to: u64,
+    ) -> Result<ClusterState, DebugFault>
+        requires forwards { from ≤ to }
+        requires within { to ≤ length self.now.steps }
+        requires starts { IsReached self.now.image self.now.steps from start.now }
+        ensures reached { IfOk result (IsReached self.now.image self.now.steps to) }
+        ensures fault { IfErr result (λ fault. fault ≡ DebugFault.Memory) }
+    {
+        led_copy(self.alloc, start, self.steps.as_slice(), from, to)
+    }
+
+    /// The place, and how many steps there are. The place is at most the end, and the steps are a run of the image.
+    pub fn place(&self) -> (u64, u64)
+        ensures place { result ≡ (self.now.place, length self.now.steps) }
+        ensures inside { self.now.place ≤ length self.now.steps }
+        ensures run { IsRunUpTo self.now.image self.now.steps (length self.now.steps) }
+    {
+        (self.place, self.steps.len() as u64)
+    }
+
+    /// How far apart the kept states are, in steps.
+    pub fn spacing(&self) -> u64
+        ensures { IsSpacing (length self.now.steps) result }
+    {
+        self.spacing
+    }
+
+    /// The address of a symbol of the image, if it has one of that name.
+    pub fn symbol(&self, name: &str) -> Option<u64>
+        ensures found { IfSome result (IsSymbolOf self.now.image name.now) }
+        ensures none { IfNone result (HasNoSymbol self.now.image name.now) }
+    {
+        for symbol in self.image.parts().symbols.as_slice() {
+            if symbol.name.as_slice() == name.as_bytes() {
+                return Some(u64::from(symbol.address));
+            }
+        }
+        None
+    }
+}

@@ -1,0 +1,14 @@
+//! What holds of the definitions alone.
+
+ghost use Rattle.cl_debug.specs.Places.{OneStopLaw};
+ghost use Rattle.cl_debug.specs.Spacing.{SpacingRows};
+
+/// A run from a place stops at one place alone: so what `run` promises leaves no choice.
+pub fn one_stop_law()
+    ensures { OneStopLaw }
+{}
+
+/// States of a record of 0 or 65,535 steps are kept 1,024 apart, and of one of 65,536 steps 2,048.
+pub fn spacing_rows()
+    ensures { SpacingRows }
+{}

@@ -1,0 +1,76 @@
+//! Steps, done one after another.
+
+ghost use Rattle.std.specs.Prelude.{◌<◌, ◌≤◌, length, IfErr, IfOk, OnOk};
+ghost use Rattle.cl_replay.specs.Replays.{IsRunUpTo};
+ghost use Rattle.cl_debug.specs.Faults.{OpenFaultHolds};
+ghost use Rattle.cl_debug.specs.Leads.{AreKept, LeadFaultHolds, LeadsTo};
+
+use crate::faults::DebugFault;
+use cl_replay::{ClusterState, Step, StepFault};
+use rv_image::Image;
+use std::alloc::Global;
+
+/// Does the steps from one place to another. After a refusal the state may be anything.
+pub(crate) fn advance(
+    state: &mut ClusterState,
+    steps: &[Step],
+    from: u64,
+    to: u64,
+) -> Result<(), DebugFault>
+    requires forwards { from ≤ to }
+    requires within { to ≤ length steps.now }
+    ensures leads { OnOk result (LeadsTo steps.now from state.old to state.new) }
+    ensures fault { IfErr result (LeadFaultHolds steps.now from state.old to) }
+{
+    for n in from..to {
+        match state.step(&steps[n as usize]) {
+            Ok(()) => {}
+            Err(StepFault::NotAStep) => return Err(DebugFault::NotARun(n)),
+            Err(StepFault::Memory) => return Err(DebugFault::Memory),
+        }
+    }
+    Ok(())
+}
+
+/// A copy of a cluster at one place, led on to another.
+pub(crate) fn led_copy(
+    alloc: Global,
+    start: &ClusterState,
+    steps: &[Step],
+    from: u64,
+    to: u64,
+) -> Result<ClusterState, DebugFault>
+    requires forwards { from ≤ to }
+    requires within { to ≤ length steps.now }
+    ensures leads { IfOk result (LeadsTo steps.now from start.now to) }
+    ensures fault { IfErr result (LeadFaultHolds steps.now from start.now to) }
+{
+    let mut state = start.try_copy(alloc)?;
+    advance(&mut state, steps, from, to)?;
+    Ok(state)
+}
+
+/// The clusters at all multiples of the spacing, made in one pass that does each step once.
+pub(crate) fn kept_states(
+    alloc: Global,
+    image: &Image,
+    steps: &[Step],
+    spacing: u64,
+) -> Result<Vec<ClusterState>, DebugFault>
+    requires { 0 < spacing }
+    ensures kept { IfOk result (λ kept. AreKept image.now steps.now spacing kept.items) }
+    ensures run { OnOk result (IsRunUpTo image.now steps.now (length steps.now)) }
+    ensures fault { IfErr result (OpenFaultHolds image.now steps.now) }
+{
+    let len = steps.len() as u64;
+    let count = len / spacing + 1;
+    let mut kept = Vec::with_capacity(alloc, count as usize)?;
+    let mut state = ClusterState::load(alloc, image)?;
+    for k in 0..count {
+        kept.push(state.try_copy(alloc)?)?;
+        let from = k * spacing;
+        let to = from + spacing.min(len - from);
+        advance(&mut state, steps, from, to)?;
+    }
+    Ok(kept)
+}
