@@ -1,5 +1,6 @@
 -- What the hub answers: for each request, the reply and what the hub is afterwards.
-use Rattle.std.specs.Prelude.{ℕ, ◌≡◌, ◌==◌, ◌&&◌, ◌||◌, not, nat_lt, Bool, true, false, cond, List, [], ◌∷◌, ◌++◌, length, Option, Some, None}
+use Rattle.std.specs.Prelude.{ℕ, ◌≡◌, ◌==◌, ◌&&◌, ◌||◌, not, nat_lt, Bool, true, false, cond, List, [], ◌∷◌, ◌++◌}
+use Rattle.std.specs.Prelude.{length, Option, Some, None}
 use Rattle.std.specs.List.{list_any, list_all}
 use Rattle.std.specs.Option.{is_some}
 use Rattle.rv_image.specs.declared.images.Link.{Link}
@@ -9,12 +10,15 @@ use Rattle.mp_types.specs.declared.requests.Request.{Request}
 use Rattle.mp_types.specs.declared.requests.Request.TheVariants as request
 use Rattle.mp_types.specs.declared.codes.Code.TheVariants.{BadRequest, Full, NoChannel, Shape, BadMessage}
 use Rattle.mp_types.specs.declared.replies.Reply.{Reply}
-use Rattle.mp_types.specs.declared.replies.Reply.TheVariants.{Code, Posted, Got, NotYet, Done, Seen, Held, AllGot, Link as OnLink, Cut}
+use Rattle.mp_types.specs.declared.replies.Reply.TheVariants.{Code, Posted, Got, NotYet, Done, Seen, Held, AllGot}
+use Rattle.mp_types.specs.declared.replies.Reply.TheVariants.{Link as OnLink, Cut}
 use Rattle.mp_match.specs.declared.posts.Sent.{Sent}
 use Rattle.mp_match.specs.declared.posts.Selection.{Selection}
 use Rattle.mp_match.specs.declared.posts.Post.TheVariants.{Send, Receive, Claim}
 use Rattle.mp_match.specs.Pairs.{partner_for}
-use Rattle.mp_match.specs.Board.{Board, no_posts, held_count, send_posted, receive_posted, claimed_if, line_of, partner_of, claim_of, is_send_of, is_receive_of, is_finished, is_collected, probed, collect}
+use Rattle.mp_match.specs.Board.{Board, no_posts, held_count, send_posted, receive_posted, claimed_if, line_of}
+use Rattle.mp_match.specs.Board.{partner_of, claim_of, is_send_of, is_receive_of, is_finished, is_collected, probed}
+use Rattle.mp_match.specs.Board.{collect}
 use Rattle.mp_probe.specs.declared.handles.Waiting.{Waiting}
 use Rattle.mp_probe.specs.Claims.{next_number, may_receive, is_waiting, received, waiting_if, handle_if}
 use Rattle.mp_transfers.specs.declared.sides.Setup.{Setup}

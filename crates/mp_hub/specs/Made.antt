@@ -3,7 +3,8 @@ use Rattle.std.specs.Prelude.{◌≡◌, ◌≤◌, Bool, true, false, [], ◌�
 use Rattle.mp_types.specs.declared.requests.Request.{Request}
 use Rattle.mp_types.specs.declared.requests.Request.TheVariants as request
 use Rattle.mp_types.specs.declared.replies.Reply.{Reply}
-use Rattle.mp_types.specs.declared.replies.Reply.TheVariants.{Code, Posted, Got, NotYet, Done, Seen, Held, AllGot, Link as OnLink, Cut}
+use Rattle.mp_types.specs.declared.replies.Reply.TheVariants.{Code, Posted, Got, NotYet, Done, Seen, Held, AllGot}
+use Rattle.mp_types.specs.declared.replies.Reply.TheVariants.{Link as OnLink, Cut}
 use Rattle.mp_types.specs.Carried.{carried_by_reply}
 use Rattle.mp_match.specs.Board.{held_count}
 use Rattle.mp_hub.specs.Hub.{HubView}

@@ -6,7 +6,8 @@ use Rattle.mp_types.specs.declared.messages.Message.{Message}
 use Rattle.mp_types.specs.declared.requests.Request.TheVariants as request
 use Rattle.mp_types.specs.declared.codes.Code.TheVariants.{BadRequest, NoChannel, Shape, BadMessage}
 use Rattle.mp_types.specs.declared.replies.Reply.{Reply}
-use Rattle.mp_types.specs.declared.replies.Reply.TheVariants.{Code, Posted, Got, NotYet, Done, Held, AllGot, Link as OnLink, Cut}
+use Rattle.mp_types.specs.declared.replies.Reply.TheVariants.{Code, Posted, Got, NotYet, Done, Held, AllGot}
+use Rattle.mp_types.specs.declared.replies.Reply.TheVariants.{Link as OnLink, Cut}
 use Rattle.mp_hub.specs.Hub.{HubView, Call, outcome, started}
 
 -- the replies to some calls, in their order

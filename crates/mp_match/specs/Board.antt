@@ -1,5 +1,6 @@
 -- What a hub keeps of the posts: their pairs, and the bytes of the messages that are held.
-use Rattle.std.specs.Prelude.{ℕ, zero, suc, ◌+◌, ◌==◌, ◌||◌, not, Bool, true, false, List, [], ◌∷◌, ◌++◌, Option, Some, None}
+use Rattle.std.specs.Prelude.{ℕ, zero, suc, ◌+◌, ◌==◌, ◌||◌, not, Bool, true, false, List, [], ◌∷◌, ◌++◌, Option, Some}
+use Rattle.std.specs.Prelude.{None}
 use Rattle.std.specs.List.{slice_get, slice_set}
 use Rattle.mp_types.specs.declared.messages.Envelope.{Envelope}
 use Rattle.mp_types.specs.declared.messages.Message.{Message}

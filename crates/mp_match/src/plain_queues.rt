@@ -1,8 +1,12 @@
 //! All posts with their pairs, over plain lists.
 
-ghost use Rattle.std.specs.Prelude.{◌≡◌, ◌+◌, ◌<◌, ◌≤◌, ◌^◌, ◌∷◌, ◌↔◌, [], length, not, ◌||◌, is_some, IfOk, IfSome, IsNone, IsOk, OnErr, OnOk, Err, None, Some, ◌-◌, slice_get, slice_set};
+ghost use Rattle.std.specs.Prelude.{◌≡◌, ◌+◌, ◌<◌, ◌≤◌, ◌^◌, ◌∷◌, ◌↔◌, [], length, not, ◌||◌, is_some, IfOk, IfSome};
+ghost use Rattle.std.specs.Prelude.{IsNone, IsOk, OnErr, OnOk, Err, None, Some, ◌-◌, slice_get, slice_set};
 ghost use Rattle.mp_match.specs.Pairs.{accepts, fits, partner_at, partner_for, partner_set, partners_set};
-ghost use Rattle.mp_match.specs.Board.{bytes_in, claim_of, claim_posted, claimed_if, collect, collect_from, envelope_at, held_count, is_collected, is_finished, is_held, is_receive_at, is_receive_of, is_send_of, line_of, message_at, no_posts, partner_of, posted, probed, receive_posted, send_posted};
+ghost use Rattle.mp_match.specs.Board.{bytes_in, claim_of, claim_posted, claimed_if, collect, collect_from};
+ghost use Rattle.mp_match.specs.Board.{envelope_at, held_count, is_collected, is_finished, is_held, is_receive_at};
+ghost use Rattle.mp_match.specs.Board.{is_receive_of, is_send_of, line_of, message_at, no_posts, partner_of, posted};
+ghost use Rattle.mp_match.specs.Board.{probed, receive_posted, send_posted};
 ghost use Rattle.mp_types.specs.Carried.{carried_by_message};
 
 use crate::posts::{Line, Post, Selection, Sent};

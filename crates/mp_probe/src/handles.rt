@@ -1,8 +1,10 @@
 //! Claimed messages and their handles.
 
-ghost use Rattle.std.specs.Prelude.{◌≡◌, ◌+◌, ◌-◌, ◌<◌, ◌^◌, ◌↔◌, [], length, false, IfOk, IfErr, IsOk, OnErr, OnOk, Err, None};
+ghost use Rattle.std.specs.Prelude.{◌≡◌, ◌+◌, ◌-◌, ◌<◌, ◌^◌, ◌↔◌, [], length, false, IfOk, IfErr, IsOk, OnErr, OnOk};
+ghost use Rattle.std.specs.Prelude.{Err, None};
 ghost use Rattle.mp_match.specs.Board.{claimed_if, probed};
-ghost use Rattle.mp_probe.specs.Claims.{handle_if, is_claim, is_waiting, may_receive, next_number, received, waiting_if};
+ghost use Rattle.mp_probe.specs.Claims.{handle_if, is_claim, is_waiting, may_receive, next_number, received};
+ghost use Rattle.mp_probe.specs.Claims.{waiting_if};
 ghost use Rattle.mp_match.specs.declared.posts.Post.TheVariants as post;
 
 use mp_match::{Queues, Selection};

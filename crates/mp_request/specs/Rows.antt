@@ -1,5 +1,6 @@
 -- Worked values of the table.
-use Rattle.std.specs.Prelude.{◌≡◌, ℕ, ◌-◌, ◌^◌, List, [], ◌∷◌, ◌++◌, map, replicate, Option, Some, None, Bool, true, false}
+use Rattle.std.specs.Prelude.{◌≡◌, ℕ, ◌-◌, ◌^◌, List, [], ◌∷◌, ◌++◌, map, replicate, Option, Some, None, Bool, true}
+use Rattle.std.specs.Prelude.{false}
 use Rattle.std.specs.List.{list_all}
 use Rattle.mp_types.specs.Codes.{code_number}
 use Rattle.mp_request.specs.declared.entries.OpenRequest.{OpenRequest}
@@ -9,7 +10,8 @@ use Rattle.mp_request.specs.declared.entries.Transfer.{Transfer}
 use Rattle.mp_request.specs.declared.entries.Transfer.TheVariants.{Send, Receive, ReceivePartitions}
 use Rattle.mp_request.specs.declared.refusals.Refusal.TheVariants as refusal
 use Rattle.mp_request.specs.Refusals.{code_of}
-use Rattle.mp_request.specs.Table.{Table, no_requests, request_at, lowest_free, started, completed, may_be_tested, is_done_at}
+use Rattle.mp_request.specs.Table.{Table, no_requests, request_at, lowest_free, started, completed, may_be_tested}
+use Rattle.mp_request.specs.Table.{is_done_at}
 
 -- 8 bytes from any source with any tag, at 64
 abbrev pub receive : Transfer

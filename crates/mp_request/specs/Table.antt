@@ -1,11 +1,14 @@
 -- The open requests of a rank: a map from the handles 1 to 255 (MPI 4.1, chapters 3.7 and 3.9).
-use Rattle.std.specs.Prelude.{ℕ, zero, suc, ◌≤◌, ◌==◌, Bool, true, false, not, ◌&&◌, ◌||◌, List, [], ◌∷◌, get_or, set, replicate, filter, position, Option, None, is_none, option_map, option_and_then, IsSome, IsNone, IsTrue}
+use Rattle.std.specs.Prelude.{ℕ, zero, suc, ◌≤◌, ◌==◌, Bool, true, false, not, ◌&&◌, ◌||◌, List, [], ◌∷◌, get_or, set}
+use Rattle.std.specs.Prelude.{replicate, filter, position, Option, None, is_none, option_map, option_and_then, IsSome}
+use Rattle.std.specs.Prelude.{IsNone, IsTrue}
 use Rattle.std.specs.List.{list_all, list_any}
 use Rattle.std.specs.Option.{option_map_or}
 use Rattle.mp_request.specs.declared.entries.OpenRequest.{OpenRequest}
 use Rattle.mp_request.specs.declared.entries.Progress.{Progress}
 use Rattle.mp_request.specs.declared.entries.State.{State}
-use Rattle.mp_request.specs.Entries.{is_persistent, is_active, is_inactive, is_done, is_partitioned, active_with, remainder}
+use Rattle.mp_request.specs.Entries.{is_persistent, is_active, is_inactive, is_done, is_partitioned, active_with}
+use Rattle.mp_request.specs.Entries.{remainder}
 
 -- what each handle names, from handle 1 on; a free handle names None
 abbrev pub Table : Type 0

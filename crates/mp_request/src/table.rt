@@ -1,9 +1,13 @@
 //! The table: what each handle names.
 
-ghost use Rattle.std.specs.Prelude.{◌≡◌, ◌+◌, ◌↔◌, filter, IsSome, IfOk, IfErr, drop, length, is_none, position, slice_index, ◌<◌, ◌==◌, IfSome, IsOk, IsErr, IsNone, Some, None, IsTrue, OnOk, OnErr};
+ghost use Rattle.std.specs.Prelude.{◌≡◌, ◌+◌, ◌↔◌, filter, IsSome, IfOk, IfErr, drop, length, is_none, position};
+ghost use Rattle.std.specs.Prelude.{slice_index, ◌<◌, ◌==◌, IfSome, IsOk, IsErr, IsNone, Some, None, IsTrue, OnOk};
+ghost use Rattle.std.specs.Prelude.{OnErr};
 ghost use Rattle.std.specs.List.{list_all, list_any};
 ghost use Rattle.mp_request.specs.Entries.{is_active, is_new};
-ghost use Rattle.mp_request.specs.Table.{IsActive, IsFull, IsHandle, IsInactive, IsLowestFree, IsOpen, IsPersistent, completed, has, is_done_at, is_distinct, is_testable, lowest_free, may_be_tested, no_requests, request_at, started, with_request};
+ghost use Rattle.mp_request.specs.Table.{IsActive, IsFull, IsHandle, IsInactive, IsLowestFree, IsOpen, IsPersistent};
+ghost use Rattle.mp_request.specs.Table.{completed, has, is_done_at, is_distinct, is_testable, lowest_free};
+ghost use Rattle.mp_request.specs.Table.{may_be_tested, no_requests, request_at, started, with_request};
 
 use crate::entries::{OpenRequest, Progress, State};
 use crate::refusals::Refusal;

@@ -1,5 +1,6 @@
 -- Initialisations of partitioned transfers: their pairs, links and cuts (MPI 4.1, chapter 4.2).
-use Rattle.std.specs.Prelude.{ℕ, ◌*◌, ◌==◌, ◌&&◌, not, Bool, false, cond, List, length, filter, find, Option, Some, None, option_map}
+use Rattle.std.specs.Prelude.{ℕ, ◌*◌, ◌==◌, ◌&&◌, not, Bool, false, cond, List, length, filter, find, Option, Some}
+use Rattle.std.specs.Prelude.{None, option_map}
 use Rattle.std.specs.List.{slice_get, list_any, enumerate_from}
 use Rattle.rv_image.specs.declared.images.Link.{Link}
 use Rattle.mp_transfers.specs.declared.sides.Setup.{Setup}

@@ -2,7 +2,8 @@
 //! side cuts its bytes.
 //!
 //! A transfer is a communicator, a source, a destination and a tag; a side of it sends or receives. The i-th sender and
-//! the i-th receiver of a transfer are a pair. The first of a pair reserves a link for good, and the second has the same.
+//! the i-th receiver of a transfer are a pair.
+//! The first of a pair reserves a link for good, and the second has the same.
 #![tactic(auto)]
 
 mod sides;

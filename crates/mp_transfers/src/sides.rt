@@ -1,7 +1,8 @@
 //! The sides of partitioned transfers, as ranks initialise them.
 
 ghost use Rattle.std.specs.Prelude.{◌≡◌, ◌==◌, ◌≤◌, ◌+◌, length, filter, slice_get};
-ghost use Rattle.mp_transfers.specs.Inits.{is_for, is_other_side, is_receiver, is_reserved, is_same_side, lowest_link, peer_of, same_total, same_transfer, sender_over, total_bytes};
+ghost use Rattle.mp_transfers.specs.Inits.{is_for, is_other_side, is_receiver, is_reserved, is_same_side, lowest_link};
+ghost use Rattle.mp_transfers.specs.Inits.{peer_of, same_total, same_transfer, sender_over, total_bytes};
 
 use rv_image::Link;
 

@@ -129,8 +129,8 @@ impl RecvSide {
     pub fn next(&self) -> Option<u8>
         ensures lowest { result ≡ next_box self.now }
         // Whoever asks knows what a side keeps.
-        ensures kept { IsRecvSide self.now.keys self.now.parts self.now.size self.now.boxes self.now.bytes self.now.active
-            self.now.taken }
+        ensures kept { IsRecvSide self.now.keys self.now.parts self.now.size self.now.boxes self.now.bytes
+            self.now.active self.now.taken }
     {
         if self.active {
             lowest(&self.taken, self.boxes)
