@@ -24,8 +24,8 @@ pub fn one_merge_law()
     ensures { OneMerge }
 {}
 
-/// The events of ranks that ran apart, put in order of their stamps, are one run from the loaded cluster. It ends in the
-/// ranks, the journal and the boxes that they left.
+/// The events of ranks that ran apart, put in order of their stamps, are one run from the loaded cluster. It ends in
+/// the ranks, the journal and the boxes that they left.
 pub fn order_law()
     ensures { OrderLaw }
 {}

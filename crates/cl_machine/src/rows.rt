@@ -3,7 +3,8 @@
 ghost use Rattle.cl_machine.specs.Rows.{EarlyRow, JoinedRow, NothingSent, ReceivesFirst, SendsFirst, SharedRow};
 ghost use Rattle.cl_machine.specs.Rows.{StampTooLow};
 
-/// Two ranks that share a box: a hub call, a look that misses, a partition made ready, taken and seen taken, a hub call.
+/// Two ranks that share a box: a hub call, a look that misses, a partition made ready, taken and seen taken,
+/// a hub call.
 pub fn shares_a_box()
     ensures { SharedRow }
 {}

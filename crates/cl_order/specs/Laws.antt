@@ -48,8 +48,8 @@ JoinedLaw =
     (image : ImageParts) (steps : List Step) (final : Cluster) → IsImage image
     → IsRun (loaded_cluster image) steps final → IsJoinedAs image final steps
 
--- ranks that ran apart have a merge of their steps, if each step is its own rank's, and it is a run that ends where they
--- ended
+-- ranks that ran apart have a merge of their steps, if each step is its own rank's, and it is a run that ends where
+-- they ended
 abbrev pub MergedLaw : Type 0
 MergedLaw =
     (image : ImageParts) (final : Cluster) (deeds : ℕ → List Deed) (entries : List Entry) → IsImage image

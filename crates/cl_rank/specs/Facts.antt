@@ -36,5 +36,6 @@ fits_fact (Some (Receiving p)) None (Some r) = hlevel (ℕ_set, mark_set, marks_
 fits_fact (Some (Receiving p)) (Some s) None = hlevel (ℕ_set, mark_set, marks_set)
 fits_fact (Some (Receiving p)) (Some s) (Some r) = hlevel (ℕ_set, mark_set, marks_set)
 
-pub are_sides_fact : (v : ImageVersion) (ps : List Phase) (clock : ℕ) (sides : Sides) → IsProp (AreSides v ps clock sides)
+pub are_sides_fact : (v : ImageVersion) (ps : List Phase) (clock : ℕ) (sides : Sides)
+    → IsProp (AreSides v ps clock sides)
 are_sides_fact v ps clock sides = hlevel (fits_fact, le_prop, ℕ_set)

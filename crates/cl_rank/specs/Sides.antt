@@ -1,6 +1,7 @@
--- The sides that a rank has of its links: what their keys know, that they go with the rank's phases, and what a deed makes
--- of them.
-use Rattle.std.specs.Prelude.{ℕ, ◌≡◌, ◌<◌, ◌≤◌, ◌==◌, ◌&&◌, ◌⊎◌, ⊤, List, [], ◌∷◌, length, map, take, slice_get, Bool, true, false}
+-- The sides that a rank has of its links: what their keys know, that they go with the rank's phases, and what a deed
+-- makes of them.
+use Rattle.std.specs.Prelude.{ℕ, ◌≡◌, ◌<◌, ◌≤◌, ◌==◌, ◌&&◌, ◌⊎◌, ⊤, List, [], ◌∷◌, length, map, take, slice_get, Bool}
+use Rattle.std.specs.Prelude.{true, false}
 use Rattle.std.specs.Prelude.{Option, Some, None, if◌then◌else◌}
 use Rattle.rv_image.specs.declared.images.ImageVersion.{ImageVersion}
 use Rattle.rv_image.specs.declared.images.Link.{Link}
@@ -15,7 +16,8 @@ use Rattle.part_channel.specs.Receiving.{RecvView, new_recv_side}
 use Rattle.part_channel.specs.Sending.{SendView, IsPast, new_send_side}
 use Rattle.part_channel.specs.Words.{bytes_of}
 use Rattle.part_phase.specs.declared.phases.Phase.{Phase}
-use Rattle.part_phase.specs.declared.phases.Phase.TheVariants.{Apart, Sending as SendingPhase, Receiving as ReceivingPhase}
+use Rattle.part_phase.specs.declared.phases.Phase.TheVariants.{Apart, Sending as SendingPhase}
+use Rattle.part_phase.specs.declared.phases.Phase.TheVariants.{Receiving as ReceivingPhase}
 use Rattle.part_phase.specs.declared.receiving.RecvPhase.{RecvPhase}
 use Rattle.part_phase.specs.declared.sending.SendPhase.{SendPhase}
 use Rattle.part_phase.specs.Limits.{box_bytes, box_words}
@@ -87,8 +89,10 @@ HasReceiver version None r = ⊥
 HasReceiver version (Some c) r = (c.width ≡ box_words version) × (map receiver_box r.keys ≡ c.boxes)
 
 pub record AreChannelsOf (version : ImageVersion) (channels : List ChannelView) (sides : Sides) : Type 0 where
-  pub sends : (link : ℕ) (s : SendView) → side_of link sides.sends ≡ Some s → HasSender version (slice_get channels link) s
-  pub recvs : (link : ℕ) (r : RecvView) → side_of link sides.recvs ≡ Some r → HasReceiver version (slice_get channels link) r
+  pub sends : (link : ℕ) (s : SendView) → side_of link sides.sends ≡ Some s
+      → HasSender version (slice_get channels link) s
+  pub recvs : (link : ℕ) (r : RecvView) → side_of link sides.recvs ≡ Some r
+      → HasReceiver version (slice_get channels link) r
 
 -- ---- keys and deeds
 
@@ -127,8 +131,8 @@ abbrev pub is_place : ℕ → ℕ → Option (ℕ × ℕ) → Bool
 is_place link part None = false
 is_place link part (Some place) = (place.0 == link) && (place.1 == part)
 
--- what an act on its box makes of the sender's key, one gate word a look: Ready makes a thing of the words that spell its
--- bytes, where the key is open; Freed saw the stamp of the last take; a Miss saw none
+-- what an act on its box makes of the sender's key, one gate word a look: Ready makes a thing of the words that spell
+-- its bytes, where the key is open; Freed saw the stamp of the last take; a Miss saw none
 abbrev pub SenderActs : ImageVersion → ℕ → Act → Sending → Sending → Type 0
 SenderActs version stamp (Act.Ready link part bytes) old new =
     (words : List ℕ)
@@ -162,8 +166,8 @@ KeyMoves true Acts (Some old) (Some new) = Acts old new
 KeyMoves false Acts (Some old) (Some new) = new ≡ old
 KeyMoves here Acts _ _ = ⊥
 
--- the rank has the key by which its act asks a box: the sender's for Ready and Freed, the receiver's for Take, one of them
--- for a Miss
+-- the rank has the key by which its act asks a box: the sender's for Ready and Freed, the receiver's for Take, one of
+-- them for a Miss
 abbrev pub HasKey : Sides → Act → Type 0
 HasKey sides (Act.Ready link part bytes) = (s : Sending) × (sender_of sides link part ≡ Some s)
 HasKey sides (Act.Freed link part gate) = (s : Sending) × (sender_of sides link part ≡ Some s)
@@ -172,8 +176,8 @@ HasKey sides (Act.Miss link part) =
     ((s : Sending) × (sender_of sides link part ≡ Some s)) ⊎ ((r : Receiving) × (receiver_of sides link part ≡ Some r))
 HasKey sides _ = ⊤
 
--- one act moves the keys of one box at most: so what the keys loaded, made and got is, box by box and in order, what the
--- rank's Ready, Take, Freed and Miss events met
+-- one act moves the keys of one box at most: so what the keys loaded, made and got is, box by box and in order, what
+-- the rank's Ready, Take, Freed and Miss events met
 pub record KeysMove (version : ImageVersion) (stamp : ℕ) (act : Act) (old new : Sides) : Type 0 where
   pub there : HasKey old act
   pub sends : (link part : ℕ)

@@ -1,12 +1,14 @@
 -- What each step of a rank makes of its sides: one side is changed at most, by what its channel's call says.
-use Rattle.std.specs.Prelude.{ℕ, ◌≡◌, ◌<◌, ◌≤◌, ◌+◌, ◌-◌, ◌*◌, ◌%◌, ◌^◌, ◌++◌, replicate, ◌==◌, nat_lt, List, [], ◌∷◌, length, map, set, slice_get, Bool, true, false, not, ◌&&◌}
+use Rattle.std.specs.Prelude.{ℕ, ◌≡◌, ◌<◌, ◌≤◌, ◌+◌, ◌-◌, ◌*◌, ◌%◌, ◌^◌, ◌++◌, replicate, ◌==◌, nat_lt, List, [], ◌∷◌}
+use Rattle.std.specs.Prelude.{length, map, set, slice_get, Bool, true, false, not, ◌&&◌}
 use Rattle.std.specs.Prelude.{Option, Some, None, if◌then◌else◌}
 use Rattle.part_box.specs.Gate.{ready_stamp}
 use Rattle.part_channel.specs.Channels.{ChannelView, sender_box, receiver_box}
 use Rattle.part_channel.specs.declared.progress.Progress.{Progress}
 use Rattle.part_channel.specs.declared.progress.Take.{Take}
 use Rattle.part_channel.specs.Receiving.{RecvView, IsRecvSide, awaited, shown_take, take_refusal, took, take_stamp}
-use Rattle.part_channel.specs.Sending.{SendView, IsSendSide, IsPast, begun, shaped, looks_at, ready_refusal, readied, IsTold}
+use Rattle.part_channel.specs.Sending.{SendView, IsSendSide, IsPast, begun, shaped, looks_at, ready_refusal, readied}
+use Rattle.part_channel.specs.Sending.{IsTold}
 use Rattle.part_channel.specs.Sending.{test_progress, tested}
 use Rattle.part_channel.specs.Words.{bytes_of, words_of}
 use Rattle.part_phase.specs.declared.receiving.RecvPhase.{RecvPhase}

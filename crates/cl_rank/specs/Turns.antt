@@ -38,8 +38,8 @@ TellsAct gives rank hart stamp before after _ = after ≡ before
 abbrev pub Tells : {D : Type 0} → Gives D → D → D → Deed → Type 0
 Tells gives before after d = TellsAct gives d.rank d.hart d.stamp before after d.act
 
--- what contracts see of a rank that takes turns: its state, its events so far, its sides, and the box that its last turn
--- asked, by its link and its number there
+-- what contracts see of a rank that takes turns: its state, its events so far, its sides, and the box that its last
+-- turn asked, by its link and its number there
 pub record RankView : Type 0 where
   pub rank : Rank
   pub events : List Event

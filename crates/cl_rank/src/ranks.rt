@@ -37,7 +37,9 @@ pub struct Rank {
     ghost low: { state.clock < 2 ^ 62 },
     ghost within: { length trace.events ≤ budget },
     ghost stamped: { last_stamp 0 trace.events ≤ state.clock },
-    ghost sides: { AreSides state.site.version state.phases state.clock (sides_in sends.items recvs.items) } by { are_sides_fact state.site.version state.phases state.clock (sides_in sends.items recvs.items) },
+    ghost sides: { AreSides state.site.version state.phases state.clock
+        (sides_in sends.items recvs.items) } by { are_sides_fact state.site.version state.phases state.clock
+            (sides_in sends.items recvs.items) },
     ghost fit: { RequestsFit state.requests state.phases },
 }
 

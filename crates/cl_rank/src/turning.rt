@@ -116,7 +116,8 @@ fn started(requests: &Requests, doing: &Doing) -> Option<u8>
     }
 }
 
-/// The link whose side gets its shape or its cut by a reply. Any other reply changes no side, so that any number will do.
+/// The link whose side gets its shape or its cut by a reply.
+/// Any other reply changes no side, so that any number will do.
 fn named_link(request: &Request, reply: &Reply) -> u8
     ensures { result ≡ named_link_in request.now reply.now }
 {

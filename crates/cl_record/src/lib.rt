@@ -1,5 +1,5 @@
-//! What a run of a cluster is made from, its plans and the channels of its links, and what it leaves, its record: the same
-//! for ranks on one thread and for ranks on threads of their own.
+//! What a run of a cluster is made from, its plans and the channels of its links, and what it leaves, its record: the
+//! same for ranks on one thread and for ranks on threads of their own.
 #![tactic(auto)]
 
 mod lists;

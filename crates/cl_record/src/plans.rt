@@ -59,8 +59,8 @@ fn all_plans(harts: u8, plans: &[Plan]) -> bool
     plans.iter().all(|plan| is_plan(harts, plan))
 }
 
-/// Whether the image may be run by these plans: there is one for each rank, none has an empty order, each hart that stands
-/// in one is there, and each budget is 1 to 16,777,216.
+/// Whether the image may be run by these plans: there is one for each rank, none has an empty order, each hart that
+/// stands in one is there, and each budget is 1 to 16,777,216.
 pub fn has_plans(image: &Image, plans: &[Plan]) -> bool
     ensures { IsTrue result ↔ HasPlans image.now plans.now }
 {
@@ -68,8 +68,8 @@ pub fn has_plans(image: &Image, plans: &[Plan]) -> bool
     plans.len() == usize::from(parts.ranks) && all_plans(parts.harts, plans)
 }
 
-/// Whether the image may be run by these plans with the ranks in this order: the order isn't empty, each rank that stands
-/// in it is there, and it misses none.
+/// Whether the image may be run by these plans with the ranks in this order: the order isn't empty, each rank that
+/// stands in it is there, and it misses none.
 pub fn are_plans(image: &Image, plans: &[Plan], order: &[u8]) -> bool
     ensures { IsTrue result ↔ ArePlans image.now plans.now order.now }
 {

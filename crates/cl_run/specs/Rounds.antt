@@ -2,8 +2,8 @@
 use Rattle.std.specs.Prelude.{ℕ, ◌≡◌, ◌≢◌, ◌<◌, ◌≤◌, ◌+◌, List, [], ◌∷◌, All, ⊤}
 use Rattle.cl_record.specs.Plans.{in_slot}
 
--- the turns from slot `from` on, each by the number of who took it: the first stands in a slot that names it, those that
--- the slots before name take no later turn, and the others follow behind that slot
+-- the turns from slot `from` on, each by the number of who took it: the first stands in a slot that names it, those
+-- that the slots before name take no later turn, and the others follow behind that slot
 abbrev pub GoesRound : List ℕ → ℕ → List ℕ → Type 0
 GoesRound order from [] = ⊤
 GoesRound order from (taker ∷ takers) =

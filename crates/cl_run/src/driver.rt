@@ -215,8 +215,11 @@ impl Driver {
         requires seated { AreSeated plans.now self.old }
         requires there { All (λ r. r < length plans.now) order.now }
         ensures seated { AreSeated plans.now self.new }
-        ensures goes { (image : ImageParts) (k : ℕ) → IsUnderWay image plans.now order.now (stations self.old) self.old.hub (k * length order.now) → IsUnderWay image plans.now order.now (stations self.new) self.new.hub ((k + 1) * length order.now) }
-        ensures done { result ≡ false → (place : ℕ) → place < length order.now → IsStoppedAt (stations self.new) (slice_index order.now place) }
+        ensures goes { (image : ImageParts) (k : ℕ)
+            → IsUnderWay image plans.now order.now (stations self.old) self.old.hub (k * length order.now)
+            → IsUnderWay image plans.now order.now (stations self.new) self.new.hub ((k + 1) * length order.now) }
+        ensures done { result ≡ false → (place : ℕ) → place < length order.now
+            → IsStoppedAt (stations self.new) (slice_index order.now place) }
         ensures less { result ≡ true → left self.new < left self.old }
     {
         let mut moved = false;
@@ -231,8 +234,11 @@ impl Driver {
     pub(crate) fn run(&mut self, plans: &[Plan], order: &[u8])
         requires seated { AreSeated plans.now self.old }
         requires there { All (λ r. r < length plans.now) order.now }
-        ensures goes { (image : ImageParts) → IsUnderWay image plans.now order.now (stations self.old) self.old.hub 0 → (slot : ℕ) × IsUnderWay image plans.now order.now (stations self.new) self.new.hub slot }
-        ensures done { (place : ℕ) → place < length order.now → IsStoppedAt (stations self.new) (slice_index order.now place) }
+        ensures goes { (image : ImageParts)
+            → IsUnderWay image plans.now order.now (stations self.old) self.old.hub 0
+            → (slot : ℕ) × IsUnderWay image plans.now order.now (stations self.new) self.new.hub slot }
+        ensures done { (place : ℕ) → place < length order.now
+            → IsStoppedAt (stations self.new) (slice_index order.now place) }
         ensures seated { AreSeated plans.now self.new }
     {
         loop {

@@ -12,9 +12,9 @@ use rv_image::Image;
 use std::alloc::{AllocError, Global};
 use std::marker::Model;
 
-/// All ranks of an image as they are loaded, a hub that was never called, the channels of all links, and the room for what
-/// their run leaves. So nothing but the ranks' own turns asks for memory from here on, and a run that is loaded always
-/// leaves a record.
+/// All ranks of an image as they are loaded, a hub that was never called, the channels of all links, and the room for
+/// what their run leaves. So nothing but the ranks' own turns asks for memory from here on, and a run that is loaded
+/// always leaves a record.
 ///
 /// Contracts see what is run: the image, the plans and the order.
 #[derive(Drop)]
@@ -35,7 +35,8 @@ impl<'a> Model for Loaded<'a> {
 
     ghost view = { λ l. record { image = l.image.now; plans = l.plans.now; order = l.order.now } };
 
-    ghost invariant = { λ l. ArePlans l.image.now l.plans.now l.order.now × IsLoaded l.image.now l.plans.now l.driver l.lists };
+    ghost invariant = { λ l. ArePlans l.image.now l.plans.now l.order.now
+        × IsLoaded l.image.now l.plans.now l.driver l.lists };
 }
 
 fn load_all(alloc: Global, image: &Image, plans: &[Plan]) -> Result<(Driver, Lists), AllocError>
@@ -58,7 +59,8 @@ impl<'a> Loaded<'a> {
         plans: &'a [Plan],
         order: &'a [u8],
     ) -> Result<Loaded<'a>, RunFault>
-        ensures loaded { IfOk result (λ loaded. loaded ≡ record { image = image.now; plans = plans.now; order = order.now }) }
+        ensures loaded { IfOk result (λ loaded.
+            loaded ≡ record { image = image.now; plans = plans.now; order = order.now }) }
         ensures plans { (result ≡ Err RunFault.Plans) ↔ ¬ ArePlans image.now plans.now order.now }
         ensures fault { IfErr result (λ fault. (fault ≡ RunFault.Plans) ⊎ (fault ≡ RunFault.Memory)) }
     {
@@ -77,8 +79,8 @@ impl<'a> Loaded<'a> {
         })
     }
 
-    /// Runs all ranks, each by its plan, until each is stopped. A rank that is refused memory in a turn stops, and the record
-    /// says so: the run itself is never refused.
+    /// Runs all ranks, each by its plan, until each is stopped. A rank that is refused memory in a turn stops, and the
+    /// record says so: the run itself is never refused.
     pub fn run(self) -> Record
         ensures plans { ArePlans self.entry.image self.entry.plans self.entry.order }
         ensures run { IsOneRun self.entry.image self.entry.plans self.entry.order result }

@@ -13,8 +13,8 @@ use std::alloc::Global;
 /// Runs all ranks of the image on one thread, each by its plan, until each is stopped. The order lists ranks by their
 /// numbers, a turn each, round and round; a rank that is stopped is passed over.
 ///
-/// Refusals: Plans where a plan or the order is wrong (and just there), Memory where the ranks, the hub or the record find no
-/// room, before the first turn. A rank that stops for want of memory is no refusal: the record says so.
+/// Refusals: Plans where a plan or the order is wrong (and just there), Memory where the ranks, the hub or the record
+/// find no room, before the first turn. A rank that stops for want of memory is no refusal: the record says so.
 pub fn run_one(
     alloc: Global,
     image: &Image,

@@ -17,11 +17,12 @@ use Rattle.cl_threads.specs.declared.turns.Done.{Done}
 
 -- what a rank's deeds, one after another, make of its sides' keys
 abbrev pub KeysGo : ImageVersion → Sides → List Deed → Sides → Type 0
-KeysGo version old ds new = PartRun (λ (a : Sides) (d : Deed) (b : Sides). KeysMove version d.stamp d.act a b) old ds new
+KeysGo version old ds new =
+    PartRun (λ (a : Sides) (d : Deed) (b : Sides). KeysMove version d.stamp d.act a b) old ds new
 
 -- why a rank stopped whose hub stands behind a lock. All harts being stopped is asked first, then the budget, then the
--- rank's own clock; where none of these holds, memory was refused, or the hub refused a call. What the hub held then can't
--- be seen later: of a refusal of its own only what it answered is known
+-- rank's own clock; where none of these holds, memory was refused, or the hub refused a call. What the hub held then
+-- can't be seen later: of a refusal of its own only what it answered is known
 abbrev pub StopsFor : Plan → Rank → List Event → Stop → Type 0
 StopsFor plan rank events Stop.AllEnded = AllStopped rank
 StopsFor plan rank events Stop.Budget = (¬ (AllStopped rank)) × (length events ≡ plan.budget)
@@ -33,8 +34,8 @@ StopsFor plan rank events (Stop.ClockFull clock) =
 StopsFor plan rank events (Stop.Calls calls) =
     (calls ≡ 1048576) × HasTurn plan rank events × AsksHub plan rank events
 
--- a rank went alone by these deeds, all of which are its own: they are its events, by its plan, and what they met is what
--- its keys know; and it stopped
+-- a rank went alone by these deeds, all of which are its own: they are its events, by its plan, and what they met is
+-- what its keys know; and it stopped
 pub record WentBy (plan : Plan) (old new : RankView) (stop : Stop) (deeds : List Deed) : Type 0 where
   pub own : AllByRecursion (λ (d : Deed). d.rank ≡ old.rank.site.number) deeds
   pub alone : IsAlone old.rank deeds new.rank

@@ -40,8 +40,8 @@ abbrev pub OnBox : {K : Type 0} → (ℕ → Act → K → K → Type 0) → Boo
 OnBox Acts true old d new = Acts d.stamp d.act old new
 OnBox Acts false old d new = new ≡ old
 
--- what the sender's key of a box knows after a rank's deeds, and what the receiver's knows: what they made and took, and
--- each gate word that they loaded, one for each look
+-- what the sender's key of a box knows after a rank's deeds, and what the receiver's knows: what they made and took,
+-- and each gate word that they loaded, one for each look
 abbrev pub SenderWent : ImageVersion → ℕ → ℕ → List Deed → Sending → Type 0
 SenderWent version link part deeds key =
     PartRun (λ (a : Sending) (d : Deed) (b : Sending).
@@ -53,7 +53,8 @@ ReceiverWent version link part deeds key =
     OnBox (ReceiverActs version) (is_place link part (place_of d.act)) a d b) nothing_received deeds key
 
 -- box number `part` of a link: its two keys went by the deeds of the link's two ranks, and this is what they left of it
-pub record IsBoxOf (version : ImageVersion) (deeds : ℕ → List Deed) (link part : ℕ) (l : Link) (left : Settled) : Type 0 where
+pub record IsBoxOf (version : ImageVersion) (deeds : ℕ → List Deed) (link part : ℕ) (l : Link) (left : Settled)
+    : Type 0 where
   pub sender : Sending
   pub receiver : Receiving
   pub sent : SenderWent version link part (deeds l.from) sender

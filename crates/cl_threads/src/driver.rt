@@ -50,8 +50,8 @@ pub(crate) fn passages<'g, G: Gate>(
     Ok(all)
 }
 
-/// Starts the first of these ranks, does the ranks above it, and joins it. Where a thread is refused, the gate is passed at
-/// once by the ranks that weren't started, and the others are joined.
+/// Starts the first of these ranks, does the ranks above it, and joins it. Where a thread is refused, the gate is
+/// passed at once by the ranks that weren't started, and the others are joined.
 fn run_from<'s, E, R: Threads + Wait + Sync, G: Gate + Send + Drop + 's>(
     scope: &Scope<'s, E>,
     rt: &'s R,

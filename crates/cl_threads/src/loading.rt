@@ -17,8 +17,8 @@ use rv_image::Image;
 use std::alloc::{AllocError, Global};
 use std::collections::VecDeque;
 
-/// All that a run is made from, with the room for what it leaves: nothing but the ranks' own turns asks for memory behind
-/// it.
+/// All that a run is made from, with the room for what it leaves: nothing but the ranks' own turns asks for memory
+/// behind it.
 #[derive(Drop)]
 pub(crate) struct Cluster {
     /// The ranks by their numbers.

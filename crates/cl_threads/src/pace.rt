@@ -28,7 +28,8 @@ struct Runner {
     turns: AtomicU64,
     /// The last turn, from 0, that it may take without a look at the others. Only its own thread uses it.
     reach: AtomicU64,
-    /// The turn at which it tells its count again, or has to look: its own thread sets it. One that waits for it sets 0.
+    /// The turn at which it tells its count again, or has to look: its own thread sets it.
+    /// One that waits for it sets 0.
     due: AtomicU64,
     /// Whether it takes no turn any more.
     ended: OnceBool,
@@ -53,14 +54,14 @@ struct Slowest {
     turns: u64,
 }
 
-/// Holds a rank that is more than `lead` turns ahead of the slowest rank that hasn't ended, begun or not, for at most 2^24
-/// looks at the others.
+/// Holds a rank that is more than `lead` turns ahead of the slowest rank that hasn't ended, begun or not, for at most
+/// 2^24 looks at the others.
 ///
 /// A rank tells its count now and then, and at once where one that seems too far ahead of it asks. So a rank that isn't
 /// more than `lead` ahead waits for that answer at most.
 ///
-/// A rank whose number isn't below the number of ranks goes by, and holds nobody. One that never comes, nor passes `End`,
-/// holds the others, if only for their looks.
+/// A rank whose number isn't below the number of ranks goes by, and holds nobody. One that never comes, nor passes
+/// `End`, holds the others, if only for their looks.
 #[derive(Drop)]
 pub struct Pace {
     /// How many ranks it holds.

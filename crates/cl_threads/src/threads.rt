@@ -89,11 +89,12 @@ fn run_cluster<R: Threads + Wait + Sync, G: Gate>(
     gather(image, channels, hub.into_inner(), done, lists)
 }
 
-/// Runs each rank of the image on a thread of its own, by its plan, until each is stopped. All ranks call one hub, behind
-/// a lock, and share the boxes of their links without one. Before each turn a rank passes the gate.
+/// Runs each rank of the image on a thread of its own, by its plan, until each is stopped. All ranks call one hub,
+/// behind a lock, and share the boxes of their links without one. Before each turn a rank passes the gate.
 ///
-/// The record is of ranks that went alone, of a journal that has just their calls, and of boxes that have what they made
-/// and took, so that what they did fits together. Which of them went first where they met is known from the stamps alone.
+/// The record is of ranks that went alone, of a journal that has just their calls, and of boxes that have what they
+/// made and took, so that what they did fits together.
+/// Which of them went first where they met is known from the stamps alone.
 ///
 /// Refusals: Plans where a plan is wrong (and just there); Memory where the ranks, the hub or the record find no room,
 /// before the first turn; Spawn where a thread is refused; Unlike where what the threads left doesn't fit together. It
