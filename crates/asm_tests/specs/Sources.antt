@@ -107,7 +107,10 @@ named =
           ∷ at (codes "a") 0 ∷ at (codes "ab") 0 ∷ at (codes "b") 0 ∷ [],
     )
     -- 31 bytes
-    ∷ (codes ".memory 4096\n.globl _.$A567890123456789012345678901\n_.$A567890123456789012345678901: nop", at (codes "_.$A567890123456789012345678901") 0 ∷ [])
+    ∷ (
+      codes ".memory 4096\n.globl _.$A567890123456789012345678901\n_.$A567890123456789012345678901: nop",
+      at (codes "_.$A567890123456789012345678901") 0 ∷ [],
+    )
     -- a label without `.globl` is none
     ∷ (codes ".memory 4096\nleft: nop\n.globl right\nright:", at (codes "right") 4 ∷ [])
     ∷ []

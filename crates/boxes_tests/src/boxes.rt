@@ -61,7 +61,8 @@ pub fn a_seen_thing_was_loaded(place: &PartBox, key: &mut RecvKey) -> Option<u64
     requires own { key.old.at ≡ place.now.at }
     requires nothing_pending { key.old.view.seen ≡ None }
     ensures loaded { IfSome result (λ stamp.
-        key.new.view.loads ≡ key.old.view.loads ++ record { word = 2 * stamp + 1; count = length key.old.view.got } ∷ []) }
+        key.new.view.loads ≡ key.old.view.loads
+        ++ record { word = 2 * stamp + 1; count = length key.old.view.got } ∷ []) }
     ensures pending { key.new.view.seen ≡ result }
 {
     place.look(key)

@@ -157,7 +157,9 @@ pub fn full_clock_cuts_short(clock: u64)
 
 /// The turns of a rank are those of its own trace.
 pub fn each_rank_has_its_turns()
-    ensures { (a b : RankState) (s t : TraceView) (p q : Stop) → map (λ end. end.turns) (ends_of (a ∷ b ∷ []) (s ∷ t ∷ []) (p ∷ q ∷ [])) ≡ length s.events ∷ length t.events ∷ [] }
+    ensures { (a b : RankState) (s t : TraceView) (p q : Stop)
+        → map (λ end. end.turns) (ends_of (a ∷ b ∷ []) (s ∷ t ∷ []) (p ∷ q ∷ []))
+        ≡ length s.events ∷ length t.events ∷ [] }
 {}
 
 /// A slice is read whole, or it is too long or memory is refused.

@@ -14,7 +14,8 @@ use Rattle.rv_asm_statements.specs.Walk.{first_given}
 -- what a row makes of operands, if it is the mnemonic's and takes them
 unfoldable pub row_use : List ℕ → List Argument → Row → Option Use
 row_use w xs row =
-    if bytes_eq row.name w then option_map (λ f. record { template = row.template; filled = f }) (filled_by row.shape xs)
+    if bytes_eq row.name w
+    then option_map (λ f. record { template = row.template; filled = f }) (filled_by row.shape xs)
     else None
 
 -- what the first row that takes the operands makes of them

@@ -1,5 +1,5 @@
-//! Tests of the program with a writer that can't be flushed. They stand in a crate of their own, since a crate with tests
-//! is proved twice.
+//! Tests of the program with a writer that can't be flushed. They stand in a crate of their own, since a crate with
+//! tests is proved twice.
 #![tactic(auto)]
 
 #[cfg(test)]

@@ -1,7 +1,7 @@
 //! Runs two ranks on threads of their own and prints what they leave. Each waits at its first turn until the other has
 //! come to its own: that they run at the same time no clause says, and a driver that runs one rank after the other, or
-//! gives them turns on one thread, doesn't get past it. Then two ranks loop under a pace, and the turns are counted that
-//! were further ahead than its lead. `stdout` was written by hand.
+//! gives them turns on one thread, doesn't get past it. Then two ranks loop under a pace, and the turns are counted
+//! that were further ahead than its lead. `stdout` was written by hand.
 #![tactic(auto)]
 
 mod watching;
