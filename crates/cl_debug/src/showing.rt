@@ -29,9 +29,8 @@ impl Debugger {
         Ok(&owner.harts[usize::from(hart)])
     }
 
-    /// So many bytes of a rank's memory from an address on, as they are at the place. Refusals: NoRank, Range
-    /// where some
-    /// of them are outside the memory, Memory, in this order.
+    /// So many bytes of a rank's memory from an address on, as they are at the place. Refusals, in this order: NoRank;
+    /// Range where some of them are outside the memory; Memory.
     pub fn bytes(&self, rank: u8, address: u64, count: u64) -> Result<Vec<u8>, DebugFault>
         ensures shown { IfOk result (λ bytes. ShowsBytes self.now rank address count bytes.items) }
         ensures no_rank { (result ≡ Err DebugFault.NoRank) ↔ (self.now.image.ranks ≤ rank) }

@@ -1,4 +1,5 @@
-//! What ranks pass on their threads: it may hold one back, and knows nothing of it but its number.
+//! What ranks pass on their threads: it may hold one back, and knows nothing of it but its number and how many turns it
+//! came to.
 
 /// Where a rank is.
 #[derive(Clone, Copy, PartialEq, Eq, Drop, Debug)]
