@@ -1,6 +1,7 @@
 //! To another place: by its number, by one step, or by a run.
 
 ghost use Rattle.std.specs.Prelude.{◌≡◌, ◌↔◌, ◌<◌, length, Err, IfErr, IfOk, OnErr, OnOk};
+ghost use Rattle.std.specs.Prelude.{Ok, false};
 ghost use Rattle.cl_debug.specs.Debugging.{at_place};
 ghost use Rattle.cl_debug.specs.Faults.{GoFaultHolds};
 ghost use Rattle.cl_debug.specs.Moves.{MovedBack, MovedOn, RanOn};
@@ -30,10 +31,11 @@ impl Debugger {
         Ok(())
     }
 
-    /// One step on: false at the end, and the debugger stays there. The only error is want of memory, and then the
-    /// debugger is as it was.
+    /// One step on: false at the end, and the debugger stays there, which takes no memory. The only error is want of
+    /// memory, and then the debugger is as it was.
     pub fn step(&mut self) -> Result<bool, DebugFault>
         ensures moved { IfOk result (λ moved. MovedOn self.old moved self.new) }
+        ensures end { self.old.place ≡ length self.old.steps → result ≡ Ok false }
         ensures unchanged { OnErr result (self.new ≡ self.old) }
         ensures fault { IfErr result (λ fault. fault ≡ DebugFault.Memory) }
     {
@@ -47,10 +49,11 @@ impl Debugger {
         Ok(true)
     }
 
-    /// One step back: false at the start, and the debugger stays there. The only error is want of memory, and then the
-    /// debugger is as it was.
+    /// One step back: false at the start, and the debugger stays there, which takes no memory. The only error is want of
+    /// memory, and then the debugger is as it was.
     pub fn back(&mut self) -> Result<bool, DebugFault>
         ensures moved { IfOk result (λ moved. MovedBack self.old moved self.new) }
+        ensures start { self.old.place ≡ 0 → result ≡ Ok false }
         ensures unchanged { OnErr result (self.new ≡ self.old) }
         ensures fault { IfErr result (λ fault. fault ≡ DebugFault.Memory) }
     {

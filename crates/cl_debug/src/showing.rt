@@ -1,6 +1,6 @@
 //! What is shown of the cluster at the place.
 
-ghost use Rattle.std.specs.Prelude.{◌≡◌, ◌↔◌, ◌<◌, ◌≤◌, Err, IfErr, IfOk};
+ghost use Rattle.std.specs.Prelude.{◌≡◌, ◌↔◌, ◌<◌, ◌≤◌, Err, IfErr, IfOk, IsOk};
 ghost use Rattle.cl_debug.specs.Faults.{IsBytesFault, IsNameFault};
 ghost use Rattle.cl_debug.specs.Shown.{IsOutside, ShowsBytes, ShowsHart};
 
@@ -30,12 +30,13 @@ impl Debugger {
     }
 
     /// So many bytes of a rank's memory from an address on, as they are at the place. Refusals, in this order: NoRank;
-    /// Range where some of them are outside the memory; Memory.
+    /// Range where some of them are outside the memory; Memory. No bytes are right at any address, and take no memory.
     pub fn bytes(&self, rank: u8, address: u64, count: u64) -> Result<Vec<u8>, DebugFault>
         ensures shown { IfOk result (λ bytes. ShowsBytes self.now rank address count bytes.items) }
         ensures no_rank { (result ≡ Err DebugFault.NoRank) ↔ (self.now.image.ranks ≤ rank) }
         ensures range { (result ≡ Err DebugFault.Range)
             ↔ ((rank < self.now.image.ranks) × IsOutside self.now rank address count) }
+        ensures no_bytes { rank < self.now.image.ranks → count ≡ 0 → IsOk result }
         ensures fault { IfErr result IsBytesFault }
     {
         if rank >= self.image.parts().ranks {
