@@ -1,10 +1,12 @@
 //! The plain types of the command line: what it asks for, why there is none, and the numbers and lists in it.
 #![tactic(auto)]
 
+mod debug;
 mod line;
 mod list;
 mod number;
 
+pub use debug::{DebugWord, DebugWords, Name, Spot};
 pub use line::{CommandLine, ParseFault};
 pub use list::{Numbers, numbers_in};
-pub use number::number_in;
+pub use number::{any_number_in, number_in};

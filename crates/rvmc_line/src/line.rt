@@ -3,6 +3,7 @@
 ghost use Rattle.std.specs.Prelude.{◌≡◌};
 ghost use Rattle.rvmc_line.specs.declared.line.ParseFault.TheVariants.{Memory};
 
+use crate::debug::DebugWords;
 use crate::list::Numbers;
 use std::alloc::AllocError;
 
@@ -41,6 +42,10 @@ pub enum CommandLine {
     },
     /// A record is read, and it is written whether its steps are a run in order.
     Check,
+    /// A record is read, and the text of each word is written, in order, as far as no word is refused.
+    Debug {
+        words: DebugWords,
+    },
 }
 
 /// Why there is no command line.
