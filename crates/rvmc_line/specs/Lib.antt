@@ -1,1 +1,3 @@
+pub mod Debug
 pub mod Number
+pub mod Worked

@@ -1,7 +1,13 @@
 //! The words of the command `debug`.
 
-ghost use Rattle.std.specs.Prelude.{◌≡◌, ◌++◌, ◌∷◌, [], OnErr, OnOk};
+ghost use Rattle.std.specs.Prelude.{◌≡◌, ◌++◌, ◌∷◌, [], IfOk, OnErr, OnOk, map};
+ghost use Rattle.std.specs.List.{list_all};
+ghost use Rattle.rv_image.specs.Names as names;
+ghost use Rattle.rvmc_line.specs.Debug.{bare_word, break_in, bytes_in, debug_word_in, go_in, index_in, is_name, regs_in};
+ghost use Rattle.rvmc_line.specs.Debug.{spot_in, word_in, word_of, word_with};
 
+use crate::list::parts;
+use crate::number::any_number_in;
 use std::alloc::{AllocError, Global};
 use std::marker::Model;
 
@@ -96,5 +102,156 @@ impl DebugWords {
         ensures { result.now ≡ self.now }
     {
         self.items.as_slice()
+    }
+}
+
+/// Whether the byte is a letter, a digit, `_`, `.` or `$`.
+fn is_name_byte(byte: u8) -> bool
+    ensures { result ≡ names.is_name_byte byte }
+{
+    byte.is_ascii_alphanumeric() || byte == b'_' || byte == b'.' || byte == b'$'
+}
+
+fn are_name_bytes(bytes: &[u8]) -> bool
+    ensures { result ≡ list_all names.is_name_byte bytes.now }
+{
+    bytes.iter().all(|byte| is_name_byte(*byte))
+}
+
+/// Whether a text is a name of the source language.
+fn is_name(text: &str) -> bool
+    ensures { result ≡ is_name text.now }
+{
+    let bytes = text.as_bytes();
+    if bytes.is_empty() {
+        return false;
+    }
+    are_name_bytes(bytes) && !bytes[0].is_ascii_digit()
+}
+
+/// The number of a rank or of a hart.
+fn index_in(text: &str) -> Option<u8>
+    ensures { result ≡ index_in text.now }
+{
+    let number = any_number_in(255, text)?;
+    Some(number as u8)
+}
+
+/// A number of 64 bits.
+fn word_in(text: &str) -> Option<u64>
+    ensures { result ≡ word_in text.now }
+{
+    any_number_in(u64::MAX, text)
+}
+
+/// A name, or the number of an address.
+#[tactic(auto, unfolding(crate::specs::Debug::spot_in))]
+fn spot_in(alloc: Global, text: &str) -> Result<Option<Spot>, AllocError>
+    ensures { IfOk result (λ found. found ≡ spot_in text.now) }
+{
+    if is_name(text) {
+        let text = text.to_string(alloc)?;
+        return Ok(Some(Spot::Name(Name { text })));
+    }
+    let Some(address) = word_in(text) else {
+        return Ok(None);
+    };
+    Ok(Some(Spot::Address(address)))
+}
+
+fn go_in(arguments: &[&str]) -> Option<DebugWord>
+    ensures { result ≡ go_in (map (λ argument. argument.now) arguments.now) }
+{
+    let [n] = arguments else {
+        return None;
+    };
+    Some(DebugWord::Go(word_in(n)?))
+}
+
+fn break_in(alloc: Global, arguments: &[&str]) -> Result<Option<DebugWord>, AllocError>
+    ensures { IfOk result (λ found. found ≡ break_in (map (λ argument. argument.now) arguments.now)) }
+{
+    let [r, h, at] = arguments else {
+        return Ok(None);
+    };
+    let (Some(rank), Some(hart)) = (index_in(r), index_in(h)) else {
+        return Ok(None);
+    };
+    let Some(at) = spot_in(alloc, at)? else {
+        return Ok(None);
+    };
+    Ok(Some(DebugWord::Break { rank, hart, at }))
+}
+
+fn regs_in(arguments: &[&str]) -> Option<DebugWord>
+    ensures { result ≡ regs_in (map (λ argument. argument.now) arguments.now) }
+{
+    let [r, h] = arguments else {
+        return None;
+    };
+    let rank = index_in(r)?;
+    let hart = index_in(h)?;
+    Some(DebugWord::Regs { rank, hart })
+}
+
+fn bytes_in(alloc: Global, arguments: &[&str]) -> Result<Option<DebugWord>, AllocError>
+    ensures { IfOk result (λ found. found ≡ bytes_in (map (λ argument. argument.now) arguments.now)) }
+{
+    let [r, at, n] = arguments else {
+        return Ok(None);
+    };
+    let (Some(rank), Some(count)) = (index_in(r), word_in(n)) else {
+        return Ok(None);
+    };
+    let Some(at) = spot_in(alloc, at)? else {
+        return Ok(None);
+    };
+    Ok(Some(DebugWord::Bytes { rank, at, count }))
+}
+
+/// A word that stands alone.
+#[tactic(auto, unfolding(crate::specs::Debug::bare_word))]
+fn bare_word(name: &str) -> Option<DebugWord>
+    ensures { result ≡ bare_word name.now }
+{
+    match name {
+        "step" => Some(DebugWord::Step),
+        "back" => Some(DebugWord::Back),
+        "run" => Some(DebugWord::Run),
+        "place" => Some(DebugWord::Place),
+        _ => None,
+    }
+}
+
+/// A word with arguments.
+#[tactic(auto, unfolding(crate::specs::Debug::word_with))]
+fn word_with(alloc: Global, name: &str, arguments: &[&str]) -> Result<Option<DebugWord>, AllocError>
+    ensures { IfOk result (λ found. found ≡ word_with name.now (map (λ argument. argument.now) arguments.now)) }
+{
+    match name {
+        "go" => Ok(go_in(arguments)),
+        "break" => break_in(alloc, arguments),
+        "regs" => Ok(regs_in(arguments)),
+        "bytes" => bytes_in(alloc, arguments),
+        _ => Ok(None),
+    }
+}
+
+/// The word that a text writes: `step`, `back`, `run` or `place`, or `go=N`, `break=R,H,PC`, `break=R,H,NAME`,
+/// `regs=R,H`, `bytes=R,A,N` or `bytes=R,NAME,N`. R and H are numbers from 0 to 255, the others are up to 2^64-1; each
+/// is in decimal, or in hexadecimal behind `0x`. A name is one of the source language, of any length. Any other text is
+/// no word.
+#[tactic(auto, unfolding(crate::specs::Debug::debug_word_in))]
+pub fn debug_word_in(alloc: Global, text: &str) -> Result<Option<DebugWord>, AllocError>
+    ensures { IfOk result (λ found. found ≡ debug_word_in text.now) }
+{
+    let sides = parts(alloc, '=', text)?;
+    match sides.as_slice() {
+        [name] => Ok(bare_word(name)),
+        [name, arguments] => {
+            let arguments = parts(alloc, ',', arguments)?;
+            word_with(alloc, name, &arguments)
+        }
+        _ => Ok(None),
     }
 }

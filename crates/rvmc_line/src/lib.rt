@@ -6,7 +6,7 @@ mod line;
 mod list;
 mod number;
 
-pub use debug::{DebugWord, DebugWords, Name, Spot};
+pub use debug::{DebugWord, DebugWords, Name, Spot, debug_word_in};
 pub use line::{CommandLine, ParseFault};
 pub use list::{Numbers, numbers_in};
 pub use number::{any_number_in, number_in};

@@ -1,6 +1,6 @@
 //! Lists of small decimal numbers.
 
-ghost use Rattle.std.specs.Prelude.{◌≡◌, ◌==◌, IfOk, map, nat_eq};
+ghost use Rattle.std.specs.Prelude.{◌≡◌, ◌<◌, ◌==◌, IfOk, map, nat_eq};
 ghost use Rattle.std.specs.List.{slice_split};
 ghost use Rattle.std.specs.Cmp.{partial_equiv_from_equiv};
 ghost use Rattle.std.specs.Cmp.Lexicographic.{nat_list_eq_equiv, pointwise};
@@ -47,11 +47,17 @@ impl Numbers {
     }
 }
 
-/// What stands before, between and behind the commas.
-fn parts<'a>(alloc: Global, text: &'a str) -> Result<Vec<&'a str>, AllocError>
-    ensures { IfOk result (λ parts. map (λ part. part.now) parts.items ≡ slice_split (λ byte. byte == 44) text.now) }
+/// What stands before, between and behind the separators, each of which is this ASCII character.
+pub(crate) fn parts<'a>(
+    alloc: Global,
+    separator: char,
+    text: &'a str,
+) -> Result<Vec<&'a str>, AllocError>
+    requires { separator < 128 }
+    ensures { IfOk result
+        (λ parts. map (λ part. part.now) parts.items ≡ slice_split (λ byte. byte == separator) text.now) }
 {
-    text.split(',').collect(alloc)
+    text.split(separator).collect(alloc)
 }
 
 /// The number of each text, or None where one of them is none.
@@ -74,6 +80,6 @@ fn each_number(alloc: Global, texts: &[&str]) -> Result<Option<Numbers>, AllocEr
 pub fn numbers_in(alloc: Global, text: &str) -> Result<Option<Numbers>, AllocError>
     ensures { IfOk result (λ found. found ≡ numbers_in text.now) }
 {
-    let parts = parts(alloc, text)?;
+    let parts = parts(alloc, ',', text)?;
     each_number(alloc, &parts)
 }

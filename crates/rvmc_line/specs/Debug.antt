@@ -1,0 +1,84 @@
+-- The words of the command `debug`: what a text of each form asks for.
+use Rattle.std.specs.Prelude.{ℕ, Bool, List, [], ◌∷◌, length, Option, Some, None, ◌&&◌, ◌==◌, if◌then◌else◌, not}
+use Rattle.std.specs.Prelude.{codes, nat_lt, option_and_then, option_map}
+use Rattle.std.specs.List.{list_all, slice_split}
+use Rattle.std.specs.Str.{bytes_eq}
+use Rattle.rv_image.specs.Names.{begins_with_digit, is_name_byte}
+use Rattle.rvmc_line.specs.Number.{any_number_in}
+use Rattle.rvmc_line.specs.declared.debug.DebugWord.{DebugWord}
+use Rattle.rvmc_line.specs.declared.debug.DebugWord.TheVariants.{Back, Break, Bytes, Go, Place, Regs, Run, Step}
+use Rattle.rvmc_line.specs.declared.debug.Spot.{Spot}
+use Rattle.rvmc_line.specs.declared.debug.Spot.TheVariants.{Address, Name}
+
+-- a name of the source language, however long: letters, digits, `_`, `.` and `$`, of which the first is no digit
+abbrev pub is_name : List ℕ → Bool
+is_name text = nat_lt 0 (length text) && (list_all is_name_byte text && not (begins_with_digit text))
+
+-- ---- what an argument writes
+
+-- the number of a rank or of a hart
+abbrev pub index_in : List ℕ → Option ℕ
+index_in text = any_number_in 255 text
+
+-- a number of 64 bits
+abbrev pub word_in : List ℕ → Option ℕ
+word_in text = any_number_in 18446744073709551615 text
+
+-- a name, or the number of an address
+unfoldable pub spot_in : List ℕ → Option Spot
+spot_in text = if is_name text then Some (Name text) else option_map Address (word_in text)
+
+-- ---- each word, by its arguments
+
+-- `go=N`
+abbrev pub go_in : List (List ℕ) → Option DebugWord
+go_in (n ∷ []) = option_map Go (word_in n)
+go_in others = None
+
+-- `break=R,H,PC` and `break=R,H,NAME`
+abbrev pub break_in : List (List ℕ) → Option DebugWord
+break_in (r ∷ h ∷ at ∷ []) =
+    option_and_then (λ rank. option_and_then (λ hart. option_map (λ spot. Break rank hart spot)
+    (spot_in at)) (index_in h)) (index_in r)
+break_in others = None
+
+-- `regs=R,H`
+abbrev pub regs_in : List (List ℕ) → Option DebugWord
+regs_in (r ∷ h ∷ []) =
+    option_and_then (λ rank. option_map (λ hart. Regs rank hart) (index_in h)) (index_in r)
+regs_in others = None
+
+-- `bytes=R,A,N` and `bytes=R,NAME,N`
+abbrev pub bytes_in : List (List ℕ) → Option DebugWord
+bytes_in (r ∷ at ∷ n ∷ []) =
+    option_and_then (λ rank. option_and_then (λ spot. option_map (λ count. Bytes rank spot count)
+    (word_in n)) (spot_in at)) (index_in r)
+bytes_in others = None
+
+-- a word that stands alone
+unfoldable pub bare_word : List ℕ → Option DebugWord
+bare_word name =
+    if bytes_eq name (codes "step") then Some Step
+    else (if bytes_eq name (codes "back") then Some Back
+    else (if bytes_eq name (codes "run") then Some Run
+    else (if bytes_eq name (codes "place") then Some Place
+    else None)))
+
+-- a word with arguments
+unfoldable pub word_with : List ℕ → List (List ℕ) → Option DebugWord
+word_with name arguments =
+    if bytes_eq name (codes "go") then go_in arguments
+    else (if bytes_eq name (codes "break") then break_in arguments
+    else (if bytes_eq name (codes "regs") then regs_in arguments
+    else (if bytes_eq name (codes "bytes") then bytes_in arguments
+    else None)))
+
+-- what stands before, between and behind the equals signs: a word alone, or a word and its arguments with commas between
+abbrev pub word_of : List (List ℕ) → Option DebugWord
+word_of (name ∷ []) = bare_word name
+word_of (name ∷ arguments ∷ []) = word_with name (slice_split (λ byte. byte == 44) arguments)
+word_of others = None
+
+-- the word that a text writes
+unfoldable pub debug_word_in : List ℕ → Option DebugWord
+debug_word_in text = word_of (slice_split (λ byte. byte == 61) text)
