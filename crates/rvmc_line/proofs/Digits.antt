@@ -25,13 +25,11 @@ no_plus t e = ap (λ b. drop (cond b 1 0) t) e
 
 -- no text is no number
 pub not_empty : (base least most : ℕ) (t : List ℕ) → length t ≡ 0 → None ≡ number_in_base base least most t
-unfolding number_in_base
 not_empty base least most [] e = refl
 not_empty base least most (c ∷ cs) e = absurd (omega (arith, e))
 
 -- a plus is no digit
 pub not_plus : (base least most : ℕ) (t : List ℕ) → base ≤ 36 → slice_index t 0 ≡ 43 → None ≡ number_in_base base least most t
-unfolding number_in_base
 not_plus base least most [] small e = refl
 not_plus base least most (c ∷ cs) small e =
     let other : is_digit c base ≡ false = ap (λ d. is_digit d base) e ∙ le-ltb 36 base small in
@@ -46,7 +44,6 @@ within least most n = cond (nat_le least n && nat_le n most) (Some n) None
 -- a number that was read is the text's, if it is within the bounds
 pub read_number : (base least most n : ℕ) (t : List ℕ) → (slice_index t 0 == 43) ≡ false → Reading base n (without_leading_plus t)
     → within least most n ≡ number_in_base base least most t
-unfolding number_in_base
 read_number base least most n t plus h =
     let k = subst (Reading base n) (no_plus t plus) h in
     rw (lt-ltb 0 (length t) k.0.0.0, digits_pass base t k.0.0.1) (ap (within least most) k.1)
@@ -57,7 +54,6 @@ IsRead base s = IsNumeral base s × (digits_value base s < 2 ^ 64)
 -- a text that wasn't read is no number below 2^64
 pub read_none : (base least most : ℕ) (t : List ℕ) → most < 2 ^ 64 → (slice_index t 0 == 43) ≡ false → ¬ (IsRead base (without_leading_plus t))
     → None ≡ number_in_base base least most t
-unfolding number_in_base
 read_none base least most t fits plus h = go _ refl
   where
     go : (b : Bool) → (is_numeral base t && (nat_le least (digits_value base t) && nat_le (digits_value base t) most)) ≡ b

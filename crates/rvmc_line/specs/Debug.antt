@@ -82,3 +82,9 @@ word_of others = None
 -- the word that a text writes
 unfoldable pub debug_word_in : List ℕ → Option DebugWord
 debug_word_in text = word_of (slice_split (λ byte. byte == 61) text)
+
+-- the word of each text, where each writes one
+abbrev pub debug_words_in : List (List ℕ) → Option (List DebugWord)
+debug_words_in [] = Some []
+debug_words_in (text ∷ texts) =
+    option_and_then (λ word. option_map (λ words. word ∷ words) (debug_words_in texts)) (debug_word_in text)

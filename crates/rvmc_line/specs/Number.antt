@@ -10,7 +10,7 @@ abbrev pub is_numeral : ℕ → List ℕ → Bool
 is_numeral base text = nat_lt 0 (length text) && list_all (λ d. is_digit d base) text
 
 -- the number, from `least` to `most`, that the text writes in digits of the base
-unfoldable pub number_in_base : ℕ → ℕ → ℕ → List ℕ → Option ℕ
+abbrev pub number_in_base : ℕ → ℕ → ℕ → List ℕ → Option ℕ
 number_in_base base least most text =
     let number = digits_value base text in
     if is_numeral base text && (nat_le least number && nat_le number most) then Some number else None

@@ -3,10 +3,10 @@ use Rattle.rvmc_line.proofs.Digits.{inside, large, not_empty, not_plus, read_num
 use Rattle.rvmc_line.proofs.number.number_in_base.Goals as goal
 
 pub returns-then-is_empty-clause-value : goal.returns-then-is_empty-clause-value
-returns-then-is_empty-clause-value c = not_empty _ _ _ _ (search rules)
+returns-then-is_empty-clause-value c = not_empty c.args.base c.args.least c.args.most c.args.text.now (search rules)
 
 pub returns-then-bytes-eq43-clause-value : goal.returns-then-bytes-eq43-clause-value
-returns-then-bytes-eq43-clause-value c = not_plus _ _ _ _ (search rules) (search rules)
+returns-then-bytes-eq43-clause-value c = not_plus c.args.base c.args.least c.args.most c.args.text.now (search rules) (search rules)
 
 pub returns-in_default-clause-value : goal.returns-in_default-clause-value
 returns-in_default-clause-value c =
