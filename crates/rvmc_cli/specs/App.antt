@@ -1,6 +1,7 @@
 -- The command line as data: what clap reads of each command, option and flag.
 use Rattle.std.specs.Prelude.{◌≡◌, List, [], ◌∷◌, Some, true, false, codes, if◌then◌else◌}
 use Rattle.std.specs.Str.{bytes_eq}
+use Rattle.clap.specs.Lexer.{usize_max}
 use Rattle.clap.specs.Words.{App, Rule, Text, app_of, new_app, new_rule, with_rule, with_subcommand}
 use Rattle.clap.specs.declared.builder.command.Command.{Command}
 use Rattle.clap.specs.declared.builder.command.Command.TheViews.{out-Command}
@@ -14,7 +15,15 @@ flag name = record (new_rule name) { long = Some name; action = Some SetTrue }
 abbrev pub option : Text → Rule
 option name = record (new_rule name) { long = Some name; value_names = 1 }
 
--- a command with these flags and options
+-- `TEXT..`: one text or more behind the command
+abbrev pub texts : Text → Rule
+texts name = record (new_rule name) {
+  required = true;
+  value_names = 1;
+  range = Some (record { start_inclusive = 1; end_inclusive = usize_max });
+}
+
+-- a command with these flags, options and texts
 abbrev pub with_rules : App → List Rule → App
 with_rules app [] = app
 with_rules app (rule ∷ rules) = with_rules (with_rule app rule) rules
@@ -50,6 +59,10 @@ one_app = with_rule (runner_app (codes "one")) (option (codes "order"))
 abbrev pub check_app : App
 check_app = new_app (codes "check")
 
+-- `debug CMD..`
+abbrev pub debug_app : App
+debug_app = with_rule (new_app (codes "debug")) (texts (codes "words"))
+
 -- `rvmc`, before its commands: `--help`, `--version` and the command `help` are clap's own
 abbrev pub top_app : App
 top_app =
@@ -64,12 +77,15 @@ top_app =
 
 -- the whole command line, one row a command
 abbrev pub rvmc_app : App
-rvmc_app = with_commands top_app (asm_app ∷ dis_app ∷ run_app ∷ one_app ∷ check_app ∷ [])
+rvmc_app = with_commands top_app (asm_app ∷ dis_app ∷ run_app ∷ one_app ∷ check_app ∷ debug_app ∷ [])
 
 -- the command of this name by itself; any other name stands for the whole command line
 abbrev pub app_named : Text → App
 app_named name =
-    if bytes_eq name (codes "run") then run_app else (if bytes_eq name (codes "one") then one_app else rvmc_app)
+    if bytes_eq name (codes "run") then run_app
+    else (if bytes_eq name (codes "one") then one_app
+    else (if bytes_eq name (codes "debug") then debug_app
+    else rvmc_app))
 
 -- clap's command is built from these rules, and none of its arguments is global
 pub record StandsFor (rules : App) (command : Command) : Type 0 where

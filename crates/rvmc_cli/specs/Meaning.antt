@@ -4,20 +4,21 @@ use Rattle.std.specs.Prelude.{◌≡◌, ◌≢◌, ⊤, ℕ, Bool, true, false,
 use Rattle.std.specs.Prelude.{Err, ◌==◌, if◌then◌else◌, codes, option_map, option_and_then}
 use Rattle.std.specs.Option.{option_map_or}
 use Rattle.std.specs.Str.{bytes_eq}
-use Rattle.clap.specs.Words.{Row, Text, fault_of, first_of, subcommand_of}
+use Rattle.clap.specs.Words.{Row, Text, all_of, fault_of, first_of, subcommand_of}
 use Rattle.clap.specs.Kinds.{IsAmong, Kinds, or_else}
 use Rattle.clap.specs.declared.error.kind.ErrorKind.{ErrorKind}
 use Rattle.clap.specs.declared.error.kind.ErrorKind.TheVariants as kind
 use Rattle.rvmc_cli.specs.App.{rvmc_app}
+use Rattle.rvmc_line.specs.Debug.{debug_words_in}
 use Rattle.rvmc_line.specs.Number.{number_in, numbers_in}
 use Rattle.rvmc_line.specs.declared.line.CommandLine.{CommandLine}
-use Rattle.rvmc_line.specs.declared.line.CommandLine.TheVariants.{Asm, Check, Dis, One, Run}
+use Rattle.rvmc_line.specs.declared.line.CommandLine.TheVariants.{Asm, Check, Debug, Dis, One, Run}
 use Rattle.rvmc_line.specs.declared.line.ParseFault.{ParseFault}
 use Rattle.rvmc_line.specs.declared.line.ParseFault.TheVariants as parse
 use Rattle.rvmc_cli.specs.declared.parsing.Wrong.{Wrong}
 use Rattle.rvmc_cli.specs.declared.parsing.Wrong.TheVariants as wrong
 
--- ---- the options of a command, of what clap found for it
+-- ---- the options and words of a command, of what clap found for it
 
 -- whether a flag was given
 abbrev pub flag_in : Text → List Row → Bool
@@ -55,6 +56,10 @@ one_in rows =
     One (flag_in (codes "source") rows) budget plan order (flag_in (codes "record") rows))
     (list_option (codes "order") rows)) (list_option (codes "plan") rows)) (budget_in rows)
 
+-- each word of `debug`
+abbrev pub debug_in : List Row → Option CommandLine
+debug_in rows = option_and_then (λ texts. option_map Debug (debug_words_in texts)) (all_of (codes "words") rows)
+
 -- the command of this name, with what was found for it
 unfoldable pub line_in : Text → List Row → Option CommandLine
 line_in name rows =
@@ -63,7 +68,8 @@ line_in name rows =
     else (if bytes_eq name (codes "run") then run_in rows
     else (if bytes_eq name (codes "one") then one_in rows
     else (if bytes_eq name (codes "check") then Some Check
-    else None))))
+    else (if bytes_eq name (codes "debug") then debug_in rows
+    else None)))))
 
 -- ---- the whole line
 

@@ -2,8 +2,8 @@
 
 ghost use Rattle.std.specs.Prelude.{◌≡◌, IfOk, IsOkAnd, false};
 ghost use Rattle.clap.specs.Words.{AddsSubcommand, new_app, rule_of};
-ghost use Rattle.rvmc_cli.specs.App.{StandsFor, app_named, asm_app, check_app, dis_app, flag, one_app, option};
-ghost use Rattle.rvmc_cli.specs.App.{run_app, runner_app, rvmc_app, top_app};
+ghost use Rattle.rvmc_cli.specs.App.{StandsFor, app_named, asm_app, check_app, debug_app, dis_app, flag, one_app};
+ghost use Rattle.rvmc_cli.specs.App.{option, run_app, runner_app, rvmc_app, texts, top_app};
 
 use clap::{Arg, ArgAction, Command};
 use std::alloc::{AllocError, Global};
@@ -19,6 +19,8 @@ Examples:
   rvmc run --source <hi.s     runs the source with a thread for each rank
   rvmc run --record <hi.image | rvmc check
                               checks each step that the threads took
+  rvmc debug go=2 regs=0,0 <hi.record
+                              shows the registers after two steps
 
 Status:
   0 done, 1 fault of the input, 2 fault of the command line, 3 a hart trapped,
@@ -102,6 +104,34 @@ Examples:
   rvmc one --record <hi.image >hi.record
   rvmc check <hi.record";
 
+const DEBUG_EXAMPLES: &str = "\
+The record is opened at its start, with no step done. The words are done one by
+one, each at the place where the one before it left off:
+
+  go=N             goes to the place with N steps done
+  step             goes one step on, if there is one
+  back             goes one step back, if there is one
+  run              goes on to the next break, or else to the end
+  place            stays
+  break=R,H,PC     lets `run` stop where hart H of rank R is next, at PC
+  break=R,H,NAME   the same at the address of the image's symbol
+  regs=R,H         shows how the hart is, and its registers
+  bytes=R,A,N      shows N bytes of rank R's memory from address A on
+  bytes=R,NAME,N   the same from the address of the image's symbol
+
+The first five print the place, as `at 2 of 10`. R and H are from 0 to 255, the
+other numbers up to 2^64-1; all are decimal, or hexadecimal behind `0x`.
+
+The words are read before the record is. A place, rank, hart, range or symbol
+that isn't there is a fault, as `rvmc: debug: PastEnd 10`, with status 1; the
+texts of the words before it are written.
+
+Examples:
+  rvmc one --record <hi.image >hi.record
+  rvmc debug go=2 regs=0,0 <hi.record
+  rvmc debug break=0,0,0x18 run run <hi.record
+  rvmc debug go=3 bytes=0,0xfff8,4 back bytes=0,0xfff8,4 <hi.record";
+
 /// `--name`.
 fn flag<'a>(alloc: Global, name: &'a str, help: &'a str) -> Arg<'a>
     ensures rule { rule_of result ≡ flag name.entry.now }
@@ -121,6 +151,18 @@ fn option<'a>(alloc: Global, name: &'a str, value: &'a str, help: &'a str) -> Ar
     Arg::new(alloc, name)
         .long(name)
         .value_name(value)
+        .help(help)
+}
+
+/// `VALUE..`, one or more.
+fn texts<'a>(alloc: Global, name: &'a str, value: &'a str, help: &'a str) -> Arg<'a>
+    ensures rule { rule_of result ≡ texts name.entry.now }
+    ensures local { result.global ≡ false }
+{
+    Arg::new(alloc, name)
+        .required(true)
+        .value_name(value)
+        .num_args(1..)
         .help(help)
 }
 
@@ -228,6 +270,18 @@ fn check<'a>(alloc: Global) -> Command<'a>
     )
 }
 
+fn debug<'a>(alloc: Global) -> Result<Command<'a>, AllocError>
+    ensures { IfOk result (StandsFor debug_app) }
+{
+    command(
+        alloc,
+        "debug",
+        "Walks through the record on standard input, forwards and back",
+        DEBUG_EXAMPLES,
+    )
+    .arg(texts(alloc, "words", "CMD", "What to do, and show, as go=2"))
+}
+
 fn top<'a>(alloc: Global) -> Result<Command<'a>, AllocError>
     ensures { IfOk result (StandsFor top_app) }
 {
@@ -261,7 +315,8 @@ pub fn rvmc<'a>(alloc: Global) -> Result<Command<'a>, AllocError>
     let command = command.subcommand(dis(alloc))?;
     let command = with_command(command, run(alloc))?;
     let command = with_command(command, one(alloc))?;
-    command.subcommand(check(alloc))
+    let command = command.subcommand(check(alloc))?;
+    with_command(command, debug(alloc))
 }
 
 /// The command of this name by itself, whose usage a refusal shows; any other name stands for the whole command line.
@@ -271,6 +326,7 @@ pub fn named<'a>(alloc: Global, name: &str) -> Result<Command<'a>, AllocError>
     match name {
         "run" => run(alloc)?.bin_name("rvmc run"),
         "one" => one(alloc)?.bin_name("rvmc one"),
+        "debug" => debug(alloc)?.bin_name("rvmc debug"),
         _ => rvmc(alloc),
     }
 }

@@ -3,16 +3,19 @@
 ghost use Rattle.std.specs.Prelude.{◌≡◌, IfOk, None, Ok, [], false, map, option_and_then, option_map};
 ghost use Rattle.std.specs.Prelude.{true};
 ghost use Rattle.clap.specs.Walk.{rows_of};
-ghost use Rattle.clap.specs.Words.{first_of, found_of, kind_of, subcommand_rows_of};
-ghost use Rattle.rvmc_cli.specs.Meaning.{Finds, IsRefusal, IsTold, Parses, Reads, Tells, budget_in, flag_in, line_in};
-ghost use Rattle.rvmc_cli.specs.Meaning.{lead_in, list_option, number_option, one_in, run_in};
+ghost use Rattle.clap.specs.Words.{all_of, first_of, found_of, kind_of, subcommand_rows_of};
+ghost use Rattle.rvmc_cli.specs.Meaning.{Finds, IsRefusal, IsTold, Parses, Reads, Tells, budget_in, debug_in, flag_in};
+ghost use Rattle.rvmc_cli.specs.Meaning.{lead_in, line_in, list_option, number_option, one_in, run_in};
 ghost use Rattle.rvmc_cli.specs.declared.parsing.Wrong.TheVariants as wrong;
 ghost use Rattle.rvmc_line.specs.declared.line.CommandLine.TheVariants.{One};
+ghost use Rattle.rvmc_line.specs.Debug.{debug_words_in};
 
 use crate::command;
 use clap::error::ErrorKind;
 use clap::{ArgMatches, Command};
-use rvmc_line::{CommandLine, Numbers, ParseFault, number_in, numbers_in};
+use rvmc_line::{
+    CommandLine, DebugWords, Numbers, ParseFault, debug_word_in, number_in, numbers_in,
+};
 use std::alloc::{AllocError, Global};
 use std::fmt;
 
@@ -35,6 +38,8 @@ enum Wrong<'a> {
         option: &'static str,
         text: &'a str,
     },
+    /// A text is no word of `debug`.
+    Word(&'a str),
 }
 
 impl From<AllocError> for Wrong<'_> {
@@ -62,6 +67,11 @@ impl fmt::Display for Wrong<'_> {
             Wrong::List { option, text } => write!(
                 f,
                 "'--{option}' takes numbers from 0 to 255 with one comma between them, as 0,1, not '{text}'"
+            ),
+            Wrong::Word(text) => write!(
+                f,
+                "a CMD is go=N, step, back, run, place, break=R,H,PC, break=R,H,NAME, regs=R,H, bytes=R,A,N \
+                 or bytes=R,NAME,N, with R and H from 0 to 255, not '{text}'"
             ),
         }
     }
@@ -167,6 +177,38 @@ fn one<'a>(alloc: Global, matches: &ArgMatches<'a>) -> Result<CommandLine, Wrong
     })
 }
 
+/// The texts that were given behind a command.
+fn texts<'m, 'a>(matches: &'m ArgMatches<'a>, name: &str) -> Option<&'m [&'a str]>
+    ensures { option_map (λ texts. map (λ text. text.now) texts.now) result
+        ≡ all_of name.now (rows_of (found_of matches.now)) }
+{
+    matches.get_strs(name)
+}
+
+/// The word of each text, up to the first that is none.
+fn words<'a>(alloc: Global, texts: &[&'a str]) -> Result<DebugWords, Wrong<'a>>
+    ensures { Finds (debug_words_in (map (λ text. text.now) texts.now)) result }
+{
+    let mut words = DebugWords::new(alloc);
+    for text in texts {
+        let Some(word) = debug_word_in(alloc, text)? else {
+            return Err(Wrong::Word(text));
+        };
+        words.push(word)?;
+    }
+    Ok(words)
+}
+
+fn debug<'a>(alloc: Global, matches: &ArgMatches<'a>) -> Result<CommandLine, Wrong<'a>>
+    ensures { Finds (debug_in (rows_of (found_of matches.now))) result }
+{
+    let Some(texts) = texts(matches, "words") else {
+        return Err(Wrong::Command);
+    };
+    let words = words(alloc, texts)?;
+    Ok(CommandLine::Debug { words })
+}
+
 /// The command line of the command that clap found.
 #[tactic(auto, unfolding(crate::specs::Meaning::line_in))]
 fn line<'a>(alloc: Global, name: &str, matches: &ArgMatches<'a>) -> Result<CommandLine, Wrong<'a>>
@@ -188,6 +230,9 @@ fn line<'a>(alloc: Global, name: &str, matches: &ArgMatches<'a>) -> Result<Comma
     }
     if name == "check" {
         return Ok(CommandLine::Check);
+    }
+    if name == "debug" {
+        return debug(alloc, matches);
     }
     Err(Wrong::Command)
 }
@@ -255,7 +300,7 @@ fn told(alloc: Global, matches: &ArgMatches<'_>) -> Result<CommandLine, ParseFau
 /// What the words after the program's name ask for. Without words it is `one --source`.
 ///
 /// `Asked` comes where the words ask for help or the version, `Refused` where clap doesn't take them,
-/// a number is out of its range or a list is none, and `Memory` where memory was refused, whatever the
+/// a number is out of its range, a list is none or a word of `debug` is none, and `Memory` where memory was refused, whatever the
 /// words, unless there are none.
 pub fn parse<'a>(alloc: Global, words: &'a [&'a str]) -> Result<CommandLine, ParseFault>
     ensures parsed { Parses (map (λ w. w.now) words.entry.now) result }

@@ -8,4 +8,5 @@ returns c =
     let dis = with_command _ _ _ _ _ asm c.dis.ensures c.in_ok-command-2.ensures in
     let run = with_built _ _ _ _ _ dis c.run.ensures c.in_ok-command-3.ensures in
     let one = with_built _ _ _ _ _ run c.one.ensures c.in_ok-command-4.ensures in
-    IfOk-weaker c.subcommand-2.result _ _ (λ new adds. with_command _ _ _ _ new one c.check.ensures adds) c.subcommand-2.ensures
+    let check = with_command _ _ _ _ _ one c.check.ensures c.in_ok-command-5.ensures in
+    IfOk-weaker c.with_command-4.result _ _ (λ new is. with_built _ _ _ new _ check c.debug.ensures is) c.with_command-4.ensures
