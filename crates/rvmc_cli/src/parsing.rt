@@ -300,8 +300,8 @@ fn told(alloc: Global, matches: &ArgMatches<'_>) -> Result<CommandLine, ParseFau
 /// What the words after the program's name ask for. Without words it is `one --source`.
 ///
 /// `Asked` comes where the words ask for help or the version, `Refused` where clap doesn't take them,
-/// a number is out of its range, a list is none or a word of `debug` is none, and `Memory` where memory was refused, whatever the
-/// words, unless there are none.
+/// a number is out of its range, a list is none or a word of `debug` is none, and `Memory` where memory
+/// was refused, whatever the words, unless there are none.
 pub fn parse<'a>(alloc: Global, words: &'a [&'a str]) -> Result<CommandLine, ParseFault>
     ensures parsed { Parses (map (λ w. w.now) words.entry.now) result }
     ensures none { words.entry.now ≡ [] → result ≡ Ok (One true 1000000 None None false) }

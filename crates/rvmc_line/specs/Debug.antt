@@ -73,7 +73,8 @@ word_with name arguments =
     else (if bytes_eq name (codes "bytes") then bytes_in arguments
     else None)))
 
--- what stands before, between and behind the equals signs: a word alone, or a word and its arguments with commas between
+-- what stands before, between and behind the equals signs: a word alone, or a word and its arguments with commas
+-- between them
 abbrev pub word_of : List (List ℕ) → Option DebugWord
 word_of (name ∷ []) = bare_word name
 word_of (name ∷ arguments ∷ []) = word_with name (slice_split (λ byte. byte == 44) arguments)

@@ -73,7 +73,8 @@ pub bytes_at_a_name : Reads (codes "bytes=1,_start.$9Z,0") (Some (Bytes 1 (Name 
 unfolding debug_word_in bare_word word_with spot_in any_number_in
 bytes_at_a_name = refl
 
-pub a_name_of_32_bytes : Reads (codes "bytes=0,abcdefghijklmnopqrstuvwxyz012345,1") (Some (Bytes 0 (Name (codes "abcdefghijklmnopqrstuvwxyz012345")) 1))
+pub a_name_of_32_bytes : Reads (codes "bytes=0,abcdefghijklmnopqrstuvwxyz012345,1")
+    (Some (Bytes 0 (Name (codes "abcdefghijklmnopqrstuvwxyz012345")) 1))
 unfolding debug_word_in bare_word word_with spot_in any_number_in
 a_name_of_32_bytes = refl
 

@@ -3,8 +3,8 @@
 ghost use Rattle.std.specs.Prelude.{◌≡◌, ◌++◌, ◌∷◌, [], IfOk, OnErr, OnOk, map};
 ghost use Rattle.std.specs.List.{list_all};
 ghost use Rattle.rv_image.specs.Names as names;
-ghost use Rattle.rvmc_line.specs.Debug.{bare_word, break_in, bytes_in, debug_word_in, go_in, index_in, is_name, regs_in};
-ghost use Rattle.rvmc_line.specs.Debug.{spot_in, word_in, word_of, word_with};
+ghost use Rattle.rvmc_line.specs.Debug.{bare_word, break_in, bytes_in, debug_word_in, go_in, index_in, is_name};
+ghost use Rattle.rvmc_line.specs.Debug.{regs_in, spot_in, word_in, word_of, word_with};
 
 use crate::list::parts;
 use crate::number::any_number_in;
