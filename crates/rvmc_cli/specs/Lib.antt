@@ -1,2 +1,3 @@
 pub mod App
 pub mod Meaning
+pub mod Worked

@@ -1,0 +1,33 @@
+-- Worked command lines of `debug`: what they ask for, and why others ask for nothing.
+use Rattle.std.specs.Prelude.{◌≡◌, [], ◌∷◌, Some, None, codes, refl}
+use Rattle.clap.specs.declared.error.kind.ErrorKind.TheVariants as kind
+use Rattle.clap.proofs.OnLiterals.{clap_on_literals}
+use Rattle.rvmc_cli.specs.Meaning.{command_in, faults_in, line_in, meaning_of, refusals_of}
+use Rattle.rvmc_line.specs.Debug.{bare_word, debug_word_in, spot_in, word_with}
+use Rattle.rvmc_line.specs.Number.{any_number_in}
+use Rattle.rvmc_line.specs.declared.debug.DebugWord.TheVariants.{Back, Go, Regs}
+use Rattle.rvmc_line.specs.declared.line.CommandLine.TheVariants.{Debug}
+
+-- the words come in their order
+pub words_in_order : meaning_of (codes "debug" ∷ codes "go=2" ∷ codes "regs=0,1" ∷ codes "back" ∷ [])
+    ≡ Some (Debug (Go 2 ∷ Regs 0 1 ∷ Back ∷ []))
+unfolding faults_in command_in line_in clap_on_literals debug_word_in bare_word word_with spot_in any_number_in
+words_in_order = refl
+
+-- one word or more is wanted
+pub no_word : meaning_of (codes "debug" ∷ []) ≡ None
+unfolding faults_in command_in line_in clap_on_literals
+no_word = refl
+
+pub why_no_word : refusals_of (codes "debug" ∷ []) ≡ kind.MissingRequiredArgument ∷ []
+unfolding faults_in clap_on_literals
+why_no_word = refl
+
+-- a text that is no word, behind one that is
+pub a_wrong_word : meaning_of (codes "debug" ∷ codes "back" ∷ codes "step=1" ∷ []) ≡ None
+unfolding faults_in command_in line_in clap_on_literals debug_word_in bare_word word_with
+a_wrong_word = refl
+
+pub why_a_wrong_word : refusals_of (codes "debug" ∷ codes "back" ∷ codes "step=1" ∷ []) ≡ kind.ValueValidation ∷ []
+unfolding faults_in clap_on_literals
+why_a_wrong_word = refl
