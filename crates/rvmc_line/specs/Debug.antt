@@ -17,42 +17,42 @@ is_name text = nat_lt 0 (length text) && (list_all is_name_byte text && not (beg
 -- ---- what an argument writes
 
 -- the number of a rank or of a hart
-abbrev pub index_in : List ℕ → Option ℕ
-index_in text = any_number_in 255 text
+abbrev pub small_number_in : List ℕ → Option ℕ
+small_number_in text = any_number_in 255 text
 
 -- a number of 64 bits
-abbrev pub word_in : List ℕ → Option ℕ
-word_in text = any_number_in 18446744073709551615 text
+abbrev pub large_number_in : List ℕ → Option ℕ
+large_number_in text = any_number_in 18446744073709551615 text
 
 -- a name, or the number of an address
 unfoldable pub spot_in : List ℕ → Option Spot
-spot_in text = if is_name text then Some (Name text) else option_map Address (word_in text)
+spot_in text = if is_name text then Some (Name text) else option_map Address (large_number_in text)
 
 -- ---- each word, by its arguments
 
 -- `go=N`
 abbrev pub go_in : List (List ℕ) → Option DebugWord
-go_in (n ∷ []) = option_map Go (word_in n)
+go_in (n ∷ []) = option_map Go (large_number_in n)
 go_in others = None
 
 -- `break=R,H,PC` and `break=R,H,NAME`
 abbrev pub break_in : List (List ℕ) → Option DebugWord
 break_in (r ∷ h ∷ at ∷ []) =
     option_and_then (λ rank. option_and_then (λ hart. option_map (λ spot. Break rank hart spot)
-    (spot_in at)) (index_in h)) (index_in r)
+    (spot_in at)) (small_number_in h)) (small_number_in r)
 break_in others = None
 
 -- `regs=R,H`
 abbrev pub regs_in : List (List ℕ) → Option DebugWord
 regs_in (r ∷ h ∷ []) =
-    option_and_then (λ rank. option_map (λ hart. Regs rank hart) (index_in h)) (index_in r)
+    option_and_then (λ rank. option_map (λ hart. Regs rank hart) (small_number_in h)) (small_number_in r)
 regs_in others = None
 
 -- `bytes=R,A,N` and `bytes=R,NAME,N`
 abbrev pub bytes_in : List (List ℕ) → Option DebugWord
 bytes_in (r ∷ at ∷ n ∷ []) =
     option_and_then (λ rank. option_and_then (λ spot. option_map (λ count. Bytes rank spot count)
-    (word_in n)) (spot_in at)) (index_in r)
+    (large_number_in n)) (spot_in at)) (small_number_in r)
 bytes_in others = None
 
 -- a word that stands alone

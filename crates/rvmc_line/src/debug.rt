@@ -3,8 +3,8 @@
 ghost use Rattle.std.specs.Prelude.{◌≡◌, ◌++◌, ◌∷◌, [], IfOk, OnErr, OnOk, map};
 ghost use Rattle.std.specs.List.{list_all};
 ghost use Rattle.rv_image.specs.Names as names;
-ghost use Rattle.rvmc_line.specs.Debug.{bare_word, break_in, bytes_in, debug_word_in, go_in, index_in, is_name};
-ghost use Rattle.rvmc_line.specs.Debug.{regs_in, spot_in, word_in, word_of, word_with};
+ghost use Rattle.rvmc_line.specs.Debug.{bare_word, break_in, bytes_in, debug_word_in, go_in, is_name, large_number_in};
+ghost use Rattle.rvmc_line.specs.Debug.{regs_in, small_number_in, spot_in, word_of, word_with};
 
 use crate::list::parts;
 use crate::number::any_number_in;
@@ -34,8 +34,8 @@ impl Name {
     }
 }
 
-/// A place in a rank's memory or text: an address, or the name of the symbol there. Whether there is such a place, or a
-/// symbol of this name, is not known here.
+/// Where something stands in a rank's memory: an address, or the name of the symbol there. Whether the memory reaches so
+/// far, or has a symbol of this name, is not known here.
 #[derive(Drop)]
 pub enum Spot {
     Address(u64),
@@ -130,16 +130,16 @@ fn is_name(text: &str) -> bool
 }
 
 /// The number of a rank or of a hart.
-fn index_in(text: &str) -> Option<u8>
-    ensures { result ≡ index_in text.now }
+fn small_number_in(text: &str) -> Option<u8>
+    ensures { result ≡ small_number_in text.now }
 {
     let number = any_number_in(255, text)?;
     Some(number as u8)
 }
 
 /// A number of 64 bits.
-fn word_in(text: &str) -> Option<u64>
-    ensures { result ≡ word_in text.now }
+fn large_number_in(text: &str) -> Option<u64>
+    ensures { result ≡ large_number_in text.now }
 {
     any_number_in(u64::MAX, text)
 }
@@ -153,7 +153,7 @@ fn spot_in(alloc: Global, text: &str) -> Result<Option<Spot>, AllocError>
         let text = text.to_string(alloc)?;
         return Ok(Some(Spot::Name(Name { text })));
     }
-    let Some(address) = word_in(text) else {
+    let Some(address) = large_number_in(text) else {
         return Ok(None);
     };
     Ok(Some(Spot::Address(address)))
@@ -165,7 +165,7 @@ fn go_in(arguments: &[&str]) -> Option<DebugWord>
     let [n] = arguments else {
         return None;
     };
-    Some(DebugWord::Go(word_in(n)?))
+    Some(DebugWord::Go(large_number_in(n)?))
 }
 
 fn break_in(alloc: Global, arguments: &[&str]) -> Result<Option<DebugWord>, AllocError>
@@ -174,7 +174,7 @@ fn break_in(alloc: Global, arguments: &[&str]) -> Result<Option<DebugWord>, Allo
     let [r, h, at] = arguments else {
         return Ok(None);
     };
-    let (Some(rank), Some(hart)) = (index_in(r), index_in(h)) else {
+    let (Some(rank), Some(hart)) = (small_number_in(r), small_number_in(h)) else {
         return Ok(None);
     };
     let Some(at) = spot_in(alloc, at)? else {
@@ -189,8 +189,8 @@ fn regs_in(arguments: &[&str]) -> Option<DebugWord>
     let [r, h] = arguments else {
         return None;
     };
-    let rank = index_in(r)?;
-    let hart = index_in(h)?;
+    let rank = small_number_in(r)?;
+    let hart = small_number_in(h)?;
     Some(DebugWord::Regs { rank, hart })
 }
 
@@ -200,7 +200,7 @@ fn bytes_in(alloc: Global, arguments: &[&str]) -> Result<Option<DebugWord>, Allo
     let [r, at, n] = arguments else {
         return Ok(None);
     };
-    let (Some(rank), Some(count)) = (index_in(r), word_in(n)) else {
+    let (Some(rank), Some(count)) = (small_number_in(r), large_number_in(n)) else {
         return Ok(None);
     };
     let Some(at) = spot_in(alloc, at)? else {

@@ -1,4 +1,5 @@
-//! The plain types of the command line: what it asks for, why there is none, and the numbers and lists in it.
+//! The plain types of the command line: what it asks for, why there is none, and the numbers, lists and words of `debug`
+//! in it.
 #![tactic(auto)]
 
 mod debug;
