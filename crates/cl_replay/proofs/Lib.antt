@@ -7,3 +7,4 @@ pub mod Runs
 pub mod Spells
 pub mod Records
 pub mod Verdicts
+pub mod Same

@@ -1,6 +1,6 @@
 //! A call of the hub, as a step.
 
-ghost use Rattle.std.specs.Prelude.{◌≡◌, ◌<◌, ◌^◌, List, IfErr, OnOk, vec_len};
+ghost use Rattle.std.specs.Prelude.{◌≡◌, ◌<◌, ◌^◌, Err, List, IfErr, OnOk, vec_len};
 ghost use Rattle.rv_image.specs.declared.images.Link.{Link};
 ghost use Rattle.mp_hub.specs.Hub.{Call};
 ghost use Rattle.cl_state.specs.Room.{rank_of};
@@ -27,6 +27,8 @@ pub(crate) fn call(
     ensures calls { OnOk result ((links : List Link) (calls : List Call) → HasCalls hub.old clock links calls
         → Calls (rank_of state.old) hub.old clock step.now reply.now (rank_of state.new) hub.new links calls) }
     ensures fault { IfErr result (CallFault (rank_of state.old) hub.old clock step.now reply.now) }
+    ensures same_rank { result ≡ Err StepFault.Memory → rank_of state.new ≡ rank_of state.old }
+    ensures same_hub { result ≡ Err StepFault.Memory → hub.new ≡ hub.old }
 {
     let hart = step.hart();
     let doing = state.next(hart);

@@ -1,6 +1,6 @@
 //! Why there was no step.
 
-/// Why a step wasn't done. The state may then be anything.
+/// Why a step wasn't done. Where memory was refused the cluster is as it was; else the state may be anything.
 #[derive(Clone, Copy, PartialEq, Eq, Drop, Debug)]
 pub enum StepFault {
     /// 1: the machine has no such step from here.

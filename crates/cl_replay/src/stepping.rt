@@ -1,6 +1,7 @@
 //! One step of a cluster.
 
 ghost use Rattle.std.specs.Prelude.{◌≡◌, IfErr, IsFalse, IsTrue, OnErr, OnOk, Err};
+ghost use Rattle.cl_replay.specs.States.{AreSame};
 ghost use Rattle.cl_replay.specs.Steps.{Leads, StepFaultHolds};
 
 use crate::calls::call;
@@ -34,10 +35,11 @@ impl ClusterState {
     ///
     /// Refusals: NotAStep just where the machine has no such step; Memory where a local step puts
     /// bytes behind the output, or a call of the hub carries or makes something, and in no step of
-    /// another kind. After a refusal the state may be anything.
+    /// another kind, and then the cluster is as it was. After NotAStep the state may be anything.
     pub fn step(&mut self, step: &Step) -> Result<(), StepFault>
         ensures leads { OnOk result (Leads self.old step.now self.new) }
         ensures fault { IfErr result (StepFaultHolds self.old step.now) }
+        ensures same { result ≡ Err StepFault.Memory → AreSame self.old self.new }
     {
         let rank = usize::from(step.rank());
         if rank >= self.ranks.len() || step.stamp() > CLOCK_MAX {

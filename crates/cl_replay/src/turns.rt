@@ -1,6 +1,6 @@
 //! One rank's part of a step, with the box that the step touches.
 
-ghost use Rattle.std.specs.Prelude.{◌≡◌, ◌<◌, ◌+◌, ◌↔◌, ◌^◌, IsFalse, IsTrue, MatchResult, max, vec_len, Some};
+ghost use Rattle.std.specs.Prelude.{◌≡◌, ◌<◌, ◌+◌, ◌↔◌, ◌^◌, Err, IsFalse, IsTrue, MatchResult, max, vec_len, Some};
 ghost use Rattle.cl_state.specs.declared.asking.Ask.TheVariants as ask;
 ghost use Rattle.cl_state.specs.declared.asking.Answer.TheVariants as answer;
 ghost use Rattle.cl_state.specs.Right.{growth_of};
@@ -75,10 +75,11 @@ fn is_quiet(kind: Bare, ask: &Ask) -> bool
 /// A step that touches its rank alone, and is no instruction.
 pub(crate) fn quiet(state: &mut RankState, step: &Step) -> Result<(), StepFault>
     requires { step.now.hart < vec_len state.old.harts }
-    ensures { MatchResult result
+    ensures found { MatchResult result
         (λ _. IsQuiet (rank_of state.old) step.now
         × IsTold (rank_of state.old) step.now answer.Alone (rank_of state.new))
         (QuietFault (rank_of state.old) step.now) }
+    ensures same { result ≡ Err StepFault.Memory → rank_of state.new ≡ rank_of state.old }
 {
     let hart = step.hart();
     let doing = state.next(hart);

@@ -7,8 +7,8 @@ use Rattle.cl_state.specs.Room.{rank_of}
 use Rattle.cl_replay.proofs.Asks.{quiet_grows}
 use Rattle.cl_replay.proofs.turns.quiet.Goals as goal
 
-pub returns-in-Err : goal.returns-in-Err
-returns-in-Err c =
+pub returns-in-Err-clause-found : goal.returns-in-Err-clause-found
+returns-in-Err-clause-found c =
     let rank = rank_of c.args.state.now in
     let kind = sym c.kind.ensures ∙ ap kind_seen c.in-Bare.is in
     let grown = quiet_grows rank c.hart-hart.result c.next-doing.result c.next-doing.ensures.spelled c.in-Ok.ask

@@ -10,6 +10,7 @@ use Rattle.cl_replay.proofs.ByKind.{at_step, call_fault, call_leads, changed_ite
 use Rattle.cl_replay.proofs.ByKind.{freed_nowhere}
 use Rattle.cl_replay.proofs.ByKind.{matched_err, matched_ok, miss_leads, miss_nowhere, plain_leads, plain_nowhere}
 use Rattle.cl_replay.proofs.ByKind.{quiet_fault, quiet_leads, ready_leads, ready_nowhere, take_leads, take_nowhere}
+use Rattle.cl_replay.proofs.Same.{same_but_rank}
 use Rattle.cl_replay.proofs.states.ClusterState.step.Goals as goal
 
 pub returns-in-Plain-clause-leads : goal.returns-in-Plain-clause-leads
@@ -228,7 +229,7 @@ returns-in-Local-clause-leads c =
       boxes = old.boxes;
     } in
     let ranks = ap (λ i. slice_set old.ranks.items i c.quiet.new.state) rank in
-    matched_ok c.quiet.result _ _ c.quiet.ensures (λ _ q.
+    matched_ok c.quiet.result _ _ c.quiet.ensures.found (λ _ q.
     quiet_leads old e s here.there new c.quiet.new.state here.hart here.low ranks refl refl refl e.kind refl q.0 q.1)
 
 pub returns-in-Local-clause-fault : goal.returns-in-Local-clause-fault
@@ -242,7 +243,7 @@ returns-in-Local-clause-fault c =
     let here = at_step old e c.from-rank.result c.len.result c.from.result c.len-2.result s rank c.len.ensures
     c.if-rank-len.false low c.index_mut-state.ensures.value (c.from.ensures ∙ c.hart.ensures) c.len-2.ensures
     c.if-from-len.false in
-    matched_err c.quiet.result _ _ _ c.quiet.ensures (quiet_fault old e s here
+    matched_err c.quiet.result _ _ _ c.quiet.ensures.found (quiet_fault old e s here
     (⊎_elim (λ l. inl (kind ∙ ap kind_of_bare l))
     (λ rest. ⊎_elim (λ h. inr (inl (kind ∙ ap kind_of_bare h))) (λ i. inr (inr (kind ∙ ap kind_of_bare i))) rest)
     c.in-Local.is))
@@ -280,3 +281,27 @@ returns-in-Err-clause-fault c =
     c.if-from-len.false in
     call_fault old e s here c.in-Hub.reply.now (sym c.kind.ensures ∙ ap kind_seen c.in-Hub.is) c.in-Err.fault
     c.in-Err.ensures.fault
+
+pub returns-in-Local-clause-same : goal.returns-in-Local-clause-same
+returns-in-Local-clause-same c = λ refused.
+    let old = c.args.self.now in
+    let new : ClusterState = record {
+      ranks = with_item old.ranks c.from-rank.result c.quiet.new.state;
+      hub = old.hub;
+      clock = old.clock;
+      boxes = old.boxes;
+    } in
+    same_but_rank old new c.from-rank.result c.index_mut-state.result.now c.quiet.new.state
+    c.index_mut-state.ensures.value (c.quiet.ensures.same refused) refl refl refl refl
+
+pub returns-in-Err-clause-same : goal.returns-in-Err-clause-same
+returns-in-Err-clause-same c = λ refused.
+    let old = c.args.self.now in
+    let new : ClusterState = record {
+      ranks = with_item old.ranks c.from-rank.result c.call.new.state;
+      hub = c.call.new.hub;
+      clock = old.clock;
+      boxes = old.boxes;
+    } in
+    same_but_rank old new c.from-rank.result c.index_mut-state.result.now c.call.new.state
+    c.index_mut-state.ensures.value (c.in-Err.ensures.same_rank refused) refl (c.in-Err.ensures.same_hub refused) refl refl

@@ -1,0 +1,35 @@
+-- A cluster whose parts are as they were.
+use Rattle.std.specs.Prelude.{ℕ, ◌≡◌, map, slice_set}
+use Rattle.std.specs.Vec.{with_item}
+use Rattle.std.proofs.Common.{ap, get_or, subst, sym, ◌∙◌}
+use Rattle.std.proofs.Math.Seq.{map-set_same}
+use Rattle.rv_image.specs.declared.images.ImageParts.{ImageParts}
+use Rattle.mp_hub.specs.Hub.{StandsFor as HubStandsFor}
+use Rattle.cl_record.specs.Keys.{ShowsAll}
+use Rattle.cl_state.specs.Room.{rank_of}
+use Rattle.cl_state.specs.declared.state.RankState.{RankState}
+use Rattle.cl_machine.specs.Cluster.{Cluster}
+use Rattle.cl_machine.specs.Journal.{calls_of}
+use Rattle.cl_replay.specs.States.{AreSame, StandsAlike, StandsFor}
+use Rattle.cl_replay.specs.declared.states.ClusterState.{ClusterState}
+
+-- one rank is another in memory, and the same to those who look
+pub same_but_rank : (old new : ClusterState) (i : ℕ) (s t : RankState) → s ≡ get_or old.ranks.items i s
+    → rank_of t ≡ rank_of s → new.ranks ≡ with_item old.ranks i t → new.hub ≡ old.hub → new.clock ≡ old.clock
+    → new.boxes ≡ old.boxes → AreSame old new
+same_but_rank old new i s t value same ranks hub clock boxes = record {
+  ranks = ap (λ r. map rank_of r.items) ranks ∙ map-set_same rank_of old.ranks.items i t s (same ∙ ap rank_of value);
+  hub = hub;
+  clock = clock;
+  boxes = ap (λ b. b.items) boxes;
+}
+
+-- whichever cluster the one is, the other is that too
+pub same_stands : (one other : ClusterState) → AreSame one other → StandsAlike one other
+same_stands one other same image cluster stands = record {
+  of = stands.of;
+  ranks_are = stands.ranks_are ∙ sym same.ranks;
+  hub_stands = subst (λ hub. HubStandsFor hub image.links (calls_of cluster.journal.entries)) (sym same.hub) stands.hub_stands;
+  clock_is = same.clock ∙ stands.clock_is;
+  boxes_show = subst (λ boxes. ShowsAll image boxes cluster.boxes) (sym same.boxes) stands.boxes_show;
+}
