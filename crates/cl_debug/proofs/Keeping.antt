@@ -83,6 +83,7 @@ module _ (image : ImageParts) (steps : List Step) (spacing k : ℕ) (kept : List
   kept_fault to DebugFault.NoRank h = absurd h
   kept_fault to DebugFault.NoHart h = absurd h
   kept_fault to DebugFault.Range h = absurd h
+  kept_fault to DebugFault.NoSymbol h = absurd h
 
 module _ (image : ImageParts) (steps : List Step) (spacing : ℕ) (kept : List ClusterState) (state : ClusterState)
     (positive : 0 < spacing) (all : KeptSoFar image steps spacing (multiples spacing (length steps)) kept state) where

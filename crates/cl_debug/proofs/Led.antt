@@ -40,6 +40,7 @@ copy_fault steps from state copy to alike (DebugFault.PastEnd n) h = absurd h
 copy_fault steps from state copy to alike DebugFault.NoRank h = absurd h
 copy_fault steps from state copy to alike DebugFault.NoHart h = absurd h
 copy_fault steps from state copy to alike DebugFault.Range h = absurd h
+copy_fault steps from state copy to alike DebugFault.NoSymbol h = absurd h
 
 -- where the steps are a run, none of them is refused
 pub only_memory : (image : ImageParts) (steps : List Step) (from : ℕ) (state : ClusterState) (to : ℕ)
@@ -53,3 +54,4 @@ only_memory image steps from state to run reached within (DebugFault.PastEnd n) 
 only_memory image steps from state to run reached within DebugFault.NoRank h = absurd h
 only_memory image steps from state to run reached within DebugFault.NoHart h = absurd h
 only_memory image steps from state to run reached within DebugFault.Range h = absurd h
+only_memory image steps from state to run reached within DebugFault.NoSymbol h = absurd h

@@ -88,6 +88,7 @@ module _ (steps : List Step) (breaks : List Break) (from : ℕ) (old : ClusterSt
   ran_fault within DebugFault.NoRank h = absurd h
   ran_fault within DebugFault.NoHart h = absurd h
   ran_fault within DebugFault.Range h = absurd h
+  ran_fault within DebugFault.NoSymbol h = absurd h
 
 -- a run stops inside the record
 pub stop_inside : (image : ImageParts) (steps : List Step) (breaks : List Break) (from to : ℕ)

@@ -1,6 +1,6 @@
 //! The debugger, and what it tells of itself.
 
-ghost use Rattle.std.specs.Prelude.{◌≡◌, ◌≤◌, [], length, IfErr, IfNone, IfOk, IfSome};
+ghost use Rattle.std.specs.Prelude.{◌≡◌, ◌≤◌, [], length, IfErr, IfNone, IfOk, IfSome, OnOk};
 ghost use Rattle.cl_replay.specs.Replays.{IsReached, IsRunUpTo};
 ghost use Rattle.cl_debug.specs.Faults.{OpenFaultHolds};
 ghost use Rattle.cl_debug.specs.Shown.{HasNoSymbol, IsSymbolOf};
@@ -50,6 +50,7 @@ impl Debugger {
     pub fn open(alloc: Global, image: Image, steps: Vec<Step>) -> Result<Debugger, DebugFault>
         ensures opened { IfOk result
             (λ debugger. debugger ≡ record { image = image; steps = steps.items; place = 0; breaks = [] }) }
+        ensures run { OnOk result (IsRunUpTo image steps.items (length steps.items)) }
         ensures fault { IfErr result (OpenFaultHolds image steps.items) }
     {
         let spacing = spacing_for(steps.len() as u64);

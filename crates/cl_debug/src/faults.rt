@@ -28,6 +28,10 @@ pub enum DebugFault {
     /// number, from 0.
     #[error("NotARun {0}")]
     NotARun(u64),
+    /// 7: the image has no symbol of this name. The debugger's own calls take addresses: it is told by those that look
+    /// a name up by `Debugger::symbol`.
+    #[error("NoSymbol")]
+    NoSymbol,
 }
 
 impl From<AllocError> for DebugFault {

@@ -9,6 +9,7 @@ ghost use Rattle.cl_debug.specs.Moves.{MovedBack, MovedOn, RanOn};
 use crate::breaks::run_on;
 use crate::debugging::Debugger;
 use crate::faults::DebugFault;
+use cl_replay::StepFault;
 
 impl Debugger {
     /// Goes to a place: so many steps from the start. PastEnd where there are fewer, else Memory. After a refusal the
@@ -31,8 +32,8 @@ impl Debugger {
         Ok(())
     }
 
-    /// One step on: false at the end, and the debugger stays there, which takes no memory. The only error is want of
-    /// memory, and then the debugger is as it was.
+    /// One step on: false at the end, and the debugger stays there, which takes no memory. No state is copied: it costs
+    /// what the step itself does. The only error is want of memory, and then the debugger is as it was.
     pub fn step(&mut self) -> Result<bool, DebugFault>
         ensures moved { IfOk result (λ moved. MovedOn self.old moved self.new) }
         ensures end { self.old.place ≡ length self.old.steps → result ≡ Ok false }
@@ -42,11 +43,14 @@ impl Debugger {
         if self.place >= self.steps.len() as u64 {
             return Ok(false);
         }
-        let next = self.place + 1;
-        let state = self.led(&self.state, self.place, next)?;
-        self.state = state;
-        self.place = next;
-        Ok(true)
+        match self.state.step(&self.steps[self.place as usize]) {
+            Ok(()) => {
+                self.place += 1;
+                Ok(true)
+            }
+            Err(StepFault::NotAStep) => unreachable!(),
+            Err(StepFault::Memory) => Err(DebugFault::Memory),
+        }
     }
 
     /// One step back: false at the start, and the debugger stays there, which takes no memory. The only error is want of
