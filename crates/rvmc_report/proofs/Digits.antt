@@ -1,15 +1,15 @@
--- Eight hex digits, and the lines of a listing.
+-- Hex digits behind zeros, and lines, one more at a time.
 use Rattle.std.proofs.Common.{◌≡◌, ◌∙◌, ℕ, zero, suc, ◌+◌, ◌-◌, ◌^◌, List, [], ◌∷◌, ◌++◌, length, replicate, ap, refl, false, append-nil, add-zero, arith}
 use Rattle.std.specs.Fmt.{char_count, format_spec, padded_integral}
 use Rattle.std.specs.List.{flat_map, range_with_len}
 use Rattle.std.proofs.lemmas.Grind.{flat_map-append}
 
--- what a number writes that is padded to eight digits by zeros
-pub padded_by_zeros : (ds : List ℕ) → padded_integral (format_spec 32 0 4 8 (2 ^ 64 - 1)) false [] ds ≡ replicate (8 - length ds) 48 ++ ds
+-- what a number writes that is padded to a width by zeros
+pub padded_by_zeros : (width : ℕ) (ds : List ℕ) → padded_integral (format_spec 32 0 4 width (2 ^ 64 - 1)) false [] ds ≡ replicate (width - length ds) 48 ++ ds
 unfolding padded_integral char_count
-padded_by_zeros ds =
-    let none : 8 - length ds - 0 - 0 ≡ 8 - length ds = omega arith in
-    ap (λ k. replicate k 48 ++ (ds ++ [])) none ∙ ap (λ rest. replicate (8 - length ds) 48 ++ rest) (append-nil ds)
+padded_by_zeros width ds =
+    let none : width - length ds - 0 - 0 ≡ width - length ds = omega arith in
+    ap (λ k. replicate k 48 ++ (ds ++ [])) none ∙ ap (λ rest. replicate (width - length ds) 48 ++ rest) (append-nil ds)
 
 range-more : (a n : ℕ) → range_with_len a (n + 1) ≡ range_with_len a n ++ (a + n) ∷ []
 range-more a zero = simp (add-zero) refl

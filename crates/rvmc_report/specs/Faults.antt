@@ -1,5 +1,7 @@
 -- The faults of the program.
 use Rattle.std.specs.Prelude.{ℕ}
+use Rattle.cl_debug.specs.declared.faults.DebugFault.{DebugFault}
+use Rattle.cl_debug.specs.declared.faults.DebugFault.TheVariants as debug
 use Rattle.cl_record.specs.declared.records.RunFault.{RunFault}
 use Rattle.cl_record.specs.declared.records.RunFault.TheVariants as run
 use Rattle.cl_text.specs.declared.faults.RecordFault.{RecordFault}
@@ -10,7 +12,7 @@ use Rattle.rv_asm_tokens.specs.declared.fault.AsmFaultKind.TheVariants as kinds
 use Rattle.rv_image.specs.declared.faults.ImageFault.{ImageFault}
 use Rattle.rv_image.specs.declared.faults.ImageFault.TheVariants as image
 use Rattle.rvmc_report.specs.declared.faults.Fault.{Fault}
-use Rattle.rvmc_report.specs.declared.faults.Fault.TheVariants.{Source, Image, Record, Plans, Unlike}
+use Rattle.rvmc_report.specs.declared.faults.Fault.TheVariants.{Source, Image, Record, Plans, Unlike, Debug}
 use Rattle.rvmc_report.specs.declared.faults.Fault.TheVariants.{Memory, Spawn, Read, Write}
 
 -- 1 for a fault of the input, 5 for memory or a thread, 6 for reads and writes
@@ -20,6 +22,7 @@ fault_status (Image fault) = 1
 fault_status (Record fault) = 1
 fault_status Plans = 1
 fault_status (Unlike rank place) = 1
+fault_status (Debug fault) = 1
 fault_status Memory = 5
 fault_status Spawn = 5
 fault_status Read = 6
@@ -46,3 +49,7 @@ fault_of_run run.Plans = Plans
 fault_of_run run.Memory = Memory
 fault_of_run run.Spawn = Spawn
 fault_of_run (run.Unlike rank place) = Unlike rank place
+
+abbrev pub fault_of_debug : DebugFault → Fault
+fault_of_debug debug.Memory = Memory
+fault_of_debug fault = Debug fault

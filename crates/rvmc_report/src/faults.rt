@@ -2,9 +2,10 @@
 
 ghost use Rattle.std.specs.Prelude.{◌≡◌};
 ghost use Rattle.rvmc_report.specs.Faults.{fault_of_image, fault_of_record, fault_of_run, fault_of_source};
-ghost use Rattle.rvmc_report.specs.Faults.{fault_status};
+ghost use Rattle.rvmc_report.specs.Faults.{fault_of_debug, fault_status};
 ghost use Rattle.rvmc_report.specs.declared.faults.Fault.TheVariants as faults;
 
+use cl_debug::DebugFault;
 use cl_record::RunFault;
 use cl_text::RecordFault;
 use rv_asm::{AsmFault, AsmFaultKind};
@@ -30,6 +31,9 @@ pub enum Fault {
     /// What the threads of a run left doesn't fit together.
     #[error("unlike {rank} {place}")]
     Unlike { rank: u8, place: u64 },
+    /// Why the debugger didn't open the record, or didn't do a word.
+    #[error("debug: {0}")]
+    Debug(DebugFault),
     /// Memory was refused.
     #[error("memory")]
     Memory,
@@ -55,7 +59,8 @@ impl Fault {
             | Fault::Image(_)
             | Fault::Record(_)
             | Fault::Plans
-            | Fault::Unlike { .. } => 1,
+            | Fault::Unlike { .. }
+            | Fault::Debug(_) => 1,
             Fault::Memory | Fault::Spawn => 5,
             Fault::Read | Fault::Write => 6,
         }
@@ -104,6 +109,17 @@ impl From<RunFault> for Fault {
             RunFault::Memory => Fault::Memory,
             RunFault::Spawn => Fault::Spawn,
             RunFault::Unlike { rank, place } => Fault::Unlike { rank, place },
+        }
+    }
+}
+
+impl From<DebugFault> for Fault {
+    ghost from_gives = { λ fault e. e ≡ fault_of_debug fault };
+
+    fn from(fault: DebugFault) -> Fault {
+        match fault {
+            DebugFault::Memory => Fault::Memory,
+            _ => Fault::Debug(fault),
         }
     }
 }
