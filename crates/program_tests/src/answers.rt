@@ -4,7 +4,7 @@ ghost use Rattle.std.specs.Prelude.{◌≡◌, ◌≢◌, ◌⊎◌, ℕ, [], �
 ghost use Rattle.cl_record.specs.declared.plans.Plan.{Plan as Held};
 ghost use Rattle.cl_text.specs.declared.faults.RecordFault.TheVariants.{Short};
 ghost use Rattle.rv_asm_tokens.specs.declared.fault.AsmFault.{AsmFault};
-ghost use Rattle.rvmc_answers.specs.Answers.{needs_threads};
+ghost use Rattle.rvmc_answers.specs.Answers.{end_status, needs_threads};
 ghost use Rattle.rvmc_report.specs.declared.faults.Fault.TheVariants as faults;
 
 use cl_run::Plan;
@@ -84,7 +84,7 @@ pub fn images_are_no_sources(
 /// Nor is a record: no bytes are one that is too short, and never a good one.
 #[tactic(auto, unfolding(cl_text::specs::Reading::reading_record))]
 pub fn nothing_is_no_record(alloc: Global) -> Result<Answer, Fault>
-    ensures status { IfOk result (λ answer. answer.status ≡ 1) }
+    ensures status { IfOk result (λ answer. end_status answer.end ≡ 1) }
     ensures short { IfErr result (λ fault. (fault ≡ faults.Memory) ⊎ (fault ≡ faults.Record (Short 0))) }
 {
     answer_to(alloc, &CommandLine::Check, &[])

@@ -18,7 +18,7 @@ use Rattle.rvmc_answers.specs.Answers.{SaysOfRecord}
 use Rattle.rvmc_answers.specs.Images.{image_in}
 use Rattle.rvmc_answers.specs.Laws.{RecordedIsGoodLaw}
 use Rattle.rvmc_answers.proofs.Reading.{ok≢err}
-use Rattle.rvmc_line.specs.declared.line.CommandLine.TheVariants.{Asm, Check, Dis, One, Run}
+use Rattle.rvmc_line.specs.declared.line.CommandLine.TheVariants.{Asm, Check, Debug, Dis, One, Run}
 use Rattle.rvmc_report.specs.Verdicts.{verdict_status, verdict_text}
 use Rattle.rvmc_report.specs.declared.faults.Fault.{Fault}
 
@@ -112,3 +112,4 @@ recorded_is_good (One source budget plan order false) bytes text told status end
 recorded_is_good (Asm from) bytes text told status ended asked says some checked = absurd (true≢false (sym asked))
 recorded_is_good Dis bytes text told status ended asked says some checked = absurd (true≢false (sym asked))
 recorded_is_good Check bytes text told status ended asked says some checked = absurd (true≢false (sym asked))
+recorded_is_good (Debug words) bytes text told status ended asked says some checked = absurd (true≢false (sym asked))

@@ -1,5 +1,7 @@
 -- What each command answers: the text on standard output, and the status.
-use Rattle.std.specs.Prelude.{◌≡◌, ⊤, ℕ, Bool, true, false, List, [], length, MatchResult, Option, Err}
+use Rattle.std.specs.Prelude.{◌≡◌, ◌⊎◌, ⊤, ℕ, Bool, true, false, List, [], length, MatchResult, Option, None, Some, Err}
+use Rattle.cl_debug.specs.declared.faults.DebugFault.{DebugFault}
+use Rattle.cl_debug.specs.declared.faults.DebugFault.TheVariants.{NotARun}
 use Rattle.cl_machine.specs.Merge.{IsMerge}
 use Rattle.cl_machine.specs.declared.steps.Step.{Step}
 use Rattle.cl_record.specs.Plans.{ArePlans, HasPlans}
@@ -7,6 +9,7 @@ use Rattle.cl_record.specs.Records.{IsMergedRun, steps_in}
 use Rattle.cl_record.specs.declared.plans.Plan.{Plan}
 use Rattle.cl_record.specs.declared.records.Record.{Record}
 use Rattle.cl_replay.specs.Checks.{IsVerdict}
+use Rattle.cl_replay.specs.Replays.{BreaksAt, IsRunUpTo}
 use Rattle.cl_replay.specs.declared.checking.Verdict.{Verdict}
 use Rattle.cl_run.specs.Runs.{IsOneRun}
 use Rattle.cl_text.specs.Reading.{reading_record}
@@ -16,8 +19,11 @@ use Rattle.cl_threads.specs.Runs.{IsThreadRun}
 use Rattle.rv_image.specs.Image.{IsImage, in_version_two}
 use Rattle.rv_image.specs.Text.{image_text}
 use Rattle.rv_image.specs.declared.images.ImageParts.{ImageParts}
+use Rattle.rvmc_debug.specs.Words.{IsTold as HasTold}
+use Rattle.rvmc_line.specs.declared.debug.DebugWord.{DebugWord}
 use Rattle.rvmc_line.specs.declared.line.CommandLine.{CommandLine}
-use Rattle.rvmc_line.specs.declared.line.CommandLine.TheVariants.{Asm, Check, Dis, One, Run}
+use Rattle.rvmc_line.specs.declared.line.CommandLine.TheVariants.{Asm, Check, Debug, Dis, One, Run}
+use Rattle.rvmc_report.specs.Faults.{fault_of_debug, fault_status}
 use Rattle.rvmc_report.specs.Listing.{listing}
 use Rattle.rvmc_report.specs.Report.{HasEachRank, rank_ends, report, status_of}
 use Rattle.rvmc_report.specs.Verdicts.{verdict_status, verdict_text}
@@ -25,6 +31,20 @@ use Rattle.rvmc_report.specs.declared.faults.Fault.{Fault}
 use Rattle.rvmc_report.specs.declared.faults.Fault.TheVariants as faults
 use Rattle.rvmc_answers.specs.Images.{IsFaultIn, image_in}
 use Rattle.rvmc_answers.specs.Plans.{ArePlansOf, listed}
+use Rattle.rvmc_answers.specs.declared.answers.End.{End}
+use Rattle.rvmc_answers.specs.declared.answers.End.TheVariants.{Cut, Status}
+
+-- ---- how an answer ends
+
+-- with a status, or with that of the fault which cuts it short
+abbrev pub end_status : End → ℕ
+end_status (Status status) = status
+end_status (Cut fault) = fault_status fault
+
+-- nothing cuts it short
+abbrev pub IsWhole : End → Type 0
+IsWhole (Status status) = ⊤
+IsWhole (Cut fault) = ⊥
 
 -- ---- the commands
 
@@ -92,7 +112,7 @@ IsOne image budget harts ranks recorded text status =
     let order = listed ranks image.ranks in
     IsRunBy (ArePlans image plans order) (IsLeftByOne image plans order) (IsTextOf recorded image) text status)
 
--- one case a command, of the image that it takes; `check` takes none
+-- one case a command, of the image that it takes; `check` and `debug` take none
 abbrev pub Makes : CommandLine → ImageParts → List ℕ → ℕ → Type 0
 Makes (Asm false) image text status = IsDone (image_text image) text status
 Makes (Asm true) image text status = IsDone (image_text (in_version_two image)) text status
@@ -100,6 +120,7 @@ Makes Dis image text status = IsDone (listing image) text status
 Makes (Run source budget plan lead recorded) image text status = IsRun image budget plan recorded text status
 Makes (One source budget plan order recorded) image text status = IsOne image budget plan order recorded text status
 Makes Check image text status = ⊥
+Makes (Debug words) image text status = ⊥
 
 -- what a command says that takes an image from the bytes
 abbrev pub SaysOfImage : CommandLine → List ℕ → List ℕ → ℕ → Type 0
@@ -118,10 +139,46 @@ abbrev pub SaysOfRecord : List ℕ → List ℕ → ℕ → Type 0
 SaysOfRecord bytes text status =
     MatchResult (reading_record bytes) (λ read. IsChecked read.0 read.1 text status) (λ _. IsFaulty text status)
 
+-- the words end: all are done, or one is refused for this
+abbrev pub end_of : Option DebugFault → End
+end_of None = Status 0
+end_of (Some fault) = Cut (fault_of_debug fault)
+
+-- what the words of `debug` tell of steps, which are a run of the image, from the start of the run on
+pub record IsDebugged (image : ImageParts) (steps : List Step) (words : List DebugWord) (text : List ℕ) (end : End)
+    : Type 0 where
+  pub run : IsRunUpTo image steps (length steps)
+  pub fault : Option DebugFault
+  pub told : HasTold (record { image = image; steps = steps; place = 0; breaks = [] }) words text fault
+  pub end_is : end ≡ end_of fault
+
+-- and of the record that the bytes spell
+abbrev pub HasDebugged : List DebugWord → List ℕ → List ℕ → End → Type 0
+HasDebugged words bytes text end =
+    MatchResult (reading_record bytes) (λ read. IsDebugged read.0 read.1 words text end) (λ _. ⊥)
+
+-- steps that are no run of the image are a fault of the input: no word is done
+abbrev pub SaysOfSteps : ImageParts → List Step → List DebugWord → List ℕ → ℕ → Type 0
+SaysOfSteps image steps words text status =
+    ((end : End) × IsDebugged image steps words text end × (status ≡ end_status end))
+    ⊎ ((¬ IsRunUpTo image steps (length steps)) × IsFaulty text status)
+
+-- what `debug` says of the record that the bytes spell
+abbrev pub SaysOfWords : List DebugWord → List ℕ → List ℕ → ℕ → Type 0
+SaysOfWords words bytes text status =
+    MatchResult (reading_record bytes) (λ read. SaysOfSteps read.0 read.1 words text status)
+    (λ _. IsFaulty text status)
+
 -- what a command line says of the bytes that are read
 abbrev pub Says : CommandLine → List ℕ → List ℕ → ℕ → Type 0
 Says Check bytes text status = SaysOfRecord bytes text status
+Says (Debug words) bytes text status = SaysOfWords words bytes text status
 Says line bytes text status = SaysOfImage line bytes text status
+
+-- how it ends: the words of `debug` may be cut short
+abbrev pub EndsSo : CommandLine → List ℕ → List ℕ → End → Type 0
+EndsSo (Debug words) bytes text end = HasDebugged words bytes text end
+EndsSo line bytes text end = IsWhole end
 
 -- ---- which fault is told
 
@@ -167,9 +224,21 @@ IsRecordFault bytes faults.Memory = ⊤
 IsRecordFault bytes (faults.Record fault) = reading_record bytes ≡ Err fault
 IsRecordFault bytes other = ⊥
 
+-- of steps that are no run: the first that isn't the machine's
+abbrev pub IsNoRun : ImageParts → List Step → DebugFault → Type 0
+IsNoRun image steps (NotARun n) = BreaksAt image steps n
+IsNoRun image steps other = ⊥
+
+-- of bytes that are read as a record whose steps are to be walked through
+abbrev pub IsDebugFault : List ℕ → Fault → Type 0
+IsDebugFault bytes (faults.Debug fault) =
+    MatchResult (reading_record bytes) (λ read. IsNoRun read.0 read.1 fault) (λ _. ⊥)
+IsDebugFault bytes fault = IsRecordFault bytes fault
+
 -- of what a command takes from the bytes
 abbrev pub IsFaultOf : CommandLine → List ℕ → Fault → Type 0
 IsFaultOf Check bytes fault = IsRecordFault bytes fault
+IsFaultOf (Debug words) bytes fault = IsDebugFault bytes fault
 IsFaultOf line bytes fault = IsImageFault line bytes fault
 
 -- ---- the steps to an answer

@@ -9,7 +9,7 @@ use Rattle.rv_asm_tokens.specs.declared.fault.AsmFaultKind.TheVariants as kinds
 use Rattle.rv_image.specs.Reading.{reading}
 use Rattle.rv_image.specs.declared.images.ImageParts.{ImageParts}
 use Rattle.rvmc_line.specs.declared.line.CommandLine.{CommandLine}
-use Rattle.rvmc_line.specs.declared.line.CommandLine.TheVariants.{Asm, Check, Dis, One, Run}
+use Rattle.rvmc_line.specs.declared.line.CommandLine.TheVariants.{Asm, Check, Debug, Dis, One, Run}
 use Rattle.rvmc_report.specs.Faults.{fault_of_image, fault_of_source}
 use Rattle.rvmc_report.specs.declared.faults.Fault.{Fault}
 use Rattle.rvmc_report.specs.declared.faults.Fault.TheVariants as faults
@@ -39,10 +39,12 @@ takes_source Dis = false
 takes_source (Run source budget plan lead recorded) = source
 takes_source (One source budget plan order recorded) = source
 takes_source Check = false
+takes_source (Debug words) = false
 
 -- whether a command takes a record, and not an image
 abbrev pub takes_record : CommandLine → Bool
 takes_record Check = true
+takes_record (Debug words) = true
 takes_record other = false
 
 -- the image that a command takes from the bytes

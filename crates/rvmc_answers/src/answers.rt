@@ -2,13 +2,14 @@
 
 ghost use Rattle.std.specs.Prelude.{◌≡◌, IfErr, IfOk, false};
 ghost use Rattle.rv_image.specs.Text.{image_text};
-ghost use Rattle.rvmc_answers.specs.Answers.{IsDone, IsFaultOf, IsImageFault, Makes, Refuses, Says, SaysOfImage};
-ghost use Rattle.rvmc_answers.specs.Answers.{needs_threads};
+ghost use Rattle.rvmc_answers.specs.Answers.{EndsSo, IsDone, IsFaultOf, IsImageFault, IsWhole, Makes, Refuses, Says};
+ghost use Rattle.rvmc_answers.specs.Answers.{SaysOfImage, end_status, needs_threads};
 ghost use Rattle.rvmc_answers.specs.Images.{takes_record};
 ghost use Rattle.rvmc_answers.specs.Outputs.{output_bytes};
 ghost use Rattle.rvmc_report.specs.Listing.{listing};
 
 use crate::checks::checked;
+use crate::debugging::debugged;
 use crate::images::image_in;
 use crate::outputs::Output;
 use crate::runs::{one, run};
@@ -20,34 +21,62 @@ use std::alloc::{AllocError, Global};
 use std::sync::Wait;
 use std::thread::Threads;
 
-/// What stands on standard output, and the status.
+/// How an answer ends: with a status, or cut short by a fault, whose line then stands on standard error and whose status
+/// is the answer's.
+#[derive(Clone, Copy, Drop)]
+pub enum End {
+    Status(u8),
+    Cut(Fault),
+}
+
+impl End {
+    /// The status that the program ends with.
+    pub fn status(self) -> u8
+        ensures { result ≡ end_status self }
+    {
+        match self {
+            End::Status(status) => status,
+            End::Cut(fault) => fault.status(),
+        }
+    }
+}
+
+/// What stands on standard output, and how it ends. `debug` alone may be cut short.
 #[derive(Drop)]
 pub struct Answer {
     pub output: Output,
-    pub status: u8,
+    pub end: End,
 }
 
 /// The bytes of an image.
 fn written(alloc: Global, image: &Image) -> Result<Answer, AllocError>
-    ensures { IfOk result (λ answer. IsDone (image_text image.now) (output_bytes answer.output) answer.status) }
+    ensures done { IfOk result (λ answer.
+        IsDone (image_text image.now) (output_bytes answer.output) (end_status answer.end)) }
+    ensures whole { IfOk result (λ answer. IsWhole answer.end) }
 {
     let output = Output::Text(write_image(alloc, image)?);
-    Ok(Answer { output, status: 0 })
+    let end = End::Status(0);
+    Ok(Answer { output, end })
 }
 
 /// The listing of an image.
 fn listed(alloc: Global, image: &Image) -> Result<Answer, AllocError>
-    ensures { IfOk result (λ answer. IsDone (listing image.now) (output_bytes answer.output) answer.status) }
+    ensures done { IfOk result (λ answer.
+        IsDone (listing image.now) (output_bytes answer.output) (end_status answer.end)) }
+    ensures whole { IfOk result (λ answer. IsWhole answer.end) }
 {
     let output = Output::Text(listing(alloc, image)?);
-    Ok(Answer { output, status: 0 })
+    let end = End::Status(0);
+    Ok(Answer { output, end })
 }
 
 /// What a command makes of its image that needs no threads.
 fn made(alloc: Global, line: &CommandLine, image: Image) -> Result<Answer, Fault>
     requires plain { needs_threads line.now ≡ false }
     requires image { takes_record line.now ≡ false }
-    ensures says { IfOk result (λ answer. Makes line.now image (output_bytes answer.output) answer.status) }
+    ensures says { IfOk result (λ answer.
+        Makes line.now image (output_bytes answer.output) (end_status answer.end)) }
+    ensures whole { IfOk result (λ answer. IsWhole answer.end) }
     ensures fault { IfErr result (Refuses line.now image) }
 {
     match line {
@@ -61,7 +90,7 @@ fn made(alloc: Global, line: &CommandLine, image: Image) -> Result<Answer, Fault
             recorded,
             ..
         } => one(alloc, &image, *budget, plan, order, *recorded),
-        CommandLine::Run { .. } | CommandLine::Check => unreachable!(),
+        CommandLine::Run { .. } | CommandLine::Check | CommandLine::Debug { .. } => unreachable!(),
     }
 }
 
@@ -69,7 +98,9 @@ fn made(alloc: Global, line: &CommandLine, image: Image) -> Result<Answer, Fault
 fn answer_of_image(alloc: Global, line: &CommandLine, bytes: &[u8]) -> Result<Answer, Fault>
     requires plain { needs_threads line.now ≡ false }
     requires image { takes_record line.now ≡ false }
-    ensures says { IfOk result (λ answer. SaysOfImage line.now bytes.now (output_bytes answer.output) answer.status) }
+    ensures says { IfOk result (λ answer.
+        SaysOfImage line.now bytes.now (output_bytes answer.output) (end_status answer.end)) }
+    ensures whole { IfOk result (λ answer. IsWhole answer.end) }
     ensures fault { IfErr result (IsImageFault line.now bytes.now) }
 {
     let image = image_in(alloc, line, bytes)?;
@@ -86,14 +117,18 @@ pub fn needs_threads(line: &CommandLine) -> bool
 /// What a command that needs no threads answers to its input.
 ///
 /// A fault of the input is an `Err`, as want of memory is: the first fault of the source, the image or the record, or
-/// `Plans` where a run's plan or order is wrong.
+/// `Plans` where a run's plan or order is wrong. A word of `debug` that is refused is no such `Err`: the answer has the
+/// texts of the words before it, and is cut short by the fault.
 pub fn answer_to(alloc: Global, line: &CommandLine, bytes: &[u8]) -> Result<Answer, Fault>
     requires plain { needs_threads line.now ≡ false }
-    ensures says { IfOk result (λ answer. Says line.now bytes.now (output_bytes answer.output) answer.status) }
+    ensures says { IfOk result (λ answer.
+        Says line.now bytes.now (output_bytes answer.output) (end_status answer.end)) }
+    ensures ends { IfOk result (λ answer. EndsSo line.now bytes.now (output_bytes answer.output) answer.end) }
     ensures fault { IfErr result (IsFaultOf line.now bytes.now) }
 {
     match line {
         CommandLine::Check => checked(alloc, bytes),
+        CommandLine::Debug { words } => debugged(alloc, words, bytes),
         _ => answer_of_image(alloc, line, bytes),
     }
 }
@@ -108,7 +143,9 @@ pub fn answer_with_threads<R: Threads + Wait + Sync>(
     line: &CommandLine,
     bytes: &[u8],
 ) -> Result<Answer, Fault>
-    ensures says { IfOk result (λ answer. Says line.now bytes.now (output_bytes answer.output) answer.status) }
+    ensures says { IfOk result (λ answer.
+        Says line.now bytes.now (output_bytes answer.output) (end_status answer.end)) }
+    ensures ends { IfOk result (λ answer. EndsSo line.now bytes.now (output_bytes answer.output) answer.end) }
     ensures fault { IfErr result (IsFaultOf line.now bytes.now) }
 {
     match line {

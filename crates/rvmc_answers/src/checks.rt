@@ -1,10 +1,10 @@
 //! Records that others may have written, and what is told of them.
 
 ghost use Rattle.std.specs.Prelude.{IfErr, IfOk};
-ghost use Rattle.rvmc_answers.specs.Answers.{IsRecordFault, SaysOfRecord};
+ghost use Rattle.rvmc_answers.specs.Answers.{IsRecordFault, IsWhole, SaysOfRecord, end_status};
 ghost use Rattle.rvmc_answers.specs.Outputs.{output_bytes};
 
-use crate::answers::Answer;
+use crate::answers::{Answer, End};
 use crate::outputs::Output;
 use cl_replay::check;
 use cl_text::read_record;
@@ -15,7 +15,8 @@ use std::alloc::Global;
 /// `check`: whether the steps of the record are a run of its image, in order.
 pub(crate) fn checked(alloc: Global, bytes: &[u8]) -> Result<Answer, Fault>
     ensures says { IfOk result (λ answer.
-        SaysOfRecord bytes.now (output_bytes answer.output) answer.status) }
+        SaysOfRecord bytes.now (output_bytes answer.output) (end_status answer.end)) }
+    ensures whole { IfOk result (λ answer. IsWhole answer.end) }
     ensures fault { IfErr result (IsRecordFault bytes.now) }
 {
     let (image, steps) = read_record(alloc, bytes)?;
@@ -23,6 +24,6 @@ pub(crate) fn checked(alloc: Global, bytes: &[u8]) -> Result<Answer, Fault>
     let text = verdict_text(alloc, verdict, steps.len())?;
     Ok(Answer {
         output: Output::Text(text.into_bytes()),
-        status: verdict_status(verdict),
+        end: End::Status(verdict_status(verdict)),
     })
 }

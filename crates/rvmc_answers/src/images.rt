@@ -45,7 +45,7 @@ fn takes_source(line: &CommandLine) -> bool
 {
     match line {
         CommandLine::Asm { from } => !*from,
-        CommandLine::Dis | CommandLine::Check => false,
+        CommandLine::Dis | CommandLine::Check | CommandLine::Debug { .. } => false,
         CommandLine::Run { source, .. } | CommandLine::One { source, .. } => *source,
     }
 }

@@ -3,6 +3,7 @@
 
 pub mod answers;
 mod checks;
+mod debugging;
 mod images;
 pub mod laws;
 pub mod outputs;

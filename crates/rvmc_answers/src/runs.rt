@@ -4,12 +4,12 @@ ghost use Rattle.std.specs.Prelude.{◌≡◌, IfErr, IfOk};
 ghost use Rattle.cl_record.specs.Plans.{ArePlans, HasPlans};
 ghost use Rattle.rv_image.specs.Image.{IsImage};
 ghost use Rattle.rvmc_answers.specs.Answers.{ByPlans, IsLeft, IsLeftByOne, IsLeftByThreads, IsOne, IsRecordOf};
-ghost use Rattle.rvmc_answers.specs.Answers.{IsRun, IsRunBy, IsRunFault, IsTextOf};
+ghost use Rattle.rvmc_answers.specs.Answers.{IsRun, IsRunBy, IsRunFault, IsTextOf, IsWhole, end_status};
 ghost use Rattle.rvmc_answers.specs.Outputs.{output_bytes};
 ghost use Rattle.rvmc_answers.specs.Plans.{listed};
 ghost use Rattle.rvmc_report.specs.Report.{rank_ends, status_of};
 
-use crate::answers::Answer;
+use crate::answers::{Answer, End};
 use crate::outputs::Output;
 use crate::plans::{listed, plans_of};
 use cl_merge::merge;
@@ -57,11 +57,12 @@ fn output_of(
 fn told(alloc: Global, image: &Image, left: Record, recorded: bool) -> Result<Answer, AllocError>
     requires { IsLeft image.now left }
     ensures text { IfOk result (λ answer. IsTextOf recorded image.now left (output_bytes answer.output)) }
-    ensures status { IfOk result (λ answer. answer.status ≡ status_of (rank_ends left)) }
+    ensures status { IfOk result (λ answer. end_status answer.end ≡ status_of (rank_ends left)) }
+    ensures whole { IfOk result (λ answer. IsWhole answer.end) }
 {
-    let status = status(&left);
+    let end = End::Status(status(&left));
     let output = output_of(alloc, image, left, recorded)?;
-    Ok(Answer { output, status })
+    Ok(Answer { output, end })
 }
 
 /// A run by these plans on one thread, with the ranks in this order.
@@ -75,7 +76,8 @@ fn one_by(
     requires { IsImage image.now }
     ensures says { IfOk result (λ answer.
         IsRunBy (ArePlans image.now plans.now order.now) (IsLeftByOne image.now plans.now order.now)
-        (IsTextOf recorded image.now) (output_bytes answer.output) answer.status) }
+        (IsTextOf recorded image.now) (output_bytes answer.output) (end_status answer.end)) }
+    ensures whole { IfOk result (λ answer. IsWhole answer.end) }
     ensures fault { IfErr result (IsRunFault (¬ (ArePlans image.now plans.now order.now)) ⊥) }
 {
     let left = run_one(alloc, image, plans, order)?;
@@ -92,7 +94,8 @@ pub(crate) fn one(
     recorded: bool,
 ) -> Result<Answer, Fault>
     ensures says { IfOk result (λ answer.
-        IsOne image.now budget harts.now ranks.now recorded (output_bytes answer.output) answer.status) }
+        IsOne image.now budget harts.now ranks.now recorded (output_bytes answer.output) (end_status answer.end)) }
+    ensures whole { IfOk result (λ answer. IsWhole answer.end) }
     ensures fault { IfErr result (IsRunFault
         (ByPlans image.now budget harts.now (λ plans. ¬ (ArePlans image.now plans (listed ranks.now image.now.ranks))))
         ⊥) }
@@ -113,7 +116,8 @@ fn run_by<R: Threads + Wait + Sync>(
 ) -> Result<Answer, Fault>
     ensures says { IfOk result (λ answer.
         IsRunBy (HasPlans image.now plans.now) (IsLeftByThreads image.now plans.now) (IsTextOf recorded image.now)
-        (output_bytes answer.output) answer.status) }
+        (output_bytes answer.output) (end_status answer.end)) }
+    ensures whole { IfOk result (λ answer. IsWhole answer.end) }
     ensures fault { IfErr result (IsRunFault (¬ (HasPlans image.now plans.now)) (HasPlans image.now plans.now)) }
 {
     let pace = Pace::new(image.parts().ranks, lead);
@@ -132,7 +136,8 @@ pub(crate) fn run<R: Threads + Wait + Sync>(
     recorded: bool,
 ) -> Result<Answer, Fault>
     ensures says { IfOk result (λ answer.
-        IsRun image.now budget harts.now recorded (output_bytes answer.output) answer.status) }
+        IsRun image.now budget harts.now recorded (output_bytes answer.output) (end_status answer.end)) }
+    ensures whole { IfOk result (λ answer. IsWhole answer.end) }
     ensures fault { IfErr result (IsRunFault
         (ByPlans image.now budget harts.now (λ plans. ¬ (HasPlans image.now plans)))
         (ByPlans image.now budget harts.now (HasPlans image.now))) }

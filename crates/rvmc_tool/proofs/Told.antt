@@ -2,16 +2,23 @@
 use Rattle.std.proofs.Common.{◌≤◌, ℕ, ◌∙◌, List, [], Option, Some, None, length, inl, inr, refl, sym, subst, append-nil}
 use Rattle.std.specs.Prelude.{◌⊎◌, IfOk, IfErr, MatchResult, Result, Ok, Err}
 use Rattle.std.specs.Io.KnownBytes.{Appends, Keeps}
+use Rattle.std.proofs.lemmas.Option.{slice_get_within}
+use Rattle.cl_debug.specs.declared.faults.DebugFault.{DebugFault}
+use Rattle.cl_debug.specs.declared.faults.DebugFault.TheVariants as debug
 use Rattle.cl_machine.specs.declared.steps.Step.{Step}
+use Rattle.cl_replay.proofs.Runs.{run_law}
+use Rattle.cl_text.specs.Reading.{reading_record}
 use Rattle.cl_text.specs.declared.faults.RecordFault.{RecordFault}
 use Rattle.rv_image.specs.declared.images.ImageParts.{ImageParts}
 use Rattle.rvmc_answers.specs.Answers.{HasThreads, IsChecked, IsFaultOf, IsFaulty, IsMisplanned, IsRecordFault, Makes}
-use Rattle.rvmc_answers.specs.Answers.{Refuses, Says, SaysOfRecord}
+use Rattle.rvmc_answers.specs.Answers.{IsDebugFault, IsNoRun, Refuses, Says, SaysOfRecord, SaysOfSteps, SaysOfWords}
+use Rattle.rvmc_answers.specs.Answers.{end_status}
+use Rattle.rvmc_line.specs.declared.debug.DebugWord.{DebugWord}
 use Rattle.rvmc_answers.specs.Images.{IsFaultIn, image_in}
 use Rattle.rvmc_answers.specs.Outputs.{output_bytes}
 use Rattle.rvmc_answers.specs.declared.answers.Answer.{Answer}
 use Rattle.rvmc_line.specs.declared.line.CommandLine.{CommandLine}
-use Rattle.rvmc_line.specs.declared.line.CommandLine.TheVariants.{Asm, Check, Dis, One, Run}
+use Rattle.rvmc_line.specs.declared.line.CommandLine.TheVariants.{Asm, Check, Debug, Dis, One, Run}
 use Rattle.rvmc_report.specs.Faults.{fault_status}
 use Rattle.rvmc_report.specs.declared.faults.Fault.{Fault}
 use Rattle.rvmc_report.specs.declared.faults.Fault.TheVariants as faults
@@ -26,6 +33,7 @@ misplanned (One source budget plan order recorded) image (plans, of, wrong) =
 misplanned (Asm from) image wrong = absurd wrong
 misplanned Dis image wrong = absurd wrong
 misplanned Check image wrong = absurd wrong
+misplanned (Debug words) image wrong = absurd wrong
 
 -- what a fault leaves: nothing, as the command line says, or for want of memory or of a thread
 abbrev Leaves : CommandLine → Result ImageParts Fault → Fault → Type 0
@@ -41,6 +49,7 @@ leaves line (Ok image) (faults.Image fault) is = absurd is
 leaves line (Ok image) (faults.Record fault) is = absurd is
 leaves line (Ok image) faults.Plans is = inl (inl (misplanned line image is))
 leaves line (Ok image) (faults.Unlike rank place) is = inl (inr ((refl, refl), is))
+leaves line (Ok image) (faults.Debug fault) is = absurd is
 leaves line (Ok image) faults.Memory is = inr (refl, refl)
 leaves line (Ok image) faults.Spawn is = inr (refl, refl)
 leaves line (Ok image) faults.Read is = absurd is
@@ -50,6 +59,7 @@ leaves line (Err meant) (faults.Image fault) is = inl (inl (refl, refl))
 leaves line (Err meant) (faults.Record fault) is = absurd is
 leaves line (Err meant) faults.Plans is = absurd is
 leaves line (Err meant) (faults.Unlike rank place) is = absurd is
+leaves line (Err meant) (faults.Debug fault) is = absurd is
 leaves line (Err meant) faults.Memory is = inr (refl, refl)
 leaves line (Err meant) faults.Spawn is = absurd is
 leaves line (Err meant) faults.Read is = absurd is
@@ -70,10 +80,47 @@ leaves_record bytes (faults.Record fault) is =
     inl (subst SaysNothing (sym is) (refl, refl))
 leaves_record bytes faults.Plans is = absurd is
 leaves_record bytes (faults.Unlike rank place) is = absurd is
+leaves_record bytes (faults.Debug fault) is = absurd is
 leaves_record bytes faults.Memory is = inr (refl, refl)
 leaves_record bytes faults.Spawn is = absurd is
 leaves_record bytes faults.Read is = absurd is
 leaves_record bytes faults.Write is = absurd is
+
+-- no word is done on steps that are no run
+no_run : (read : Result (ImageParts × List Step) RecordFault) (words : List DebugWord) (fault : DebugFault)
+    → MatchResult read (λ found. IsNoRun found.0 found.1 fault) (λ _. ⊥)
+    → MatchResult read (λ found. SaysOfSteps found.0 found.1 words [] 1) (λ _. IsFaulty [] 1)
+no_run (Ok found) words (debug.NotARun n) is =
+    let within = slice_get_within found.1 n is.step is.there in
+    inr (λ run. run_law found.0 found.1 (length found.1) n run within is, (refl, refl))
+no_run (Ok found) words (debug.PastEnd n) is = absurd is
+no_run (Ok found) words debug.NoRank is = absurd is
+no_run (Ok found) words debug.NoHart is = absurd is
+no_run (Ok found) words debug.Range is = absurd is
+no_run (Ok found) words debug.Memory is = absurd is
+no_run (Ok found) words debug.NoSymbol is = absurd is
+no_run (Err fault) words why is = absurd is
+
+-- what the fault of a record that is walked through leaves
+abbrev LeavesWords : List DebugWord → List ℕ → Fault → Type 0
+LeavesWords words bytes fault = SaysOfWords words bytes [] (fault_status fault) ⊎ IsRefused [] (fault_status fault)
+
+-- what is said of a reading, where no word is done
+abbrev SaysNoWord : List DebugWord → Result (ImageParts × List Step) RecordFault → Type 0
+SaysNoWord words read = MatchResult read (λ found. SaysOfSteps found.0 found.1 words [] 1) (λ _. IsFaulty [] 1)
+
+leaves_words : (words : List DebugWord) (bytes : List ℕ) (fault : Fault) → IsDebugFault bytes fault
+    → LeavesWords words bytes fault
+leaves_words words bytes (faults.Debug fault) is = inl (no_run (reading_record bytes) words fault is)
+leaves_words words bytes (faults.Source fault) is = absurd is
+leaves_words words bytes (faults.Image fault) is = absurd is
+leaves_words words bytes (faults.Record fault) is = inl (subst (SaysNoWord words) (sym is) (refl, refl))
+leaves_words words bytes faults.Plans is = absurd is
+leaves_words words bytes (faults.Unlike rank place) is = absurd is
+leaves_words words bytes faults.Memory is = inr (refl, refl)
+leaves_words words bytes faults.Spawn is = absurd is
+leaves_words words bytes faults.Read is = absurd is
+leaves_words words bytes faults.Write is = absurd is
 
 -- what a fault leaves, of whatever a command takes
 abbrev LeavesOf : CommandLine → List ℕ → Fault → Type 0
@@ -94,6 +141,11 @@ leaves_of Check bytes fault is = go (leaves_record bytes fault is)
     go : LeavesRecord bytes fault → LeavesOf Check bytes fault
     go (inl says) = inl (inl says)
     go (inr refused) = inr refused
+leaves_of (Debug words) bytes fault is = go (leaves_words words bytes fault is)
+  where
+    go : LeavesWords words bytes fault → LeavesOf (Debug words) bytes fault
+    go (inl says) = inl (inl says)
+    go (inr refused) = inr refused
 
 -- what stays grows by nothing
 pub nothing_more : (old new : Option (List ℕ)) → Keeps old new → Appends old new []
@@ -104,7 +156,7 @@ nothing_more (Some xs) (Some ys) keeps = keeps ∙ sym (append-nil xs)
 -- an answer that is what the command line says, or a fault that is, as it is told
 pub answered : (line : CommandLine) (bytes : List ℕ) (answer : Result Answer Fault) (status : ℕ)
     (old new : Option (List ℕ)) → length bytes ≤ 67108864
-    → IfOk answer (λ a. Says line bytes (output_bytes a.output) a.status) → IfErr answer (IsFaultOf line bytes)
+    → IfOk answer (λ a. Says line bytes (output_bytes a.output) (end_status a.end)) → IfErr answer (IsFaultOf line bytes)
     → Tells answer status old new → Answers line bytes status old new
 answered line bytes (Ok answer) status old new short says fault (is, grows) =
     let told = subst (λ s. Says line bytes (output_bytes answer.output) s) (sym is) says in

@@ -2,7 +2,7 @@
 use Rattle.std.specs.Prelude.{◌≡◌, ℕ, ◌≤◌, ◌⊎◌, ◌==◌, ◌||◌, if◌then◌else◌, Bool, true, List, [], length}
 use Rattle.std.specs.Prelude.{IfSome, MatchResult, Option, None, Some, option_and_then, Result, Ok, Err, string_bytes}
 use Rattle.std.specs.Io.KnownBytes.{Appends, Keeps}
-use Rattle.rvmc_answers.specs.Answers.{HasThreads, IsFaulty, Says, needs_threads}
+use Rattle.rvmc_answers.specs.Answers.{HasThreads, IsFaulty, Says, end_status, needs_threads}
 use Rattle.rvmc_answers.specs.Images.{image_in}
 use Rattle.rvmc_answers.specs.Outputs.{output_bytes}
 use Rattle.rvmc_answers.specs.declared.answers.Answer.{Answer}
@@ -66,5 +66,5 @@ pub record IsWhole (known : Option (List ℕ)) (bytes : List ℕ) : Type 0 where
 
 -- the output of an answer, and its status; of a fault nothing
 abbrev pub Tells : Result Answer Fault → ℕ → Option (List ℕ) → Option (List ℕ) → Type 0
-Tells (Ok answer) status old new = (status ≡ answer.status) × Appends old new (output_bytes answer.output)
+Tells (Ok answer) status old new = (status ≡ end_status answer.end) × Appends old new (output_bytes answer.output)
 Tells (Err fault) status old new = (status ≡ fault_status fault) × Keeps old new

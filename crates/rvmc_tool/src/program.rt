@@ -11,7 +11,7 @@ ghost use Rattle.rvmc_tool.specs.Tool.{plain_meaning_of};
 ghost use Rattle.rvmc_report.specs.Faults.{fault_status};
 ghost use Rattle.rvmc_report.specs.Input.{TakesAtMost};
 
-use rvmc_answers::answers::{Answer, answer_to, answer_with_threads, needs_threads};
+use rvmc_answers::answers::{Answer, End, answer_to, answer_with_threads, needs_threads};
 use rvmc_answers::outputs::Output;
 use rvmc_cli::parse;
 use rvmc_line::{CommandLine, ParseFault};
@@ -90,7 +90,8 @@ fn take<I: Read, E: Write>(alloc: Global, input: &mut I, err: &mut E) -> Result<
     }
 }
 
-/// Writes an answer on standard output, or else tells the fault on standard error.
+/// Writes an answer on standard output, and tells on standard error the fault that cuts it short, or that is in its
+/// place.
 fn tell<O: Write, E: Write>(answer: Result<Answer, Fault>, out: &mut O, err: &mut E) -> u8
     ensures told { result ≢ 6 → Tells answer result (O.contents out.old) (O.contents out.new) }
     ensures quiet { is_quiet result ≡ true → Keeps (E.contents err.old) (E.contents err.new) }
@@ -98,7 +99,10 @@ fn tell<O: Write, E: Write>(answer: Result<Answer, Fault>, out: &mut O, err: &mu
     match answer {
         Ok(answer) => {
             let taken = put_output(out, &answer.output);
-            ended(err, taken, answer.status)
+            match answer.end {
+                End::Status(status) => ended(err, taken, status),
+                End::Cut(fault) => fail(err, if taken { fault } else { Fault::Write }),
+            }
         }
         Err(fault) => fail(err, fault),
     }
