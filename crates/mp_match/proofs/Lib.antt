@@ -4,3 +4,8 @@ pub mod OrderKept
 pub mod Probed
 pub mod Rows
 pub mod Received
+pub mod Keys
+pub mod MapSteps
+pub mod Queueing
+pub mod Fronts
+pub mod Wildcards

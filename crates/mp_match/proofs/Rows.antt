@@ -48,9 +48,10 @@ pub one_held : (b : Option (List ℕ)) → held_count (b ∷ []) ≤ 1
 one_held None = omega arith
 one_held (Some x) = omega arith
 
-pub board_is : (a b : List Line) (c d : List (Option (List ℕ))) → a ≡ b → c ≡ d
-    → (let x : Board = record { lines = a; bodies = c } in x) ≡ record { lines = b; bodies = d }
-board_is a b c d p q = λ i. record { lines = p i; bodies = q i }
+pub board_is : (a b : List Line) (c d : List (Option (List ℕ))) (m n : ℕ) → a ≡ b → c ≡ d → m ≡ n
+    → (let x : Board = record { lines = a; bodies = c; compared = m } in x)
+    ≡ record { lines = b; bodies = d; compared = n }
+board_is a b c d m n p q r = λ i. record { lines = p i; bodies = q i; compared = r i }
 
 pub partners_end : (es pushed written : List Line) (o : Option ℕ) (p : Post) (k : ℕ) → o ≡ partner_for es p
     → pushed ≡ es ++ record { post = p; partner = o } ∷ [] → k ≡ length es → written ≡ partners_set pushed o k

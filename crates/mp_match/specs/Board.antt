@@ -10,14 +10,16 @@ use Rattle.mp_match.specs.declared.posts.Post.{Post}
 use Rattle.mp_match.specs.declared.posts.Post.TheVariants.{Send, Receive, Claim}
 use Rattle.mp_match.specs.declared.posts.Line.{Line}
 use Rattle.mp_match.specs.Pairs.{add, partner_for, partner_at}
+use Rattle.mp_match.specs.Waiting.{compared_for}
 
 -- each list has one element a post, in the order of posts
 pub record Board : Type 0 where
   pub lines : List Line
   pub bodies : List (Option (List ℕ))  -- a message's bytes, from its send until its receive is collected
+  pub compared : ℕ  -- how many waiting receives the last send compared
 
 abbrev pub no_posts : Board
-no_posts = record { lines = []; bodies = [] }
+no_posts = record { lines = []; bodies = []; compared = 0 }
 
 -- how many messages are held
 abbrev pub held_count : List (Option (List ℕ)) → ℕ
@@ -27,8 +29,14 @@ held_count (Some bytes ∷ bodies) = held_count bodies + 1
 
 -- ---- posting
 
+abbrev pub compared_after : Board → Post → ℕ
+compared_after b (Send s) = compared_for b.lines s
+compared_after b (Receive a) = b.compared
+compared_after b (Claim a) = b.compared
+
 abbrev pub posted : Board → Post → Option (List ℕ) → Board
-posted b p body = record { lines = add b.lines p; bodies = b.bodies ++ body ∷ [] }
+posted b p body =
+    record { lines = add b.lines p; bodies = b.bodies ++ body ∷ []; compared = compared_after b p }
 
 abbrev pub send_posted : Board → Sent → List ℕ → Board
 send_posted b s bytes = posted b (Send s) (Some bytes)
@@ -120,7 +128,7 @@ message_at b place = message_in (envelope_at b (Some place)) (slice_get b.bodies
 
 -- the message of the send at the place isn't held any more
 abbrev pub without : Board → ℕ → Board
-without b place = record { lines = b.lines; bodies = slice_set b.bodies place None }
+without b place = record { lines = b.lines; bodies = slice_set b.bodies place None; compared = b.compared }
 
 abbrev pub collect_from : Board → Option ℕ → Option Message × Board
 collect_from b None = (None, b)

@@ -1,3 +1,5 @@
 pub mod Pairs
 pub mod Order
+pub mod Waiting
+pub mod Queued
 pub mod Board

@@ -6,8 +6,11 @@
 #![tactic(auto)]
 
 pub mod laws;
-mod plain_queues;
+mod lists;
+mod post_queues;
 mod posts;
+mod queues;
+mod waiting;
 
-pub use plain_queues::{HELD_MAX, PostFault, Queues};
 pub use posts::{Line, Post, Selection, Sent};
+pub use queues::{HELD_MAX, PostFault, Queues};

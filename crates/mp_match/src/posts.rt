@@ -13,7 +13,7 @@ pub struct Sent {
 }
 
 /// What a receive, a probe or a claim selects (MPI 4.1, chapter 3.2.4). A source or tag of None is any.
-#[derive(Clone, Copy)]
+#[derive(Clone, Copy, PartialEq, Eq, PartialOrd, Ord)]
 pub struct Selection {
     /// The rank that asks.
     pub rank: u8,

@@ -1,6 +1,6 @@
 use Rattle.std.proofs.Common.{arith, sym}
 use Rattle.mp_match.proofs.Rows.{set_is, set_past}
-use Rattle.mp_match.proofs.plain_queues.set_partner.Goals as goal
+use Rattle.mp_match.proofs.lists.set_partner.Goals as goal
 
 pub returns-then-at-len : goal.returns-then-at-len
 returns-then-at-len c =

@@ -1,15 +1,17 @@
-//! All posts with their pairs, over plain lists.
+//! All posts with their pairs. Posts that wait for a partner stand in queues by key.
 
 ghost use Rattle.std.specs.Prelude.{◌≡◌, ◌+◌, ◌<◌, ◌≤◌, ◌^◌, ◌∷◌, ◌↔◌, [], length, not, ◌||◌, is_some, IfOk, IfSome};
 ghost use Rattle.std.specs.Prelude.{IsNone, IsOk, OnErr, OnOk, Err, None, Some, ◌-◌, slice_get, slice_set};
-ghost use Rattle.mp_match.specs.Pairs.{accepts, fits, partner_at, partner_for, partner_set, partners_set};
-ghost use Rattle.mp_match.specs.Board.{bytes_in, claim_of, claim_posted, claimed_if, collect, collect_from};
+ghost use Rattle.mp_match.specs.Pairs.{partner_for};
+ghost use Rattle.mp_match.specs.Board.{bytes_in, claim_of, claimed_if, collect, collect_from, compared_after};
 ghost use Rattle.mp_match.specs.Board.{envelope_at, held_count, is_collected, is_finished, is_held, is_receive_at};
 ghost use Rattle.mp_match.specs.Board.{is_receive_of, is_send_of, line_of, message_at, no_posts, partner_of, posted};
 ghost use Rattle.mp_match.specs.Board.{probed, receive_posted, send_posted};
 ghost use Rattle.mp_types.specs.Carried.{carried_by_message};
 
+use crate::lists::{body_copies, count_of, set_partners, take_body};
 use crate::posts::{Line, Post, Selection, Sent};
+use crate::waiting::{Found, Waiting};
 use mp_types::{Bytes, Envelope, Message};
 use std::alloc::{AllocError, Global};
 use std::marker::Model;
@@ -34,126 +36,23 @@ pub struct Queues {
     lines: Vec<Line>,
     bodies: Vec<Option<Bytes>>,
     held: u64,
+    waiting: Waiting,
+    compared: u64,
 }
 
 impl Model for Queues {
     ghost use Rattle.std.specs.Prelude.{◌≡◌, length};
     ghost use Rattle.mp_match.specs.Board.{Board, held_count};
+    ghost use Rattle.mp_match.specs.Queued.{queue};
+    ghost use Rattle.mp_match.specs.Waiting.{AreQueued, message_key, receive_key};
 
     ghost Value = { Board };
 
-    ghost view = { λ q. record { lines = q.lines.items; bodies = q.bodies.items } };
+    ghost view = { λ q. record { lines = q.lines.items; bodies = q.bodies.items; compared = q.compared } };
 
-    ghost invariant = { λ q. (q.held ≡ held_count q.bodies.items) × (length q.bodies.items ≡ length q.lines.items) };
-}
-
-fn does_accept(selection: Selection, sent: Sent) -> bool
-    ensures { result ≡ accepts selection sent }
-{
-    let source = match selection.source {
-        None => true,
-        Some(source) => sent.envelope.source == source,
-    };
-    let tag = match selection.tag {
-        None => true,
-        Some(tag) => sent.envelope.tag == tag,
-    };
-    sent.dest == selection.rank && sent.envelope.comm == selection.comm && source && tag
-}
-
-fn does_fit(new: Post, line: Line) -> bool
-    ensures { result ≡ fits new line }
-{
-    match line.partner {
-        Some(_) => false,
-        None => match (new, line.post) {
-            (Post::Send(sent), Post::Receive(selection)) => does_accept(selection, sent),
-            (Post::Receive(selection), Post::Send(sent)) => does_accept(selection, sent),
-            (Post::Claim(selection), Post::Send(sent)) => does_accept(selection, sent),
-            _ => false,
-        },
-    }
-}
-
-// The least place of a post without a partner that the new one may have.
-fn find_partner(lines: &[Line], new: Post) -> Option<u64>
-    ensures { result ≡ partner_for lines.now new }
-{
-    let mut rest = lines;
-    let mut place = 0;
-    while let Some((line, after)) = rest.split_first() {
-        if does_fit(new, *line) {
-            return Some(place);
-        }
-        rest = after;
-        place += 1;
-    }
-    None
-}
-
-fn set_partner(lines: &mut Vec<Line>, place: u64, partner: u64)
-    ensures { lines.new.items ≡ partner_set lines.old.items place partner }
-{
-    let at = place as usize;
-    if at < lines.len() {
-        let line = lines[at];
-        lines[at] = Line {
-            post: line.post,
-            partner: Some(partner),
-        };
-    }
-}
-
-fn set_partners(lines: &mut Vec<Line>, place: Option<u64>, partner: u64)
-    ensures { lines.new.items ≡ partners_set lines.old.items place partner }
-{
-    if let Some(place) = place {
-        set_partner(lines, place, partner);
-    }
-}
-
-// 1 for a message that is held, else 0.
-fn count_of(body: &Option<Bytes>) -> u64
-    ensures { result ≡ held_count (body.now ∷ []) }
-{
-    match body {
-        Some(_) => 1,
-        None => 0,
-    }
-}
-
-fn take_body(bodies: &mut Vec<Option<Bytes>>, place: u64) -> Option<Bytes>
-    ensures taken { result ≡ bytes_in (slice_get bodies.old.items place) }
-    ensures rest { bodies.new.items ≡ slice_set bodies.old.items place None }
-{
-    let at = place as usize;
-    if at < bodies.len() {
-        bodies[at].take()
-    } else {
-        None
-    }
-}
-
-// The bytes of a message in memory of their own, while it is held.
-fn body_copy(alloc: Global, body: &Option<Bytes>) -> Result<Option<Bytes>, AllocError>
-    ensures { IfOk result (λ copy. copy ≡ body.now) }
-{
-    match body {
-        None => Ok(None),
-        Some(bytes) => Ok(Some(bytes.try_copy(alloc)?)),
-    }
-}
-
-// The same bytes of all posts in memory of their own. A copy of no posts takes no memory.
-fn body_copies(alloc: Global, bodies: &[Option<Bytes>]) -> Result<Vec<Option<Bytes>>, AllocError>
-    ensures copy { IfOk result (λ copies. copies.items ≡ bodies.now) }
-    ensures free { bodies.now ≡ [] → IsOk result }
-{
-    let mut copies = Vec::with_capacity(alloc, bodies.len())?;
-    for body in bodies {
-        copies.push(body_copy(alloc, body)?)?;
-    }
-    Ok(copies)
+    ghost invariant = { λ q. (q.held ≡ held_count q.bodies.items) × (length q.bodies.items ≡ length q.lines.items)
+        × AreQueued message_key (queue q.waiting.messages.map) q.lines.items
+        × AreQueued receive_key (queue q.waiting.receives.map) q.lines.items };
 }
 
 impl Queues {
@@ -165,6 +64,8 @@ impl Queues {
             lines: Vec::new(alloc),
             bodies: Vec::new(alloc),
             held: 0,
+            waiting: Waiting::new(alloc),
+            compared: 0,
         }
     }
 
@@ -173,6 +74,12 @@ impl Queues {
         ensures copy { IfOk result (λ copy. copy ≡ self.now) }
         ensures free { self.now ≡ no_posts → IsOk result }
     {
+        if self.lines.is_empty() {
+            return Ok(Queues {
+                compared: self.compared,
+                ..Queues::new(alloc)
+            });
+        }
         let mut lines = Vec::with_capacity(alloc, self.lines.len())?;
         lines.extend_from_slice(self.lines.as_slice())?;
         let bodies = body_copies(alloc, self.bodies.as_slice())?;
@@ -180,6 +87,8 @@ impl Queues {
             lines,
             bodies,
             held: self.held,
+            waiting: self.waiting.try_copy()?,
+            compared: self.compared,
         })
     }
 
@@ -197,6 +106,13 @@ impl Queues {
         self.held
     }
 
+    /// How many waiting receives the last send that was posted compared; 0 before the first.
+    pub fn compared(&self) -> u64
+        ensures { result ≡ self.now.compared }
+    {
+        self.compared
+    }
+
     // One post more, with its partner where there is one.
     fn add(&mut self, new: Post, body: Option<Bytes>) -> Result<Option<u64>, AllocError>
         requires { length self.old.lines < 2 ^ 64 - 1 }
@@ -204,32 +120,41 @@ impl Queues {
             (partner ≡ partner_for self.old.lines new) × (self.new ≡ posted self.old new body)) }
         ensures err { OnErr result (self.new ≡ self.old) }
     {
-        let partner = self.partner_of_new(new);
-        self.add_to(partner, new, body)?;
-        Ok(partner)
+        let found = self.find(new);
+        self.add_to(found, new, body)?;
+        Ok(found.partner)
     }
 
-    // The partner that a new post would have.
-    fn partner_of_new(&self, new: Post) -> Option<u64>
-        ensures { result ≡ partner_for self.now.lines new }
+    // What a new post would find.
+    fn find(&self, new: Post) -> Found
+        ensures partner { result.partner ≡ partner_for self.now.lines new }
+        ensures compared { result.compared ≡ compared_after self.now new }
     {
-        find_partner(self.lines.as_slice(), new)
+        match new {
+            Post::Send(sent) => self.waiting.receive_for(sent),
+            Post::Receive(selection) => Found {
+                partner: self.waiting.message_for(selection),
+                compared: self.compared,
+            },
+            Post::Claim(selection) => Found {
+                partner: self.waiting.message_for(selection),
+                compared: self.compared,
+            },
+        }
     }
 
-    // One post more, whose partner was looked for before.
-    fn add_to(
-        &mut self,
-        partner: Option<u64>,
-        new: Post,
-        body: Option<Bytes>,
-    ) -> Result<(), AllocError>
+    // One post more, which found its partner before.
+    fn add_to(&mut self, found: Found, new: Post, body: Option<Bytes>) -> Result<(), AllocError>
         requires few { length self.old.lines < 2 ^ 64 - 1 }
-        requires partner { partner ≡ partner_for self.old.lines new }
+        requires partner { found.partner ≡ partner_for self.old.lines new }
+        requires compared { found.compared ≡ compared_after self.old new }
         ensures ok { OnOk result (self.new ≡ posted self.old new body) }
         ensures err { OnErr result (self.new ≡ self.old) }
     {
+        let partner = found.partner;
         self.lines.reserve(1)?;
         self.bodies.reserve(1)?;
+        self.waiting.add(self.lines.as_slice(), new, partner)?;
         let place = self.lines.len() as u64;
         let more = count_of(&body);
         let line = Line { post: new, partner };
@@ -243,6 +168,7 @@ impl Queues {
         }
         set_partners(&mut self.lines, partner, place);
         self.held += more;
+        self.compared = found.compared;
         Ok(())
     }
 
@@ -254,6 +180,7 @@ impl Queues {
         ensures done { IfOk result (λ done.
             done ≡ (not sent.sync || is_some (partner_for self.old.lines (Post.Send sent)))) }
         ensures posted { IfOk result (λ _. self.new ≡ send_posted self.old sent bytes) }
+        ensures compared { IfOk result (λ _. self.new.compared ≤ 4) }
         ensures full { (result ≡ Err PostFault.Full) ↔ (65536 ≤ held_count self.old.bodies) }
         ensures err { OnErr result (self.new ≡ self.old) }
     {
@@ -280,7 +207,7 @@ impl Queues {
     fn probe_for(&self, new: Post) -> Option<Envelope>
         ensures { result ≡ probed self.now new }
     {
-        self.envelope_from(self.partner_of_new(new))
+        self.envelope_from(self.find(new).partner)
     }
 
     /// What a receive would be given, if anything, and so what a claim would be given. (MPI 4.1, chapter 3.8.1.)
@@ -300,11 +227,11 @@ impl Queues {
         ensures free { probed self.old (Post.Claim selection) ≡ None → IsOk result }
         ensures err { OnErr result (self.new ≡ self.old) }
     {
-        let partner = self.partner_of_new(Post::Claim(selection));
-        match self.envelope_from(partner) {
+        let found = self.find(Post::Claim(selection));
+        match self.envelope_from(found.partner) {
             None => Ok(None),
             Some(envelope) => {
-                self.add_to(partner, Post::Claim(selection), None)?;
+                self.add_to(found, Post::Claim(selection), None)?;
                 Ok(Some(envelope))
             }
         }
@@ -363,10 +290,10 @@ impl Queues {
             (self.new ≡ (collect (receive_posted self.old selection) (length self.old.lines + 1)).1) }
         ensures err { OnErr result (self.new ≡ self.old) }
     {
-        let partner = self.partner_of_new(Post::Receive(selection));
-        let copy = self.copy_from(alloc, partner)?;
-        self.add_to(partner, Post::Receive(selection), None)?;
-        Ok((self.collect_from(partner), copy))
+        let found = self.find(Post::Receive(selection));
+        let copy = self.copy_from(alloc, found.partner)?;
+        self.add_to(found, Post::Receive(selection), None)?;
+        Ok((self.collect_from(found.partner), copy))
     }
 
     // The message of the send at the place, if any, in memory of its own.

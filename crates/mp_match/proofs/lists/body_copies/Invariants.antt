@@ -1,5 +1,5 @@
 use Rattle.std.proofs.Common.{◌≡◌, take}
-use Rattle.mp_match.proofs.plain_queues.body_copies.Given as goal
+use Rattle.mp_match.proofs.lists.body_copies.Given as goal
 
 -- the copies so far are those of the bytes before these
 abbrev pub invariant-loop-body : goal.invariant-loop-body
