@@ -1,5 +1,6 @@
 -- The first of four queues are those that a new send compares.
-use Rattle.std.specs.Prelude.{ℕ, ◌+◌, ◌<◌, ◌≤◌, ◌≡◌, ◌==◌, ◌&&◌, ◌||◌, min, Bool, true, false, cond, List, [], ◌∷◌, Option, Some, None}
+use Rattle.std.specs.Prelude.{ℕ, ◌+◌, ◌<◌, ◌≤◌, ◌≡◌, ◌==◌, ◌&&◌, ◌||◌, min, Bool, true, false, cond}
+use Rattle.std.specs.Prelude.{List, [], ◌∷◌, Option, Some, None}
 use Rattle.std.specs.List.{position_from, slice_get}
 use Rattle.std.proofs.Common.{refl, sym, ap, ◌∙◌, arith}
 use Rattle.mp_match.specs.declared.posts.Sent.{Sent}
@@ -22,47 +23,64 @@ least_none (Some a) = refl
 pub least_is : (t u : Line → Bool) (i : ℕ) (ms : List Line)
     → position_from (λ m. t m || u m) i ms ≡ least (position_from t i ms) (position_from u i ms)
 least_is t u i [] = refl
-least_is t u i (m ∷ ms) = go (t m) (u m) (least_is t u (i + 1) ms) (position_from t (i + 1) ms) refl (position_from u (i + 1) ms) refl
+least_is t u i (m ∷ ms) =
+    go (t m) (u m) (least_is t u (i + 1) ms) (position_from t (i + 1) ms) refl (position_from u (i + 1) ms) refl
   where
     above : (v : Line → Bool) (b : ℕ) → position_from v (i + 1) ms ≡ Some b → i < b
     above v b h = (let f = found v (i + 1) ms b h in let p = f.place in omega arith)
 
-    go : (a b : Bool) → position_from (λ x. t x || u x) (i + 1) ms ≡ least (position_from t (i + 1) ms) (position_from u (i + 1) ms)
+    first : (b : ℕ) → i < b → Some i ≡ Some (min i b)
+    first b l = ap (λ n. Some n) (let s : i ≡ min i b = omega (arith, l) in s)
+
+    last : (a : ℕ) → i < a → Some i ≡ Some (min a i)
+    last a l = ap (λ n. Some n) (let s : i ≡ min a i = omega (arith, l) in s)
+
+    go : (a b : Bool)
+        → position_from (λ x. t x || u x) (i + 1) ms ≡ least (position_from t (i + 1) ms) (position_from u (i + 1) ms)
         → (p : Option ℕ) → position_from t (i + 1) ms ≡ p → (q : Option ℕ) → position_from u (i + 1) ms ≡ q
         → cond (a || b) (Some i) (position_from (λ x. t x || u x) (i + 1) ms)
         ≡ least (cond a (Some i) (position_from t (i + 1) ms)) (cond b (Some i) (position_from u (i + 1) ms))
     go true true h p e q f = ap (λ n. Some n) (let s : i ≡ min i i = omega arith in s)
     go true false h p e None f = sym (ap (least (Some i)) f)
-    go true false h p e (Some b) f = (let l = above u b f in ap (λ n. Some n) (let s : i ≡ min i b = omega (arith, l) in s)) ∙ sym (ap (least (Some i)) f)
+    go true false h p e (Some b) f = first b (above u b f) ∙ sym (ap (least (Some i)) f)
     go false true h None e q f = sym (ap (λ o. least o (Some i)) e)
-    go false true h (Some a) e q f = (let l = above t a e in ap (λ n. Some n) (let s : i ≡ min a i = omega (arith, l) in s)) ∙ sym (ap (λ o. least o (Some i)) e)
+    go false true h (Some a) e q f = last a (above t a e) ∙ sym (ap (λ o. least o (Some i)) e)
     go false false h p e q f = h
 
-pub position_ext : (t u : Line → Bool) → ((m : Line) → t m ≡ u m) → (i : ℕ) (ms : List Line) → position_from t i ms ≡ position_from u i ms
+pub position_ext : (t u : Line → Bool) → ((m : Line) → t m ≡ u m) → (i : ℕ) (ms : List Line)
+    → position_from t i ms ≡ position_from u i ms
 position_ext t u h i [] = refl
 position_ext t u h i (m ∷ ms) = (λ j. cond (h m j) (Some i) (position_ext t u h (i + 1) ms j))
 
 -- a receive accepts a send where its key is one of the send's four
-both : (a b c d : Bool) → ((a && b) && c) && d ≡ ((a && (b && (c && d))) || (a && (b && (c && false)))) || ((a && (b && (false && d))) || (a && (b && (false && false))))
+both : (a b c d : Bool) → ((a && b) && c) && d
+    ≡ ((a && (b && (c && d))) || (a && (b && (c && false))))
+    || ((a && (b && (false && d))) || (a && (b && (false && false))))
 both false b c d = refl
 both true false c d = refl
 both true true false d = refl
 both true true true false = refl
 both true true true true = refl
 
-source_only : (a b c : Bool) → ((a && b) && c) && true ≡ ((a && (b && (c && false))) || (a && (b && (c && true)))) || ((a && (b && (false && false))) || (a && (b && (false && true))))
+source_only : (a b c : Bool) → ((a && b) && c) && true
+    ≡ ((a && (b && (c && false))) || (a && (b && (c && true))))
+    || ((a && (b && (false && false))) || (a && (b && (false && true))))
 source_only false b c = refl
 source_only true false c = refl
 source_only true true false = refl
 source_only true true true = refl
 
-tag_only : (a b d : Bool) → ((a && b) && true) && d ≡ ((a && (b && (false && d))) || (a && (b && (false && false)))) || ((a && (b && (true && d))) || (a && (b && (true && false))))
+tag_only : (a b d : Bool) → ((a && b) && true) && d
+    ≡ ((a && (b && (false && d))) || (a && (b && (false && false))))
+    || ((a && (b && (true && d))) || (a && (b && (true && false))))
 tag_only false b d = refl
 tag_only true false d = refl
 tag_only true true false = refl
 tag_only true true true = refl
 
-neither : (a b : Bool) → ((a && b) && true) && true ≡ ((a && (b && (false && false))) || (a && (b && (false && true)))) || ((a && (b && (true && false))) || (a && (b && (true && true))))
+neither : (a b : Bool) → ((a && b) && true) && true
+    ≡ ((a && (b && (false && false))) || (a && (b && (false && true))))
+    || ((a && (b && (true && false))) || (a && (b && (true && true))))
 neither false b = refl
 neither true false = refl
 neither true true = refl

@@ -1,5 +1,6 @@
 -- A map of queues after one more place and after one less, and its copy.
-use Rattle.std.proofs.Common.{◌≡◌, ℕ, List, [], ◌∷◌, ◌++◌, refl, sym, ap, ◌∙◌, Bool, true, false, cond, Some, None, Option}
+use Rattle.std.proofs.Common.{◌≡◌, ℕ, List, [], ◌∷◌, ◌++◌, refl, sym, ap, ◌∙◌, Bool, true, false, cond}
+use Rattle.std.proofs.Common.{Some, None, Option}
 use Rattle.std.specs.List.{AllZip}
 use Rattle.std.specs.Map.{lookup}
 use Rattle.std.specs.Ordering.{is_eq}
@@ -9,7 +10,7 @@ use Rattle.std.specs.declared.alloc.Global.{Global}
 use Rattle.mp_match.specs.declared.posts.Selection.{Selection}
 use Rattle.mp_match.specs.Queued.{Entry, Keyed, selection_cmp, queue, places_in}
 use Rattle.mp_match.specs.Waiting.{same_key, pushed}
-use Rattle.mp_match.proofs.Keys.{cmp_is, key_same}
+use Rattle.mp_match.proofs.Keys.{cmp_is}
 
 abbrev Queue : Type 0
 Queue = VecDeque ℕ Global
@@ -36,15 +37,6 @@ pub pushed_new : (m n : Keyed) (key : Selection) (place : ℕ) (v : Queue) → g
 pushed_new m n key place v none sets items k =
     set_queue m n key (Some v) sets k
     ∙ ap (λ l. cond (same_key k key) l (queue m k)) (items ∙ ap (λ l. l ++ place ∷ []) (sym (ap places_in none)))
-
--- an empty queue that goes
-pub emptied : (m n : Keyed) (key : Selection) → queue m key ≡ [] → Sets m n key None
-    → (k : Selection) → queue n k ≡ queue m k
-emptied m n key none sets k = set_queue m n key None sets k ∙ go (same_key k key) refl
-  where
-    go : (b : Bool) → same_key k key ≡ b → cond b [] (queue m k) ≡ queue m k
-    go true e = sym none ∙ sym (ap (queue m) (key_same k key e))
-    go false e = refl
 
 -- ---- copies
 

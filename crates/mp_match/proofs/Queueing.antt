@@ -1,5 +1,6 @@
 -- The queues of the posts without a partner, after one more post.
-use Rattle.std.specs.Prelude.{ℕ, zero, suc, ◌+◌, ◌<◌, ◌≡◌, ◌==◌, ◌&&◌, Bool, true, false, cond, List, [], ◌∷◌, ◌++◌, length, Option, Some, None}
+use Rattle.std.specs.Prelude.{ℕ, zero, suc, ◌+◌, ◌<◌, ◌≡◌, ◌==◌, ◌&&◌, Bool, true, false, cond}
+use Rattle.std.specs.Prelude.{List, [], ◌∷◌, ◌++◌, length, Option, Some, None}
 use Rattle.std.specs.Prelude.{drop}
 use Rattle.std.specs.List.{position_from, slice_get}
 use Rattle.std.proofs.Common.{refl, sym, ap, ◌∙◌, subst, arith, append-nil, zero-add}
@@ -123,7 +124,8 @@ receives_alike p (Receive a) (Receive b) k e f =
 
 module _ (key : Post → Option Selection) (f : Selection → List ℕ) (ms : List Line) (h : AreQueued key f ms) where
   -- a new post without a partner stands behind the others of its key
-  queued_push : (p : Post) → AreQueued key (pushed f (key p) (length ms)) (ms ++ record { post = p; partner = None } ∷ [])
+  queued_push : (p : Post)
+      → AreQueued key (pushed f (key p) (length ms)) (ms ++ record { post = p; partner = None } ∷ [])
   queued_push p k = go (key p) refl
     where
       line : Line
@@ -181,7 +183,8 @@ module _ (key : Post → Option Selection) (alike : AreAlike key) (f : Selection
     (h : AreQueued key f ms) where
   pub entered : None ≡ partner_for ms p → AreQueued key (pushed f (key p) (length ms)) (add ms p)
   entered none =
-      subst (λ o. AreQueued key (pushed f (key p) (length ms)) (partners_told ms o ++ record { post = p; partner = o } ∷ []))
+      subst (λ o. AreQueued key (pushed f (key p) (length ms))
+      (partners_told ms o ++ record { post = p; partner = o } ∷ []))
       none (queued_push key f ms h p)
 
   pub left : (q : ℕ) (x : Line) → Some q ≡ partner_for ms p → slice_get ms q ≡ Some x

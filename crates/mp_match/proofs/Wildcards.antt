@@ -1,5 +1,6 @@
 -- A receive or a claim takes the least of the first messages that it accepts.
-use Rattle.std.specs.Prelude.{ℕ, suc, ◌+◌, ◌≡◌, ◌==◌, ◌&&◌, ◌||◌, Bool, true, false, cond, List, [], ◌∷◌, Option, Some, None}
+use Rattle.std.specs.Prelude.{ℕ, suc, ◌+◌, ◌≡◌, ◌==◌, ◌&&◌, ◌||◌, Bool, true, false, cond}
+use Rattle.std.specs.Prelude.{List, [], ◌∷◌, Option, Some, None}
 use Rattle.std.specs.List.{position_from, slice_get, list_any}
 use Rattle.std.specs.Map.{lookup}
 use Rattle.std.specs.Cmp.{both_ways}
@@ -42,15 +43,19 @@ or_group true b c = refl
 or_group false b c = refl
 
 abbrev HaveFirst : List Line → List Entry → Type 0
-HaveFirst ms es = (i : ℕ) (e : Entry) → slice_get es i ≡ Some e → slice_get (e.1).items 0 ≡ position_from (opened e.0) 0 ms
+HaveFirst ms es = (i : ℕ) (e : Entry) → slice_get es i ≡ Some e
+    → slice_get (e.1).items 0 ≡ position_from (opened e.0) 0 ms
 
-least_accepted_is : (a : Selection) (ms : List Line) (es : List Entry) (o : Option ℕ) (t : Line → Bool) → o ≡ position_from t 0 ms → HaveFirst ms es
+least_accepted_is : (a : Selection) (ms : List Line) (es : List Entry) (o : Option ℕ) (t : Line → Bool)
+    → o ≡ position_from t 0 ms → HaveFirst ms es
     → least_accepted a o es ≡ position_from (λ x. t x || any_test a es x) 0 ms
 least_accepted_is a ms [] o t h f = h ∙ position_ext t (λ x. t x || false) (λ x. or_none (t x)) 0 ms
 least_accepted_is a ms (e ∷ es) o t h f =
     go (accepts_key a e.0) (λ p u g. least_accepted_is a ms es p u g (λ i d s. f (suc i) d s))
   where
-    go : (b : Bool) → ((p : Option ℕ) (u : Line → Bool) → p ≡ position_from u 0 ms → least_accepted a p es ≡ position_from (λ x. u x || any_test a es x) 0 ms)
+    go : (b : Bool)
+        → ((p : Option ℕ) (u : Line → Bool) → p ≡ position_from u 0 ms
+        → least_accepted a p es ≡ position_from (λ x. u x || any_test a es x) 0 ms)
         → least_accepted a (cond b (least o (slice_get (e.1).items 0)) o) es
         ≡ position_from (λ x. t x || ((b && opened e.0 x) || any_test a es x)) 0 ms
     go false rec = rec o t h
@@ -64,10 +69,13 @@ position_never : (i : ℕ) (ms : List Line) → None ≡ position_from (λ x. fa
 position_never i [] = refl
 position_never i (m ∷ ms) = position_never (i + 1) ms
 
-position_ext_in : (t u : Line → Bool) (i : ℕ) (ms : List Line) → ((l : ℕ) (x : Line) → slice_get ms l ≡ Some x → t x ≡ u x)
+position_ext_in : (t u : Line → Bool) (i : ℕ) (ms : List Line)
+    → ((l : ℕ) (x : Line) → slice_get ms l ≡ Some x → t x ≡ u x)
     → position_from t i ms ≡ position_from u i ms
 position_ext_in t u i [] h = refl
-position_ext_in t u i (m ∷ ms) h = (λ j. cond (h 0 m refl j) (Some i) (position_ext_in t u (i + 1) ms (λ l x s. h (suc l) x s) j))
+position_ext_in t u i (m ∷ ms) h = (
+    λ j. cond (h 0 m refl j) (Some i) (position_ext_in t u (i + 1) ms (λ l x s. h (suc l) x s) j)
+    )
 
 accepts_key_is : (a : Selection) (s : Sent) → accepts_key a (key_of s) ≡ accepts a s
 accepts_key_is a s = refl

@@ -71,8 +71,10 @@ impl Waiting {
 
     /// The same queues in memory of their own.
     pub fn try_copy(&self) -> Result<Waiting, AllocError>
-        ensures messages { IfOk result (λ copy. (k : Selection) → queue copy.messages.map k ≡ queue self.now.messages.map k) }
-        ensures receives { IfOk result (λ copy. (k : Selection) → queue copy.receives.map k ≡ queue self.now.receives.map k) }
+        ensures messages { IfOk result (λ copy.
+            (k : Selection) → queue copy.messages.map k ≡ queue self.now.messages.map k) }
+        ensures receives { IfOk result (λ copy.
+            (k : Selection) → queue copy.receives.map k ≡ queue self.now.receives.map k) }
     {
         Ok(Waiting {
             messages: self.messages.try_copy()?,

@@ -22,7 +22,8 @@ lines_are : (c : goal.After-self-2-1) → c.set_partners.new.lines.items ≡ add
 lines_are c =
     let es = c.self.inside.lines.items in
     let line : Line = record { post = c.args.new; partner = c.args.found.partner } in
-    partners_end es c.push.new.self.items c.set_partners.new.lines.items c.args.found.partner c.args.new c.len-place.result
+    partners_end es c.push.new.self.items c.set_partners.new.lines.items c.args.found.partner c.args.new
+    c.len-place.result
     (found_is c)
     (c.in-Ok.ensures.items ∙ ap (λ l. l ++ line ∷ []) c.in_ok-reserve.ensures.items)
     (omega (arith, c.in_ok-reserve.ensures.len, c.len-place.ensures))
