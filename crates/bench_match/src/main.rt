@@ -1,8 +1,9 @@
 //! Matches messages while others wait, and prints how many it matched: a program to time the matching with.
 //!
 //! Its first argument says how many messages wait that no receive asks for, its second how often a message is sent,
-//! received and collected beside them. With the word `hub` and a number it has a hub do it instead, and prints how many
-//! messages were got in how many calls; without words it does both.
+//! received and collected beside them. With a third the messages have so many tags in turn, and receives of any tag take
+//! them. With the word `hub` and a number it has a hub do it instead, and prints how many messages were got in how many
+//! calls; without words it does both.
 #![tactic(auto)]
 
 mod hub;
@@ -32,8 +33,8 @@ fn send(alloc: Global, queues: &mut Queues, tag: u16) -> io::Result<bool> {
     Ok(queues.posts() < u64::MAX && queues.post_send(sent, bytes).is_ok())
 }
 
-/// Receives and collects a message with the tag that is asked for; the answer is whether there was one.
-fn receive(queues: &mut Queues) -> io::Result<bool> {
+/// Receives and collects a message with the tag, or with any; the answer is whether there was one.
+fn receive(queues: &mut Queues, tag: Option<u16>) -> io::Result<bool> {
     if queues.posts() == u64::MAX {
         return Ok(false);
     }
@@ -41,7 +42,7 @@ fn receive(queues: &mut Queues) -> io::Result<bool> {
         rank: 1,
         comm: 0,
         source: Some(0),
-        tag: Some(WANTED),
+        tag,
     })?;
     let post = queues.posts();
     Ok(queues.collect(post).is_some())
@@ -55,6 +56,11 @@ fn number_at(rt: &HostRuntime, place: usize, other: u32) -> io::Result<u32> {
     Ok(word.as_str().parse().unwrap_or(other))
 }
 
+/// The tag of a message that isn't asked for by its own: one of so many in turn.
+fn tag_of(number: u32, tags: u32) -> u16 {
+    (number % tags.max(1)).min(65_535) as u16
+}
+
 /// Matches messages while others wait.
 fn print_matches(rt: &HostRuntime, waiting: u32, matches: u32) -> io::Result<()> {
     let alloc = rt.alloc();
@@ -64,7 +70,32 @@ fn print_matches(rt: &HostRuntime, waiting: u32, matches: u32) -> io::Result<()>
     }
     let mut matched = 0u64;
     for _ in 0..matches {
-        if send(alloc, &mut queues, WANTED)? && receive(&mut queues)? && matched < u64::MAX {
+        if send(alloc, &mut queues, WANTED)?
+            && receive(&mut queues, Some(WANTED))?
+            && matched < u64::MAX
+        {
+            matched += 1;
+        }
+    }
+    println!(rt;
+        "{matched} of {matches} messages matched, {} held",
+        queues.held()
+    )
+}
+
+/// Matches messages of so many tags with receives of any tag, while others wait.
+fn print_any(rt: &HostRuntime, waiting: u32, matches: u32, tags: u32) -> io::Result<()> {
+    let alloc = rt.alloc();
+    let mut queues = Queues::new(alloc);
+    for number in 0..waiting {
+        send(alloc, &mut queues, tag_of(number, tags))?;
+    }
+    let mut matched = 0u64;
+    for number in 0..matches {
+        if send(alloc, &mut queues, tag_of(number, tags))?
+            && receive(&mut queues, None)?
+            && matched < u64::MAX
+        {
             matched += 1;
         }
     }
@@ -83,7 +114,13 @@ fn print_hub(rt: &HostRuntime, messages: u32) -> io::Result<()> {
 fn main(rt: HostRuntime) -> io::Result<()> {
     match env::args(&rt)?.nth(1) {
         Some(word) if word.as_str() == "hub" => print_hub(&rt, number_at(&rt, 2, 100)?),
-        Some(_) => print_matches(&rt, number_at(&rt, 1, 10)?, number_at(&rt, 2, 100)?),
+        Some(_) => {
+            let (waiting, matches) = (number_at(&rt, 1, 10)?, number_at(&rt, 2, 100)?);
+            match number_at(&rt, 3, 0)? {
+                0 => print_matches(&rt, waiting, matches),
+                tags => print_any(&rt, waiting, matches, tags),
+            }
+        }
         None => {
             print_matches(&rt, 10, 100)?;
             print_hub(&rt, 100)
