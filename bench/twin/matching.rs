@@ -94,14 +94,19 @@ impl Queues {
         let place = self.lines.len() as u64;
         match partner {
             None => match post {
-                Post::Send(sent) => self.messages.push(key(sent, Some(sent.source), Some(sent.tag)), place),
+                Post::Send(sent) => self
+                    .messages
+                    .push(key(sent, Some(sent.source), Some(sent.tag)), place),
                 Post::Receive(asked) => self.receives.push(asked, place),
             },
             Some(partner) => {
                 let line = &mut self.lines[partner as usize];
                 line.partner = Some(place);
                 match line.post {
-                    Post::Send(sent) => self.messages.pop(key(sent, Some(sent.source), Some(sent.tag))),
+                    Post::Send(sent) => {
+                        self.messages
+                            .pop(key(sent, Some(sent.source), Some(sent.tag)))
+                    }
                     Post::Receive(asked) => self.receives.pop(asked),
                 }
             }
@@ -114,7 +119,9 @@ impl Queues {
     fn post_send(&mut self, sent: Sent, body: Box<[u8]>) {
         let (source, tag) = (Some(sent.source), Some(sent.tag));
         let keys = [(source, tag), (source, None), (None, tag), (None, None)];
-        let fronts = keys.iter().filter_map(|&(source, tag)| self.receives.front(key(sent, source, tag)));
+        let fronts = keys
+            .iter()
+            .filter_map(|&(source, tag)| self.receives.front(key(sent, source, tag)));
         let partner = fronts.min();
         self.add(Post::Send(sent), partner, Some(body));
     }
@@ -161,7 +168,9 @@ fn receive(queues: &mut Queues, tag: Option<u16>) -> bool {
 }
 
 fn number(at: usize) -> u32 {
-    let Some(word) = env::args().nth(at) else { return 0 };
+    let Some(word) = env::args().nth(at) else {
+        return 0;
+    };
     word.parse().unwrap_or_else(|_| {
         eprintln!("usage: matching WAITING MATCHES [TAGS]");
         process::exit(2)
@@ -193,5 +202,8 @@ fn main() {
         0 => matched(&mut queues, waiting, matches),
         _ => matched_any(&mut queues, waiting, matches, tags),
     };
-    println!("{matched} of {matches} messages matched, {} held", queues.held);
+    println!(
+        "{matched} of {matches} messages matched, {} held",
+        queues.held
+    );
 }
