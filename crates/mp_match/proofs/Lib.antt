@@ -9,3 +9,4 @@ pub mod MapSteps
 pub mod Queueing
 pub mod Fronts
 pub mod Wildcards
+pub mod Matched

@@ -2,4 +2,5 @@ pub mod Pairs
 pub mod Order
 pub mod Waiting
 pub mod Queued
+pub mod Matches
 pub mod Board
