@@ -32,7 +32,7 @@ one_lines rank b n = go (is_send_of rank (line_of b n))
     go true = refl
     go false = collect_lines b n
 
-all_lines : (rank : ℕ) (ns : List ℕ) (b : Board) → (all_got rank b ns).1.lines ≡ b.lines
+pub all_lines : (rank : ℕ) (ns : List ℕ) (b : Board) → (all_got rank b ns).1.lines ≡ b.lines
 all_lines rank [] b = refl
 all_lines rank (n ∷ ns) b = all_lines rank ns (one_got rank b n).1 ∙ one_lines rank b n
 

@@ -6,3 +6,6 @@ pub mod Counted
 pub mod Refused
 pub mod Copied
 pub mod Transfers
+pub mod Histories
+pub mod HeldKept
+pub mod Losses

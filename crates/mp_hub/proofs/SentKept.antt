@@ -29,7 +29,7 @@ use Rattle.mp_hub.proofs.Outcomes.{is_plain, post_envelope, IsReady, Comes, is_n
 
 -- ---- a message and its parts
 
-message_parts : (o : Option Envelope) (p : Option (Option (List ℕ))) (m : Message) → message_in o p ≡ Some m
+pub message_parts : (o : Option Envelope) (p : Option (Option (List ℕ))) (m : Message) → message_in o p ≡ Some m
     → (o ≡ Some m.envelope) × (p ≡ Some (Some m.bytes))
 message_parts None p m h = absurd (cc)
 message_parts (Some e) None m h = absurd (cc)
@@ -65,7 +65,7 @@ envelope_more lines p place e h =
     go line (is_old f) g = inr (ap envelope_in f ∙ g)
     go line (is_given x f c t) g = inr (ap envelope_in f ∙ sym (ap (λ (y : Line). envelope_in (Some y)) t) ∙ g)
 
-set_held : (bodies : List (Option (List ℕ))) (s i : ℕ) (x : List ℕ)
+pub set_held : (bodies : List (Option (List ℕ))) (s i : ℕ) (x : List ℕ)
     → slice_get (slice_set bodies s None) i ≡ Some (Some x) → slice_get bodies i ≡ Some (Some x)
 set_held [] s i x h = h
 set_held (b ∷ bodies) zero zero x h = absurd (cc)
@@ -73,7 +73,7 @@ set_held (b ∷ bodies) zero (suc i) x h = h
 set_held (b ∷ bodies) (suc s) zero x h = h
 set_held (b ∷ bodies) (suc s) (suc i) x h = set_held bodies s i x h
 
-set_length : (bodies : List (Option (List ℕ))) (s : ℕ) → length (slice_set bodies s None) ≡ length bodies
+pub set_length : (bodies : List (Option (List ℕ))) (s : ℕ) → length (slice_set bodies s None) ≡ length bodies
 set_length [] s = refl
 set_length (b ∷ bodies) zero = refl
 set_length (b ∷ bodies) (suc s) = ap suc (set_length bodies s)

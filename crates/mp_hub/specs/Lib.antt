@@ -3,4 +3,7 @@ pub mod Laws
 pub mod Made
 pub mod Twice
 pub mod Transfers
+pub mod Histories
+pub mod Posts
+pub mod Losses
 pub mod Rows

@@ -1,12 +1,25 @@
 //! Laws of the hub's meaning, with no code: each function's contract is the law.
 
 ghost use Rattle.mp_hub.specs.Laws.{BoardLaw, CountLaw, SentLaw};
+ghost use Rattle.mp_hub.specs.Losses.{LossLaw};
+ghost use Rattle.mp_hub.specs.Posts.{PostsLaw};
 ghost use Rattle.mp_hub.specs.Rows.{WorkedCalls};
 ghost use Rattle.mp_hub.specs.Transfers.{CutLaw, PairsLaw};
 
 /// After any calls the hub's posts stand with the pairs that the list of them has, and are no more than the calls.
 pub fn board_law()
     ensures { BoardLaw }
+{}
+
+/// The hub's posts are those of its calls, in their order: each send that was posted, each receive, and each claim that
+/// holds a message. Each was told its number.
+pub fn posts_law()
+    ensures { PostsLaw }
+{}
+
+/// Nothing is lost: a message that is there is given to the one who asks for it, and once.
+pub fn loss_law()
+    ensures { LossLaw }
 {}
 
 /// What is got is what was sent: envelope and bytes of each message that the hub gives, and each envelope that it

@@ -48,7 +48,7 @@ accepting a s m =
     let tag : admits a.tag e.tag ≡ true = admitting a.tag e.tag m.tag in
     (λ i. rank i && comm i && source i && tag i)
 
-line_at : (ms : List Line) (i : ℕ) (p : Post) → slice_get (posts_of ms) i ≡ Some p
+pub line_at : (ms : List Line) (i : ℕ) (p : Post) → slice_get (posts_of ms) i ≡ Some p
     → (m : Line) × (slice_get ms i ≡ Some m) × (m.post ≡ p)
 line_at [] i p h = absurd (cc)
 line_at (m ∷ ms) zero p h = (m, refl, (cc))

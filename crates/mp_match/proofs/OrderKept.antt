@@ -372,7 +372,7 @@ module _ (ms : List Line) (good : Good ms) where
       (sym (partner_is j m.0 m.1) ∙ h) none) in
       (r.0, partner_is i l.0 l.1 ∙ r.1)
 
-stays_add : (ms : List Line) (p : Post) (i j : ℕ) → partner_at ms i ≡ Some j → partner_at (add ms p) i ≡ Some j
+pub stays_add : (ms : List Line) (p : Post) (i j : ℕ) → partner_at ms i ≡ Some j → partner_at (add ms p) i ≡ Some j
 stays_add ms p i j h =
     let m = partner_line ms i j h in
     ap partner_of_line (add_old ms p i m.0 m.1 (λ for.
