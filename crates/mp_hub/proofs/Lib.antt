@@ -9,3 +9,4 @@ pub mod Transfers
 pub mod Histories
 pub mod HeldKept
 pub mod Losses
+pub mod Handles

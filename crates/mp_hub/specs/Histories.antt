@@ -5,7 +5,7 @@ use Rattle.mp_types.specs.declared.messages.Message.{Message}
 use Rattle.mp_types.specs.declared.requests.Request.{Request}
 use Rattle.mp_types.specs.declared.requests.Request.TheVariants as request
 use Rattle.mp_types.specs.declared.replies.Reply.{Reply}
-use Rattle.mp_types.specs.declared.replies.Reply.TheVariants.{Posted, Got, Held, AllGot}
+use Rattle.mp_types.specs.declared.replies.Reply.TheVariants.{Code, Posted, Got, Held, AllGot}
 use Rattle.mp_match.specs.declared.posts.Post.{Post}
 use Rattle.mp_match.specs.declared.posts.Post.TheVariants.{Send, Receive, Claim}
 use Rattle.mp_match.specs.Pairs.{pairs, partner_at}
@@ -66,10 +66,10 @@ got_after links calls =
 
 -- ---- claimed messages that were received
 
--- the claim that a call receives: its message is there at once, or is collected later
+-- the claim whose message a call receives, where it isn't refused
 abbrev pub received_by : Request → Reply → List ℕ
-received_by (request.Claimed now message) (Posted number done) = message ∷ []
-received_by (request.Claimed now message) (Got m) = message ∷ []
+received_by (request.Claimed now message) (Code code) = []
+received_by (request.Claimed now message) r = message ∷ []
 received_by q r = []
 
 abbrev pub received_after : List Link → List Call → List ℕ

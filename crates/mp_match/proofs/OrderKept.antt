@@ -306,7 +306,7 @@ line_out [] i m h = absurd (cc)
 line_out (x ∷ ms) zero m h = (let e : x ≡ m = (cc) in ap (λ (y : Line). Some y.post) e)
 line_out (x ∷ ms) (suc i) m h = line_out ms i m h
 
-partner_line : (ms : List Line) (i j : ℕ) → partner_at ms i ≡ Some j
+pub partner_line : (ms : List Line) (i j : ℕ) → partner_at ms i ≡ Some j
     → (m : Line) × (slice_get ms i ≡ Some m) × (m.partner ≡ Some j)
 partner_line ms i j h = go (slice_get ms i) refl h
   where
