@@ -33,7 +33,7 @@ use Rattle.mp_hub.proofs.BoardKept.{collect_lines, one_lines, all_lines}
 use Rattle.mp_hub.proofs.HeldKept.{Stock, stock}
 use Rattle.mp_hub.proofs.Histories.{each_more, call_by_call, hub_more, number_is}
 
-or_cases : (a b : Bool) → (a || b) ≡ true → (a ≡ true) ⊎ (b ≡ true)
+pub or_cases : (a b : Bool) → (a || b) ≡ true → (a ≡ true) ⊎ (b ≡ true)
 or_cases true b h = inl refl
 or_cases false b h = inr h
 
@@ -48,7 +48,7 @@ or_none : (a b : Bool) → (a || b) ≡ false → (a ≡ false) × (b ≡ false)
 or_none true b h = absurd (cc)
 or_none false b h = (refl, h)
 
-not_true : (b : Bool) → (b ≡ true → ⊥) → b ≡ false
+pub not_true : (b : Bool) → (b ≡ true → ⊥) → b ≡ false
 not_true true h = absurd (h refl)
 not_true false h = refl
 
@@ -83,11 +83,11 @@ ClaimOf ps rank number =
     (place : ℕ) × (a : Selection) × (number ≡ suc place) × (slice_get ps place ≡ Some (post.Claim a)) × (a.rank ≡ rank)
 
 -- each message that waits has its claim
-abbrev Owned : List Post → List Waiting → Type 0
+abbrev pub Owned : List Post → List Waiting → Type 0
 Owned ps [] = Unit {0}
 Owned ps (w ∷ ws) = ClaimOf ps w.rank w.message × Owned ps ws
 
-waiting_claim : (ps : List Post) (ws : List Waiting) (n : ℕ) → Owned ps ws → is_waiting ws n ≡ true
+pub waiting_claim : (ps : List Post) (ws : List Waiting) (n : ℕ) → Owned ps ws → is_waiting ws n ≡ true
     → (rank : ℕ) × ClaimOf ps rank n
 waiting_claim ps [] n owned h = absurd (cc)
 waiting_claim ps (w ∷ ws) n owned h = elim (or_cases (w.message == n) (is_waiting ws n) h) [
@@ -232,7 +232,7 @@ past_waiting h rank n e =
     let p = and_parts (a && b) (not (is_collected h.board n)) e in
     not-true (is_waiting h.claims n) (and_parts a b p.0).1
 
-same_lines : (rank : ℕ) (b c : Board) → c.lines ≡ b.lines → (n : ℕ)
+pub same_lines : (rank : ℕ) (b c : Board) → c.lines ≡ b.lines → (n : ℕ)
     → is_send_of rank (line_of c n) ≡ is_send_of rank (line_of b n)
 same_lines rank b c same zero = refl
 same_lines rank b c same (suc place) = ap (λ (ls : List Line). is_send_of rank (slice_get ls place)) same

@@ -54,7 +54,7 @@ pub record Stock (b : Board) (got : List ℕ) : Type 0 where
       × ((x : List ℕ) → slice_get b.bodies j ≡ Some (Some x) → ⊥)
   pub once : NoneTwice got
 
-set_other : (bodies : List (Option (List ℕ))) (s i : ℕ) (x : List ℕ) → (s ≡ i → ⊥)
+pub set_other : (bodies : List (Option (List ℕ))) (s i : ℕ) (x : List ℕ) → (s ≡ i → ⊥)
     → slice_get bodies i ≡ Some (Some x) → slice_get (slice_set bodies s None) i ≡ Some (Some x)
 set_other [] s i x other h = h
 set_other (b ∷ bodies) zero zero x other h = absurd (other refl)
@@ -117,7 +117,7 @@ stock_got b got i j x stock pair held = record {
     ]
 
 -- a send is held where its message is
-held_message : (b : Board) (j : ℕ) (s : Sent) (x : List ℕ) → slice_get (posts_of b.lines) j ≡ Some (post.Send s)
+pub held_message : (b : Board) (j : ℕ) (s : Sent) (x : List ℕ) → slice_get (posts_of b.lines) j ≡ Some (post.Send s)
     → slice_get b.bodies j ≡ Some (Some x)
     → message_at b j ≡ Some (record { envelope = s.envelope; bytes = x })
 held_message b j s x sent held =

@@ -39,7 +39,7 @@ message_parts (Some e) (Some (Some bytes)) m h =
     let same : made ≡ m = same_Some made m h in
     (ap (λ (x : Message). Some x.envelope) same, ap (λ (x : Message). Some (Some x.bytes)) same)
 
-message_from : (b : Board) (place : ℕ) (m : Message) → envelope_at b (Some place) ≡ Some m.envelope
+pub message_from : (b : Board) (place : ℕ) (m : Message) → envelope_at b (Some place) ≡ Some m.envelope
     → slice_get b.bodies place ≡ Some (Some m.bytes)
     → message_at b place ≡ Some m
 message_from b place m e p = λ i. message_in (e i) (p i)
