@@ -105,7 +105,7 @@ receiving_claim ps (w ∷ ws) rank n owned h = elim (or_cases (is_claim rank n w
   | inr there ↦ receiving_claim ps ws rank n owned.1 there
 ]
 
-may_wait : (ws : List Waiting) (rank n : ℕ) → may_receive ws rank n ≡ true → is_waiting ws n ≡ true
+pub may_wait : (ws : List Waiting) (rank n : ℕ) → may_receive ws rank n ≡ true → is_waiting ws n ≡ true
 may_wait [] rank n h = absurd (cc)
 may_wait (w ∷ ws) rank n h = elim (or_cases (is_claim rank n w) (may_receive ws rank n) h) [
   | inl here ↦ ap (λ b. b || is_waiting ws n) (and_parts (w.rank == rank) (w.message == n) here).1
@@ -218,7 +218,7 @@ either : (h : HubView) (rank : ℕ) (q : Request) (c : Bool) (x y : Reply × Hub
 either h rank q true x y p n = p
 either h rank q false x y p n = n
 
-no_number : {X : Type 0} (n : ℕ) → Contains [] n → X
+pub no_number : {X : Type 0} (n : ℕ) → Contains [] n → X
 no_number n c = (let lt = c.1 in absurd (omega (arith, lt)))
 
 one_of : (x n : ℕ) → Contains (x ∷ []) n → n ≡ x

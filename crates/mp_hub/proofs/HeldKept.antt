@@ -148,9 +148,9 @@ stock_empty b got j stock none = record {
     kept k s sent = elim (stock.kept k s sent) [
       | inr h ↦ inr h
       | inl h ↦ elim (cases_eq j k) [
-          | inl same ↦ (let m = held_message b k s h.0 sent h.1 in
-              let no : None ≡ Some (record { envelope = s.envelope; bytes = h.0 }) =
-              sym none ∙ ap (message_at b) same ∙ m in absurd (cc))
+          | inl same ↦ (let made : Message = record { envelope = s.envelope; bytes = h.0 } in
+              let no : None ≡ Some made = sym none ∙ ap (message_at b) same ∙ held_message b k s h.0 sent h.1 in
+              absurd (cc))
           | inr other ↦ inl (h.0, set_other b.bodies j k h.0 other h.1)
         ]
     ]

@@ -10,3 +10,4 @@ pub mod Histories
 pub mod HeldKept
 pub mod Losses
 pub mod Handles
+pub mod Owners

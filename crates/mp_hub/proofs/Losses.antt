@@ -36,7 +36,7 @@ use Rattle.mp_hub.proofs.Handles.{Handles, handles, waiting_claim, not_true, or_
 use Rattle.mp_hub.proofs.Histories.{posts_are, lines_posts}
 
 module _ (links : List Link) (calls : List Call) where
-  abbrev hub : HubView
+  abbrev pub hub : HubView
   hub = hub_after links calls
 
   collect_reply : (rank n : ℕ) → may_collect (hub) rank n ≡ true
@@ -53,10 +53,10 @@ module _ (links : List Link) (calls : List Call) where
       o.0)) e
 
   -- the board's partners are those of the posts
-  partner_is : (place : ℕ) → partner_at (hub).board.lines place ≡ partner_after links calls place
+  pub partner_is : (place : ℕ) → partner_at (hub).board.lines place ≡ partner_after links calls place
   partner_is place = ap (λ ms. partner_at ms place) (posts_are links calls)
 
-  post_at : (place : ℕ) (p : Post) → slice_get (posts_after links calls) place ≡ Some p
+  pub post_at : (place : ℕ) (p : Post) → slice_get (posts_after links calls) place ≡ Some p
       → slice_get (posts_of (hub).board.lines) place ≡ Some p
   post_at place p e = ap (λ ps. slice_get ps place) (lines_posts links calls) ∙ e
 
@@ -171,7 +171,7 @@ module _ (links : List Link) (calls : List Call) where
 
   -- ---- Claimed
 
-  claimed : (rank place : ℕ) → ClaimsOf links calls rank place
+  pub claimed : (rank place : ℕ) → ClaimsOf links calls rank place
       → (Contains (received_after links calls) (suc place) → ⊥)
       → (m : Message) × (reply_of links calls rank (Claimed true (suc place)) ≡ reply.Got m)
   claimed rank place c kept =
@@ -198,7 +198,7 @@ module _ (links : List Link) (calls : List Call) where
     sends : SendsAt (posts_after links calls) place sent
     alone : partner_after links calls place ≡ None
 
-  post_out : (ms : List Line) (i : ℕ) (m : Line) → slice_get ms i ≡ Some m → slice_get (posts_of ms) i ≡ Some m.post
+  pub post_out : (ms : List Line) (i : ℕ) (m : Line) → slice_get ms i ≡ Some m → slice_get (posts_of ms) i ≡ Some m.post
   post_out [] i m e = absurd (cc)
   post_out (x ∷ ms) zero m e = ap (λ (y : Line). Some y.post) (same_Some x m e)
   post_out (x ∷ ms) (suc i) m e = post_out ms i m e
@@ -306,7 +306,7 @@ module _ (links : List Link) (calls : List Call) where
       go true h = refl
       go false h = h
 
-  all_at : {A : Type 0} (p : A → Bool) (xs : List A) (k : ℕ) (y : A) → list_all p xs ≡ true → slice_get xs k ≡ Some y
+  pub all_at : {A : Type 0} (p : A → Bool) (xs : List A) (k : ℕ) (y : A) → list_all p xs ≡ true → slice_get xs k ≡ Some y
       → p y ≡ true
   all_at p [] k y h e = absurd (cc)
   all_at p (x ∷ xs) zero y h e = ap p (sym (same_Some x y e)) ∙ (and_parts (p x) (list_all p xs) h).0
@@ -442,7 +442,7 @@ module _ (links : List Link) (calls : List Call) where
         | inr sends ↦ inl sends
       ]
 
-  send_there : (rank n : ℕ) → is_send_of rank (line_of (hub).board n) ≡ true
+  pub send_there : (rank n : ℕ) → is_send_of rank (line_of (hub).board n) ≡ true
       → (place : ℕ) × (s : Sent) × (n ≡ suc place) × SendsAt (posts_after links calls) place s
       × (s.envelope.source ≡ rank)
   send_there rank zero e = absurd (cc)

@@ -6,4 +6,5 @@ pub mod Transfers
 pub mod Histories
 pub mod Posts
 pub mod Losses
+pub mod Replies
 pub mod Rows

@@ -3,6 +3,7 @@
 ghost use Rattle.mp_hub.specs.Laws.{BoardLaw, CountLaw, SentLaw};
 ghost use Rattle.mp_hub.specs.Losses.{LossLaw};
 ghost use Rattle.mp_hub.specs.Posts.{PostsLaw};
+ghost use Rattle.mp_hub.specs.Replies.{OwnersLaw, RepliesLaw};
 ghost use Rattle.mp_hub.specs.Rows.{WorkedCalls};
 ghost use Rattle.mp_hub.specs.Transfers.{CutLaw, PairsLaw};
 
@@ -20,6 +21,17 @@ pub fn posts_law()
 /// Nothing is lost: a message that is there is given to the one who asks for it, and once.
 pub fn loss_law()
     ensures { LossLaw }
+{}
+
+/// A rank may ask for its own posts alone, and for a message once: anything else is refused, and what is refused changes
+/// nothing.
+pub fn owners_law()
+    ensures { OwnersLaw }
+{}
+
+/// Each reply is of the form that its request asks for, or a code with which that request may be refused.
+pub fn replies_law()
+    ensures { RepliesLaw }
 {}
 
 /// What is got is what was sent: envelope and bytes of each message that the hub gives, and each envelope that it
