@@ -6,3 +6,4 @@ pub mod WorkedRequests
 pub mod WorkedSeveral
 pub mod Misses
 pub mod WorkedPartitions
+pub mod Leaves

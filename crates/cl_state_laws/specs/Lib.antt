@@ -1,4 +1,5 @@
 pub mod Laws
+pub mod Leaves
 pub mod CallRows
 pub mod CutRows
 pub mod PartitionRows

@@ -2,6 +2,7 @@
 
 ghost use Rattle.cl_state.specs.Laws.{ToldLaw};
 ghost use Rattle.cl_state.specs.Moves.{KnownLaw, MovedLaw};
+ghost use Rattle.cl_state_laws.specs.Leaves.{BytesLaw, HartLaw};
 ghost use Rattle.cl_state_laws.specs.Laws.{HubRefusalLaw, MissLaw, NotYetLaw, PostsLaw, RefusalLaw, ReturnLaw};
 
 /// A told rank has the event's stamp as its clock, and keeps what the image fixes and its number of harts.
@@ -51,4 +52,16 @@ pub fn phases_law()
 /// after the lowest partition that isn't freed, and after boxes that aren't taken; a shape is inside the limits.
 pub fn questions_law()
     ensures { KnownLaw }
+{}
+
+/// A call leaves its hart returned, waiting, ended or as it was, with every other register; and every other hart as it
+/// was.
+pub fn hart_law()
+    ensures { HartLaw }
+{}
+
+/// Every byte of the memory that a call may not write is as it was: it may write what it receives, what it takes from a
+/// box, and its statuses.
+pub fn bytes_law()
+    ensures { BytesLaw }
 {}
