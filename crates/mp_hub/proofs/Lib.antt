@@ -11,3 +11,4 @@ pub mod HeldKept
 pub mod Losses
 pub mod Handles
 pub mod Owners
+pub mod Links

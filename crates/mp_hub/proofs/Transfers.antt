@@ -24,18 +24,18 @@ use Rattle.mp_hub.proofs.CallsSoFar.{hub_on-snoc}
 -- ---- what one call does to the sides
 
 -- how a new side came to its link: it is its peer's, or one that no side had
-data Joins (sides : List Side) (n : Side) : Type 0 where
+pub data Joins (sides : List Side) (n : Side) : Type 0 where
   is_second : (p : Side) → peer_of sides n.setup ≡ Some p → same_total n.setup p.setup ≡ true → n.link ≡ p.link
       → Joins sides n
   is_first : peer_of sides n.setup ≡ None → is_reserved sides n.link ≡ false → Joins sides n
 
 -- a call leaves the sides as they are, or adds the one that it began
-data Steps (h : HubView) (rank : ℕ) (q : Request) (r : Reply) (k : HubView) : Type 0 where
+pub data Steps (h : HubView) (rank : ℕ) (q : Request) (r : Reply) (k : HubView) : Type 0 where
   is_none : begun rank q r ≡ [] → k.sides ≡ h.sides → k.links ≡ h.links → Steps h rank q r k
   is_one : (n : Side) → begun rank q r ≡ n ∷ [] → k.sides ≡ h.sides ++ n ∷ [] → k.links ≡ h.links → Joins h.sides n
       → Steps h rank q r k
 
-abbrev StepsTo : HubView → ℕ → Request → Reply × HubView → Type 0
+abbrev pub StepsTo : HubView → ℕ → Request → Reply × HubView → Type 0
 StepsTo h rank q o = Steps h rank q o.0 o.1
 
 either : (h : HubView) (rank : ℕ) (q : Request) (c : Bool) (x y : Reply × HubView) → StepsTo h rank q x
@@ -44,7 +44,7 @@ either : (h : HubView) (rank : ℕ) (q : Request) (c : Bool) (x y : Reply × Hub
 either h rank q true x y p n = p
 either h rank q false x y p n = n
 
-find_passes : {A : Type 0} (p : A → Bool) (xs : List A) (x : A) → find p xs ≡ Some x → p x ≡ true
+pub find_passes : {A : Type 0} (p : A → Bool) (xs : List A) (x : A) → find p xs ≡ Some x → p x ≡ true
 find_passes p [] x h = absurd (cc)
 find_passes p (y ∷ ys) x h = go (p y) refl (λ g. find_passes p ys x g) h
   where
@@ -66,10 +66,10 @@ lowest_free links sides s link h = go (find (is_for sides s) (enumerate_from 0 l
         let free : not (is_reserved sides l.0) ≡ true = (and_parts joins (not (is_reserved sides l.0)) passes).1 in
         ap (is_reserved sides) (sym (same_Some l.0 link g)) ∙ not-true (is_reserved sides l.0) free
 
-abbrev numbered : Setup → ℕ → Side
+abbrev pub numbered : Setup → ℕ → Side
 numbered s link = record { setup = s; link = link }
 
-steps : (h : HubView) (rank : ℕ) (q : Request) → StepsTo h rank q (outcome h rank q)
+pub steps : (h : HubView) (rank : ℕ) (q : Request) → StepsTo h rank q (outcome h rank q)
 steps h rank (Send sync comm dest tag bytes) =
     either h rank (Send sync comm dest tag bytes) (nat_lt (held_count h.board.bodies) 65536) (
       reply.Posted (next_number h.board) (is_done h.board (sending rank sync comm dest tag bytes)),
@@ -136,7 +136,7 @@ steps h rank (Cut link) =
 
 -- ---- the sides of a transfer
 
-abbrev transfer_of : Side → Transfer
+abbrev pub transfer_of : Side → Transfer
 transfer_of t = record { comm = t.setup.comm; from = t.setup.from; to = t.setup.to; tag = t.setup.tag }
 
 same_sending : (x b : Bool) → cond x b (not b) ≡ true → x ≡ b
@@ -209,9 +209,9 @@ at_end sides n a x i s h =
 
 -- ---- pairs, and links of their own
 
-record Paired (sides : List Side) : Type 0 where
-  pairs : ArePairs sides
-  own : HaveOwnLinks sides
+pub record Paired (sides : List Side) : Type 0 where
+  pub pairs : ArePairs sides
+  pub own : HaveOwnLinks sides
 
 -- the link and the total of a new side are those of the other side's side of its number
 joined : (sides : List Side) (n : Side) → Joins sides n → (a : Transfer) (x : Bool) (m : Side) → is_of a x n ≡ true
@@ -261,7 +261,7 @@ has_reserved p (s ∷ sides) j t h = go (p s) j (λ k g. has_reserved p sides k 
     go false j rec g = later (rec j g)
 
 -- a new side shares its link with its peer alone
-own_new : (sides : List Side) (n : Side) → Joins sides n → Paired sides
+pub own_new : (sides : List Side) (n : Side) → Joins sides n → Paired sides
     → (a b : Transfer) (x y : Bool) (j : ℕ) (t : Side) → is_of a x n ≡ true
     → slice_get (sides_of sides b y) j ≡ Some t → n.link ≡ t.link → (a ≡ b) × (length (sides_of sides a x) ≡ j)
 own_new sides n (is_second p found total link) paired a b x y j t e there same =
@@ -327,10 +327,10 @@ begun_more links (c ∷ calls) before =
     ∙ ap (λ ts. ts ++ begun_behind links (before ++ c ∷ []) calls) one
     ∙ append_assoc h.sides (begun c.0 c.1 (reply_of links before c.0 c.1)) (begun_behind links (before ++ c ∷ []) calls)
 
-sides_are : (links : List Link) (calls : List Call) → (hub_after links calls).sides ≡ begun_after links calls
+pub sides_are : (links : List Link) (calls : List Call) → (hub_after links calls).sides ≡ begun_after links calls
 sides_are links calls = begun_more links calls []
 
-paired : (links : List Link) (calls : List Call) → Paired (begun_after links calls)
+pub paired : (links : List Link) (calls : List Call) → Paired (begun_after links calls)
 paired links calls = subst (λ ts. Paired ts) (sides_are links calls) (paired_on calls (started links) paired_none)
 
 pub pairs_law : PairsLaw
@@ -342,7 +342,7 @@ links_more : (h : HubView) (rank : ℕ) (q : Request) (r : Reply) (k : HubView) 
 links_more h rank q r k (is_none b e l) = l
 links_more h rank q r k (is_one n b e l join) = l
 
-links_on : (cs : List Call) (h : HubView) → (hub_on h cs).links ≡ h.links
+pub links_on : (cs : List Call) (h : HubView) → (hub_on h cs).links ≡ h.links
 links_on [] h = refl
 links_on (c ∷ cs) h = links_on cs (outcome h c.0 c.1).1 ∙ links_more h c.0 c.1 _ _ (steps h c.0 c.1)
 
@@ -402,10 +402,10 @@ sender_began links (c ∷ calls) before link t h =
     go q e r f rest later g = later g
 
 -- a side, with those before it and behind it
-record Has (sides : List Side) (t : Side) : Type 0 where
-  before : List Side
-  behind : List Side
-  is : sides ≡ before ++ t ∷ behind
+pub record Has (sides : List Side) (t : Side) : Type 0 where
+  pub before : List Side
+  pub behind : List Side
+  pub is : sides ≡ before ++ t ∷ behind
 
 found_has : (p : Side → Bool) (sides : List Side) (t : Side) → find p sides ≡ Some t → Has sides t
 found_has p [] t h = absurd (cc)
@@ -430,7 +430,7 @@ seam : (before behind : List Side) (t : Side) → slice_get (before ++ t ∷ beh
 seam [] behind t = refl
 seam (s ∷ before) behind t = seam before behind t
 
-has_place : (sides : List Side) (t : Side) → Has sides t → (a : Transfer) (x : Bool) → is_of a x t ≡ true
+pub has_place : (sides : List Side) (t : Side) → Has sides t → (a : Transfer) (x : Bool) → is_of a x t ≡ true
     → (i : ℕ) × (slice_get (sides_of sides a x) i ≡ Some t)
 has_place sides t has a x e =
     let before = sides_of has.before a x in

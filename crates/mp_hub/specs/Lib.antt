@@ -7,4 +7,5 @@ pub mod Histories
 pub mod Posts
 pub mod Losses
 pub mod Replies
+pub mod Links
 pub mod Rows

@@ -1,6 +1,7 @@
 //! Laws of the hub's meaning, with no code: each function's contract is the law.
 
 ghost use Rattle.mp_hub.specs.Laws.{BoardLaw, CountLaw, SentLaw};
+ghost use Rattle.mp_hub.specs.Links.{LinksLaw};
 ghost use Rattle.mp_hub.specs.Losses.{LossLaw};
 ghost use Rattle.mp_hub.specs.Posts.{PostsLaw};
 ghost use Rattle.mp_hub.specs.Replies.{OwnersLaw, RepliesLaw};
@@ -50,6 +51,12 @@ pub fn count_law()
 /// counted. (MPI 4.1, chapter 4.2.)
 pub fn pairs_law()
     ensures { PairsLaw }
+{}
+
+/// A link that is told joins the caller to its peer, in the direction that was asked for; it has one side of each
+/// direction at most, both of one transfer; and none is refused while there is one left between the two ranks.
+pub fn links_law()
+    ensures { LinksLaw }
 {}
 
 /// A link's receiver, and no other rank, is told how the sender cut the transfer: as the very initialisation says that
