@@ -9,3 +9,4 @@ pub mod Losses
 pub mod Replies
 pub mod Links
 pub mod Rows
+pub mod RankRows

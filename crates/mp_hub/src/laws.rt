@@ -4,6 +4,7 @@ ghost use Rattle.mp_hub.specs.Laws.{BoardLaw, CountLaw, SentLaw};
 ghost use Rattle.mp_hub.specs.Links.{LinksLaw};
 ghost use Rattle.mp_hub.specs.Losses.{LossLaw};
 ghost use Rattle.mp_hub.specs.Posts.{PostsLaw};
+ghost use Rattle.mp_hub.specs.RankRows.{WorkedRanks};
 ghost use Rattle.mp_hub.specs.Replies.{OwnersLaw, RepliesLaw};
 ghost use Rattle.mp_hub.specs.Rows.{WorkedCalls};
 ghost use Rattle.mp_hub.specs.Transfers.{CutLaw, PairsLaw};
@@ -68,4 +69,9 @@ pub fn cut_law()
 /// Some calls with the replies that the definitions give, computed.
 pub fn worked_calls()
     ensures { WorkedCalls }
+{}
+
+/// Calls of several communicators and of three ranks with the replies that the definitions give, computed.
+pub fn worked_ranks()
+    ensures { WorkedRanks }
 {}
