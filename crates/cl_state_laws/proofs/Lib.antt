@@ -7,3 +7,4 @@ pub mod WorkedSeveral
 pub mod Misses
 pub mod WorkedPartitions
 pub mod Leaves
+pub mod Delays

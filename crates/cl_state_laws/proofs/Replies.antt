@@ -176,7 +176,7 @@ call_waits site hart memory table phases (call.Parrived handle part) r hub =
     arrived_waits phases part (receiving_side (request_at table handle)) r hub
 call_waits site hart memory table phases _ r hub = cc
 
-turn_waits : (site : Site) (hart : ℕ) (memory : Memory) (table : Table) (phases : List Phase) (d : Doing) (r : Request)
+pub turn_waits : (site : Site) (hart : ℕ) (memory : Memory) (table : Table) (phases : List Phase) (d : Doing) (r : Request)
     → asked_in site memory table phases d ≡ ask.Hub r → Waits (row_in site hart memory table phases d)
 turn_waits site hart memory table phases (Go c) r hub = call_waits site hart memory table phases c r hub
 turn_waits site hart memory table phases (Poll c post) r hub = tt

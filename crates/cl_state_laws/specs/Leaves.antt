@@ -5,17 +5,23 @@ use Rattle.rv_memory.specs.Memory.{Memory}
 use Rattle.rv_hart.specs.State.{State, in_mode}
 use Rattle.rv_hart.specs.declared.state.Mode.TheVariants.{Waiting, Ended}
 use Rattle.rv_hart.specs.declared.state.Wait.{Wait}
+use Rattle.rv_hart.specs.declared.state.Wait.TheVariants.{Again}
 use Rattle.mp_types.specs.declared.codes.Code.{Code}
+use Rattle.mp_types.specs.declared.codes.Code.TheVariants as code
+use Rattle.mp_types.specs.declared.replies.Reply.TheVariants as reply
+use Rattle.mp_types.specs.declared.requests.Request.{Request}
 use Rattle.mp_request.specs.Table.{Table}
 use Rattle.mp_request.specs.declared.entries.Partitions.{Partitions}
 use Rattle.part_phase.specs.declared.phases.Phase.{Phase}
 use Rattle.part_phase.specs.Phases.{receiving_at}
+use Rattle.cl_calls.specs.declared.calls.Call.TheVariants as call
 use Rattle.cl_calls.specs.declared.calls.Several.{Several}
 use Rattle.cl_calls.specs.Handles.{handles_in}
 use Rattle.cl_calls.specs.Needs.{array_at}
+use Rattle.cl_state.specs.declared.asking.Ask.{Ask}
 use Rattle.cl_state.specs.declared.asking.Answer.{Answer}
 use Rattle.cl_state.specs.declared.asking.Doing.{Doing}
-use Rattle.cl_state.specs.declared.asking.Doing.TheVariants.{Step}
+use Rattle.cl_state.specs.declared.asking.Doing.TheVariants.{Step, Go, Poll}
 use Rattle.cl_state.specs.declared.pending.Pending.{Pending}
 use Rattle.cl_state.specs.declared.pending.Pending.TheVariants.{Message as Awaited}
 use Rattle.cl_state.specs.declared.pending.Target.{Target}
@@ -25,7 +31,7 @@ use Rattle.cl_state.specs.declared.row.Row.TheVariants.{AtOnce, OnReply, OnBox}
 use Rattle.cl_state.specs.declared.row.Visit.TheVariants.{Frees, Takes, Sees}
 use Rattle.cl_state.specs.declared.row.Wanted.TheVariants as wanted
 use Rattle.cl_state.specs.Rank.{Rank}
-use Rattle.cl_state.specs.Asked.{part_of, doing}
+use Rattle.cl_state.specs.Asked.{part_of, doing, asked}
 use Rattle.cl_state.specs.Several.{pendings}
 use Rattle.cl_state.specs.Table.{row_in}
 use Rattle.cl_state.specs.Told.{returned, told}
@@ -50,6 +56,28 @@ pub record HartLaw : Type 0 where
       → IsLeft (part_of rank hart).hart (part_of (told rank hart answer stamp) hart).hart
   pub others : (rank : Rank) (hart other : ℕ) (answer : Answer) (stamp : ℕ) → other ≢ hart
       → (part_of (told rank hart answer stamp) other).hart ≡ (part_of rank other).hart
+
+-- what the hub can't complete yet: WAIT, PROBE, MPROBE and WAITALL are made anew, a poll waits on, each with all its
+-- registers; TEST, IPROBE, IMPROBE, TESTALL and PARRIVED end with flag 0; and no post is told so
+abbrev pub delayed : Doing → State → State
+delayed (Go (call.Wait c)) hart = in_mode hart (Waiting Again)
+delayed (Go (call.Probe p)) hart = in_mode hart (Waiting Again)
+delayed (Go (call.Mprobe p)) hart = in_mode hart (Waiting Again)
+delayed (Go (call.Waitall s)) hart = in_mode hart (Waiting Again)
+delayed (Poll c post) hart = hart
+delayed (Go (call.Test c)) hart = returned code.Ok 0 hart
+delayed (Go (call.Iprobe p)) hart = returned code.Ok 0 hart
+delayed (Go (call.Improbe p)) hart = returned code.Ok 0 hart
+delayed (Go (call.Testall s)) hart = returned code.Ok 0 hart
+delayed (Go (call.Parrived handle part)) hart = returned code.Ok 0 hart
+delayed d hart = returned code.BadRequest 0 hart
+
+abbrev pub DelayLaw : Type 0
+DelayLaw =
+    (rank : Rank) (hart : ℕ) (request : Request) (stamp : ℕ) → asked rank hart ≡ Ask.Hub request
+    → hart < length rank.harts
+    → (part_of (told rank hart (Answer.Reply reply.NotYet) stamp) hart).hart
+    ≡ delayed (doing rank.site (part_of rank hart)) (part_of rank hart).hart
 
 -- ---- the memory
 

@@ -2,7 +2,7 @@
 
 ghost use Rattle.cl_state.specs.Laws.{ToldLaw};
 ghost use Rattle.cl_state.specs.Moves.{KnownLaw, MovedLaw};
-ghost use Rattle.cl_state_laws.specs.Leaves.{BytesLaw, HartLaw};
+ghost use Rattle.cl_state_laws.specs.Leaves.{BytesLaw, DelayLaw, HartLaw};
 ghost use Rattle.cl_state_laws.specs.Laws.{HubRefusalLaw, MissLaw, NotYetLaw, PostsLaw, RefusalLaw, ReturnLaw};
 
 /// A told rank has the event's stamp as its clock, and keeps what the image fixes and its number of harts.
@@ -58,6 +58,11 @@ pub fn questions_law()
 /// was.
 pub fn hart_law()
     ensures { HartLaw }
+{}
+
+/// What the hub can't complete yet leaves a hart that waits with all its registers and its pc, or ends with flag 0.
+pub fn delay_law()
+    ensures { DelayLaw }
 {}
 
 /// Every byte of the memory that a call may not write is as it was: it may write what it receives, what it takes from a

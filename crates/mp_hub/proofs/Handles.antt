@@ -1,5 +1,5 @@
 -- Claimed messages: each waits for the rank that claimed it until it is received, and isn't got before.
-use Rattle.std.proofs.Common.{◌≡◌, ℕ, zero, suc, ◌+◌, ◌⊎◌, inl, inr, List, [], ◌∷◌, ◌++◌, length, Bool, true, false, cond, not, Option, Some, None, refl, sym, ap, ◌∙◌, subst, arith, add-one}
+use Rattle.std.proofs.Common.{◌≡◌, ℕ, zero, suc, ◌⊎◌, inl, inr, List, [], ◌∷◌, ◌++◌, length, Bool, true, false, cond, not, Option, Some, None, refl, sym, ap, ◌∙◌, subst, arith, add-one}
 use Rattle.std.specs.Prelude.{◌==◌, ◌&&◌, ◌||◌, nat_lt, filter}
 use Rattle.std.specs.List.{slice_get, list_any, list_all, Contains}
 use Rattle.std.proofs.lemmas.Bool.{and_parts, cases_eq, eqb-true, eq-eqb, not-true}
@@ -18,7 +18,7 @@ use Rattle.mp_match.specs.declared.posts.Post.{Post}
 use Rattle.mp_match.specs.declared.posts.Post.TheVariants as post
 use Rattle.mp_match.specs.declared.posts.Line.{Line}
 use Rattle.mp_match.specs.Pairs.{add, partner_at, partner_of_line, partner_for, posts_of}
-use Rattle.mp_match.specs.Board.{Board, collect, receive_posted, send_posted, held_count, probed, is_send_of, is_receive_of, is_collected, line_of, envelope_at}
+use Rattle.mp_match.specs.Board.{Board, collect, receive_posted, send_posted, held_count, is_send_of, is_receive_of, is_collected, line_of, envelope_at}
 use Rattle.mp_match.proofs.Places.{get_front, get_snoc, get_last, get_within}
 use Rattle.mp_match.proofs.Lines.{add_new}
 use Rattle.mp_match.proofs.OrderKept.{posts_add, stays_add, partner_line}

@@ -1,11 +1,10 @@
 -- A message is held from its send until it is got, and no message is got twice.
-use Rattle.std.proofs.Common.{◌≡◌, ◌<◌, ℕ, zero, suc, ◌+◌, ◌⊎◌, inl, inr, List, [], ◌∷◌, ◌++◌, length, Bool, true, false, cond, Option, Some, None, refl, sym, ap, ◌∙◌, subst, arith, append_assoc, append-nil, length-append}
+use Rattle.std.proofs.Common.{◌≡◌, ◌<◌, ℕ, zero, suc, ◌⊎◌, inl, inr, List, [], ◌∷◌, ◌++◌, length, Bool, true, false, cond, Option, Some, None, refl, sym, ap, ◌∙◌, subst, arith, append_assoc, append-nil, length-append}
 use Rattle.std.specs.List.{slice_get, slice_set, Contains}
 use Rattle.std.proofs.lemmas.Bool.{cases_eq}
 use Rattle.std.proofs.lemmas.Option.{same_Some}
 use Rattle.std.proofs.lemmas.List.Elements.{Contains-append_left, Contains-append_right, Contains-push, Contains-push_cases}
 use Rattle.rv_image.specs.declared.images.Link.{Link}
-use Rattle.mp_types.specs.declared.messages.Envelope.{Envelope}
 use Rattle.mp_types.specs.declared.messages.Message.{Message}
 use Rattle.mp_types.specs.declared.replies.Reply.{Reply}
 use Rattle.mp_types.specs.declared.replies.Reply.TheVariants as reply
@@ -16,7 +15,7 @@ use Rattle.mp_match.specs.declared.posts.Post.{Post}
 use Rattle.mp_match.specs.declared.posts.Post.TheVariants as post
 use Rattle.mp_match.specs.declared.posts.Line.{Line}
 use Rattle.mp_match.specs.Pairs.{add, partner_at, posts_of}
-use Rattle.mp_match.specs.Board.{Board, no_posts, posted, send_posted, is_send_of, line_of, partner_of, envelope_at, envelope_in, message_in, message_at, without, collect, collect_from}
+use Rattle.mp_match.specs.Board.{Board, no_posts, posted, send_posted, is_send_of, line_of, envelope_at, envelope_in, message_in, message_at, without, collect, collect_from}
 use Rattle.mp_match.proofs.Places.{get_last, get_front, get_snoc, get_within}
 use Rattle.mp_match.proofs.Lines.{add_length}
 use Rattle.mp_match.proofs.OrderKept.{posts_add, stays_add}

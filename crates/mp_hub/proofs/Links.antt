@@ -1,8 +1,8 @@
 -- The two sides of a link.
-use Rattle.std.proofs.Common.{◌≡◌, ◌<◌, ℕ, zero, suc, ◌+◌, ◌⊎◌, inl, inr, List, [], ◌∷◌, ◌++◌, length, Bool, true, false, cond, not, Option, Some, None, refl, sym, ap, ◌∙◌, subst, arith}
+use Rattle.std.proofs.Common.{◌≡◌, ℕ, zero, suc, ◌+◌, inl, inr, List, [], ◌∷◌, ◌++◌, length, Bool, true, false, cond, not, Option, Some, None, refl, sym, ap, ◌∙◌, subst, arith}
 use Rattle.std.specs.Prelude.{◌==◌, ◌&&◌, ◌||◌, filter, find, option_map}
-use Rattle.std.specs.List.{slice_get, list_any, enumerate_from}
-use Rattle.std.proofs.lemmas.Bool.{and_parts, eqb-true, eq-eqb, not-true}
+use Rattle.std.specs.List.{slice_get, enumerate_from}
+use Rattle.std.proofs.lemmas.Bool.{and_parts, eqb-true, eq-eqb}
 use Rattle.std.proofs.lemmas.Option.{same_Some}
 use Rattle.rv_image.specs.declared.images.Link.{Link}
 use Rattle.mp_types.specs.declared.codes.Code.TheVariants.{NoChannel, Shape}
@@ -14,7 +14,7 @@ use Rattle.mp_match.proofs.Places.{get_snoc, get_within}
 use Rattle.mp_transfers.specs.declared.sides.Setup.{Setup}
 use Rattle.mp_transfers.specs.declared.sides.Side.{Side}
 use Rattle.mp_transfers.specs.Inits.{peer_of, is_other_side, same_transfer, is_reserved, is_for, lowest_link, same_total}
-use Rattle.mp_hub.specs.Hub.{HubView, Call, outcome, init_outcome, init_with, init_first, side_added, setup_of, hub_after, reply_of, started}
+use Rattle.mp_hub.specs.Hub.{HubView, Call, outcome, init_outcome, init_with, init_first, side_added, setup_of, hub_after, started}
 use Rattle.mp_hub.specs.Transfers.{begun, begun_after, is_of, sides_of}
 use Rattle.mp_hub.specs.Links.{GoesFrom, IsTaken, IsOneTransfer, LinksLaw}
 use Rattle.mp_hub.proofs.Histories.{call_by_call, hub_more}

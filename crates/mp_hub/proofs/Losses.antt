@@ -1,9 +1,9 @@
 -- Nothing is lost.
-use Rattle.std.proofs.Common.{◌≡◌, ◌<◌, ℕ, zero, suc, ◌+◌, ◌⊎◌, inl, inr, List, [], ◌∷◌, ◌++◌, length, Bool, true, false, cond, not, Option, Some, None, refl, sym, ap, ◌∙◌, subst, arith, add-one}
+use Rattle.std.proofs.Common.{◌≡◌, ℕ, zero, suc, ◌⊎◌, inl, inr, List, [], ◌∷◌, length, Bool, true, false, cond, not, Option, Some, None, refl, sym, ap, ◌∙◌, subst, arith, add-one}
 use Rattle.std.specs.Prelude.{◌==◌, ◌&&◌, ◌||◌}
 use Rattle.std.specs.Option.{is_some}
 use Rattle.std.specs.List.{slice_get, list_any, list_all, Contains}
-use Rattle.std.proofs.lemmas.Bool.{and_parts, cases_eq, eqb-true, eq-eqb, not-true}
+use Rattle.std.proofs.lemmas.Bool.{and_parts, eqb-true, eq-eqb, not-true}
 use Rattle.std.proofs.lemmas.Option.{same_Some}
 use Rattle.rv_image.specs.declared.images.Link.{Link}
 use Rattle.mp_types.specs.declared.messages.Envelope.{Envelope}
@@ -17,22 +17,22 @@ use Rattle.mp_match.specs.declared.posts.Selection.{Selection}
 use Rattle.mp_match.specs.declared.posts.Post.{Post}
 use Rattle.mp_match.specs.declared.posts.Post.TheVariants as post
 use Rattle.mp_match.specs.declared.posts.Line.{Line}
-use Rattle.mp_match.specs.Pairs.{accepts, may_pair, is_free, fits, add, partner_for, partner_at, partner_of_line, posts_of}
+use Rattle.mp_match.specs.Pairs.{accepts, may_pair, is_free, fits, partner_for, partner_at, partner_of_line, posts_of}
 use Rattle.mp_match.specs.Order.{SendsAt, TakesAt}
-use Rattle.mp_match.specs.Board.{Board, collect, collect_from, receive_posted, partner_of, line_of, is_send_of, is_receive_of, is_gone, is_held, is_collected, envelope_at, envelope_in, message_at, without, probed}
-use Rattle.mp_match.proofs.Places.{found_none, get_front, get_within}
+use Rattle.mp_match.specs.Board.{Board, collect, collect_from, receive_posted, partner_of, line_of, is_send_of, is_receive_of, is_gone, is_held, is_collected, envelope_at, envelope_in, message_at, without}
+use Rattle.mp_match.proofs.Places.{found_none, get_front}
 use Rattle.mp_match.proofs.Lines.{add_new}
 use Rattle.mp_match.proofs.OrderKept.{order_laws, posts_add, chosen}
 use Rattle.mp_match.specs.Matches.{Matches}
 use Rattle.mp_match.proofs.Matched.{accepting, line_at, pairing_laws}
 use Rattle.mp_probe.specs.Claims.{next_number, may_receive, is_waiting, received}
-use Rattle.mp_hub.specs.Hub.{HubView, Call, outcome, message_or, got_or, may_collect, claimed_now, claim_found, selecting, with_claims, is_complete, is_known, is_ready, are_distinct, all_got, one_got, all_collected, hub_after, reply_of, seen}
+use Rattle.mp_hub.specs.Hub.{HubView, Call, message_or, got_or, may_collect, claimed_now, claim_found, selecting, with_claims, is_complete, is_known, is_ready, are_distinct, all_got, one_got, all_collected, hub_after, reply_of, seen}
 use Rattle.mp_hub.specs.Histories.{posts_after, partner_after, got_after, received_after}
-use Rattle.mp_hub.specs.Losses.{ReceivesOf, ClaimsOf, CollectsOf, IsThere, LossLaw}
-use Rattle.mp_hub.proofs.HeldKept.{Stock, stock, held_message, set_other}
+use Rattle.mp_hub.specs.Losses.{ClaimsOf, CollectsOf, IsThere, LossLaw}
+use Rattle.mp_hub.proofs.HeldKept.{stock, held_message, set_other}
 use Rattle.mp_hub.proofs.SentKept.{message_parts, message_from}
 use Rattle.mp_hub.proofs.BoardKept.{one_lines}
-use Rattle.mp_hub.proofs.Handles.{Handles, handles, waiting_claim, not_true, or_cases, same_lines}
+use Rattle.mp_hub.proofs.Handles.{handles, waiting_claim, not_true, or_cases, same_lines}
 use Rattle.mp_hub.proofs.Histories.{posts_are, lines_posts}
 
 module _ (links : List Link) (calls : List Call) where

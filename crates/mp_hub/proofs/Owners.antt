@@ -1,14 +1,13 @@
 -- What isn't a rank's own is refused, what is refused changes nothing, and each reply is one to its request.
-use Rattle.std.proofs.Common.{◌≡◌, ◌<◌, ℕ, zero, suc, ◌+◌, ◌⊎◌, inl, inr, List, [], ◌∷◌, ◌++◌, length, Bool, true, false, cond, not, Option, Some, None, refl, sym, ap, ◌∙◌, subst, arith}
-use Rattle.std.specs.Prelude.{◌==◌, ◌&&◌, ◌||◌, nat_lt, get_or}
-use Rattle.std.specs.List.{slice_get, list_any, list_all, Contains}
+use Rattle.std.proofs.Common.{◌≡◌, ◌<◌, ℕ, zero, suc, inl, inr, List, [], ◌∷◌, length, Bool, true, false, cond, not, Option, Some, None, refl, sym, ap, ◌∙◌, subst, arith}
+use Rattle.std.specs.Prelude.{◌&&◌, nat_lt, get_or}
+use Rattle.std.specs.List.{slice_get, list_all, Contains}
 use Rattle.std.proofs.lemmas.Bool.{and_parts, eqb-true, not-true}
-use Rattle.std.proofs.lemmas.Option.{same_Some}
 use Rattle.rv_image.specs.declared.images.Link.{Link}
 use Rattle.mp_types.specs.declared.messages.Envelope.{Envelope}
 use Rattle.mp_types.specs.declared.messages.Message.{Message}
 use Rattle.mp_types.specs.declared.codes.Code.{Code}
-use Rattle.mp_types.specs.declared.codes.Code.TheVariants.{BadRequest, BadMessage, Full, NoChannel, Shape}
+use Rattle.mp_types.specs.declared.codes.Code.TheVariants.{BadRequest, BadMessage, Full, Shape}
 use Rattle.mp_types.specs.declared.replies.Reply.{Reply}
 use Rattle.mp_types.specs.declared.replies.Reply.TheVariants as reply
 use Rattle.mp_types.specs.declared.requests.Request.{Request}
@@ -16,8 +15,8 @@ use Rattle.mp_types.specs.declared.requests.Request.TheVariants.{Send, Recv, Col
 use Rattle.mp_match.specs.declared.posts.Post.{Post}
 use Rattle.mp_match.specs.declared.posts.Post.TheVariants as post
 use Rattle.mp_match.specs.declared.posts.Line.{Line}
-use Rattle.mp_match.specs.Pairs.{partner_at, posts_of}
-use Rattle.mp_match.specs.Board.{Board, collect, receive_posted, send_posted, held_count, probed, partner_of, line_of, is_send_of, is_receive_of, is_gone, is_held, is_collected}
+use Rattle.mp_match.specs.Pairs.{posts_of}
+use Rattle.mp_match.specs.Board.{collect, receive_posted, send_posted, held_count, probed, partner_of, line_of, is_send_of, is_receive_of, is_gone, is_held, is_collected}
 use Rattle.mp_probe.specs.Claims.{next_number, may_receive, is_waiting, received}
 use Rattle.mp_transfers.specs.declared.sides.Setup.{Setup}
 use Rattle.mp_transfers.specs.declared.sides.Side.{Side}
@@ -27,10 +26,10 @@ use Rattle.mp_hub.specs.Histories.{posts_after, got_after, received_after}
 use Rattle.mp_hub.specs.Losses.{ClaimsOf, CollectsOf}
 use Rattle.mp_hub.specs.Replies.{SendsOf, IsNumberOf, OwnersLaw, IsReplyTo, RepliesLaw}
 use Rattle.mp_hub.proofs.SentKept.{all_length}
-use Rattle.mp_hub.proofs.HeldKept.{Stock, stock}
-use Rattle.mp_hub.proofs.Handles.{Handles, handles, receiving_claim, may_wait, not_true, or_cases, no_number}
+use Rattle.mp_hub.proofs.HeldKept.{stock}
+use Rattle.mp_hub.proofs.Handles.{handles, receiving_claim, may_wait, not_true, or_cases}
 use Rattle.mp_hub.proofs.Histories.{hub_more, lines_posts}
-use Rattle.mp_hub.proofs.Losses.{hub, all_at, post_out, post_at, send_there, claimed}
+use Rattle.mp_hub.proofs.Losses.{all_at, post_out, post_at, send_there, claimed}
 
 held_is : (o : Option (Option (List ℕ))) → is_held o ≡ true → (x : List ℕ) × (o ≡ Some (Some x))
 held_is None e = absurd (cc)

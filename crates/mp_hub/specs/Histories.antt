@@ -1,5 +1,5 @@
 -- What some calls made and got, as their requests and replies tell it.
-use Rattle.std.specs.Prelude.{ℕ, ◌+◌, ◌≡◌, Bool, true, List, [], ◌∷◌, ◌++◌, length, Option, Some, None}
+use Rattle.std.specs.Prelude.{ℕ, ◌+◌, List, [], ◌∷◌, ◌++◌, length, Option, Some, None}
 use Rattle.rv_image.specs.declared.images.Link.{Link}
 use Rattle.mp_types.specs.declared.messages.Message.{Message}
 use Rattle.mp_types.specs.declared.requests.Request.{Request}
@@ -9,7 +9,7 @@ use Rattle.mp_types.specs.declared.replies.Reply.TheVariants.{Code, Posted, Got,
 use Rattle.mp_match.specs.declared.posts.Post.{Post}
 use Rattle.mp_match.specs.declared.posts.Post.TheVariants.{Send, Receive, Claim}
 use Rattle.mp_match.specs.Pairs.{pairs, partner_at}
-use Rattle.mp_hub.specs.Hub.{Call, hub_after, reply_of}
+use Rattle.mp_hub.specs.Hub.{Call, reply_of}
 
 -- what each call adds after the calls before it, all of it in order
 abbrev pub each_behind : {A : Type 0} → (List Call → Call → List A) → List Call → List Call → List A
