@@ -74,6 +74,12 @@ use Rattle.cl_state_laws.specs.Leaves.{IsLeft, has_returned, is_waiting, has_end
 abbrev at : Memory → ℕ → ℕ
 at memory i = get_or memory.bytes i 0
 
+-- as many as are asked for are taken, where there are so many
+short : (xs : List ℕ) (n : ℕ) → n ≤ length xs → length (take n xs) ≡ n
+short xs zero le = refl
+short [] (suc n) le = absurd (omega (arith, le))
+short (x ∷ xs) (suc n) le = ap suc (short xs n (omega (arith, le)))
+
 -- other bytes of a list stay
 other_bytes : (bytes new : List ℕ) (start i : ℕ) → start + length new ≤ length bytes → IsOutside i (start, length new)
     → get_or (take start bytes ++ new ++ drop (start + length new) bytes) i 0 ≡ get_or bytes i 0
@@ -82,11 +88,6 @@ other_bytes bytes new start i fits (inl before) =
     ap (λ xs. get_or xs i 0) (append_assoc (take start bytes) new (drop (start + length new) bytes))
     ∙ get_or_append_left (take start bytes) (new ++ drop (start + length new) bytes) 0 i (omega (arith, before, front))
     ∙ get_or-take start bytes i 0 before
-  where
-    short : (xs : List ℕ) (n : ℕ) → n ≤ length xs → length (take n xs) ≡ n
-    short xs zero le = refl
-    short [] (suc n) le = absurd (omega (arith, le))
-    short (x ∷ xs) (suc n) le = ap suc (short xs n (omega (arith, le)))
 other_bytes bytes new start i fits (inr behind) =
     let front : length (take start bytes) ≡ start = short bytes start (omega (arith, fits)) in
     let k = i - (start + length new) in
@@ -98,11 +99,6 @@ other_bytes bytes new start i fits (inr behind) =
     ∙ get_or-append-add new (drop (start + length new) bytes) k 0
     ∙ get_or-drop (start + length new) bytes k 0
     ∙ ap (λ n. get_or bytes n 0) second
-  where
-    short : (xs : List ℕ) (n : ℕ) → n ≤ length xs → length (take n xs) ≡ n
-    short xs zero le = refl
-    short [] (suc n) le = absurd (omega (arith, le))
-    short (x ∷ xs) (suc n) le = ap suc (short xs n (omega (arith, le)))
 
 other_written : (memory : Memory) (address : ℕ) (bytes : List ℕ) (i : ℕ) → IsOutside i (address, length bytes)
     → at (written memory address bytes) i ≡ at memory i
@@ -110,7 +106,8 @@ other_written memory address bytes i past = go (length bytes == 0) refl (is_insi
   where
     inner : (none : Bool) → (length bytes == 0) ≡ none → (inside : Bool)
         → is_inside memory address (length bytes) ≡ inside → (text : Bool)
-        → at (if (none || (inside && text)) then (if none then memory else with_bytes memory address bytes) else memory) i
+        → at (if (none || (inside && text))
+        then (if none then memory else with_bytes memory address bytes) else memory) i
         ≡ at memory i
     inner true e inside f text = refl
     inner false e true f true =
@@ -163,11 +160,9 @@ other_status : (memory : Memory) (address source tag count i : ℕ) → IsOutsid
 unfolding with_status
 other_status memory address source tag count i past = go (address == 0) past
   where
-    bytes : List ℕ
-    bytes = bytes_of source 8 ++ bytes_of tag 8 ++ bytes_of count 8
-
     go : (none : Bool) → IsOutsideAll i (if none then [] else (address, 24) ∷ [])
-        → at (if none then memory else written memory address (bytes_of source 8 ++ bytes_of tag 8 ++ bytes_of count 8)) i
+        → at (if none then memory
+        else written memory address (bytes_of source 8 ++ bytes_of tag 8 ++ bytes_of count 8)) i
         ≡ at memory i
     go true past = refl
     go false past = other_written memory address (bytes_of source 8 ++ bytes_of tag 8 ++ bytes_of count 8) i past.0
@@ -321,14 +316,16 @@ left_found_at : (i : ℕ) (o : Option ℕ) (value status : ℕ) (envelope : Enve
     → Leaves i (status_range status) part (found_at o value status envelope part)
 left_found_at i None value status envelope part = ends_so i _ code.BadRequest 0 part
 left_found_at i (Some place) value status envelope part =
-    ends i _ code.Ok value part _ refl (λ past. other_status part.memory status place envelope.tag envelope.count i past)
+    ends i _ code.Ok value part _ refl
+    (λ past. other_status part.memory status place envelope.tag envelope.count i past)
 
 left_found : (i : ℕ) (site : Site) (value status : ℕ) (envelope : Envelope) (part : Part)
     → Leaves i (status_range status) part (found site value status envelope part)
 unfolding found
 left_found i site value status envelope part = left_found_at i _ value status envelope part
 
-left_nothing : (i value status : ℕ) (part : Part) → Leaves i (status_range status) part (found_nothing value status part)
+left_nothing : (i value status : ℕ) (part : Part)
+    → Leaves i (status_range status) part (found_nothing value status part)
 unfolding found_nothing
 left_nothing i value status part =
     ends i _ code.Ok value part _ refl (λ past. other_status part.memory status no_rank any 0 i past)

@@ -433,10 +433,10 @@ handles_same h k got new taken more hs e f t past = record {
     later place a at c = elim (Contains-append_cases got new (suc place) c) [
       | inl was ↦ Contains-append_left taken more (suc place) (hs.got_later place a (old place a at) was)
       | inr now ↦ elim (hs.waits place a (old place a at)) [
-          | inl t ↦ Contains-append_left taken more (suc place) t
-          | inr m ↦ (let no : true ≡ false =
-              sym (may_wait h.claims a.rank (suc place) m) ∙ past (suc place) now in absurd (cc))
-        ]
+        | inl t ↦ Contains-append_left taken more (suc place) t
+        | inr m ↦ (let no : true ≡ false =
+            sym (may_wait h.claims a.rank (suc place) m) ∙ past (suc place) now in absurd (cc))
+      ]
     ]
 
 handles_more : (h k : HubView) (got new taken more : List ℕ) (p : Post) → Handles h got taken
@@ -553,20 +553,20 @@ handles_claimed h k got new taken more a j hs few for e f t g = record {
           ∙ or_right (may_receive h.claims b.rank (suc place)) (is_claim b.rank (suc place) w)
           (λ i. rank i && number i)))
       | inr old ↦ elim (hs.waits place b old) [
-          | inl c ↦ inl (Contains-append_left taken more (suc place) c)
-          | inr m ↦ inr (ap (λ ws. may_receive ws b.rank (suc place)) f
-              ∙ any_snoc (is_claim b.rank (suc place)) h.claims w
-              ∙ ap (λ c. c || is_claim b.rank (suc place) w) m)
-        ]
+        | inl c ↦ inl (Contains-append_left taken more (suc place) c)
+        | inr m ↦ inr (ap (λ ws. may_receive ws b.rank (suc place)) f
+            ∙ any_snoc (is_claim b.rank (suc place)) h.claims w
+            ∙ ap (λ c. c || is_claim b.rank (suc place) w) m)
+      ]
     ]
 
     paired : (place : ℕ) (b : Selection) → slice_get (posts_of k.board.lines) place ≡ Some (post.Claim b)
         → (i : ℕ) × (partner_at k.board.lines place ≡ Some i)
     paired place b at = elim (at_end place b at) [
       | inl end ↦ (
-          j,
-          (λ i. partner_at (e i) ((end.0 ∙ long) i)) ∙ ap partner_of_line (add_new h.board.lines (post.Claim a)) ∙ for,
-        )
+        j,
+        (λ i. partner_at (e i) ((end.0 ∙ long) i)) ∙ ap partner_of_line (add_new h.board.lines (post.Claim a)) ∙ for,
+      )
       | inr old ↦ (let x = hs.paired place b old in
           (x.0, ap (λ ms. partner_at ms place) e ∙ stays_add h.board.lines (post.Claim a) place x.0 x.1))
     ]
@@ -591,7 +591,11 @@ handles_received h k got new taken more rank n hs may e f t only = record {
   past = λ m c. ap (λ ws. is_waiting ws m) f ∙ past m (before m c);
   claimed = λ m c. elim (before m c) [
     | inl was ↦ (let x = hs.claimed m was in (x.0, subst (λ ps. ClaimOf ps x.0 m) same x.1))
-    | inr now ↦ (rank, subst (λ ps. ClaimOf ps rank m) same (subst (λ l. ClaimOf (posts_of h.board.lines) rank l) (sym now) own))
+    | inr now ↦ (
+      rank,
+      subst (λ ps. ClaimOf ps rank m) same
+          (subst (λ l. ClaimOf (posts_of h.board.lines) rank l) (sym now) own),
+    )
   ];
   paired = λ place a at.
       (let x = hs.paired place a (old place a at) in (x.0, ap (λ ms. partner_at ms place) e ∙ x.1));
@@ -610,7 +614,8 @@ handles_received h k got new taken more rank n hs may e f t only = record {
 
     here : (m : ℕ) → m ≡ n → Contains (taken ++ more) m
     here m is =
-        subst (λ ns. Contains (taken ++ ns) m) (sym t) (subst (λ l. Contains (taken ++ n ∷ []) l) (sym is) (Contains-push taken n))
+        subst (λ ns. Contains (taken ++ ns) m) (sym t)
+        (subst (λ l. Contains (taken ++ n ∷ []) l) (sym is) (Contains-push taken n))
 
     before : (m : ℕ) → Contains (taken ++ more) m → Contains taken m ⊎ (m ≡ n)
     before m c = elim (Contains-append_cases taken more m c) [
@@ -630,10 +635,10 @@ handles_received h k got new taken more rank n hs may e f t only = record {
     waits place a at = elim (cases_eq n (suc place)) [
       | inl is ↦ inl (here (suc place) (sym is))
       | inr apart ↦ elim (hs.waits place a (old place a at)) [
-          | inl c ↦ inl (Contains-append_left taken more (suc place) c)
-          | inr m ↦ inr (ap (λ ws. may_receive ws a.rank (suc place)) f
-              ∙ waits_on h.claims rank n a.rank (suc place) apart m)
-        ]
+        | inl c ↦ inl (Contains-append_left taken more (suc place) c)
+        | inr m ↦ inr (ap (λ ws. may_receive ws a.rank (suc place)) f
+            ∙ waits_on h.claims rank n a.rank (suc place) apart m)
+      ]
     ]
 
     later : (place : ℕ) (a : Selection) → slice_get (posts_of k.board.lines) place ≡ Some (post.Claim a)
@@ -667,7 +672,8 @@ got_below b got stock n c e =
 pub handles : (links : List Link) (calls : List Call)
     → Handles (hub_after links calls) (got_after links calls) (received_after links calls)
 handles links =
-    call_by_call (λ calls. Handles (hub_after links calls) (got_after links calls) (received_after links calls)) none more
+    call_by_call (λ calls. Handles (hub_after links calls) (got_after links calls) (received_after links calls))
+    none more
   where
     none : Handles (started links) [] []
     none = record {

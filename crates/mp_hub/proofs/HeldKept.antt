@@ -36,7 +36,8 @@ once_more [] n h new = (λ c. new c, tt)
 once_more (x ∷ ns) n h new = (
   λ c. elim (Contains-push_cases ns n x c) [
     | inl old ↦ h.0 old
-    | inr same ↦ new (subst (λ y. Contains (x ∷ ns) y) (sym same) (Contains-append_left (x ∷ []) ns x (Contains-push [] x)))
+    | inr same ↦
+        new (subst (λ y. Contains (x ∷ ns) y) (sym same) (Contains-append_left (x ∷ []) ns x (Contains-push [] x)))
   ],
   once_more ns n h.1 (λ c. new (Contains-append_right (x ∷ []) ns n c)),
 )
@@ -85,21 +86,21 @@ stock_got b got i j x stock pair held = record {
   kept = kept;
   gone = λ n c. elim (Contains-push_cases got (suc i) n c) [
     | inl old ↦ (let g = stock.gone n old in (
-        g.0,
-        g.1,
-        g.2,
-        g.3,
-        subst (λ k. g.2 < k) (sym (set_length b.bodies j)) g.4,
-        λ y e. g.5 y (set_held b.bodies j g.2 y e),
-      ))
+      g.0,
+      g.1,
+      g.2,
+      g.3,
+      subst (λ k. g.2 < k) (sym (set_length b.bodies j)) g.4,
+      λ y e. g.5 y (set_held b.bodies j g.2 y e),
+    ))
     | inr new ↦ (
-        i,
-        sym new,
-        j,
-        pair,
-        subst (λ k. j < k) (sym (set_length b.bodies j)) (get_within b.bodies j (Some x) held),
-        λ y e. set_same b.bodies j y e,
-      )
+      i,
+      sym new,
+      j,
+      pair,
+      subst (λ k. j < k) (sym (set_length b.bodies j)) (get_within b.bodies j (Some x) held),
+      λ y e. set_same b.bodies j y e,
+    )
   ];
   once = once_more got (suc i) stock.once (not_got b got i j x stock pair held);
 }
@@ -110,9 +111,9 @@ stock_got b got i j x stock pair held = record {
     kept k s sent = elim (cases_eq j k) [
       | inl same ↦ inr (i, pair ∙ ap (λ l. Some l) same, Contains-push got (suc i))
       | inr other ↦ elim (stock.kept k s sent) [
-          | inl h ↦ inl (h.0, set_other b.bodies j k h.0 other h.1)
-          | inr h ↦ inr (h.0, h.1, Contains-append_left got (suc i ∷ []) (suc h.0) h.2)
-        ]
+        | inl h ↦ inl (h.0, set_other b.bodies j k h.0 other h.1)
+        | inr h ↦ inr (h.0, h.1, Contains-append_left got (suc i ∷ []) (suc h.0) h.2)
+      ]
     ]
 
 -- a send is held where its message is
@@ -147,18 +148,19 @@ stock_empty b got j stock none = record {
     kept k s sent = elim (stock.kept k s sent) [
       | inr h ↦ inr h
       | inl h ↦ elim (cases_eq j k) [
-          | inl same ↦ (let made : Message = record { envelope = s.envelope; bytes = h.0 } in
-              let no : None ≡ Some made = sym none ∙ ap (message_at b) same ∙ held_message b k s h.0 sent h.1 in
-              absurd (cc))
-          | inr other ↦ inl (h.0, set_other b.bodies j k h.0 other h.1)
-        ]
+        | inl same ↦ (let made : Message = record { envelope = s.envelope; bytes = h.0 } in
+            let no : None ≡ Some made = sym none ∙ ap (message_at b) same ∙ held_message b k s h.0 sent h.1 in
+            absurd (cc))
+        | inr other ↦ inl (h.0, set_other b.bodies j k h.0 other h.1)
+      ]
     ]
 
 -- one more post; a send's message is held
 stock_posted : (b : Board) (got : List ℕ) (p : Post) (body : Option (List ℕ)) → Stock b got
     → ((s : Sent) → p ≡ post.Send s → (x : List ℕ) × (body ≡ Some x)) → Stock (posted b p body) got
 stock_posted b got p body stock has = record {
-  even = (let l = add_length b.lines p in let h = stock.even in omega (arith, l, h, length-append b.bodies (body ∷ [])));
+  even = (let l = add_length b.lines p in let h = stock.even in
+      omega (arith, l, h, length-append b.bodies (body ∷ [])));
   kept = kept;
   gone = λ n c. (let g = stock.gone n c in (
     g.0,
@@ -182,15 +184,19 @@ stock_posted b got p body stock has = record {
         → ((y : List ℕ) × (slice_get (b.bodies ++ body ∷ []) k ≡ Some (Some y)))
         ⊎ ((l : ℕ) × (partner_at (add b.lines p) l ≡ Some k) × Contains got (suc l))
     kept k s sent =
-        elim (get_snoc (posts_of b.lines) p k (post.Send s) (ap (λ ps. slice_get ps k) (sym (posts_add b.lines p)) ∙ sent)) [
+        elim (get_snoc (posts_of b.lines) p k (post.Send s)
+        (ap (λ ps. slice_get ps k) (sym (posts_add b.lines p)) ∙ sent)) [
           | inl new ↦ (let x = has s (sym new.1) in
               let end : length b.bodies ≡ k = stock.even ∙ sym (posts_length b.lines) ∙ sym new.0 in
-              inl (x.0, subst (λ l. slice_get (b.bodies ++ body ∷ []) l ≡ Some (Some x.0)) end
-              (get_last b.bodies body ∙ ap (λ y. Some y) x.1)))
+              inl (
+                x.0,
+                subst (λ l. slice_get (b.bodies ++ body ∷ []) l ≡ Some (Some x.0)) end
+                    (get_last b.bodies body ∙ ap (λ y. Some y) x.1),
+              ))
           | inr old ↦ elim (stock.kept k s old) [
-              | inl h ↦ inl (h.0, get_front b.bodies (body ∷ []) k (Some h.0) h.1)
-              | inr h ↦ inr (h.0, stays_add b.lines p h.0 k h.1, h.2)
-            ]
+            | inl h ↦ inl (h.0, get_front b.bodies (body ∷ []) k (Some h.0) h.1)
+            | inr h ↦ inr (h.0, stays_add b.lines p h.0 k h.1, h.2)
+          ]
         ]
 
 -- ---- posts that are collected

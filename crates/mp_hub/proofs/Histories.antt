@@ -154,7 +154,8 @@ number_told (reply.Posted number done) other = number
 number_told (reply.Held number e) other = number
 number_told r other = other
 
-told : (r : Reply) (n : ℕ) → (number_told r n ≡ n) → (number : ℕ) (done : Bool) → r ≡ reply.Posted number done → number ≡ n
+told : (r : Reply) (n : ℕ) → (number_told r n ≡ n) → (number : ℕ) (done : Bool) → r ≡ reply.Posted number done
+    → number ≡ n
 told r n same number done e = ap (λ x. number_told x n) (sym e) ∙ same
 
 send_told : (h : HubView) (rank : ℕ) (sync : Bool) (comm dest tag : ℕ) (bytes : List ℕ) (number : ℕ) (done : Bool)

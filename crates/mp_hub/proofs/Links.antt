@@ -121,7 +121,8 @@ init_goes h s link well e = go (peer_of h.sides s) refl e
     first : (o : Option ℕ) → lowest_link h.links h.sides s ≡ o → (init_first h s o).0 ≡ reply.Link link
         → GoesFrom h.links s.from s.to link
     first None f e = absurd (cc)
-    first (Some k) f e = subst (λ n. GoesFrom h.links s.from s.to n) (same_link k link e) (lowest_goes h.links h.sides s k f)
+    first (Some k) f e =
+        subst (λ n. GoesFrom h.links s.from s.to n) (same_link k link e) (lowest_goes h.links h.sides s k f)
 
     second : (p : Side) → peer_of h.sides s ≡ Some p → (b : Bool)
         → (let o : Reply × HubView = cond b (side_added h s p.link) (reply.Code Shape, h) in o.0 ≡ reply.Link link)
@@ -211,15 +212,15 @@ apart_more : (sides : List Side) (n : Side) → Joins sides n → Paired sides �
 apart_more sides n join paired apart i j s t at_i at_j link direction =
     elim (get_snoc sides n i s at_i) [
       | inl x ↦ elim (get_snoc sides n j t at_j) [
-          | inl y ↦ x.0 ∙ sym y.0
-          | inr y ↦ absurd (new_apart sides n join paired j t y (ap (λ (u : Side). u.link) (sym x.1) ∙ link)
-              (ap (λ (u : Side). u.setup.sending) (sym x.1) ∙ direction))
-        ]
+        | inl y ↦ x.0 ∙ sym y.0
+        | inr y ↦ absurd (new_apart sides n join paired j t y (ap (λ (u : Side). u.link) (sym x.1) ∙ link)
+            (ap (λ (u : Side). u.setup.sending) (sym x.1) ∙ direction))
+      ]
       | inr x ↦ elim (get_snoc sides n j t at_j) [
-          | inl y ↦ absurd (new_apart sides n join paired i s x (ap (λ (u : Side). u.link) (sym y.1) ∙ sym link)
-              (ap (λ (u : Side). u.setup.sending) (sym y.1) ∙ sym direction))
-          | inr y ↦ apart i j s t x y link direction
-        ]
+        | inl y ↦ absurd (new_apart sides n join paired i s x (ap (λ (u : Side). u.link) (sym y.1) ∙ sym link)
+            (ap (λ (u : Side). u.setup.sending) (sym y.1) ∙ sym direction))
+        | inr y ↦ apart i j s t x y link direction
+      ]
     ]
 
 sides_apart : (links : List Link) (calls : List Call) → Apart (hub_after links calls).sides
@@ -317,7 +318,8 @@ module _ (links : List Link) (calls : List Call) where
   taken s link e there =
       subst (λ ts. (i : ℕ) × (t : Side) × (slice_get ts i ≡ Some t) × (t.link ≡ link)) (sides_are links calls)
       (reserved_at (hub_after links calls).sides link
-      (init_refused (hub_after links calls) s link e (subst (λ ls. GoesFrom ls s.from s.to link) (sym links_are) there)))
+      (init_refused (hub_after links calls) s link e
+      (subst (λ ls. GoesFrom ls s.from s.to link) (sym links_are) there)))
 
 pub links_law : LinksLaw
 links_law = record {

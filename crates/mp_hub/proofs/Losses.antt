@@ -98,11 +98,11 @@ module _ (links : List Link) (calls : List Call) where
           × (message_at (hub).board j ≡ Some m)
       go f = elim f.3 [
         | inl t ↦ (let held = still_held j f.1 t.1 is_place in (
-            held.0,
-            record { envelope = (f.1).envelope; bytes = held.0 },
-            held.1,
-            held_message (hub).board j f.1 held.0 (post_at j (post.Send f.1) t.1) held.1,
-          ))
+          held.0,
+          record { envelope = (f.1).envelope; bytes = held.0 },
+          held.1,
+          held_message (hub).board j f.1 held.0 (post_at j (post.Send f.1) t.1) held.1,
+        ))
         | inr t ↦ absurd (takes_no_send place a f.1 takes t.0)
       ]
 
@@ -306,7 +306,8 @@ module _ (links : List Link) (calls : List Call) where
       go true h = refl
       go false h = h
 
-  pub all_at : {A : Type 0} (p : A → Bool) (xs : List A) (k : ℕ) (y : A) → list_all p xs ≡ true → slice_get xs k ≡ Some y
+  pub all_at : {A : Type 0} (p : A → Bool) (xs : List A) (k : ℕ) (y : A) → list_all p xs ≡ true
+      → slice_get xs k ≡ Some y
       → p y ≡ true
   all_at p [] k y h e = absurd (cc)
   all_at p (x ∷ xs) zero y h e = ap p (sym (same_Some x y e)) ∙ (and_parts (p x) (list_all p xs) h).0
@@ -392,9 +393,9 @@ module _ (links : List Link) (calls : List Call) where
               → (m : Message) × (message_at (hub).board j ≡ Some m)
           send x e f = elim f.3 [
             | inl t ↦ (
-                record { envelope = (f.1).envelope; bytes = x },
-                held_message (hub).board j f.1 x (post_at j (post.Send f.1) t.1) e,
-              )
+              record { envelope = (f.1).envelope; bytes = x },
+              held_message (hub).board j f.1 x (post_at j (post.Send f.1) t.1) e,
+            )
             | inr t ↦
                 (let l = line_at (hub).board.lines place (post.Send f.1) (post_at place (post.Send f.1) t.0) in
                 let no : false ≡ true =

@@ -276,7 +276,8 @@ replies links calls rank (Recv true comm source tag) =
 replies links calls rank (Recv false comm source tag) = refl
 replies links calls rank (Collect n) =
     let h = hub_after links calls in
-    either_fits (Collect n) (may_collect h rank n) (got_or h reply.NotYet (collect h.board n)) (reply.Code BadRequest, h)
+    either_fits (Collect n) (may_collect h rank n) (got_or h reply.NotYet (collect h.board n))
+    (reply.Code BadRequest, h)
     (go (collect h.board n).0) refl
   where
     go : (o : Option Message) → IsReplyTo (Collect n) (message_or reply.NotYet o)

@@ -22,18 +22,20 @@ envelope_in comm source tag = record { comm = comm; source = source; tag = tag; 
 abbrev pub message_in : ℕ → ℕ → ℕ → ℕ → Message
 message_in comm source tag byte = record { envelope = envelope_in comm source tag; bytes = byte ∷ [] }
 
--- two sends of one tag in communicators 1 and 0: each receive has the one of its communicator, though the other is first
+-- two sends of one tag in communicators 1 and 0: each receive has the one of its communicator, whichever is first
 abbrev pub CommunicatorsAreKeptApart : Type 0
 CommunicatorsAreKeptApart =
     replies [] (sends_in 1 0 1 7 97 ∷ sends_in 0 0 1 7 98 ∷ receives_in 0 1 None ∷ receives_in 0 1 None
     ∷ receives_in 1 1 None ∷ [])
     ≡ Posted 1 true ∷ Posted 2 true ∷ Got (message_in 0 0 7 98) ∷ Posted 4 false ∷ Got (message_in 1 0 7 97) ∷ []
 
--- ranks 0 and 2 send to rank 1, and rank 0 to rank 2: a receive has those to its own rank, of the source that it asks for
+-- ranks 0 and 2 send to rank 1, and rank 0 to rank 2: a receive has those to its own rank, of the source that it asks
+-- for
 abbrev pub RanksAreKeptApart : Type 0
 RanksAreKeptApart =
     replies [] (sends_in 0 0 1 7 97 ∷ sends_in 0 2 1 7 98 ∷ sends_in 0 0 2 7 99 ∷ receives_in 0 1 (Some 2)
-    ∷ (2, request.Probe 0 None None) ∷ (0, request.Probe 0 None None) ∷ receives_in 0 1 None ∷ receives_in 0 2 None ∷ [])
+    ∷ (2, request.Probe 0 None None) ∷ (0, request.Probe 0 None None) ∷ receives_in 0 1 None
+    ∷ receives_in 0 2 None ∷ [])
     ≡ Posted 1 true ∷ Posted 2 true ∷ Posted 3 true ∷ Got (message_in 0 2 7 98)
     ∷ Seen (envelope_in 0 0 7) ∷ NotYet ∷ Got (message_in 0 0 7 97) ∷ Got (message_in 0 0 7 99) ∷ []
 

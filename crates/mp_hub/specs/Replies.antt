@@ -30,7 +30,8 @@ pub record OwnersLaw : Type 0 where
   pub collects : (links : List Link) (calls : List Call) (rank number : ℕ)
       → ¬ IsNumberOf (CollectsOf links calls rank) number
       → reply_of links calls rank (request.Collect number) ≡ reply.Code BadRequest
-  pub collects_once : (links : List Link) (calls : List Call) (rank number : ℕ) → Contains (got_after links calls) number
+  pub collects_once : (links : List Link) (calls : List Call) (rank number : ℕ)
+      → Contains (got_after links calls) number
       → reply_of links calls rank (request.Collect number) ≡ reply.Code BadRequest
   pub finishes : (links : List Link) (calls : List Call) (rank number : ℕ)
       → ¬ IsNumberOf (SendsOf links calls rank) number
@@ -83,4 +84,5 @@ IsReplyTo q r = ⊥
 
 -- the hub gives no other
 abbrev pub RepliesLaw : Type 0
-RepliesLaw = (links : List Link) (calls : List Call) (rank : ℕ) (q : Request) → IsReplyTo q (reply_of links calls rank q)
+RepliesLaw =
+    (links : List Link) (calls : List Call) (rank : ℕ) (q : Request) → IsReplyTo q (reply_of links calls rank q)

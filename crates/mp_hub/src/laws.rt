@@ -25,8 +25,8 @@ pub fn loss_law()
     ensures { LossLaw }
 {}
 
-/// A rank may ask for its own posts alone, and for a message once: anything else is refused, and what is refused changes
-/// nothing.
+/// A rank may ask for its own posts alone, and for a message once: anything else is refused, and what is refused
+/// changes nothing.
 pub fn owners_law()
     ensures { OwnersLaw }
 {}
