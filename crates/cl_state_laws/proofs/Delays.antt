@@ -1,5 +1,5 @@
 -- What a hart is left with whose call the hub can't complete yet.
-use Rattle.std.proofs.Common.{◌≡◌, ◌<◌, ℕ, Bool, true, false, refl, sym, ap, ◌∙◌, List, [], ◌∷◌, length, get_or, Option, Some, None}
+use Rattle.std.proofs.Common.{◌≡◌, ℕ, Bool, true, false, refl, ap, ◌∙◌, List, [], ◌∷◌, Option, Some, None}
 use Rattle.std.specs.Prelude.{◌==◌, if◌then◌else◌}
 use Rattle.std.proofs.lemmas.List.{get_or-set_same}
 use Rattle.rv_memory.specs.Memory.{Memory}
@@ -11,7 +11,6 @@ use Rattle.mp_types.specs.declared.replies.Reply.TheVariants as reply
 use Rattle.mp_types.specs.declared.requests.Request.{Request}
 use Rattle.mp_request.specs.declared.entries.OpenRequest.{OpenRequest}
 use Rattle.mp_request.specs.declared.entries.Partitions.{Partitions}
-use Rattle.mp_request.specs.declared.entries.Progress.{Progress}
 use Rattle.mp_request.specs.declared.entries.Transfer.{Transfer}
 use Rattle.mp_request.specs.declared.entries.Transfer.TheVariants as transfer
 use Rattle.mp_request.specs.Table.{Table, request_at}
@@ -27,7 +26,6 @@ use Rattle.cl_calls.specs.Calls.{no_rank, no_message}
 use Rattle.cl_calls.specs.Handles.{handles_in}
 use Rattle.cl_calls.specs.Needs.{array_at}
 use Rattle.cl_state.specs.declared.asking.Answer.TheVariants as answer
-use Rattle.cl_state.specs.declared.asking.Ask.{Ask}
 use Rattle.cl_state.specs.declared.asking.Ask.TheVariants as ask
 use Rattle.cl_state.specs.declared.asking.Doing.{Doing}
 use Rattle.cl_state.specs.declared.asking.Doing.TheVariants.{Step, Refused, Go, Poll, Stopped}
@@ -43,11 +41,11 @@ use Rattle.cl_state.specs.declared.row.Purpose.TheVariants as purpose
 use Rattle.cl_state.specs.declared.row.Row.{Row}
 use Rattle.cl_state.specs.declared.row.Row.TheVariants.{AtOnce, OnReply, OnBox}
 use Rattle.cl_state.specs.Asked.{Part, no_hart, part_of, doing, asked, asked_in}
-use Rattle.cl_state.specs.Partitions.{awaited, awaited_of_part}
+use Rattle.cl_state.specs.Partitions.{awaited_of_part}
 use Rattle.cl_state.specs.Pending.{pending_of}
 use Rattle.cl_state.specs.Rank.{Rank}
 use Rattle.cl_state.specs.Several.{pendings, posts_of}
-use Rattle.cl_state.specs.Table.{begins, begins_phase, starts, completes, completing, takes, row_awaited, row_completing, row_ready, row_of_part, row_arrived, gathers, row_of, row_in}
+use Rattle.cl_state.specs.Table.{begins, begins_phase, starts, completes, completing, takes, row_awaited, row_completing, row_ready, row_of_part, row_arrived, gathers, row_of}
 use Rattle.cl_state.specs.Told.{returned, told, told_in, told_row}
 use Rattle.cl_state.specs.Transfers.{send_of, receive_of, claimed_of}
 use Rattle.cl_state_laws.specs.Leaves.{delayed, DelayLaw}

@@ -1,13 +1,12 @@
 -- What a call leaves of its hart, of the other harts and of the memory.
-use Rattle.std.proofs.Common.{◌≡◌, ◌<◌, ◌≤◌, ◌⊎◌, inl, inr, ◌+◌, ◌*◌, ◌-◌, ℕ, zero, suc, Bool, true, false, refl, sym, ap, ◌∙◌, subst, arith, List, [], ◌∷◌, ◌++◌, length, take, drop, get_or, set, map, Option, Some, None, append_assoc}
-use Rattle.std.specs.Prelude.{◌≢◌, ◌==◌, ◌||◌, ◌&&◌, nat_le, nat_lt, if◌then◌else◌, is_some}
-use Rattle.std.specs.List.{fold, flat_map}
-use Rattle.std.proofs.lemmas.Bool.{and_parts, leb-true}
-use Rattle.std.proofs.lemmas.List.{get_or_append_left, get_or-append-add, get_or-take, get_or-drop, length-take, length-append, get_or-set_other, get_or-set_same}
-use Rattle.rv_memory.specs.Memory.{Memory, with_bytes, bytes_of, bytes_at}
-use Rattle.rv_memory.specs.Access.{is_inside, is_writable}
+use Rattle.std.proofs.Common.{◌≡◌, ◌≤◌, inl, inr, ◌+◌, ◌*◌, ◌-◌, ℕ, zero, suc, Bool, true, false, refl, sym, ap, ◌∙◌, subst, arith, List, [], ◌∷◌, ◌++◌, length, take, drop, get_or, Option, Some, None, append_assoc}
+use Rattle.std.specs.Prelude.{◌==◌, ◌||◌, ◌&&◌, nat_le, if◌then◌else◌}
+use Rattle.std.proofs.lemmas.Bool.{leb-true}
+use Rattle.std.proofs.lemmas.List.{get_or_append_left, get_or-append-add, get_or-take, get_or-drop, length-append, get_or-set_other, get_or-set_same}
+use Rattle.rv_memory.specs.Memory.{Memory, with_bytes, bytes_of}
+use Rattle.rv_memory.specs.Access.{is_inside}
 use Rattle.rv_hart.specs.State.{State, in_mode}
-use Rattle.rv_hart.specs.declared.state.Mode.TheVariants.{Running, Waiting, Ended, Trapped}
+use Rattle.rv_hart.specs.declared.state.Mode.TheVariants.{Waiting}
 use Rattle.rv_hart.specs.declared.state.Wait.TheVariants.{Post, Again}
 use Rattle.mp_types.specs.declared.codes.Code.{Code}
 use Rattle.mp_types.specs.declared.codes.Code.TheVariants as code
@@ -21,19 +20,17 @@ use Rattle.mp_request.specs.declared.entries.Progress.{Progress}
 use Rattle.mp_request.specs.declared.entries.Progress.TheVariants as progress
 use Rattle.mp_request.specs.declared.entries.Transfer.{Transfer}
 use Rattle.mp_request.specs.declared.entries.Transfer.TheVariants as transfer
-use Rattle.mp_request.specs.Table.{Table, lowest_free, completed, request_at}
+use Rattle.mp_request.specs.Table.{Table, lowest_free, request_at}
 use Rattle.part_phase.specs.declared.phases.Phase.{Phase}
-use Rattle.part_phase.specs.Phases.{sending_at, receiving_at, changed_at, on_sending, on_receiving, is_unshaped_sending, is_unshaped_receiving}
-use Rattle.part_phase.specs.Receiving.{is_cut, next_box_of, shaped_receiving, cut_into}
-use Rattle.part_phase.specs.Sending.{all_freed, one_freed, shaped_sending}
+use Rattle.part_phase.specs.Phases.{sending_at, receiving_at, changed_at, on_sending}
+use Rattle.part_phase.specs.Receiving.{is_cut}
+use Rattle.part_phase.specs.Sending.{all_freed, one_freed}
 use Rattle.cl_calls.specs.declared.calls.Several.{Several}
 use Rattle.cl_calls.specs.declared.calls.Call.{Call}
 use Rattle.cl_calls.specs.declared.calls.Call.TheVariants as call
 use Rattle.cl_calls.specs.declared.calls.Completing.{Completing}
 use Rattle.cl_calls.specs.Checks.{receiving_side, sending_side}
-use Rattle.cl_calls.specs.declared.calls.Partitioning.{Partitioning}
 use Rattle.cl_calls.specs.declared.sites.Site.{Site}
-use Rattle.cl_calls.specs.Site.{members, place_of}
 use Rattle.cl_calls.specs.Calls.{any, no_rank, no_message}
 use Rattle.cl_calls.specs.Handles.{handles_in}
 use Rattle.cl_calls.specs.Needs.{array_at}
@@ -56,7 +53,7 @@ use Rattle.cl_state.specs.declared.row.Visit.TheVariants.{Readies, Frees, Takes,
 use Rattle.cl_state.specs.declared.row.Wanted.{Wanted}
 use Rattle.cl_state.specs.declared.row.Wanted.TheVariants as wanted
 use Rattle.cl_state.specs.Asked.{Part, no_hart, part_of, doing}
-use Rattle.cl_state.specs.Several.{Given, post_of, posts_of, pendings, are_fit, dealt, got_of, left_of, given_one, given_message, given_nothing, given, with_all_bytes, with_statuses, status_of, statuses_of, code_of}
+use Rattle.cl_state.specs.Several.{post_of, posts_of, pendings, are_fit, got_of, left_of, given_one, given, with_all_bytes, with_statuses, status_of, statuses_of}
 use Rattle.cl_state.specs.Table.{begun, begins, begins_phase, starts, completes, completing, concludes, holds, takes, row_awaited, row_completing, row_ready, row_of_part, row_arrived, gathers, row_of, row_in}
 use Rattle.cl_state.specs.Pending.{pending_of}
 use Rattle.cl_state.specs.Rank.{Rank}
@@ -65,7 +62,7 @@ use Rattle.cl_state.specs.declared.partitions.Awaited.{Awaited}
 use Rattle.cl_state.specs.declared.partitions.Awaited.TheVariants as awaits
 use Rattle.cl_state.specs.declared.asking.Doing.TheVariants.{Step, Refused, Go, Poll, Stopped}
 use Rattle.cl_state.specs.Partitions.{awaited_of_part}
-use Rattle.cl_state.specs.Told.{arrived, arrived_from, completed_all, cut_known, done, ended, found, found_at, found_nothing, freed, freed_one, gathered, gathered_if, made_receiving, made_sending, made_side_at, not_yet, opened, opened_at, part_readied, phase_begun, received, received_from, received_message, replied, returned, seen_one, taken_one, told, told_in, told_row, visited, with_box, with_part, with_status}
+use Rattle.cl_state.specs.Told.{arrived, arrived_from, completed_all, cut_known, done, ended, found, found_at, found_nothing, freed, freed_one, gathered, gathered_if, made_side_at, not_yet, opened_at, part_readied, phase_begun, received, received_from, received_message, replied, returned, seen_one, taken_one, told, told_in, told_row, visited, with_box, with_status}
 use Rattle.cl_state.specs.Written.{written}
 use Rattle.cl_state_laws.specs.Leaves.{IsLeft, has_returned, is_waiting, has_ended, is_kept, Range, IsOutside, IsOutsideAll, status_range, target_ranges, box_range, buffers_of, statuses_range, several_ranges, ranges_of, IsNoStep, HartLaw, BytesLaw}
 

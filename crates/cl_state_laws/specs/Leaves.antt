@@ -1,6 +1,5 @@
 -- What a call leaves of its hart, of the other harts and of the memory.
 use Rattle.std.specs.Prelude.{◌≡◌, ◌≢◌, ◌<◌, ◌≤◌, ◌⊎◌, ◌==◌, ◌+◌, ◌*◌, if◌then◌else◌, ℕ, List, [], ◌∷◌, ◌++◌, length, get_or}
-use Rattle.std.specs.Prelude.{Some, slice_get}
 use Rattle.rv_memory.specs.Memory.{Memory}
 use Rattle.rv_hart.specs.State.{State, in_mode}
 use Rattle.rv_hart.specs.declared.state.Mode.TheVariants.{Waiting, Ended}

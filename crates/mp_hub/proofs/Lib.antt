@@ -12,3 +12,4 @@ pub mod Losses
 pub mod Handles
 pub mod Owners
 pub mod Links
+pub mod Finished

@@ -6,6 +6,7 @@ pub mod Transfers
 pub mod Histories
 pub mod Posts
 pub mod Losses
+pub mod Finished
 pub mod Replies
 pub mod Links
 pub mod Rows

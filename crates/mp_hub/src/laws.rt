@@ -1,5 +1,6 @@
 //! Laws of the hub's meaning, with no code: each function's contract is the law.
 
+ghost use Rattle.mp_hub.specs.Finished.{FinishedLaw};
 ghost use Rattle.mp_hub.specs.Laws.{BoardLaw, CountLaw, SentLaw};
 ghost use Rattle.mp_hub.specs.Links.{LinksLaw};
 ghost use Rattle.mp_hub.specs.Losses.{LossLaw};
@@ -23,6 +24,12 @@ pub fn posts_law()
 /// Nothing is lost: a message that is there is given to the one who asks for it, and once.
 pub fn loss_law()
     ensures { LossLaw }
+{}
+
+/// A rank is told that its send is complete exactly where it is: a standard send at once, a synchronous one once a
+/// receive has its message, also by way of a claim.
+pub fn finished_law()
+    ensures { FinishedLaw }
 {}
 
 /// A rank may ask for its own posts alone, and for a message once: anything else is refused, and what is refused
