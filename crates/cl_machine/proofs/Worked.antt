@@ -12,20 +12,26 @@ use Rattle.cl_state.specs.declared.asking.Answer.{Answer}
 use Rattle.cl_state.specs.declared.asking.Ask.{Ask}
 use Rattle.cl_state.specs.Rank.{Rank}
 use Rattle.cl_state.specs.Asked.{asked, doing}
-use Rattle.cl_state.specs.Told.{received, received_message, returned, told, with_status}
+use Rattle.cl_state.specs.Told.{arrived, freed, freed_one, part_readied, received, received_message, returned, seen_one}
+use Rattle.cl_state.specs.Told.{taken_one, told, with_status}
 use Rattle.cl_state.specs.Rows.{send}
 use Rattle.cl_state.proofs.Moves.{told_at}
 use Rattle.cl_machine.specs.Boxes.{Box, Thing, empty_box, box_number}
 use Rattle.cl_machine.specs.Cluster.{Cluster, IsStep}
-use Rattle.cl_machine.specs.Rows.{step, sender_called, sender_made, sender_done, receiver_missed, receiver_took}
+use Rattle.cl_machine.specs.Rows.{step, step_by, sender_called, sender_made, sender_done, receiver_missed, receiver_took}
 use Rattle.cl_machine.specs.Rows.{receiver_done, first_reply, one_call, second_reply, shared_start, shared_end}
 use Rattle.cl_machine.specs.Rows.{SharedRow, EarlyRow, receiving, sent_message, SendsFirst, ReceivesFirst}
-use Rattle.cl_machine.specs.Rows.{NothingSent, StampTooLow}
+use Rattle.cl_machine.specs.Rows.{NothingSent, StampTooLow, RealCallsRow, RealEndRow, partition_bytes}
+use Rattle.cl_machine.specs.Rows.{partition_receiver, partition_sender, linked}
 
 -- a told rank has its stamp, and as many harts
-there : (rank : Rank) (answer : Answer) (stamp : ℕ) → 0 < length rank.harts
-    → 0 < length (told rank 0 answer stamp).harts
-there rank answer stamp h = let same = (told_at rank 0 answer stamp).harts in omega arith
+there : (hart : ℕ) (rank : Rank) (told_hart : ℕ) (answer : Answer) (stamp : ℕ) → hart < length rank.harts
+    → hart < length (told rank told_hart answer stamp).harts
+there hart rank told_hart answer stamp h = let same = (told_at rank told_hart answer stamp).harts in omega arith
+
+-- where a hart is there, a lower one is
+below : (lower hart : ℕ) (rank : Rank) → lower < hart → hart < length rank.harts → lower < length rank.harts
+below lower hart rank l h = omega arith
 
 pub shared : SharedRow
 shared links sender receiver bytes first second s r =
@@ -73,17 +79,17 @@ shared links sender receiver bytes first second s r =
     k5 : Cluster
     k5 = record { ranks = sender_done sender reply ∷ took ∷ []; journal = calls; boxes = freed ∷ [] }
 
-    s1 : 0 < length called.harts
-    s1 = there sender (Answer.Reply reply) 1 s.there
+    s1 : 2 < length called.harts
+    s1 = there 2 sender 0 (Answer.Reply reply) 1 s.there
 
-    r1 : 0 < length missed.harts
-    r1 = there receiver Answer.Missed 1 r.there
+    r1 : 1 < length missed.harts
+    r1 = there 1 receiver 0 Answer.Missed 1 r.there
 
     hub_first : IsStep (shared_start links sender receiver bytes first second) (step 0 1 (Kind.Hub reply)) k1
     hub_first = (
       sender,
       refl,
-      s.there,
+      below 0 2 sender (omega arith) s.there,
       omega arith,
       (
         first,
@@ -100,13 +106,13 @@ shared links sender receiver bytes first second s r =
     )
 
     misses : IsStep k1 (step 1 1 Kind.Miss) k2
-    misses = (receiver, refl, r.there, omega arith, (0, 0, inl r.looks, ap (λ c. c + 1) (sym r.clock), refl))
+    misses = (receiver, refl, below 0 1 receiver (omega arith) r.there, omega arith, (0, 0, inl r.looks, ap (λ c. c + 1) (sym r.clock), refl))
 
-    makes : IsStep k2 (step 0 2 Kind.Ready) k3
+    makes : IsStep k2 (step_by 1 0 2 Kind.Ready) k3
     makes = (
       called,
       refl,
-      s1,
+      below 1 2 called (omega arith) s1,
       omega arith,
       (0, 0, bytes, empty_box, s.makes, refl, refl, ap (λ c. c + 1) (sym (told_at sender 0 (Answer.Reply reply) 1).clock), refl),
     )
@@ -115,25 +121,25 @@ shared links sender receiver bytes first second s r =
     takes = (
       missed,
       refl,
-      r1,
+      below 0 1 missed (omega arith) r1,
       omega arith,
       (0, 0, bytes, full, r.takes, refl, refl, ap (λ c. max c 2 + 1) (sym (told_at receiver 0 Answer.Missed 1).clock), refl),
     )
 
-    sees : IsStep k4 (step 0 4 Kind.Freed) k5
+    sees : IsStep k4 (step_by 2 0 4 Kind.Freed) k5
     sees = (
       made,
       refl,
-      there called Answer.Alone 2 s1,
+      there 2 called 1 Answer.Alone 2 s1,
       omega arith,
-      (0, 0, freed, s.sees, refl, refl, ap (λ c. max c 3 + 1) (sym (told_at called 0 Answer.Alone 2).clock), refl),
+      (0, 0, freed, s.sees, refl, refl, ap (λ c. max c 3 + 1) (sym (told_at called 1 Answer.Alone 2).clock), refl),
     )
 
-    hub_second : IsStep k5 (step 1 4 (Kind.Hub (second_reply links sender receiver bytes first second))) (shared_end links sender receiver bytes first second)
+    hub_second : IsStep k5 (step_by 1 1 4 (Kind.Hub (second_reply links sender receiver bytes first second))) (shared_end links sender receiver bytes first second)
     hub_second = (
       took,
       refl,
-      there missed (Answer.Taken bytes) 3 r1,
+      there 1 missed 0 (Answer.Taken bytes) 3 r1,
       omega arith,
       (
         second,
@@ -143,7 +149,7 @@ shared links sender receiver bytes first second s r =
         λ i. record {
           ranks = sender_done sender reply ∷ receiver_done receiver bytes (second_reply links sender receiver bytes first second) ∷ [];
           journal = with_entry calls
-              (record { rank = 1; hart = 0; clock = sym clock i; stamp = 4; request = second; reply = second_reply links sender receiver bytes first second });
+              (record { rank = 1; hart = 1; clock = sym clock i; stamp = 4; request = second; reply = second_reply links sender receiver bytes first second });
           boxes = freed ∷ [];
         },
       ),
@@ -208,3 +214,19 @@ nothing_sent stamp new h =
 pub stamp_too_low : StampTooLow
 stamp_too_low new h =
     let clock : ((h.0).journal).clock ≡ 9 = ap (λ (k : Cluster). (k.journal).clock) (h.1).4.4 in omega (arith, clock, ((h.2).1).4.3)
+
+pub real_calls : RealCallsRow
+unfolding asked told doing returned part_readied taken_one arrived with_status
+real_calls = (
+  record { there = omega arith; clock = refl; calls = refl; makes = refl; sees = refl },
+  record { there = omega arith; clock = refl; looks = refl; takes = refl; calls = refl },
+)
+
+pub real_end : RealEndRow
+unfolding asked told doing returned received received_message with_status part_readied taken_one arrived freed freed_one seen_one reply_in
+real_end = (
+  _,
+  shared linked.links partition_sender partition_receiver partition_bytes
+      (request.Send false 0 1 7 (105 ∷ 10 ∷ [])) (request.Recv true 0 (Some 0) (Some 7)) real_calls.0 real_calls.1,
+  refl,
+)

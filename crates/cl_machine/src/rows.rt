@@ -1,12 +1,23 @@
 //! Worked rows: what runs of small clusters are, and what no run is.
 
-ghost use Rattle.cl_machine.specs.Rows.{EarlyRow, JoinedRow, NothingSent, ReceivesFirst, SendsFirst, SharedRow};
-ghost use Rattle.cl_machine.specs.Rows.{StampTooLow};
+ghost use Rattle.cl_machine.specs.Rows.{EarlyRow, JoinedRow, NothingSent, RealCallsRow, RealEndRow, ReceivesFirst};
+ghost use Rattle.cl_machine.specs.Rows.{SendsFirst, SharedRow, StampTooLow};
 
 /// Two ranks that share a box: a hub call, a look that misses, a partition made ready, taken and seen taken,
 /// a hub call.
 pub fn shares_a_box()
     ensures { SharedRow }
+{}
+
+/// Two ranks of several harts, at a SEND, a PREADY, a WAIT and a RECV, meet what the row of a shared box asks of its
+/// ranks.
+pub fn shares_a_box_by_real_calls()
+    ensures { RealCallsRow }
+{}
+
+/// Their run leaves the partition and the message in the receiver's memory.
+pub fn moves_a_partition_and_a_message()
+    ensures { RealEndRow }
 {}
 
 /// What the law of the order asks of a box can be met.
