@@ -1,0 +1,111 @@
+"""Random command lines, and what they mean: README.md, docs/MACHINE.md ("What a run tells") and docs/DECISIONS.md ("The
+command line") say it."""
+
+import re
+
+# each command's flags, and its options with what tests a value
+DECIMAL = re.compile(r"[0-9]+")
+MOST_BUDGET, MOST_LEAD = 16_777_216, 65_536
+
+
+def bounded(text, most):
+    """A decimal number from 1 to a bound, or None."""
+    value = int(text) if DECIMAL.fullmatch(text) else 0
+    return value if 1 <= value <= most else None
+
+
+def listed(text):
+    """Decimal numbers from 0 to 255 with one comma between them, or None."""
+    parts = text.split(",")
+    if all(DECIMAL.fullmatch(part) for part in parts) and all(int(part) <= 255 for part in parts):
+        return [int(part) for part in parts]
+    return None
+
+
+BUDGET = ("--budget", lambda text: bounded(text, MOST_BUDGET))
+PLAN = ("--plan", listed)
+COMMANDS = {
+    "asm": (("--from",), ()),
+    "dis": ((), ()),
+    "check": ((), ()),
+    "one": (("--source", "--record"), (BUDGET, PLAN, ("--order", listed))),
+    "run": (("--source", "--record"), (BUDGET, PLAN, ("--lead", lambda text: bounded(text, MOST_LEAD)))),
+}
+
+# values at and past each bound, and texts that are no values
+NUMBERS = ["0", "1", "2", "5", "300", "16777215", "16777216", "16777217", "65535", "65536", "65537", "001", "", "+5"]
+NUMBERS += ["0x5", "ten", "5 ", " 5", "1.0", "18446744073709551616", "18446744073709551617", "1,0", "\u0661"]
+LISTS = ["0", "0,0", "0,1", "1,0", "1", "00", "255", "256", "1,256", "0,", ",0", "0,,0", ",", "", " 0", "0 ", "0;1"]
+LISTS += ["0x0", "+1", "all", "18446744073709551616", "0,1,2,3,0,1,2,3"]
+WORDS = ["fly", "--fly", "", "one", "asm", "x", "--budge", "--sourc", "--source=yes", "--record=", "--from=1", "0"]
+
+
+class Meaning:
+    """What words say: a command, its flags, and the values of its options."""
+
+    def __init__(self, command, flags, values):
+        self.command, self.flags, self.values = command, flags, values
+
+
+def meaning(words):
+    """What words mean, or None where they are a fault of the command line."""
+    if not words:
+        return Meaning("one", {"--source"}, {})
+    command, *rest = words
+    if command not in COMMANDS:
+        return None
+    flags, options = COMMANDS[command]
+    options = dict(options)
+    seen, values = set(), {}
+    while rest:
+        word = rest.pop(0)
+        name, equals, text = word.partition("=")
+        if name in seen or (word not in flags and name not in options):
+            return None
+        seen.add(name)
+        if name in options:
+            if not equals:
+                if not rest or rest[0].startswith("-"):
+                    return None
+                text = rest.pop(0)
+            value = options[name](text)
+            if value is None:
+                return None
+            values[name] = value
+    return Meaning(command, seen & set(flags), values)
+
+
+class Lines:
+    """Command lines drawn at random."""
+
+    def __init__(self, random):
+        self.random = random
+
+    def words(self):
+        """Some words."""
+        if self.random.randrange(30) == 0:
+            return [self.random.choice(WORDS)]
+        command = self.random.choice(["one", "one", "run", "run", "asm", "dis", "check"])
+        flags, options = COMMANDS[command]
+        words = [command]
+        for flag in flags:
+            if self.random.randrange(3) == 0:
+                words.append(flag)
+        for name, _ in options:
+            if self.random.randrange(3) == 0:
+                words += self.option(name)
+        if self.random.randrange(6) == 0:
+            other = self.random.choice(["--source", "--record", "--budget", "--plan", "--order", "--lead", "--from"])
+            extra = self.option(other) if other in ("--budget", "--plan", "--order", "--lead") else [other]
+            extra = self.random.choice([extra, [self.random.choice(WORDS)]])
+            at = 1 + self.random.randrange(len(words))
+            words[at:at] = extra
+        return words
+
+    def option(self, name):
+        """An option with a value, in one word or in two, or with none."""
+        value = self.random.choice(NUMBERS if name in ("--budget", "--lead") else LISTS)
+        if self.random.randrange(3):
+            value = self.random.choice(NUMBERS[1:5] if name in ("--budget", "--lead") else LISTS[:5])
+        forms = [[f"{name}={value}"], [name, value]]
+        return self.random.choice(forms) if self.random.randrange(20) else [name]
