@@ -4,16 +4,14 @@
    REFUSE_MEMORY            the number of the request for memory, from 1
    FAIL_READ, FAIL_WRITE    the number of the read of standard input, and of the write to standard output or error
    SHORT_READ, SHORT_WRITE  the same, of one that moves a byte
-   REFUSE_TOLD              a file descriptor that gets a letter for each refusal
-   REFUSE_WITHIN            where it is set, requests for memory are counted from 1 in each part of the run between a
-                            line of standard output that begins with "begin" and one that begins with "end"
+   ENDLESS_READ             a number of reads: each read of standard input gives one byte 0, for ever
+   REFUSE_TOLD              a file descriptor that gets a letter for each refusal, and for each read past that number
 
    tests/refused compiles and uses it. */
 #define _GNU_SOURCE
 #include <dlfcn.h>
 #include <errno.h>
 #include <stdlib.h>
-#include <string.h>
 #include <sys/types.h>
 #include <unistd.h>
 
@@ -22,9 +20,8 @@ extern void *__libc_calloc(size_t, size_t);
 extern void *__libc_realloc(void *, size_t);
 extern void *__libc_memalign(size_t, size_t);
 
-static long memory, within, told = -1, fail_read, fail_write, short_read, short_write;
+static long memory, told = -1, endless, fail_read, fail_write, short_read, short_write;
 static long requests, reads, writes;
-static int open_part;
 static ssize_t (*real_read)(int, void *, size_t);
 static ssize_t (*real_write)(int, const void *, size_t);
 
@@ -38,14 +35,12 @@ __attribute__((constructor)) static void begin(void)
 {
     real_read = (ssize_t(*)(int, void *, size_t))dlsym(RTLD_NEXT, "read");
     real_write = (ssize_t(*)(int, const void *, size_t))dlsym(RTLD_NEXT, "write");
-    within = number("REFUSE_WITHIN");
+    endless = number("ENDLESS_READ");
     told = getenv("REFUSE_TOLD") ? number("REFUSE_TOLD") : -1;
     fail_read = number("FAIL_READ");
     fail_write = number("FAIL_WRITE");
     short_read = number("SHORT_READ");
     short_write = number("SHORT_WRITE");
-    requests = 0;
-    open_part = !within;
     memory = number("REFUSE_MEMORY");
 }
 
@@ -58,7 +53,7 @@ static void tell(char letter)
 /* whether this request is the one that is refused */
 static int is_refused(void)
 {
-    if (!memory || !open_part || __atomic_add_fetch(&requests, 1, __ATOMIC_SEQ_CST) != memory)
+    if (!memory || __atomic_add_fetch(&requests, 1, __ATOMIC_SEQ_CST) != memory)
         return 0;
     tell('m');
     errno = ENOMEM;
@@ -97,6 +92,12 @@ ssize_t read(int file, void *bytes, size_t count)
 {
     if (file == 0) {
         reads++;
+        if (endless) {
+            if (reads > endless)
+                tell('e');
+            *(char *)bytes = 0;
+            return 1;
+        }
         if (reads == fail_read) {
             tell('r');
             errno = EIO;
@@ -123,12 +124,6 @@ ssize_t write(int file, const void *bytes, size_t count)
             tell('s');
             count = 1;
         }
-        if (within && file == 1 && count >= 5 && memcmp(bytes, "begin", 5) == 0) {
-            requests = 0;
-            open_part = 1;
-        }
-        if (within && file == 1 && count >= 3 && memcmp(bytes, "end", 3) == 0)
-            open_part = 0;
     }
     return real_write(file, bytes, count);
 }
