@@ -3,7 +3,8 @@
 //! `hub N` starts a hub of two ranks, with N links from rank 0 to rank 1. `RANK HART CLOCK REQUEST` is a call of it:
 //! the stamp and the reply are printed, or why it was refused. `times N` before a call makes it so often, and tells
 //! the last; a `#` in it is then how often it was made before. `entries` prints how many calls were entered, and the
-//! hart of the last. Behind `!` a request or a reply stands whose copy isn't the same.
+//! hart of the last. Behind `!` a request or a reply stands whose copy isn't the same. A call that is refused memory is
+//! told as `memory`, and made once more.
 //!
 //! The rows of `stdin` and `stdout` were worked out by hand from what the calls are said to answer.
 #![tactic(auto)]
@@ -44,16 +45,24 @@ fn hub(alloc: Global, links: u8) -> Result<Hub, ImageFault> {
     hub_of(alloc, &bytes)
 }
 
-/// Calls the hub as the row says, and tells `copied` where a copy of the request is the same.
-fn call(
+/// Calls the hub as the row says, and tells `copied` where a copy of the request is the same. Where memory is refused, a
+/// line says so, and the call is made once more.
+fn call<W: Write>(
     alloc: Global,
+    out: &mut W,
     hub: &mut Hub,
     row: &Row<'_>,
     request: Request,
-) -> Result<(bool, Result<(Reply, Stamp), HubFault>), AllocError> {
-    let copied = request.try_copy(alloc)? == request;
+) -> io::Result<(bool, Result<(Reply, Stamp), HubFault>)> {
+    let copy = request.try_copy(alloc)?;
+    let copied = copy == request;
     let answer = hub.call(byte(row, 0), byte(row, 1), number(row, 2), request);
-    Ok((copied, answer))
+    if !matches!(answer, Err(HubFault::Memory)) {
+        return Ok((copied, answer));
+    }
+    out.write_all(b"memory\n")?;
+    let again = hub.call(byte(row, 0), byte(row, 1), number(row, 2), copy);
+    Ok((copied, again))
 }
 
 /// Prints what the hub answered.
@@ -89,7 +98,7 @@ fn repeat<W: Write>(
         let Some(request) = request(alloc, row)? else {
             return out.write_all(b"no request\n");
         };
-        let (copied, answer) = call(alloc, hub, row, request)?;
+        let (copied, answer) = call(alloc, out, hub, row, request)?;
         if turn + 1 < times {
             continue;
         }
@@ -109,11 +118,10 @@ fn print_entries<W: Write>(out: &mut W, hub: &Hub) -> io::Result<()> {
     }
 }
 
-/// Starts the hub anew, with so many links. Where there is no memory it stays.
-fn start_anew(alloc: Global, current: &mut Hub, links: u8) {
-    if let Ok(next) = hub(alloc, links) {
-        *current = next;
-    }
+/// Starts the hub anew, with so many links.
+fn start_anew(alloc: Global, current: &mut Hub, links: u8) -> io::Result<()> {
+    *current = hub(alloc, links).map_err(|_fault| io::Error::from(io::ErrorKind::OutOfMemory))?;
+    Ok(())
 }
 
 /// Does what a row says. `times` is how often the next call is made.
@@ -125,7 +133,7 @@ fn take_row<W: Write>(
     times: &mut u64,
 ) -> io::Result<()> {
     match row.words.first() {
-        Some(&"hub") => start_anew(alloc, current, byte(row, 1)),
+        Some(&"hub") => start_anew(alloc, current, byte(row, 1))?,
         Some(&"times") => *times = number(row, 1),
         Some(&"entries") => print_entries(out, current)?,
         _ => {
