@@ -32,6 +32,19 @@ lines =
     ∷ (codes "\"a", Err kinds.Token)
     ∷ (codes "@", Err kinds.Token)
     ∷ (codes "nop\r", Err kinds.Token)
+    ∷ (codes "\tnop", Ok (name (codes "nop") ∷ []))
+    ∷ (codes "0xAB", Ok (number (pos 171) ∷ []))
+    ∷ (codes "-0x10", Ok (number (negsuc 15) ∷ []))
+    -- a character that isn't ASCII may stand in a comment, and in no string
+    ∷ (35 ∷ 195 ∷ 169 ∷ [], Ok [])
+    ∷ (34 ∷ 195 ∷ 169 ∷ 34 ∷ [], Err kinds.Token)
+    -- NUL and DEL may stand in a string, and nowhere else
+    ∷ (34 ∷ 0 ∷ 127 ∷ 34 ∷ [], Ok (text (0 ∷ 127 ∷ []) ∷ []))
+    ∷ (0 ∷ [], Err kinds.Token)
+    ∷ (127 ∷ [], Err kinds.Token)
+    -- a backslash stands before one of the escapes, in a string
+    ∷ (codes "\\", Err kinds.Token)
+    ∷ (codes "\"\\\"", Err kinds.Token)
     ∷ []
 
 abbrev pub AreTokensOfLines : Type 0

@@ -5,10 +5,10 @@ ghost use Rattle.rv_asm_tokens.specs.declared.fault.AsmFaultKind.TheVariants as 
 ghost use Rattle.rv_asm_statements.specs.declared.directives.Directive.TheVariants as directives;
 
 use rv_asm_statements::{
-    Bytes, Directive, Integer, Integers, Items, Label, Limited, Statement, Target, Use, directive,
-    instruction, operands, parse_statement, register,
+    Bytes, Directive, Integer, Integers, Items, Label, Limited, Operands, Statement, Target, Use,
+    directive, instruction, parse_statement, register,
 };
-use rv_asm_tokens::{AsmFaultKind, Number, Token, ZERO};
+use rv_asm_tokens::{AsmFaultKind, Number, Tokens};
 use rv_decode::Reg;
 use std::alloc::{AllocError, Global};
 
@@ -101,27 +101,28 @@ pub fn a_string_has_its_bytes(bytes: Vec<u8>) -> usize
 }
 
 /// Behind a last comma an operand is missing.
-pub fn a_last_comma_wants_an_operand(alloc: Global) -> Result<bool, AllocError>
-    ensures { IfOk result (λ none. none ≡ true) }
+#[tactic(auto, unfolding(rv_asm_tokens::specs::Digits::digits_from, rv_asm_tokens::specs::Digits::magnitude, rv_asm_tokens::specs::Digits::with_digit, rv_asm_tokens::specs::Scan::front_at, rv_asm_tokens::specs::Scan::tokens_from))]
+pub fn a_last_comma_wants_an_operand() -> Result<bool, AsmFaultKind>
+    ensures { result ≡ Ok true }
 {
-    let found = operands(alloc, &[Token::Number(ZERO), Token::Comma])?;
+    let found = Operands::of_tokens(Tokens::of_line(b"0,")?);
     Ok(found.is_none())
 }
 
 /// A line with no tokens has no statement, and asks for no memory.
-#[tactic(auto, unfolding(rv_asm_statements::specs::Statements::statement_of))]
+#[tactic(auto, unfolding(rv_asm_statements::specs::Statements::statement_of, rv_asm_tokens::specs::Scan::tokens_from))]
 pub fn no_tokens_are_no_statement(alloc: Global) -> Result<Option<Statement>, AsmFaultKind>
     ensures { result ≡ Ok None }
 {
-    parse_statement(alloc, &[])
+    parse_statement(alloc, &Tokens::of_line(b"")?)
 }
 
-/// A statement that begins with a number is Mnemonic, whatever memory there is.
-#[tactic(auto, unfolding(rv_asm_statements::specs::Statements::statement_of))]
-pub fn a_number_is_no_mnemonic(alloc: Global) -> Result<Option<Statement>, AsmFaultKind>
+/// A statement that begins with a comma is Mnemonic, whatever memory there is.
+#[tactic(auto, unfolding(rv_asm_statements::specs::Statements::statement_of, rv_asm_tokens::specs::Scan::front_at, rv_asm_tokens::specs::Scan::tokens_from))]
+pub fn a_comma_is_no_mnemonic(alloc: Global) -> Result<Option<Statement>, AsmFaultKind>
     ensures { result ≡ Err kinds.Mnemonic }
 {
-    parse_statement(alloc, &[Token::Number(ZERO)])
+    parse_statement(alloc, &Tokens::of_line(b",")?)
 }
 
 /// `add` without its operands is Operand, whatever memory there is.
@@ -149,9 +150,9 @@ pub fn org_is_no_directive(alloc: Global) -> Result<Directive, AsmFaultKind>
 }
 
 /// `.data` is taken, and asks for no memory.
-#[tactic(auto, unfolding(rv_asm_statements::specs::Directives::directive_by, rv_asm_statements::specs::Directives::directive_of))]
+#[tactic(auto, unfolding(rv_asm_statements::specs::Directives::directive_by, rv_asm_statements::specs::Directives::directive_of, rv_asm_tokens::specs::Scan::tokens_from))]
 pub fn data_asks_for_no_memory(alloc: Global) -> Result<Directive, AsmFaultKind>
     ensures { result ≡ Ok directives.Data }
 {
-    directive(alloc, b".data", &Some(Vec::new(alloc)))
+    directive(alloc, b".data", &Operands::of_tokens(Tokens::of_line(b"")?))
 }

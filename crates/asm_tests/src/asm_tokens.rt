@@ -1,18 +1,17 @@
 //! Of `rv_asm_tokens`: a line's tokens, a string's bytes, a number's value.
 
-ghost use Rattle.std.specs.Prelude.{◌≡◌, IfOk, negsuc};
-ghost use Rattle.rv_asm_tokens.specs.Lexeme.{lexemes_of};
+ghost use Rattle.std.specs.Prelude.{◌≡◌, IfOk, Ok, negsuc};
 ghost use Rattle.asm_tests.specs.Lines.{AreTokensOfLines, bytes_of_escapes, tokens_of_a_line};
 
-use rv_asm_tokens::{AsmFaultKind, Number, Token, text_bytes, tokens, value_of};
+use rv_asm_tokens::{AsmFaultKind, Number, Tokens, text_bytes, value_of};
 use std::alloc::{AllocError, Global};
 
 /// A name has all its bytes, a number its sign, and a comment is no token.
 #[tactic(auto, unfolding(rv_asm_tokens::specs::Digits::digits_from, rv_asm_tokens::specs::Digits::magnitude, rv_asm_tokens::specs::Digits::with_digit, rv_asm_tokens::specs::Scan::front_at, rv_asm_tokens::specs::Scan::tokens_from))]
-pub fn a_line_has_its_tokens(alloc: Global) -> Result<Vec<Token<'static>>, AsmFaultKind>
-    ensures { IfOk result (λ found. lexemes_of found.items ≡ tokens_of_a_line) }
+pub fn a_line_has_its_tokens() -> Result<Tokens<'static>, AsmFaultKind>
+    ensures { result ≡ Ok tokens_of_a_line }
 {
-    tokens(alloc, b"go: li a0, -0x10 # a comment")
+    Tokens::of_line(b"go: li a0, -0x10 # a comment")
 }
 
 /// These lines have these tokens, or are Token: numbers from -2^63 to 2^64 - 1, and what a string may hold.

@@ -12,3 +12,6 @@ pub mod Names
 pub mod Addressed
 pub mod Wholeness
 pub mod Staying
+pub mod LongLines
+pub mod LineCount
+pub mod Saying

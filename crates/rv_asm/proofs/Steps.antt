@@ -1,5 +1,5 @@
 -- One line, or one item, after the other.
-use Rattle.std.proofs.Common.{◌≡◌, ℕ, zero, suc, ◌+◌, ◌<◌, List, [], ◌∷◌, length, drop, map, get_or, Result, Ok, refl, sym, ap, ◌∙◌, add-one, arith}
+use Rattle.std.proofs.Common.{◌≡◌, ℕ, ◌+◌, ◌<◌, List, [], ◌∷◌, length, drop, get_or, Result, Ok, refl, sym, ap, ◌∙◌, add-one}
 use Rattle.std.proofs.Math.Seq.{drop-cons}
 use Rattle.rv_asm_tokens.specs.declared.fault.AsmFaultKind.{AsmFaultKind}
 use Rattle.rv_asm_tokens.specs.declared.fault.AsmFaultKind.TheVariants as kinds
@@ -24,13 +24,12 @@ fails_at n kinds.LabelMissing r f whole same h = rw (← same, h) refl
 fails_at n kinds.Directive r f whole same h = rw (← same, h) refl
 fails_at n kinds.Limit r f whole same h = rw (← same, h) refl
 
--- from i on there is what stands at i, and the rest
-pub item_at : {A B : Type 0} (view : A → B) (xs : List A) (i : ℕ) (d : A) → i < length xs → drop i (map view xs) ≡ view (get_or xs i d) ∷ drop (i + 1) (map view xs)
-item_at view [] i d lt = absurd (omega arith)
-item_at view (x ∷ xs) zero d lt = refl
-item_at view (x ∷ xs) (suc i) d lt =
-    let e : suc (i + 1) ≡ suc i + 1 = omega arith in
-    item_at view xs i d (omega arith) ∙ ap (λ (k : ℕ). view (get_or xs i d) ∷ drop k (view x ∷ map view xs)) e
+-- from i on there is the line at i, and the rest
+pub line_at : (all : List (List ℕ)) (n i : ℕ) (line bytes : List ℕ) → n ≡ i → i < length all → line ≡ get_or all i line → bytes ≡ line → drop n all ≡ bytes ∷ drop (n + 1) all
+line_at all n i line bytes same lt is seen = rw (same, seen) (cons_here all i line lt ∙ ap (λ (l : List ℕ). l ∷ drop (i + 1) all) (sym is))
+  where
+    cons_here : (xs : List (List ℕ)) (i : ℕ) (d : List ℕ) → i < length xs → drop i xs ≡ get_or xs i d ∷ drop (i + 1) xs
+    cons_here xs i d lt = rw (add-one, drop-cons xs i d) refl
 
 pub line_stops : (n : ℕ) (s : Layout) (ls : List (List ℕ)) (l : List ℕ) (others : List (List ℕ)) (kind : AsmFaultKind) (whole : Result Layout AsmFault) → ls ≡ l ∷ others → Fails kind (line_step n s l)
     → lines_from n s ls ≡ whole → FailsAt (fault_at n kind) whole

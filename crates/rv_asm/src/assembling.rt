@@ -1,13 +1,14 @@
 //! Both passes, and what is tested of the whole.
 
-ghost use Rattle.std.specs.Prelude.{◌≡◌, ◌≤◌, ◌<◌, ◌+◌, ◌*◌, ◌^◌, ◌&&◌, length, List, ℕ, map, nat_le, MatchResult};
+ghost use Rattle.std.specs.Prelude.{◌≡◌, ◌≤◌, ◌<◌, ◌+◌, ◌*◌, ◌^◌, ◌&&◌, length, nat_le, if◌then◌else◌, MatchResult};
 ghost use Rattle.std.specs.Prelude.{IfOk, IfErr, OnOk, Ok, Err};
-ghost use Rattle.std.specs.Str.Lines.{lines};
 ghost use Rattle.rv_image.specs.Image.{data_start};
 ghost use Rattle.rv_asm_tokens.specs.declared.fault.AsmFaultKind.TheVariants as kinds;
 ghost use Rattle.rv_asm_tokens.specs.Fault.{Fails};
 ghost use Rattle.rv_asm_lines.specs.Refused.{NoFault};
 ghost use Rattle.rv_asm_lines.specs.Layout.{Layout as Laid, addresses, fitted, placed, line_step, layout_of};
+ghost use Rattle.rv_asm_lines.specs.Layout.{statement_step};
+ghost use Rattle.rv_asm_lines.specs.Parts.{data_may_stand};
 ghost use Rattle.rv_asm_lines.specs.LayoutView.{addresses_view, layout_view};
 ghost use Rattle.rv_asm_lines.specs.Fields.{ranks_of as ranks_meant};
 ghost use Rattle.rv_asm_lines.specs.Output.{items_from, empty_output};
@@ -21,10 +22,10 @@ use rv_asm_lines::{
     Fields, Item, Layout, NO_FIELDS, Output, Part, harts_of, length_of_statement, may_stand,
     memory_of, next_place, part_after, ranks_of, take_fields, take_global, take_item, take_labels,
 };
-use rv_asm_statements::{Statement, parse_statement};
-use rv_asm_tokens::{AsmFault, AsmFaultKind, tokens};
+use rv_asm_statements::{Statement, Width, long_data, parse_statement};
+use rv_asm_tokens::{AsmFault, AsmFaultKind, Tokens};
 use rv_image::{Comms, Image, ImageParts, ImageVersion, Links, Segment, Symbols};
-use std::alloc::{AllocError, Global};
+use std::alloc::Global;
 use std::collections::BTreeSet;
 
 /// Adds a statement at the end of its part: `Limit` where that grows past 1,048,576 bytes, and for one name of `.globl`
@@ -84,6 +85,39 @@ fn place(
     add_item(alloc, line, layout, statement)
 }
 
+/// Why a line with more data than a part can hold is refused.
+fn too_long(part: Part, width: Width) -> AsmFaultKind
+    ensures { result ≡ (if data_may_stand part width then kinds.Limit else kinds.Directive) }
+{
+    if matches!(part, Part::Data) || matches!(width, Width::Word) {
+        AsmFaultKind::Limit
+    } else {
+        AsmFaultKind::Directive
+    }
+}
+
+/// The most items that a part can hold.
+const MOST_ITEMS: u32 = 1_048_576;
+
+/// Adds the statement behind a line's labels. Data that no part can hold is refused before memory is asked for it.
+#[tactic(auto, using(crate::proofs::LongLines::long_fails))]
+fn take_statement(
+    alloc: Global,
+    number: u64,
+    layout: &mut Layout,
+    tokens: &Tokens<'_>,
+) -> Result<(), AsmFaultKind>
+    ensures { MatchResult result
+        (λ _. statement_step number (layout_view layout.old) tokens.now ≡ Ok (layout_view layout.new))
+        (λ e. Fails e (statement_step number (layout_view layout.old) tokens.now)) }
+{
+    if let Some(width) = long_data(MOST_ITEMS, tokens) {
+        return Err(too_long(layout.part, width));
+    }
+    let statement = parse_statement(alloc, tokens)?;
+    place(alloc, number, layout, statement)
+}
+
 /// Adds one line.
 #[tactic(auto, unfolding(rv_asm_lines::specs::Layout::line_step))]
 fn take_line(
@@ -96,16 +130,9 @@ fn take_line(
         (λ _. line_step number (layout_view layout.old) line.now ≡ Ok (layout_view layout.new))
         (λ e. Fails e (line_step number (layout_view layout.old) line.now)) }
 {
-    let found = tokens(alloc, line)?;
-    let rest = take_labels(alloc, number, layout, &found)?;
-    let statement = parse_statement(alloc, rest)?;
-    place(alloc, number, layout, statement)
-}
-
-fn lines_of(alloc: Global, source: &str) -> Result<Vec<&str>, AllocError>
-    ensures { IfOk result (λ v. map (λ x. x.now) v.items ≡ lines source.now) }
-{
-    source.lines().collect(alloc)
+    let mut tokens = Tokens::of_line(line)?;
+    take_labels(alloc, number, layout, &mut tokens)?;
+    take_statement(alloc, number, layout, &tokens)
 }
 
 /// Where everything of a source stands, or the first fault of the first pass.
@@ -114,13 +141,6 @@ fn layout_source(alloc: Global, source: &str) -> Result<Layout, AsmFault>
         (λ layout. layout_of source.now ≡ Ok (layout_view layout))
         (λ fault. FailsAt fault (layout_of source.now)) }
 {
-    let all = match lines_of(alloc, source) {
-        Ok(all) => all,
-        Err(_) => return Err(AsmFault {
-            line: 0,
-            kind: AsmFaultKind::Memory,
-        }),
-    };
     let mut layout = Layout {
         text: 0,
         init: 0,
@@ -130,8 +150,11 @@ fn layout_source(alloc: Global, source: &str) -> Result<Layout, AsmFault>
         labels: IndexMap::new(alloc),
         items: Vec::new(alloc),
     };
-    for (i, line) in all.iter().enumerate() {
-        let number = i as u64 + 1;
+    // the text fits the memory, so that its lines can be counted
+    let text = source.as_bytes();
+    let mut number: u64 = 0;
+    for line in source.lines() {
+        number += 1;
         match take_line(alloc, number, &mut layout, line.as_bytes()) {
             Ok(()) => {}
             Err(kind) => return Err(AsmFault { line: number, kind }),

@@ -1,11 +1,19 @@
 //! Laws of the definitions, in the subject's own words. The functions do nothing; their clauses are the laws.
 
 ghost use Rattle.std.specs.Prelude.{◌≡◌, Ok};
+ghost use Rattle.std.specs.Str.Lines.{lines};
 ghost use Rattle.rv_image.specs.declared.images.ImageParts.{ImageParts};
 ghost use Rattle.rv_image.specs.declared.images.ImageVersion.TheVariants.{Two};
 ghost use Rattle.rv_asm_lines.specs.Layout.{Layout as Laid, layout_of};
 ghost use Rattle.rv_asm_lines.specs.Places.{IsPlaced, LabelsStay};
+ghost use Rattle.rv_asm.specs.Said.{said_from, said_in};
 ghost use Rattle.rv_asm.specs.Source.{AreGlobals, NamesFit, meaning};
+
+/// Where the first pass finds no fault, its items are what the lines say, in order, each with its line's number: of a
+/// line first its labels and then its statement.
+pub fn items_are_those_of_lines(_source: &str)
+    ensures { (s : Laid) → layout_of _source.now ≡ Ok s → said_in s.items ≡ said_from 1 (lines _source.now) }
+{}
 
 /// Where the first pass finds no fault, the place of a label or a statement is the sum of the lengths of what
 /// stands before it in its part, and the labels are those of the lines.

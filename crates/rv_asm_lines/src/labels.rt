@@ -1,9 +1,7 @@
 //! The labels of a source, in the order in which they stand.
 
-ghost use Rattle.std.specs.Prelude.{◌≡◌, ◌≤◌, ◌<◌, ◌^◌, IfSome, MatchResult, OnOk, None, Ok, length, drop};
-ghost use Rattle.std.specs.Option.{option_map};
+ghost use Rattle.std.specs.Prelude.{◌≡◌, ◌<◌, ◌^◌, IfSome, MatchOption, MatchResult, OnOk, None, Some, Ok, length};
 ghost use Rattle.rv_asm_tokens.specs.Fault.{Fails};
-ghost use Rattle.rv_asm_tokens.specs.Lexeme.{lexemes_of};
 ghost use Rattle.rv_asm_lines.specs.Layout.{labels_at, place_in, with_label};
 ghost use Rattle.rv_asm_lines.specs.LayoutView.{addresses_view, labels_view, layout_view, front_label};
 ghost use Rattle.rv_asm_lines.specs.Resolved.{address_in};
@@ -12,7 +10,7 @@ use crate::layout::{Item, Layout, next_place};
 use crate::parts::{Place, address_of};
 use indexmap::IndexMap;
 use rv_asm_statements::{Label, Statement};
-use rv_asm_tokens::{AsmFaultKind, Token};
+use rv_asm_tokens::{AsmFaultKind, Token, Tokens};
 use std::alloc::{AllocError, Global};
 
 /// Where a label stands.
@@ -34,16 +32,19 @@ pub fn find_label(layout: &Layout, name: &[u8]) -> Option<u64>
     }
 }
 
-/// The name of tokens that begin with a name and a colon.
-fn first_label<'a>(tokens: &[Token<'a>]) -> Option<&'a [u8]>
-    ensures value { option_map (λ x. (x.now, lexemes_of (drop 2 tokens.now))) result
-        ≡ front_label (lexemes_of tokens.now) }
-    ensures longer { IfSome result (λ x. 2 ≤ length tokens.now) }
+/// Takes the name and the colon that tokens begin with.
+fn first_label<'a>(tokens: &mut Tokens<'a>) -> Option<&'a [u8]>
+    ensures value { MatchOption result (front_label tokens.old ≡ None)
+        (λ name. front_label tokens.old ≡ Some (name.now, tokens.new)) }
+    ensures shorter { IfSome result (λ _. length tokens.new < length tokens.old) }
 {
-    match tokens {
-        [Token::Name(name), Token::Colon, ..] => Some(name),
-        _ => None,
-    }
+    let Some(Token::Name(name)) = tokens.next() else {
+        return None;
+    };
+    let Some(Token::Colon) = tokens.next() else {
+        return None;
+    };
+    Some(name)
 }
 
 /// Adds a label, which is new, at the end of the part.
@@ -63,28 +64,26 @@ fn add_label(alloc: Global, line: u64, layout: &mut Layout, name: &[u8]) -> Resu
     Ok(())
 }
 
-/// Takes the labels that a line begins with, and answers what follows them.
-pub fn take_labels<'a, 'b>(
+/// Takes the labels that a line begins with, and leaves what follows them.
+pub fn take_labels(
     alloc: Global,
     line: u64,
     layout: &mut Layout,
-    tokens: &'b [Token<'a>],
-) -> Result<&'b [Token<'a>], AsmFaultKind>
+    tokens: &mut Tokens<'_>,
+) -> Result<(), AsmFaultKind>
     ensures { MatchResult result
-        (λ rest. labels_at line (layout_view layout.old) (lexemes_of tokens.now)
-        ≡ Ok (layout_view layout.new, lexemes_of rest.now))
-        (λ e. Fails e (labels_at line (layout_view layout.old) (lexemes_of tokens.now))) }
+        (λ _. labels_at line (layout_view layout.old) tokens.old ≡ Ok (layout_view layout.new, tokens.new))
+        (λ e. Fails e (labels_at line (layout_view layout.old) tokens.old)) }
 {
-    let mut used: usize = 0;
     'fronts: loop {
-        let (_, rest) = tokens.split_at(used);
-        let Some(name) = first_label(rest) else {
-            return Ok(rest);
+        let mut rest = tokens.again();
+        let Some(name) = first_label(&mut rest) else {
+            return Ok(());
         };
         if find_place(&layout.labels, name).is_some() {
             return Err(AsmFaultKind::LabelTwice);
         }
         add_label(alloc, line, layout, name)?;
-        used += 2;
+        *tokens = rest;
     }
 }

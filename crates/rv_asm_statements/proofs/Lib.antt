@@ -1,4 +1,6 @@
 pub mod Walks
 pub mod OtherCounts
-pub mod Commas
+pub mod Pieces
+pub mod Few
+pub mod Long
 pub mod RegisterNumbers

@@ -1,8 +1,7 @@
 -- What stands between the commas of a statement.
-use Rattle.std.specs.Prelude.{ℕ, ℤ, List, [], ◌∷◌, map, Bool, true, false, Option, Some, None}
+use Rattle.std.specs.Prelude.{ℕ, ℤ, List, [], ◌∷◌, Bool, true, false, Option, Some, None}
 use Rattle.std.specs.List.{slice_split}
 use Rattle.rv_asm_tokens.specs.Lexeme.{Lexeme, name, number, text, comma, opens, closes, plus, number_value}
-use Rattle.std.specs.Global.{Vec}
 use Rattle.rv_asm_statements.specs.Walk.{all_given}
 use Rattle.rv_asm_statements.specs.declared.operand_list.Operand.{Operand}
 use Rattle.rv_asm_statements.specs.declared.operand_list.Operand.TheVariants.{Name, Number, Text, Sum, Place}
@@ -40,7 +39,3 @@ is_comma _ = false
 abbrev pub arguments_of : List Lexeme → Option (List Argument)
 arguments_of [] = Some []
 arguments_of (t ∷ ts) = all_given argument_of (slice_split is_comma (t ∷ ts))
-
--- the operands of the code
-abbrev pub arguments_view : Vec Operand → List Argument
-arguments_view operands = map argument_view operands.items

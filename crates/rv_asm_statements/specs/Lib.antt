@@ -1,5 +1,6 @@
 pub mod Walk
 pub mod Arguments
+pub mod Pieces
 pub mod Registers
 pub mod Shapes
 pub mod Rows

@@ -9,7 +9,8 @@ use Rattle.rv_asm_statements.specs.declared.statements.Statement.{Statement}
 use Rattle.rv_asm_statements.specs.declared.statements.Statement.TheVariants.{Instruction, Directive}
 use Rattle.rv_asm_statements.specs.Arguments.{arguments_of}
 use Rattle.rv_asm_statements.specs.Mnemonics.{instruction_of}
-use Rattle.rv_asm_statements.specs.Directives.{directive_of}
+use Rattle.rv_asm_statements.specs.declared.directives.Width.{Width}
+use Rattle.rv_asm_statements.specs.Directives.{directive_of, long_items}
 
 abbrev pub begins_with_dot : List ℕ → Bool
 begins_with_dot [] = false
@@ -33,3 +34,8 @@ statement_of _ = Err kinds.Mnemonic
 abbrev pub begins_with_name : List Lexeme → Bool
 begins_with_name (name w ∷ ts) = true
 begins_with_name _ = false
+
+-- the width of a statement's data, if it has more items than so many
+abbrev pub long_data : ℕ → Result (Option Statement) AsmFaultKind → Option Width
+long_data most (Ok (Some (Directive d))) = long_items most (Some d)
+long_data most _ = None

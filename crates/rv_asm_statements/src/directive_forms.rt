@@ -1,6 +1,6 @@
 //! A directive by its name and operands.
 
-ghost use Rattle.std.specs.Prelude.{◌≡◌, ◌<◌, map, is_some, Err, IfOk, IsErr, IsTrue};
+ghost use Rattle.std.specs.Prelude.{◌≡◌, ◌<◌, map, is_some, Err, IfOk, IsErr, IsTrue, true, nat_lt, length};
 ghost use Rattle.std.specs.Option.{option_map};
 ghost use Rattle.std.specs.List.{filter_map};
 ghost use Rattle.rv_asm_tokens.specs.declared.fault.AsmFaultKind.TheVariants as kinds;
@@ -8,7 +8,7 @@ ghost use Rattle.rv_asm_tokens.specs.Escapes.{text_of};
 ghost use Rattle.rv_asm_tokens.specs.Fault.{Gives};
 ghost use Rattle.rv_asm_tokens.specs.Lexeme.{number_value};
 ghost use Rattle.rv_asm_statements.specs.declared.directive_rows.Form.TheVariants as forms;
-ghost use Rattle.rv_asm_statements.specs.Arguments.{argument_view, arguments_view};
+ghost use Rattle.rv_asm_statements.specs.Arguments.{argument_view};
 ghost use Rattle.rv_asm_statements.specs.Read.{read_target};
 ghost use Rattle.rv_asm_statements.specs.Shapes.{number_of};
 ghost use Rattle.rv_asm_statements.specs.Walk.{all_given, beside, first_given};
@@ -17,17 +17,19 @@ ghost use Rattle.rv_asm_statements.specs.Directives.{only_number as number_alone
 ghost use Rattle.rv_asm_statements.specs.Directives.{only_symbol as symbol_alone, only_text as text_alone};
 ghost use Rattle.rv_asm_statements.specs.Directives.{takes_labels as width_takes_labels, item_of, some_given};
 ghost use Rattle.rv_asm_statements.specs.Directives.{limited_number, link_of, directive_alone, only_alignment};
-ghost use Rattle.rv_asm_statements.specs.Directives.{directive_by, is_kept, keeps, directive_of};
+ghost use Rattle.rv_asm_statements.specs.Directives.{directive_by, is_kept, keeps, directive_of, takes_two};
+ghost use Rattle.rv_asm_statements.specs.Directives.{long_items};
+ghost use Rattle.rv_asm_statements.specs.Statements.{directive_at, long_data};
 
 use crate::data_lists::{Bytes, Integers, Items};
 use crate::directive_rows::{DIRECTIVES, DirectiveRow, Form};
 use crate::directives::{Alignment, Directive, Width};
 use crate::filled::TargetRef;
 use crate::limited::Limited;
-use crate::operand_list::Operand;
+use crate::operand_list::{Operand, Operands};
 use crate::shapes::{label_target, number_in, number_target};
 use crate::values::{Integer, Label};
-use rv_asm_tokens::{AsmFaultKind, Number, ZERO, text_bytes, value_of};
+use rv_asm_tokens::{AsmFaultKind, Number, Tokens, ZERO, text_bytes, value_of};
 use rv_image::is_symbol_name;
 use std::alloc::{AllocError, Global};
 
@@ -75,73 +77,69 @@ fn item<'a>(width: Width, operand: &Operand<'a>) -> Option<TargetRef<'a>>
 }
 
 /// Whether all operands are items of data.
-fn all_items(width: Width, operands: &[Operand<'_>]) -> bool
-    ensures { result ≡ is_some (all_given (item_of width) (map argument_view operands.now)) }
+fn all_items(width: Width, operands: &Operands<'_>) -> bool
+    ensures { result ≡ is_some (all_given (item_of width) operands.now) }
 {
-    let mut rest = operands;
-    while let [operand, after @ ..] = rest {
-        if item(width, operand).is_none() {
+    let mut rest = operands.again();
+    while let Some(operand) = rest.next() {
+        if item(width, &operand).is_none() {
             return false;
         }
-        rest = after;
     }
     true
 }
 
 /// Whether the operands are one item of data or more.
-fn are_items(width: Width, operands: &[Operand<'_>]) -> bool
-    ensures { result ≡ is_some (some_given (item_of width) (map argument_view operands.now)) }
+fn are_items(width: Width, operands: &Operands<'_>) -> bool
+    ensures { result ≡ is_some (some_given (item_of width) operands.now) }
 {
-    !operands.is_empty() && all_items(width, operands)
+    operands.again().next().is_some() && all_items(width, operands)
 }
 
 /// The items of data among operands.
-fn items(alloc: Global, width: Width, operands: &[Operand<'_>]) -> Result<Items, AllocError>
-    ensures { IfOk result (λ found. found ≡ filter_map (item_of width) (map argument_view operands.now)) }
+fn items(alloc: Global, width: Width, operands: &Operands<'_>) -> Result<Items, AllocError>
+    ensures { IfOk result (λ found. found ≡ filter_map (item_of width) operands.now) }
 {
     let mut done = Vec::new(alloc);
-    let mut rest = operands;
-    while let [operand, after @ ..] = rest {
-        if let Some(found) = item(width, operand) {
+    let mut rest = operands.again();
+    while let Some(operand) = rest.next() {
+        if let Some(found) = item(width, &operand) {
             done.push(found.copied(alloc)?)?;
         }
-        rest = after;
     }
     Ok(Items::from_vec(done))
 }
 
 /// Whether all operands are numbers.
-fn all_numbers(operands: &[Operand<'_>]) -> bool
-    ensures { result ≡ is_some (all_given number_of (map argument_view operands.now)) }
+fn all_numbers(operands: &Operands<'_>) -> bool
+    ensures { result ≡ is_some (all_given number_of operands.now) }
 {
-    let mut rest = operands;
-    while let [operand, after @ ..] = rest {
-        if number_in(operand).is_none() {
+    let mut rest = operands.again();
+    while let Some(operand) = rest.next() {
+        if number_in(&operand).is_none() {
             return false;
         }
-        rest = after;
     }
     true
 }
 
 /// Whether the operands are one number or more.
-fn are_numbers(operands: &[Operand<'_>]) -> bool
-    ensures { result ≡ is_some (some_given number_of (map argument_view operands.now)) }
+fn are_numbers(operands: &Operands<'_>) -> bool
+    ensures { result ≡ is_some (some_given number_of operands.now) }
 {
-    !operands.is_empty() && all_numbers(operands)
+    operands.again().next().is_some() && all_numbers(operands)
 }
 
 /// The numbers among operands.
-fn numbers(alloc: Global, operands: &[Operand<'_>]) -> Result<Integers, AllocError>
-    ensures { IfOk result (λ found. found ≡ filter_map number_of (map argument_view operands.now)) }
+fn numbers(alloc: Global, operands: &Operands<'_>) -> Result<Integers, AllocError>
+    ensures { IfOk result (λ found. found ≡ filter_map number_of operands.now) }
 {
     let mut done = Vec::new(alloc);
-    let mut rest = operands;
-    while let [operand, after @ ..] = rest {
-        if let Some(found) = number_in(operand) {
+    let mut rest = operands.again();
+    while let Some(operand) = rest.next() {
+        if let Some(found) = number_in(&operand) {
             done.push(Integer::from_number(found))?;
         }
-        rest = after;
     }
     Ok(Integers::from_vec(done))
 }
@@ -214,9 +212,9 @@ fn global(alloc: Global, operands: &[Operand<'_>]) -> Result<Option<Directive>, 
 }
 
 #[tactic(auto, unfolding(crate::specs::Directives::directive_by))]
-fn communicator(alloc: Global, operands: &[Operand<'_>]) -> Result<Option<Directive>, AllocError>
-    ensures value { IfOk result (λ found. found ≡ directive_by forms.Comm (map argument_view operands.now)) }
-    ensures memory { IsErr result → IsTrue (is_kept (directive_by forms.Comm (map argument_view operands.now))) }
+fn communicator(alloc: Global, operands: &Operands<'_>) -> Result<Option<Directive>, AllocError>
+    ensures value { IfOk result (λ found. found ≡ directive_by forms.Comm operands.now) }
+    ensures memory { IsErr result → IsTrue (is_kept (directive_by forms.Comm operands.now)) }
 {
     if are_numbers(operands) {
         let found = numbers(alloc, operands)?;
@@ -242,11 +240,11 @@ fn link(operands: &[Operand<'_>]) -> Option<Directive>
 fn data(
     alloc: Global,
     width: Width,
-    operands: &[Operand<'_>],
+    operands: &Operands<'_>,
 ) -> Result<Option<Directive>, AllocError>
-    ensures value { IfOk result (λ found. found ≡ directive_by (forms.Items width) (map argument_view operands.now)) }
+    ensures value { IfOk result (λ found. found ≡ directive_by (forms.Items width) operands.now) }
     ensures memory { IsErr result
-        → IsTrue (is_kept (directive_by (forms.Items width) (map argument_view operands.now))) }
+        → IsTrue (is_kept (directive_by (forms.Items width) operands.now)) }
 {
     if are_items(width, operands) {
         let found = items(alloc, width, operands)?;
@@ -286,13 +284,14 @@ fn string_and_zero(alloc: Global, operands: &[Operand<'_>]) -> Result<Option<Dir
     }
 }
 
-/// What a directive is with these operands, if it takes them.
+/// What a directive that takes two operands at most is with these, if it takes them.
 #[tactic(auto, unfolding(crate::specs::Directives::directive_by))]
-fn directive_for(
+fn directive_with(
     alloc: Global,
     form: Form,
     operands: &[Operand<'_>],
 ) -> Result<Option<Directive>, AllocError>
+    requires { takes_two form ≡ true }
     ensures value { IfOk result (λ found. found ≡ directive_by form (map argument_view operands.now)) }
     ensures memory { IsErr result → IsTrue (is_kept (directive_by form (map argument_view operands.now))) }
 {
@@ -304,13 +303,82 @@ fn directive_for(
         Form::Align => Ok(alignment(operands).map(Directive::Align)),
         Form::Entry => entry(alloc, operands),
         Form::Global => global(alloc, operands),
-        Form::Comm => communicator(alloc, operands),
         Form::Link => Ok(link(operands)),
         Form::Text => Ok(alone(Directive::Text, operands)),
         Form::Data => Ok(alone(Directive::Data, operands)),
-        Form::Items(width) => data(alloc, width, operands),
         Form::String => string(alloc, operands),
         Form::StringAndZero => string_and_zero(alloc, operands),
+        Form::Comm | Form::Items(_) => Ok(None),
+    }
+}
+
+/// What a directive that takes two operands at most is with these operands, if it takes them.
+#[tactic(auto, using(crate::proofs::Few::no_directive_of_three))]
+fn short_directive(
+    alloc: Global,
+    form: Form,
+    operands: &Operands<'_>,
+) -> Result<Option<Directive>, AllocError>
+    requires { takes_two form ≡ true }
+    ensures value { IfOk result (λ found. found ≡ directive_by form operands.now) }
+    ensures memory { IsErr result → IsTrue (is_kept (directive_by form operands.now)) }
+{
+    let mut rest = operands.again();
+    let Some(first) = rest.next() else {
+        return directive_with(alloc, form, &[]);
+    };
+    let Some(second) = rest.next() else {
+        return directive_with(alloc, form, &[first]);
+    };
+    if rest.next().is_some() {
+        return Ok(None);
+    }
+    directive_with(alloc, form, &[first, second])
+}
+
+/// What a directive is with these operands, if it takes them.
+fn directive_for(
+    alloc: Global,
+    form: Form,
+    operands: &Operands<'_>,
+) -> Result<Option<Directive>, AllocError>
+    ensures value { IfOk result (λ found. found ≡ directive_by form operands.now) }
+    ensures memory { IsErr result → IsTrue (is_kept (directive_by form operands.now)) }
+{
+    match form {
+        Form::Comm => communicator(alloc, operands),
+        Form::Items(width) => data(alloc, width, operands),
+        _ => short_directive(alloc, form, operands),
+    }
+}
+
+/// Whether there are more operands than so many.
+fn are_more(most: u32, operands: &Operands<'_>) -> bool
+    ensures { result ≡ nat_lt most (length operands.now) }
+{
+    let mut rest = operands.again();
+    for _ in 0..most {
+        if rest.next().is_none() {
+            return false;
+        }
+    }
+    rest.next().is_some()
+}
+
+/// The width of data with more items than so many.
+#[tactic(auto, using(crate::proofs::Long::short_form, crate::proofs::Long::short_comm, crate::proofs::Long::items_are, crate::proofs::Long::no_items))]
+fn long_form(most: u32, form: Form, operands: &Operands<'_>) -> Option<Width>
+    ensures { result ≡ long_items most (directive_by form operands.now) }
+{
+    match form {
+        Form::Items(width) => {
+            if are_items(width, operands) && are_more(most, operands) {
+                Some(width)
+            } else {
+                None
+            }
+        }
+        _ => None,
     }
 }
 
@@ -326,6 +394,19 @@ fn form_in(table: &[DirectiveRow], name: &[u8]) -> Option<Form>
     None
 }
 
+/// The width of data with more items than so many.
+#[tactic(auto, unfolding(crate::specs::Directives::directive_of), using(crate::proofs::Long::long_directive))]
+pub fn long_directive(most: u32, name: &[u8], rest: Tokens<'_>) -> Option<Width>
+    ensures { result ≡ long_data most (directive_at name.now rest.entry) }
+{
+    let operands = Operands::of_tokens(rest);
+    let form = form_in(&DIRECTIVES, name)?;
+    match &operands {
+        None => None,
+        Some(operands) => long_form(most, form, operands),
+    }
+}
+
 /// The directive of a name and its operands, which are None where no operands stand there.
 ///
 /// `Directive` where there is no such directive, where it does not take these operands, and where a number is
@@ -335,11 +416,11 @@ fn form_in(table: &[DirectiveRow], name: &[u8]) -> Option<Form>
 pub fn directive(
     alloc: Global,
     name: &[u8],
-    operands: &Option<Vec<Operand<'_>>>,
+    operands: &Option<Operands<'_>>,
 ) -> Result<Directive, AsmFaultKind>
-    ensures value { Gives (λ found. found) result (directive_of name.now (option_map arguments_view operands.now)) }
+    ensures value { Gives (λ found. found) result (directive_of name.now operands.now) }
     ensures memory { result ≡ Err kinds.Memory
-        → IsTrue (keeps (directive_of name.now (option_map arguments_view operands.now))) }
+        → IsTrue (keeps (directive_of name.now operands.now)) }
 {
     let Some(form) = form_in(&DIRECTIVES, name) else {
         return Err(AsmFaultKind::Directive);

@@ -4,7 +4,7 @@ ghost use Rattle.std.specs.Prelude.{◌≡◌, map, is_some, IsTrue, Err};
 ghost use Rattle.rv_asm_tokens.specs.declared.fault.AsmFaultKind.TheVariants as kinds;
 ghost use Rattle.rv_asm_tokens.specs.Fault.{Gives};
 ghost use Rattle.std.specs.Option.{option_map};
-ghost use Rattle.rv_asm_statements.specs.Arguments.{argument_view, arguments_view};
+ghost use Rattle.rv_asm_statements.specs.Arguments.{argument_view};
 ghost use Rattle.rv_asm_statements.specs.Walk.{first_given};
 ghost use Rattle.rv_asm_statements.specs.RowView.{row_view};
 ghost use Rattle.rv_asm_statements.specs.Rows.{rows};
@@ -13,7 +13,7 @@ ghost use Rattle.rv_asm_statements.specs.Mnemonics.{row_use, row_named, instruct
 ghost use Rattle.rv_asm_statements.specs.Mnemonics.{is_mnemonic as is_mnemonic_meant};
 
 use crate::filled::{Filled, FilledRef};
-use crate::operand_list::Operand;
+use crate::operand_list::{Operand, Operands};
 use crate::rows::{ROWS, Row, Template};
 use crate::shapes::filled_for;
 use rv_asm_tokens::AsmFaultKind;
@@ -81,11 +81,25 @@ fn table() -> &'static [Row]
     &ROWS
 }
 
-/// What the first row that takes the operands makes of them.
-fn use_of<'a>(name: &[u8], operands: &[Operand<'a>]) -> Option<UseRef<'a>>
-    ensures { option_map read_use result ≡ use_meant name.now (map argument_view operands.now) }
+/// What the first row that takes the operands makes of them. No row takes more than three.
+#[tactic(auto, using(crate::proofs::Few::no_use_of_four))]
+fn use_of<'a>(name: &[u8], operands: &Operands<'a>) -> Option<UseRef<'a>>
+    ensures { option_map read_use result ≡ use_meant name.now operands.now }
 {
-    use_in(table(), name, operands)
+    let mut rest = operands.again();
+    let Some(first) = rest.next() else {
+        return use_in(table(), name, &[]);
+    };
+    let Some(second) = rest.next() else {
+        return use_in(table(), name, &[first]);
+    };
+    let Some(third) = rest.next() else {
+        return use_in(table(), name, &[first, second]);
+    };
+    if rest.next().is_some() {
+        return None;
+    }
+    use_in(table(), name, &[first, second, third])
 }
 
 /// Whether a row has the name.
@@ -103,11 +117,11 @@ fn is_mnemonic(name: &[u8]) -> bool
 pub fn instruction(
     alloc: Global,
     name: &[u8],
-    operands: &Option<Vec<Operand<'_>>>,
+    operands: &Option<Operands<'_>>,
 ) -> Result<Use, AsmFaultKind>
-    ensures value { Gives (λ found. found) result (instruction_of name.now (option_map arguments_view operands.now)) }
+    ensures value { Gives (λ found. found) result (instruction_of name.now operands.now) }
     ensures memory { result ≡ Err kinds.Memory
-        → IsTrue (has_label (instruction_of name.now (option_map arguments_view operands.now))) }
+        → IsTrue (has_label (instruction_of name.now operands.now)) }
 {
     if let Some(operands) = operands {
         if let Some(found) = use_of(name, operands) {

@@ -1,13 +1,14 @@
 //! What stands between the commas of a statement.
 
-ghost use Rattle.std.specs.Prelude.{◌≡◌, ◌∷◌, [], IfOk};
-ghost use Rattle.std.specs.Option.{option_map};
-ghost use Rattle.rv_asm_tokens.specs.Lexeme.{lexeme_of, lexemes_of};
-ghost use Rattle.rv_asm_statements.specs.Arguments.{arguments_view, argument_view, argument_of, arguments_of};
-ghost use Rattle.rv_asm_statements.specs.Arguments.{is_comma as is_comma_meant};
+ghost use Rattle.std.specs.Prelude.{◌≡◌, ◌<◌, ◌≤◌, [], IfSome, false, is_some, length};
+ghost use Rattle.rv_asm_tokens.specs.Lexeme.{number_value};
+ghost use Rattle.rv_asm_statements.specs.Arguments.{argument_view, arguments_of};
+ghost use Rattle.rv_asm_statements.specs.Pieces.{at_name as at_name_meant, at_value as at_value_meant};
+ghost use Rattle.rv_asm_statements.specs.Pieces.{at_place as at_place_meant, ended};
+ghost use Rattle.rv_asm_statements.specs.Pieces.{first_operand, piece_view, pieces_of};
 
-use rv_asm_tokens::{Number, Token};
-use std::alloc::{AllocError, Global};
+use rv_asm_tokens::{Number, Token, Tokens};
+use std::marker::Model;
 
 /// An operand, in the forms in which one can stand.
 #[derive(Clone, Copy)]
@@ -23,58 +24,186 @@ pub enum Operand<'a> {
     Place(Number, &'a [u8]),
 }
 
-/// A token that is an operand by itself.
-fn lone_operand<'a>(token: &Token<'a>) -> Option<Operand<'a>>
-    ensures { option_map argument_view result ≡ argument_of (lexeme_of token.now ∷ []) }
+/// An operand, and whether a comma stands behind it.
+#[derive(Clone, Copy)]
+pub struct Piece<'a> {
+    pub operand: Operand<'a>,
+    pub more: bool,
+}
+
+/// Takes what may stand behind an operand: nothing, or a comma.
+fn ending<'a>(tokens: &mut Tokens<'a>, operand: Operand<'a>) -> Option<Piece<'a>>
+    ensures front { piece_view result tokens.new ≡ ended (argument_view operand.entry) tokens.old }
+    ensures last { IfSome result (λ piece. piece.more ≡ false → tokens.new ≡ []) }
+    ensures shorter { length tokens.new ≤ length tokens.old }
 {
-    match *token {
-        Token::Name(name) => Some(Operand::Name(name)),
-        Token::Number(number) => Some(Operand::Number(number)),
-        Token::Text(text) => Some(Operand::Text(text)),
+    match tokens.next() {
+        None => Some(Piece {
+            operand,
+            more: false,
+        }),
+        Some(Token::Comma) => Some(Piece {
+            operand,
+            more: true,
+        }),
         _ => None,
     }
 }
 
-fn single_operand<'a>(tokens: &[Token<'a>]) -> Option<Operand<'a>>
-    ensures { option_map argument_view result ≡ argument_of (lexemes_of tokens.now) }
+/// Takes the rest of an operand that begins with a name.
+fn at_name<'a>(tokens: &mut Tokens<'a>, name: &'a [u8]) -> Option<Piece<'a>>
+    ensures front { piece_view result tokens.new ≡ at_name_meant name.now tokens.old }
+    ensures last { IfSome result (λ piece. piece.more ≡ false → tokens.new ≡ []) }
+    ensures shorter { length tokens.new ≤ length tokens.old }
 {
-    match tokens {
-        [token] => lone_operand(token),
-        [Token::Name(name), Token::Plus, Token::Number(number)] => Some(Operand::Sum(
-            name, *number,
-        )),
-        [
-            Token::Number(number),
-            Token::Open,
-            Token::Name(name),
-            Token::Close,
-        ] => { Some(Operand::Place(*number, name)) }
+    let operand = Operand::Name(name);
+    match tokens.next() {
+        None => Some(Piece {
+            operand,
+            more: false,
+        }),
+        Some(Token::Comma) => Some(Piece {
+            operand,
+            more: true,
+        }),
+        Some(Token::Plus) => match tokens.next() {
+            Some(Token::Number(number)) => ending(tokens, Operand::Sum(name, number)),
+            _ => None,
+        },
         _ => None,
     }
 }
 
-fn is_comma(token: &Token<'_>) -> bool
-    ensures { result ≡ is_comma_meant (lexeme_of token.now) }
+/// Takes the register of an address behind its number.
+fn at_place<'a>(tokens: &mut Tokens<'a>, number: Number) -> Option<Piece<'a>>
+    ensures front { piece_view result tokens.new ≡ at_place_meant (number_value number) tokens.old }
+    ensures last { IfSome result (λ piece. piece.more ≡ false → tokens.new ≡ []) }
+    ensures shorter { length tokens.new ≤ length tokens.old }
 {
-    matches!(token, Token::Comma)
+    let Some(Token::Name(name)) = tokens.next() else {
+        return None;
+    };
+    let Some(Token::Close) = tokens.next() else {
+        return None;
+    };
+    ending(tokens, Operand::Place(number, name))
 }
 
-/// The operands of a statement, or none where what stands between two commas is no operand.
-pub fn operands<'a>(
-    alloc: Global,
-    tokens: &[Token<'a>],
-) -> Result<Option<Vec<Operand<'a>>>, AllocError>
-    ensures { IfOk result (λ found. option_map arguments_view found ≡ arguments_of (lexemes_of tokens.now)) }
+/// Takes the rest of an operand that begins with a number.
+fn at_value<'a>(tokens: &mut Tokens<'a>, number: Number) -> Option<Piece<'a>>
+    ensures front { piece_view result tokens.new ≡ at_value_meant (number_value number) tokens.old }
+    ensures last { IfSome result (λ piece. piece.more ≡ false → tokens.new ≡ []) }
+    ensures shorter { length tokens.new ≤ length tokens.old }
 {
-    let mut done = Vec::new(alloc);
-    if tokens.is_empty() {
-        return Ok(Some(done));
+    let operand = Operand::Number(number);
+    match tokens.next() {
+        None => Some(Piece {
+            operand,
+            more: false,
+        }),
+        Some(Token::Comma) => Some(Piece {
+            operand,
+            more: true,
+        }),
+        Some(Token::Open) => at_place(tokens, number),
+        _ => None,
     }
-    for part in tokens.split(|token| is_comma(token)) {
-        let Some(found) = single_operand(part) else {
-            return Ok(None);
-        };
-        done.push(found)?;
+}
+
+/// Takes the operand that tokens begin with, and the comma behind it.
+fn take_operand<'a>(tokens: &mut Tokens<'a>) -> Option<Piece<'a>>
+    ensures front { piece_view result tokens.new ≡ first_operand tokens.old }
+    ensures last { IfSome result (λ piece. piece.more ≡ false → tokens.new ≡ []) }
+    ensures shorter { IfSome result (λ piece. length tokens.new < length tokens.old) }
+{
+    match tokens.next()? {
+        Token::Name(name) => at_name(tokens, name),
+        Token::Number(number) => at_value(tokens, number),
+        Token::Text(raw) => ending(tokens, Operand::Text(raw)),
+        _ => None,
     }
-    Ok(Some(done))
+}
+
+/// Whether what stands between commas is operands.
+fn all_operands(tokens: &Tokens<'_>) -> bool
+    ensures { result ≡ is_some (pieces_of tokens.now) }
+{
+    let mut rest = tokens.again();
+    'pieces: loop {
+        match take_operand(&mut rest) {
+            None => return false,
+            Some(piece) => {
+                if !piece.more {
+                    return true;
+                }
+            }
+        }
+    }
+}
+
+/// Whether tokens are the operands of a statement.
+#[tactic(auto, using(crate::proofs::Pieces::are_pieces))]
+fn are_operands(tokens: &Tokens<'_>) -> bool
+    ensures { result ≡ is_some (arguments_of tokens.now) }
+{
+    tokens.is_empty() || all_operands(tokens)
+}
+
+/// The operands of a statement that are left. They are read from its bytes one by one, so they take no memory. Contracts
+/// see a list of operands.
+#[derive(Drop)]
+pub struct Operands<'a> {
+    tokens: Tokens<'a>,
+}
+
+impl<'a> Model for Operands<'a> {
+    ghost use Rattle.std.specs.Prelude.{◌≡◌, List, is_some, true};
+    ghost use Rattle.rv_asm_statements.specs.Arguments.{Argument, arguments_of};
+    ghost use Rattle.rv_asm_statements.specs.Pieces.{those};
+
+    ghost Value = { List Argument };
+
+    ghost view = { λ operands. those (arguments_of operands.tokens) };
+
+    ghost invariant = { λ operands. is_some (arguments_of operands.tokens) ≡ true };
+}
+
+impl<'a> Operands<'a> {
+    ghost use Rattle.std.specs.Prelude.{◌≡◌, ◌∷◌, [], MatchOption};
+    ghost use Rattle.rv_asm_statements.specs.Arguments.{argument_view, arguments_of};
+
+    /// The operands of a statement, or none where what stands between two commas is no operand.
+    #[tactic(auto, using(crate::proofs::Pieces::those_some, crate::proofs::Pieces::those_none))]
+    pub fn of_tokens(tokens: Tokens<'a>) -> Option<Operands<'a>>
+        ensures { result ≡ arguments_of tokens.entry }
+    {
+        if are_operands(&tokens) {
+            Some(Operands { tokens })
+        } else {
+            None
+        }
+    }
+
+    /// Takes the first operand, if one is left.
+    pub fn next(&mut self) -> Option<Operand<'a>>
+        ensures { MatchOption result ((self.old ≡ []) × (self.new ≡ [])) (λ x. self.old ≡ argument_view x ∷ self.new) }
+    {
+        let mut tokens = self.tokens.again();
+        match take_operand(&mut tokens) {
+            None => None,
+            Some(piece) => {
+                self.tokens = tokens;
+                Some(piece.operand)
+            }
+        }
+    }
+
+    /// The same operands, which stay here too.
+    pub fn again(&self) -> Operands<'a>
+        ensures { result ≡ self.now }
+    {
+        Operands {
+            tokens: self.tokens.again(),
+        }
+    }
 }

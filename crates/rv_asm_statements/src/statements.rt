@@ -3,16 +3,16 @@
 ghost use Rattle.std.specs.Prelude.{◌≡◌, ◌∷◌, Err, IsTrue, Some};
 ghost use Rattle.rv_asm_tokens.specs.declared.fault.AsmFaultKind.TheVariants as kinds;
 ghost use Rattle.rv_asm_tokens.specs.Fault.{Gives};
-ghost use Rattle.rv_asm_tokens.specs.Lexeme.{lexemes_of, name};
+ghost use Rattle.rv_asm_tokens.specs.Lexeme.{name};
 ghost use Rattle.rv_asm_statements.specs.Statements.{begins_with_dot as is_directive_name, begins_with_name};
-ghost use Rattle.rv_asm_statements.specs.Statements.{statement_of};
+ghost use Rattle.rv_asm_statements.specs.Statements.{long_data as long_data_meant, statement_of};
 
-use crate::directive_forms::directive;
-use crate::directives::Directive;
+use crate::directive_forms::{directive, long_directive};
+use crate::directives::{Directive, Width};
 use crate::mnemonics::{Use, instruction};
-use crate::operand_list::operands;
+use crate::operand_list::Operands;
 use crate::values::Label;
-use rv_asm_tokens::{AsmFaultKind, Token};
+use rv_asm_tokens::{AsmFaultKind, Token, Tokens};
 use std::alloc::Global;
 
 /// What stands at an address: the label of a line, or its statement.
@@ -31,18 +31,14 @@ fn begins_with_dot(name: &[u8]) -> bool
 
 /// The directive or the instruction of a name and what stands behind it.
 #[tactic(auto, unfolding(crate::specs::Statements::statement_of))]
-fn named_statement(
-    alloc: Global,
-    word: &[u8],
-    rest: &[Token<'_>],
-) -> Result<Statement, AsmFaultKind>
-    ensures { Gives Some result (statement_of (name word.now ∷ lexemes_of rest.now)) }
+fn named_statement(alloc: Global, word: &[u8], rest: Tokens<'_>) -> Result<Statement, AsmFaultKind>
+    ensures { Gives Some result (statement_of (name word.now ∷ rest.entry)) }
 {
-    let list = operands(alloc, rest)?;
+    let operands = Operands::of_tokens(rest);
     if begins_with_dot(word) {
-        Ok(Statement::Directive(directive(alloc, word, &list)?))
+        Ok(Statement::Directive(directive(alloc, word, &operands)?))
     } else {
-        Ok(Statement::Instruction(instruction(alloc, word, &list)?))
+        Ok(Statement::Instruction(instruction(alloc, word, &operands)?))
     }
 }
 
@@ -54,14 +50,33 @@ fn named_statement(
 #[tactic(auto, unfolding(crate::specs::Statements::statement_of))]
 pub fn parse_statement(
     alloc: Global,
-    tokens: &[Token<'_>],
+    tokens: &Tokens<'_>,
 ) -> Result<Option<Statement>, AsmFaultKind>
-    ensures value { Gives (λ found. found) result (statement_of (lexemes_of tokens.now)) }
-    ensures memory { result ≡ Err kinds.Memory → IsTrue (begins_with_name (lexemes_of tokens.now)) }
+    ensures value { Gives (λ found. found) result (statement_of tokens.now) }
+    ensures memory { result ≡ Err kinds.Memory → IsTrue (begins_with_name tokens.now) }
 {
-    match tokens {
-        [] => Ok(None),
-        [Token::Name(word), rest @ ..] => Ok(Some(named_statement(alloc, word, rest)?)),
-        _ => Err(AsmFaultKind::Mnemonic),
+    let mut rest = tokens.again();
+    match rest.next() {
+        None => Ok(None),
+        Some(Token::Name(word)) => Ok(Some(named_statement(alloc, word, rest)?)),
+        Some(_) => Err(AsmFaultKind::Mnemonic),
+    }
+}
+
+/// The width of a statement's data, if it has more items than so many. It takes no memory.
+#[tactic(auto, unfolding(crate::specs::Statements::statement_of), using(crate::proofs::Long::no_long_use))]
+pub fn long_data(most: u32, tokens: &Tokens<'_>) -> Option<Width>
+    ensures { result ≡ long_data_meant most (statement_of tokens.now) }
+{
+    let mut rest = tokens.again();
+    match rest.next() {
+        Some(Token::Name(word)) => {
+            if begins_with_dot(word) {
+                long_directive(most, word, rest)
+            } else {
+                None
+            }
+        }
+        _ => None,
     }
 }

@@ -1,14 +1,13 @@
 -- One step of the loops that read a line's bytes.
-use Rattle.std.proofs.Common.{◌≡◌, ℕ, zero, suc, ◌+◌, ◌≤◌, ◌<◌, Bool, List, [], ◌∷◌, length, get_or, drop, Option, Some, None, Result, Ok, Err, refl, sym, ap, ◌∙◌, add-one}
+use Rattle.std.proofs.Common.{◌≡◌, ℕ, zero, suc, ◌+◌, ◌≤◌, ◌<◌, Bool, List, [], ◌∷◌, ◌++◌, length, get_or, drop, Option, Some, None, Result, Ok, Err, refl, sym, ap, ◌∙◌, add-one}
 use Rattle.std.proofs.Math.Seq.{drop-cons}
-use Rattle.std.proofs.lemmas.List.{drop_all, drop-drop}
+use Rattle.std.proofs.lemmas.List.{append_assoc, append-nil, drop_all, drop-drop}
 use Rattle.rv_asm_tokens.specs.declared.fault.AsmFaultKind.{AsmFaultKind}
-use Rattle.rv_asm_tokens.specs.declared.fault.AsmFaultKind.TheVariants as kinds
 use Rattle.rv_asm_tokens.specs.declared.escapes.QuoteStep.TheVariants.{End, Bad, Go}
-use Rattle.rv_asm_tokens.specs.Fault.{Fails}
+use Rattle.rv_asm_tokens.specs.Fault.{◌>>=◌, if_some}
 use Rattle.rv_asm_tokens.specs.Lexeme.{Lexeme}
 use Rattle.rv_asm_tokens.specs.Escapes.{quote_step, quoted_length}
-use Rattle.rv_asm_tokens.specs.Scan.{front_at, with_token, tokens_from}
+use Rattle.rv_asm_tokens.specs.Scan.{Front, front_at, with_token, tokens_from, tokens_of}
 
 -- from i on there is the byte at i, and the rest
 pub cons_at : (xs : List ℕ) (i : ℕ) → i < length xs → drop i xs ≡ get_or xs i 0 ∷ drop (i + 1) xs
@@ -41,18 +40,6 @@ quote_goes escaped i xs e whole lt h so_far =
     sym one ∙ so_far
 
 -- ---- tokens
-
--- a fault that is just what is meant is so whatever memory was refused
-pub fails_as : {A : Type 0} (e : AsmFaultKind) (whole : Result A AsmFaultKind) → whole ≡ Err e → Fails e whole
-fails_as kinds.Memory whole h = tt
-fails_as kinds.Token whole h = h
-fails_as kinds.Mnemonic whole h = h
-fails_as kinds.Operand whole h = h
-fails_as (kinds.Range v) whole h = h
-fails_as kinds.LabelTwice whole h = h
-fails_as kinds.LabelMissing whole h = h
-fails_as kinds.Directive whole h = h
-fails_as kinds.Limit whole h = h
 
 -- the bytes of a token are passed over
 pub tokens_from-inside : (k : ℕ) (done : List Lexeme) (bs : List ℕ) → tokens_from k done bs ≡ tokens_from 0 done (drop k bs)
@@ -97,3 +84,26 @@ unfolding tokens_from
 tokens_end i done xs whole le so_far =
     let one : tokens_from 0 done (drop i xs) ≡ Ok done = rw (drop_all i xs le) refl in
     sym so_far ∙ one
+
+-- ---- tokens behind others
+
+behind_more : (done : List Lexeme) (o : Option Lexeme) (r : Whole) → (r >>= λ ts. Ok (with_token done o ++ ts)) ≡ ((r >>= λ ts. Ok (with_token [] o ++ ts)) >>= λ ts. Ok (done ++ ts))
+behind_more done o (Err e) = refl
+behind_more done None (Ok ts) = refl
+behind_more done (Some t) (Ok ts) = ap Ok (append_assoc done (t ∷ []) ts)
+
+-- what is done stands before what the bytes come to by themselves
+pub tokens_from-done : (k : ℕ) (done : List Lexeme) (bs : List ℕ) → tokens_from k done bs ≡ (tokens_from k [] bs >>= λ ts. Ok (done ++ ts))
+unfolding tokens_from
+tokens_from-done k done [] = ap Ok (sym (append-nil done))
+tokens_from-done (suc k) done (b ∷ bs) = tokens_from-done k done bs
+tokens_from-done zero done (b ∷ bs) = go (front_at b (b ∷ bs) bs) (λ k front. tokens_from-done k front bs)
+  where
+    go : (r : Result Front AsmFaultKind) → ((k : ℕ) (front : List Lexeme) → tokens_from k front bs ≡ (tokens_from k [] bs >>= λ ts. Ok (front ++ ts))) → (r >>= λ o. if_some o (Ok done) (λ f. tokens_from f.1 (with_token done f.0) bs)) ≡ ((r >>= λ o. if_some o (Ok []) (λ f. tokens_from f.1 (with_token [] f.0) bs)) >>= λ ts. Ok (done ++ ts))
+    go (Err e) others = refl
+    go (Ok None) others = ap Ok (sym (append-nil done))
+    go (Ok (Some f)) others = others f.1 (with_token done f.0) ∙ behind_more done f.0 (tokens_from f.1 [] bs) ∙ ap (λ (r : Whole). r >>= λ ts. Ok (done ++ ts)) (sym (others f.1 (with_token [] f.0)))
+
+-- a token behind nothing, and what the bytes behind it come to
+pub token_first : (t : Lexeme) (bs : List ℕ) → tokens_from 0 (t ∷ []) bs ≡ (tokens_of bs >>= λ ts. Ok (t ∷ ts))
+token_first t bs = tokens_from-done 0 (t ∷ []) bs

@@ -4,3 +4,4 @@ pub mod Digits
 pub mod Escapes
 pub mod Scan
 pub mod FrontView
+pub mod Cursor

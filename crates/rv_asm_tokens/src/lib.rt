@@ -7,9 +7,10 @@ mod fault;
 mod number;
 mod scanning;
 mod token;
+mod tokens;
 
 pub use escapes::text_bytes;
 pub use fault::{AsmFault, AsmFaultKind};
 pub use number::{Number, ZERO, value_of};
-pub use scanning::tokens;
 pub use token::Token;
+pub use tokens::Tokens;

@@ -1,9 +1,10 @@
-//! The tokens of a line, from its bytes.
+//! What stands at a byte of a line, and so its first token.
 
-ghost use Rattle.std.specs.Prelude.{◌≡◌, ◌≤◌, ◌+◌, ◌∷◌, IfOk, IfSome, drop, length};
+ghost use Rattle.std.specs.Prelude.{◌≡◌, ◌≤◌, ◌+◌, IfOk, IsOk, MatchResult, Err, drop, length};
 ghost use Rattle.std.specs.Option.{option_map};
-ghost use Rattle.rv_asm_tokens.specs.Fault.{Gives, Is};
-ghost use Rattle.rv_asm_tokens.specs.Lexeme.{lexeme_of, lexemes_of};
+ghost use Rattle.rv_asm_tokens.specs.Cursor.{Begins};
+ghost use Rattle.rv_asm_tokens.specs.Fault.{Is};
+ghost use Rattle.rv_asm_tokens.specs.Lexeme.{lexeme_of};
 ghost use Rattle.rv_asm_tokens.specs.Scan.{is_name_byte, word_length, sign, sign_front, number_front, negative_front};
 ghost use Rattle.rv_asm_tokens.specs.Scan.{name_front, text_front, front_at, tokens_of};
 ghost use Rattle.rv_asm_tokens.specs.FrontView.{front_view, LiesIn};
@@ -13,7 +14,6 @@ use crate::escapes::length_of_quoted;
 use crate::fault::AsmFaultKind;
 use crate::number::Number;
 use crate::token::Token;
-use std::alloc::Global;
 
 /// What stands at a byte.
 #[derive(Clone, Copy)]
@@ -156,26 +156,46 @@ fn found_at<'a>(b: u8, here: &'a [u8], after: &'a [u8]) -> Result<Front<'a>, Asm
     }
 }
 
-/// The tokens of a line, whose newline is left out.
-///
-/// `Token` where a character, number or string is none, and `Memory`. Nothing but tab, space and the
-/// characters of tokens may stand outside strings and comments.
-pub fn tokens(alloc: Global, line: &[u8]) -> Result<Vec<Token<'_>>, AsmFaultKind>
-    ensures { Gives (λ v. lexemes_of v.items) result (tokens_of line.now) }
+/// A token, and the bytes behind it.
+#[derive(Clone, Copy)]
+pub struct First<'a> {
+    pub token: Token<'a>,
+    pub rest: &'a [u8],
+}
+
+/// The first token of bytes, if one is left: `Token` where a character, number or string before it or there is none.
+pub fn first_token(bytes: &[u8]) -> Result<Option<First<'_>>, AsmFaultKind>
+    ensures { MatchResult result (Begins bytes.now) (λ e. tokens_of bytes.now ≡ Err e) }
 {
-    let mut done = Vec::new(alloc);
     let mut at: usize = 0;
-    while at < line.len() {
-        let here = behind(line, at);
-        let after = behind(line, at + 1);
-        match found_at(line[at], here, after)? {
-            Front::Comment => return Ok(done),
+    while at < bytes.len() {
+        let here = behind(bytes, at);
+        let after = behind(bytes, at + 1);
+        match found_at(bytes[at], here, after)? {
+            Front::Comment => return Ok(None),
             Front::Blank => at += 1,
-            Front::Piece(token, more) => {
-                done.push(token)?;
-                at += 1 + more;
-            }
+            Front::Piece(token, more) => return Ok(Some(First {
+                token,
+                rest: behind(after, more),
+            })),
         }
     }
-    Ok(done)
+    Ok(None)
+}
+
+/// Whether bytes are tokens: `Token` where a character, number or string is none.
+pub fn check_tokens(bytes: &[u8]) -> Result<(), AsmFaultKind>
+    ensures { MatchResult result (λ _. IsOk (tokens_of bytes.now)) (λ e. tokens_of bytes.now ≡ Err e) }
+{
+    let mut at: usize = 0;
+    while at < bytes.len() {
+        let here = behind(bytes, at);
+        let after = behind(bytes, at + 1);
+        match found_at(bytes[at], here, after)? {
+            Front::Comment => return Ok(()),
+            Front::Blank => at += 1,
+            Front::Piece(_, more) => at += 1 + more,
+        }
+    }
+    Ok(())
 }

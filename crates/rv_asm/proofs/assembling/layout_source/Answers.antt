@@ -1,32 +1,41 @@
-use Rattle.std.proofs.Common.{◌≡◌, ◌+◌, ◌∷◌, drop, map, sym, ap, ◌∙◌, arith, List, ℕ}
-use Rattle.std.proofs.lemmas.List.{drop_all, length-map}
-use Rattle.rv_asm_lines.specs.Layout.{empty_layout, lines_from, layout_of}
+use Rattle.std.proofs.Common.{◌≡◌, ◌+◌, ◌∷◌, drop, length, ap, arith}
+use Rattle.std.proofs.lemmas.Iterator.Consumers.{YieldsList-turn, YieldsList-end}
+use Rattle.std.proofs.lemmas.Iterator.Splits.{YieldsList-from_lines}
+use Rattle.std.proofs.lemmas.List.{drop_all, length_push}
+use Rattle.std.specs.Str.Lines.{lines}
+use Rattle.rv_asm_lines.specs.Layout.{layout_of}
 use Rattle.rv_asm_lines.specs.LayoutView.{layout_view}
-use Rattle.rv_asm.proofs.Steps.{item_at, line_stops, line_goes, lines_end}
+use Rattle.rv_asm.proofs.LineCount.{lines_fit}
+use Rattle.rv_asm.proofs.Steps.{line_at, line_stops, line_goes, lines_end}
 use Rattle.rv_asm.proofs.assembling.layout_source.Goals as goal
 
-pub loop-i-init : goal.loop-i-init
-loop-i-init c = rw (c.new.ensures.empty, c.new-2.ensures.empty, c.new-3.ensures.items) (ap (lines_from 1 empty_layout) (ap (map (λ x. x.now)) c.deref-line-items.ensures.value ∙ c.in-Ok.ensures))
+pub overflow_add-number : goal.overflow_add-number
+overflow_add-number c =
+    let t = YieldsList-turn (YieldsList-from_lines c.args.source.now cc) c.loop-line.yielded _ c.loop-line.yielded_by _ _ c.in-Some.line c.in-Some.is c.next.ensures.steps in
+    let most = lines_fit c.args.source.now in
+    let size = ap length c.as_bytes-text.ensures.value in
+    omega (arith, t.0, most, size, c.loop-line.invariant.0, c.as_bytes-text.type_inv.1)
 
-pub returns-in-Err-take_line : goal.returns-in-Err-take_line
-returns-in-Err-take_line c =
-    let items = c.deref-line-items.result.now in
-    let i = c.loop-i.i in
-    let texts = map (λ x. x.now) items in
-    let is : drop i texts ≡ c.as_bytes.result.now ∷ drop (i + 1) texts = item_at (λ x. x.now) items i _ c.loop-i-test.true ∙ ap (λ (w : List ℕ). w ∷ drop (i + 1) texts) (sym c.as_bytes.ensures.value) in
-    line_stops (i + 1) (layout_view c.loop-i.layout) (drop i texts) c.as_bytes.result.now (drop (i + 1) texts) c.in-Err-take_line.kind (layout_of c.args.source.now) is c.in-Err-take_line.ensures c.loop-i.invariant
+pub returns-in-Err : goal.returns-in-Err
+returns-in-Err c =
+    let all = lines c.args.source.now in
+    let n = c.loop-line.number in
+    let t = YieldsList-turn (YieldsList-from_lines c.args.source.now cc) c.loop-line.yielded _ c.loop-line.yielded_by _ _ c.in-Some.line c.in-Some.is c.next.ensures.steps in
+    let is : drop n all ≡ c.as_bytes.result.now ∷ drop (n + 1) all = line_at all n (length c.loop-line.yielded) c.in-Some.line.now c.as_bytes.result.now c.loop-line.invariant.0 t.0 t.1 c.as_bytes.ensures.value in
+    line_stops (n + 1) (layout_view c.loop-line.layout) (drop n all) c.as_bytes.result.now (drop (n + 1) all) c.in-Err.kind (layout_of c.args.source.now) is c.in-Err.ensures c.loop-line.invariant.1
 
-pub loop-i-preserved : goal.loop-i-preserved
-loop-i-preserved c =
-    let items = c.deref-line-items.result.now in
-    let i = c.loop-i.i in
-    let texts = map (λ x. x.now) items in
-    let is : drop i texts ≡ c.as_bytes.result.now ∷ drop (i + 1) texts = item_at (λ x. x.now) items i _ c.loop-i-test.true ∙ ap (λ (w : List ℕ). w ∷ drop (i + 1) texts) (sym c.as_bytes.ensures.value) in
-    line_goes (i + 1) (layout_view c.loop-i.layout) (layout_view c.take_line.new.layout) (drop i texts) c.as_bytes.result.now (drop (i + 1) texts) (layout_of c.args.source.now) is c.in-Ok-take_line.ensures c.loop-i.invariant
+pub loop-line-preserved : goal.loop-line-preserved
+loop-line-preserved c =
+    let all = lines c.args.source.now in
+    let n = c.loop-line.number in
+    let t = YieldsList-turn (YieldsList-from_lines c.args.source.now cc) c.loop-line.yielded _ c.loop-line.yielded_by _ _ c.in-Some.line c.in-Some.is c.next.ensures.steps in
+    let is : drop n all ≡ c.as_bytes.result.now ∷ drop (n + 1) all = line_at all n (length c.loop-line.yielded) c.in-Some.line.now c.as_bytes.result.now c.loop-line.invariant.0 t.0 t.1 c.as_bytes.ensures.value in
+    let more = length_push c.loop-line.yielded c.in-Some.line in
+    (omega (arith, more, c.loop-line.invariant.0), line_goes (n + 1) (layout_view c.loop-line.layout) (layout_view c.take_line.new.layout) (drop n all) c.as_bytes.result.now (drop (n + 1) all) (layout_of c.args.source.now) is c.in-Ok.ensures c.loop-line.invariant.1)
 
 pub returns : goal.returns
 returns c =
-    let items = c.deref-line-items.result.now in
-    let i = c.loop-i.i in
-    let texts = map (λ x. x.now) items in
-    lines_end (i + 1) (layout_view c.loop-i.layout) (drop i texts) (layout_of c.args.source.now) (drop_all i texts (omega (arith, length-map items (λ x. x.now), c.loop-i-test.false))) c.loop-i.invariant
+    let all = lines c.args.source.now in
+    let n = c.loop-line.number in
+    let t = YieldsList-end (YieldsList-from_lines c.args.source.now cc) c.loop-line.yielded _ c.loop-line.yielded_by _ _ c.in-None.is c.next.ensures.steps in
+    lines_end (n + 1) (layout_view c.loop-line.layout) (drop n all) (layout_of c.args.source.now) (drop_all n all (omega (arith, t.1, c.loop-line.invariant.0))) c.loop-line.invariant.1
