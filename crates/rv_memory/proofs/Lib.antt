@@ -1,2 +1,3 @@
--- The lemmas of values and their bytes.
+-- The lemmas of values and their bytes, and of pages.
 pub mod Values
+pub mod Marked

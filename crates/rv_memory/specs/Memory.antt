@@ -1,12 +1,16 @@
 -- The memory of a rank: a finite list of bytes, of which the first `text` are the program's text
--- (RISC-V Unprivileged ISA 20191213, 1.4 Memory).
+-- (RISC-V Unprivileged ISA 20191213, 1.4 Memory), and which of its pages are there.
 use Rattle.std.proofs.Common.{zero, suc}
 use Rattle.std.specs.Int.{bytes_low_first, next_multiple_of}
-use Rattle.std.specs.Prelude.{ℕ, ◌+◌, ◌-◌, ◌*◌, ◌^◌, List, ◌++◌, length, replicate, slice_index, take, drop}
+use Rattle.std.specs.Prelude.{ℕ, ◌+◌, ◌-◌, ◌*◌, ◌/◌, ◌^◌, List, ◌++◌, length, replicate, slice_index, take, drop}
+use Rattle.std.specs.Prelude.{Bool, false}
+use Rattle.rv_memory.specs.Pages.{written_pages}
 
+-- `pages` has for each 4,096 bytes whether their page is there
 pub record Memory : Type 0 where
   pub bytes : List ℕ
   pub text : ℕ
+  pub pages : List Bool
 
 -- the value of `count` bytes at an address, lowest first: byte address + i times 256 ^ i, summed over each i below the
 -- count
@@ -26,13 +30,25 @@ bytes_at memory address count = take count (drop address memory.bytes)
 abbrev pub overwritten : List ℕ → ℕ → List ℕ → List ℕ
 overwritten bytes at new = take at bytes ++ new ++ drop (at + length new) bytes
 
--- the memory with other bytes from an address on
+-- the memory with other bytes from an address on, and with the pages that they touch
 abbrev pub with_bytes : Memory → ℕ → List ℕ → Memory
-with_bytes memory address new = record memory { bytes = overwritten memory.bytes address new }
+with_bytes memory address new = record memory {
+  bytes = overwritten memory.bytes address new;
+  pages = written_pages memory.pages address (length new);
+}
+
+-- the memory with the pages that `count` bytes from an address on touch
+abbrev pub with_pages : Memory → ℕ → ℕ → Memory
+with_pages memory address count = record memory { pages = written_pages memory.pages address count }
 
 -- where the initial data stands: behind the text, at a multiple of 16
 abbrev pub init_start : List ℕ → ℕ
 init_start text = next_multiple_of (length text) 16
+
+-- the pages of a rank that is loaded: those that the text and the initial data touch
+abbrev pub loaded_pages : ℕ → List ℕ → List ℕ → List Bool
+loaded_pages size text init =
+    written_pages (written_pages (replicate (size / 4096) false) 0 (length text)) (init_start text) (length init)
 
 -- a rank's memory when it is loaded: the text, the initial data, and zeros elsewhere
 abbrev pub loaded_memory : ℕ → List ℕ → List ℕ → Memory
@@ -41,4 +57,5 @@ loaded_memory size text init = record {
       text ++ replicate (init_start text - length text) 0 ++ init
       ++ replicate (size - (init_start text + length init)) 0;
   text = length text;
+  pages = loaded_pages size text init;
 }

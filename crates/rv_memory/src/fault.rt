@@ -46,7 +46,7 @@ impl Cause {
 pub enum StoreFault {
     /// 1: the store traps.
     Trap(Cause),
-    /// 2: memory that the store needs isn't there. Never answered: a rank has all its bytes from the start.
+    /// 2: the page that the store needs isn't there, and there is no memory for it.
     Memory,
 }
 
@@ -55,6 +55,6 @@ pub enum StoreFault {
 pub enum BytesFault {
     /// 1: some of them are outside the memory, or would be written over the text.
     Range,
-    /// 2: there is no memory for the copy.
+    /// 2: there is no memory for the copy, or for pages.
     Memory,
 }

@@ -1,12 +1,18 @@
 //! The bytes of a rank, with their loads, stores, fetches and ranges.
-ghost use Rattle.std.specs.Prelude.{◌≡◌, ◌≢◌, ◌↔◌, ◌+◌, ◌-◌, ◌%◌, ◌^◌, ◌<◌, ◌≤◌, ◌++◌, length, replicate, cond, IsOk};
+ghost use Rattle.std.specs.Prelude.{◌≡◌, ◌≢◌, ◌↔◌, ◌+◌, ◌-◌, ◌%◌, ◌^◌, ◌<◌, ◌≤◌, ◌++◌, length, replicate, cond, IsOk, IsTrue};
+ghost use Rattle.std.specs.Prelude.{nat_le, false, drop};
 ghost use Rattle.std.specs.Prelude.{IfOk, OnOk, OnErr, MatchOption};
 ghost use Rattle.rv_memory.specs.Access.{size_of, load_trap, store_trap, stored, word_at, is_readable, is_writable};
+ghost use Rattle.rv_memory.specs.Access.{is_present, IsPresent};
 ghost use Rattle.rv_memory.specs.Access.{IsReadable, IsWritable};
 ghost use Rattle.rv_memory.specs.Memory.{Memory, value_at, bytes_of, bytes_at, overwritten, with_bytes, init_start};
+ghost use Rattle.rv_memory.specs.Memory.{with_pages};
+ghost use Rattle.rv_memory.specs.Pages.{missing_pages};
 ghost use Rattle.rv_memory.specs.Memory.{loaded_memory};
 
 use crate::fault::{BytesFault, Cause, StoreFault};
+use crate::pages::{loaded, mark, missing};
+use crate::spares::SparePages;
 use std::alloc::{AllocError, Global};
 use std::marker::Model;
 
@@ -27,19 +33,20 @@ pub enum Width {
 #[derive(Drop)]
 pub struct RankMemory {
     bytes: Vec<u8>,
+    pages: Vec<bool>,
     text: u64,
 }
 
 impl Model for RankMemory {
-    ghost use Rattle.std.specs.Prelude.{◌<◌, ◌≤◌, ◌^◌, length};
+    ghost use Rattle.std.specs.Prelude.{◌≡◌, ◌<◌, ◌≤◌, ◌^◌, ◌*◌, length};
     ghost use Rattle.rv_memory.specs.Memory.{Memory};
 
     ghost Value = { Memory };
 
-    ghost view = { λ m. record { bytes = m.bytes.items; text = m.text } };
+    ghost view = { λ m. record { bytes = m.bytes.items; text = m.text; pages = m.pages.items } };
 
     ghost invariant = { λ m. (m.text ≤ length m.bytes.items) × (4096 ≤ length m.bytes.items)
-        × (length m.bytes.items ≤ 2 ^ 20) };
+        × (length m.bytes.items ≤ 2 ^ 20) × (length m.bytes.items ≡ 4096 * length m.pages.items) };
 }
 
 /// Bytes, 8 at most, with zeros behind them.
@@ -73,15 +80,26 @@ fn put(bytes: &mut [u8], at: usize, new: &[u8])
     bytes[at..at + new.len()].copy_from_slice(new);
 }
 
+/// Puts other bytes from a place on.
+#[inline(always)]
+fn put_bytes(bytes: &mut Vec<u8>, at: usize, new: &[u8])
+    requires { at + length new.now ≤ length bytes.old.items }
+    ensures put { bytes.new.items ≡ overwritten bytes.old.items at new.now }
+    ensures length { length bytes.new.items ≡ length bytes.old.items }
+{
+    put(bytes.as_mut_slice(), at, new);
+}
+
 /// Puts the lowest `count` bytes of a value, 8 at most, from a place on. With a constant count it compiles to one
 /// store.
 #[inline(always)]
-fn put_value(bytes: &mut [u8], at: usize, value: u64, count: usize)
-    requires inside { at + count ≤ length bytes.old }
+fn put_value(bytes: &mut Vec<u8>, at: usize, value: u64, count: usize)
+    requires inside { at + count ≤ length bytes.old.items }
     requires most { count ≤ 8 }
-    ensures { bytes.new ≡ overwritten bytes.old at (bytes_of value count) }
+    ensures put { bytes.new.items ≡ overwritten bytes.old.items at (bytes_of value count) }
+    ensures length { length bytes.new.items ≡ length bytes.old.items }
 {
-    put(bytes, at, &value.to_le_bytes()[..count]);
+    put_bytes(bytes, at, &value.to_le_bytes()[..count]);
 }
 
 impl RankMemory {
@@ -105,8 +123,16 @@ impl RankMemory {
         bytes.resize(start, 0)?;
         bytes.extend_from_slice(init)?;
         bytes.resize(size, 0)?;
+        let pages = loaded(
+            alloc,
+            size,
+            text.len() as u64,
+            start as u64,
+            init.len() as u64,
+        )?;
         Ok(RankMemory {
             bytes,
+            pages,
             text: text.len() as u64,
         })
     }
@@ -116,8 +142,10 @@ impl RankMemory {
         ensures { IfOk result (λ copy. copy ≡ self.now) }
     {
         let bytes = Vec::from_slice(alloc, self.bytes.as_slice())?;
+        let pages = Vec::from_slice(alloc, self.pages.as_slice())?;
         Ok(RankMemory {
             bytes,
+            pages,
             text: self.text,
         })
     }
@@ -183,10 +211,10 @@ impl RankMemory {
     #[inline(always)]
     pub fn store(&mut self, address: u64, width: Width, value: u64) -> Result<(), StoreFault>
         ensures stored { OnOk result (self.new ≡ stored self.old address (size_of width) value) }
-        ensures trap { MatchOption (store_trap self.old address (size_of width)) (IsOk result)
+        ensures trap { MatchOption (store_trap self.old address (size_of width)) (result ≢ Err StoreFault.Memory → IsOk result)
             (λ cause. result ≡ Err (StoreFault.Trap cause)) }
         ensures unchanged { OnErr result (self.new ≡ self.old) }
-        ensures takes_no_memory { result ≢ Err StoreFault.Memory }
+        ensures takes_no_memory { IsPresent self.old address (size_of width) → result ≢ Err StoreFault.Memory }
     {
         match width {
             Width::Byte => self.store_bytes(address, 1, value),
@@ -202,10 +230,10 @@ impl RankMemory {
         requires some { 0 < size }
         requires most { size ≤ 8 }
         ensures stored { OnOk result (self.new ≡ stored self.old address size value) }
-        ensures trap { MatchOption (store_trap self.old address size) (IsOk result)
+        ensures trap { MatchOption (store_trap self.old address size) (result ≢ Err StoreFault.Memory → IsOk result)
             (λ cause. result ≡ Err (StoreFault.Trap cause)) }
         ensures unchanged { OnErr result (self.new ≡ self.old) }
-        ensures takes_no_memory { result ≢ Err StoreFault.Memory }
+        ensures takes_no_memory { IsPresent self.old address size → result ≢ Err StoreFault.Memory }
     {
         if address % size != 0 {
             return Err(StoreFault::Trap(Cause::StoreMisaligned));
@@ -213,12 +241,8 @@ impl RankMemory {
         if address > self.size() - size || address < self.text {
             return Err(StoreFault::Trap(Cause::StoreAccess));
         }
-        put_value(
-            self.bytes.as_mut_slice(),
-            address as usize,
-            value,
-            size as usize,
-        );
+        put_value(&mut self.bytes, address as usize, value, size as usize);
+        mark(&mut self.pages, address, size);
         Ok(())
     }
 
@@ -244,16 +268,34 @@ impl RankMemory {
         !writing || self.text <= address
     }
 
-    /// As many of the `count` bytes from an address on as are in the memory. Takes no memory.
-    pub fn bytes(&self, address: u64, count: u64) -> &[u8]
-        ensures { result.now ≡ bytes_at self.now address count }
+    /// Whether a write of `count` bytes from an address on takes no memory: they are all in the memory, and the pages
+    /// that they touch are there. A range of 0 bytes is always present, whatever its address.
+    pub fn present(&self, address: u64, count: u64) -> bool
+        ensures { result ≡ is_present self.now address count }
+    {
+        self.in_range(address, count, false) && (count == 0 || self.missing(address, count) == 0)
+    }
+
+    /// How many of the pages that `count` bytes from an address on touch aren't there.
+    pub fn missing(&self, address: u64, count: u64) -> usize
+        ensures { result ≡ missing_pages self.now.pages address count }
+    {
+        missing(self.pages.as_slice(), address, count)
+    }
+
+    /// Puts the bytes from an address on into the front of `out`, as many as are in the memory and `out` has room for,
+    /// and says how many those are. The rest of `out` stays. Takes no memory.
+    pub fn read_into(&self, address: u64, out: &mut [u8]) -> usize
+        ensures count { result ≡ length (bytes_at self.now address (length out.old)) }
+        ensures read { out.new ≡ bytes_at self.now address (length out.old) ++ drop result out.old }
     {
         if address >= self.size() {
-            return &[];
+            return 0;
         }
         let at = address as usize;
-        let most = count.min(self.size() - address) as usize;
-        &self.bytes[at..at + most]
+        let count = out.len().min(self.bytes.len() - at);
+        put(out, 0, &self.bytes[at..at + count]);
+        count
     }
 
     /// A copy of `count` bytes from an address on. `Range` where one isn't in the memory, `Memory` where there is none
@@ -277,19 +319,77 @@ impl RankMemory {
     }
 
     /// Writes all the bytes from an address on, or none. `Range` where one would be outside the memory or in the text;
-    /// `Memory` never comes today.
+    /// `Memory` where a page that they touch isn't there, and there is no memory for it.
     pub fn write_bytes(&mut self, address: u64, bytes: &[u8]) -> Result<(), BytesFault>
         ensures written { OnOk result (self.new ≡ with_bytes self.old address bytes.now) }
         ensures range { (result ≡ Err BytesFault.Range) ↔ ¬ (IsWritable self.old address (length bytes.now)) }
         ensures unchanged { OnErr result (self.new ≡ self.old) }
-        ensures takes_no_memory { result ≢ Err BytesFault.Memory }
+        ensures takes_no_memory { IsPresent self.old address (length bytes.now) → result ≢ Err BytesFault.Memory }
     {
-        if !self.in_range(address, bytes.len() as u64, true) {
+        let count = bytes.len() as u64;
+        if !self.in_range(address, count, true) {
             return Err(BytesFault::Range);
         }
-        if !bytes.is_empty() {
-            put(self.bytes.as_mut_slice(), address as usize, bytes);
-        }
+        self.fill(address, bytes);
         Ok(())
+    }
+
+    /// Writes all the bytes from an address on, or none, in pages that are there or are spare. Takes no memory. `Range`
+    /// where a byte would be outside the memory or in the text; `Memory` where there are fewer spare pages than pages
+    /// are missing. Only the missing ones are taken from the spares.
+    pub fn write_with(
+        &mut self,
+        spares: &mut SparePages,
+        address: u64,
+        bytes: &[u8],
+    ) -> Result<(), BytesFault>
+        ensures written { OnOk result (self.new ≡ with_bytes self.old address bytes.now) }
+        ensures taken { OnOk result
+            (spares.new + missing_pages self.old.pages address (length bytes.now) ≡ spares.old) }
+        ensures range { (result ≡ Err BytesFault.Range) ↔ ¬ (IsWritable self.old address (length bytes.now)) }
+        ensures unchanged { OnErr result (self.new ≡ self.old) }
+        ensures kept { OnErr result (spares.new ≡ spares.old) }
+        ensures enough { missing_pages self.old.pages address (length bytes.now) ≤ spares.old
+            → result ≢ Err BytesFault.Memory }
+    {
+        let count = bytes.len() as u64;
+        if !self.in_range(address, count, true) {
+            return Err(BytesFault::Range);
+        }
+        if !self.place(spares, address, count) {
+            return Err(BytesFault::Memory);
+        }
+        self.fill(address, bytes);
+        Ok(())
+    }
+
+    /// Makes the pages that `count` bytes from an address on touch, from spare pages. Takes no memory. The bytes stay:
+    /// a new page is all zeros, as it read before. Where there are fewer spare pages than pages are missing it answers
+    /// false, and all stays.
+    pub fn place(&mut self, spares: &mut SparePages, address: u64, count: u64) -> bool
+        ensures enough { result ≡ nat_le (missing_pages self.old.pages address count) spares.old }
+        ensures placed { IsTrue result → self.new ≡ with_pages self.old address count }
+        ensures taken { IsTrue result → spares.new + missing_pages self.old.pages address count ≡ spares.old }
+        ensures unchanged { result ≡ false → self.new ≡ self.old }
+        ensures kept { result ≡ false → spares.new ≡ spares.old }
+    {
+        let missing = self.missing(address, count);
+        if spares.len() < missing {
+            return false;
+        }
+        spares.take(missing);
+        mark(&mut self.pages, address, count);
+        true
+    }
+
+    /// Writes bytes that are right.
+    fn fill(&mut self, address: u64, bytes: &[u8])
+        requires { IsWritable self.old address (length bytes.now) }
+        ensures { self.new ≡ with_bytes self.old address bytes.now }
+    {
+        if !bytes.is_empty() {
+            put_bytes(&mut self.bytes, address as usize, bytes);
+            mark(&mut self.pages, address, bytes.len() as u64);
+        }
     }
 }

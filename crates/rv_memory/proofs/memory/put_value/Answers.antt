@@ -4,6 +4,6 @@ use Rattle.std.proofs.Common.{◌∙◌, ap, take}
 use Rattle.rv_memory.proofs.Values.{take-bytes_low_first}
 use Rattle.rv_memory.specs.Memory.{overwritten}
 
-pub returns : goal.returns
-returns c =
-    c.put.ensures ∙ ap (λ low. overwritten c.args.bytes.now c.args.at low) (ap (take c.args.count) c.to_le_bytes.ensures ∙ take-bytes_low_first 0 c.args.count 8 c.args.value c.requires.most)
+pub returns-clause-put : goal.returns-clause-put
+returns-clause-put c =
+    c.put_bytes.ensures.put ∙ ap (λ low. overwritten c.args.bytes.now.items c.args.at low) (ap (take c.args.count) c.to_le_bytes.ensures ∙ take-bytes_low_first 0 c.args.count 8 c.args.value c.requires.most)

@@ -1,0 +1,85 @@
+-- The pages that are there, one by one.
+use Rattle.std.proofs.Common.{◌≡◌, ℕ, zero, suc, ◌+◌, ◌<◌, ◌≤◌, List, [], ◌∷◌, ◌++◌, length, get_or, take, drop, refl, ap, sym, ◌∙◌, zero-add, add-zero, add-suc, arith, take-append-drop, drop-cons}
+use Rattle.std.specs.Int.{bytes_low_first}
+use Rattle.std.proofs.lemmas.Grind.{common_steps}
+use Rattle.std.proofs.Math.ListN.{set}
+use Rattle.std.specs.Prelude.{Bool, true, false, not, ◌||◌, ◌&&◌, if◌then◌else◌}
+use Rattle.rv_memory.specs.Memory.{Memory, with_bytes, with_pages, overwritten, bytes_of}
+use Rattle.rv_memory.specs.Access.{stored}
+use Rattle.rv_memory.specs.Pages.{touches, written_from, missing_from}
+
+pub written_from-length : (page : ℕ) (pages : List Bool) (address count : ℕ) → length (written_from page pages address count) ≡ length pages
+written_from-length page [] address count = refl
+written_from-length page (there ∷ pages) address count = ap suc (written_from-length (suc page) pages address count)
+
+pub written_from-get : (page : ℕ) (pages : List Bool) (address count i : ℕ) → i < length pages → get_or (written_from page pages address count) i false ≡ (get_or pages i false || touches address count (page + i))
+written_from-get page [] address count i p = absurd (omega (arith, p))
+written_from-get page (there ∷ pages) address count zero p = rw (add-zero page) refl
+written_from-get page (there ∷ pages) address count (suc i) p =
+    let e : page + suc i ≡ suc page + i = omega arith in
+    rw e (written_from-get (suc page) pages address count i (omega (arith, p)))
+
+-- no bytes touch no page
+pub written_from-none : (page : ℕ) (pages : List Bool) (address : ℕ) → written_from page pages address 0 ≡ pages
+written_from-none page [] address = refl
+written_from-none page (true ∷ pages) address = ap (λ xs. true ∷ xs) (written_from-none (suc page) pages address)
+written_from-none page (false ∷ pages) address = ap (λ xs. false ∷ xs) (written_from-none (suc page) pages address)
+
+or-twice : (a b : Bool) → ((a || b) || b) ≡ (a || b)
+or-twice true b = refl
+or-twice false true = refl
+or-twice false false = refl
+
+-- what was written once is there
+pub written_from-twice : (page : ℕ) (pages : List Bool) (address count : ℕ) → written_from page (written_from page pages address count) address count ≡ written_from page pages address count
+written_from-twice page [] address count = refl
+written_from-twice page (there ∷ pages) address count =
+    rw (written_from-twice (suc page) pages address count, or-twice there (touches address count page)) refl
+
+-- no bytes written are no change
+pub with_no_bytes : (memory : Memory) (address : ℕ) → with_bytes memory address [] ≡ memory
+with_no_bytes memory address =
+    let e : overwritten memory.bytes address [] ≡ memory.bytes = grind (arith, common_steps, take-append-drop) in
+    rw (e, written_from-none 0 memory.pages address) refl
+
+-- pages that are made first are the pages of the bytes
+pub with_bytes-with_pages : (memory : Memory) (address : ℕ) (new : List ℕ) → with_bytes (with_pages memory address (length new)) address new ≡ with_bytes memory address new
+with_bytes-with_pages memory address new = rw (written_from-twice 0 memory.pages address (length new)) refl
+
+-- the page that a count comes to
+pub missing_from-next : (pages : List Bool) (page address count : ℕ) → page < length pages
+    → missing_from page (drop page pages) address count
+    ≡ (if (touches address count page && not (get_or pages page false)) then 1 else 0) + missing_from (page + 1) (drop (page + 1) pages) address count
+missing_from-next pages page address count p =
+    let e : page + 1 ≡ suc page = omega arith in
+    rw (drop-cons pages page false p, e) refl
+
+-- the lowest bytes of a value are as many as are asked for
+pub bytes_low_first-length : (i count value : ℕ) → length (bytes_low_first i count value) ≡ count
+bytes_low_first-length i zero value = refl
+bytes_low_first-length i (suc count) value = ap suc (bytes_low_first-length (suc i) count value)
+
+-- a store is known by how many bytes it has
+pub stored-pages : (memory : Memory) (address size value : ℕ) → stored memory address size value
+    ≡ record memory { bytes = overwritten memory.bytes address (bytes_of value size); pages = written_from 0 memory.pages address size }
+stored-pages memory address size value =
+    ap (λ n. record memory { bytes = overwritten memory.bytes address (bytes_of value size); pages = written_from 0 memory.pages address n }) (bytes_low_first-length 0 size value)
+
+-- one more element of a list that takes the place of another
+pub front-set : (ws ps : List Bool) (i : ℕ) (y : Bool) → i < length ps → length ws ≡ length ps → get_or ws i false ≡ y → set (take i ws ++ drop i ps) i y ≡ take (i + 1) ws ++ drop (i + 1) ps
+front-set [] [] i y p long here = absurd (omega (arith, p))
+front-set [] (q ∷ ps) i y p long here = absurd (omega (arith, long))
+front-set (w ∷ ws) [] i y p long here = absurd (omega (arith, long))
+front-set (w ∷ ws) (q ∷ ps) zero y p long here = ap (λ x. x ∷ ps) (sym here)
+front-set (w ∷ ws) (q ∷ ps) (suc i) y p long here =
+    let e : suc i + 1 ≡ suc (i + 1) = omega arith in
+    rw e (ap (λ xs. w ∷ xs) (front-set ws ps i y (omega (arith, p)) (omega (arith, long)) here))
+
+pub front-same : (ws ps : List Bool) (i : ℕ) → i < length ps → length ws ≡ length ps → get_or ws i false ≡ get_or ps i false → take i ws ++ drop i ps ≡ take (i + 1) ws ++ drop (i + 1) ps
+front-same [] [] i p long here = absurd (omega (arith, p))
+front-same [] (q ∷ ps) i p long here = absurd (omega (arith, long))
+front-same (w ∷ ws) [] i p long here = absurd (omega (arith, long))
+front-same (w ∷ ws) (q ∷ ps) zero p long here = ap (λ x. x ∷ ps) (sym here)
+front-same (w ∷ ws) (q ∷ ps) (suc i) p long here =
+    let e : suc i + 1 ≡ suc (i + 1) = omega arith in
+    rw e (ap (λ xs. w ∷ xs) (front-same ws ps i (omega (arith, p)) (omega (arith, long)) here))

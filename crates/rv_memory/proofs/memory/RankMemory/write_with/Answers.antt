@@ -1,0 +1,9 @@
+use Rattle.std.proofs.Common.{◌≡◌, ◌∙◌, length, ap}
+use Rattle.rv_memory.specs.Memory.{with_bytes}
+use Rattle.rv_memory.proofs.Marked.{with_bytes-with_pages}
+use Rattle.rv_memory.proofs.memory.RankMemory.write_with.Goals as goal
+
+pub returns-clause-written : goal.returns-clause-written
+returns-clause-written c =
+    c.fill.ensures ∙ ap (λ memory. with_bytes memory c.args.address c.args.bytes.now) (c.place.ensures.placed c.if-not-place.false)
+    ∙ with_bytes-with_pages c.args.self.now c.args.address c.args.bytes.now
