@@ -65,6 +65,45 @@ pub stored-pages : (memory : Memory) (address size value : ℕ) → stored memor
 stored-pages memory address size value =
     ap (λ n. record memory { bytes = overwritten memory.bytes address (bytes_of value size); pages = written_from 0 memory.pages address n }) (bytes_low_first-length 0 size value)
 
+-- no bytes are no page
+pub with_no_pages : (memory : Memory) (address : ℕ) → with_pages memory address 0 ≡ memory
+with_no_pages memory address = rw (written_from-none 0 memory.pages address) refl
+
+-- pages that are made first are the pages of the store
+pub stored-with_pages : (memory : Memory) (address size value : ℕ) → stored (with_pages memory address size) address size value ≡ stored memory address size value
+stored-with_pages memory address size value =
+    stored-pages (with_pages memory address size) address size value
+    ∙ rw (written_from-twice 0 memory.pages address size) (sym (stored-pages memory address size value))
+
+not-or-twice : (a b : Bool) → (b && not (a || b)) ≡ false
+not-or-twice true true = refl
+not-or-twice true false = refl
+not-or-twice false true = refl
+not-or-twice false false = refl
+
+-- no page is missing once it was written
+pub missing_from-written : (page : ℕ) (pages : List Bool) (address count : ℕ) → missing_from page (written_from page pages address count) address count ≡ 0
+missing_from-written page [] address count = refl
+missing_from-written page (there ∷ pages) address count =
+    rw (missing_from-written (suc page) pages address count, not-or-twice there (touches address count page)) refl
+
+less : (a b c : Bool) → (if (c && not (a || b)) then 1 else 0) ≤ (if (c && not a) then 1 else 0)
+less true true true = omega arith
+less true true false = omega arith
+less true false true = omega arith
+less true false false = omega arith
+less false true true = omega arith
+less false true false = omega arith
+less false false true = omega arith
+less false false false = omega arith
+
+-- a write leaves no more pages missing than before
+pub missing_from-falls : (page : ℕ) (pages : List Bool) (address count other most : ℕ)
+    → missing_from page (written_from page pages address count) other most ≤ missing_from page pages other most
+missing_from-falls page [] address count other most = omega arith
+missing_from-falls page (there ∷ pages) address count other most =
+    omega (arith, less there (touches address count page) (touches other most page), missing_from-falls (suc page) pages address count other most)
+
 -- one more element of a list that takes the place of another
 pub front-set : (ws ps : List Bool) (i : ℕ) (y : Bool) → i < length ps → length ws ≡ length ps → get_or ws i false ≡ y → set (take i ws ++ drop i ps) i y ≡ take (i + 1) ws ++ drop (i + 1) ps
 front-set [] [] i y p long here = absurd (omega (arith, p))

@@ -29,6 +29,21 @@ pub enum Width {
     Double,
 }
 
+impl Width {
+    /// How many bytes it is.
+    #[inline(always)]
+    pub fn size(self) -> u64
+        ensures { result ≡ size_of self }
+    {
+        match self {
+            Width::Byte => 1,
+            Width::Half => 2,
+            Width::Word => 4,
+            Width::Double => 8,
+        }
+    }
+}
+
 /// The bytes of a rank, from address 0. The first of them are the text, which no store and no write reaches.
 #[derive(Drop)]
 pub struct RankMemory {
@@ -206,8 +221,24 @@ impl RankMemory {
         Ok(value(self.bytes.as_slice(), address as usize, size as usize))
     }
 
+    /// The trap of a store, or `None` where it doesn't trap: `StoreMisaligned` where the address isn't a multiple of the
+    /// width, else `StoreAccess` where the bytes aren't all in the memory or are text.
+    pub fn store_trap(&self, address: u64, width: Width) -> Option<Cause>
+        ensures { result ≡ store_trap self.now address (size_of width) }
+    {
+        let size = width.size();
+        if address % size != 0 {
+            return Some(Cause::StoreMisaligned);
+        }
+        if !self.in_range(address, size, true) {
+            return Some(Cause::StoreAccess);
+        }
+        None
+    }
+
     /// Writes the lowest bytes of a value. Traps as `StoreMisaligned` where the address isn't a multiple of the
-    /// width, else as `StoreAccess` where the bytes aren't all in the memory or are text.
+    /// width, else as `StoreAccess` where the bytes aren't all in the memory or are text. `Memory` where their page isn't
+    /// there, and there is no memory for it.
     #[inline(always)]
     pub fn store(&mut self, address: u64, width: Width, value: u64) -> Result<(), StoreFault>
         ensures stored { OnOk result (self.new ≡ stored self.old address (size_of width) value) }
