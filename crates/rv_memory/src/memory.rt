@@ -307,9 +307,10 @@ impl RankMemory {
         self.in_range(address, count, false) && (count == 0 || self.missing(address, count) == 0)
     }
 
-    /// How many of the pages that `count` bytes from an address on touch aren't there.
+    /// How many of the pages that `count` bytes from an address on touch aren't there, 256 at most.
     pub fn missing(&self, address: u64, count: u64) -> usize
-        ensures { result ≡ missing_pages self.now.pages address count }
+        ensures value { result ≡ missing_pages self.now.pages address count }
+        ensures most { result ≤ 256 }
     {
         missing(self.pages.as_slice(), address, count)
     }

@@ -30,7 +30,8 @@ pub(crate) fn mark(pages: &mut Vec<bool>, address: u64, count: u64)
 /// How many of the pages that `count` bytes from an address on touch aren't there.
 pub(crate) fn missing(pages: &[bool], address: u64, count: u64) -> usize
     requires { length pages.now ≤ 2 ^ 20 }
-    ensures { result ≡ missing_pages pages.now address count }
+    ensures value { result ≡ missing_pages pages.now address count }
+    ensures most { result ≤ length pages.now }
 {
     let mut missing = 0;
     for page in 0..pages.len() {
