@@ -4,4 +4,5 @@ pub mod Results
 pub mod State
 pub mod Effect
 pub mod Stepped
+pub mod Stores
 pub mod Worked

@@ -4,6 +4,8 @@
 mod results;
 pub mod state;
 pub mod stepping;
+pub mod stores;
 
 pub use state::{Did, Hart, Mode, Wait};
-pub use stepping::step;
+pub use stepping::{step, step_with};
+pub use stores::{StoreRange, store_range};

@@ -1,5 +1,5 @@
 //! One step of a hart.
-ghost use Rattle.std.specs.Prelude.{◌≡◌, IsOk, IfOk};
+ghost use Rattle.std.specs.Prelude.{◌≡◌, ◌+◌, ◌≤◌, IsOk, IfOk, OnOk, OnErr};
 ghost use Rattle.rv_decode.specs.Table.{Fits};
 ghost use Rattle.rv_decode.specs.declared.instruction.Instr.TheVariants.{Branch, Load, Store};
 ghost use Rattle.rv_hart.specs.Effect.{After, after, IsStep, gives, jumps, branches, next as next_of};
@@ -7,12 +7,15 @@ ghost use Rattle.rv_hart.specs.Effect.{offset as offset_of};
 ghost use Rattle.rv_hart.specs.State.{at_pc, in_mode};
 ghost use Rattle.rv_hart.specs.Stepped.{stepped};
 ghost use Rattle.rv_hart.specs.declared.state.Mode.TheVariants.{Running, Trapped};
+ghost use Rattle.rv_hart.specs.Stores.{IsThere, stored_by, store_range as store_range_of};
 ghost use Rattle.rv_memory.specs.Memory.{Memory};
+ghost use Rattle.rv_memory.specs.Pages.{missing_pages};
 
 use crate::results;
 use crate::state::{Did, Hart, Mode};
+use crate::stores::store_range;
 use rv_decode::{BranchOp, Instr, LoadOp, Reg, StoreOp, decode};
-use rv_memory::{Cause, RankMemory, StoreFault};
+use rv_memory::{Cause, RankMemory, SparePages, StoreFault};
 use std::alloc::AllocError;
 
 #[inline(always)]
@@ -124,7 +127,9 @@ fn store(
     rs2: Reg,
     off: i32,
 ) -> Result<Did, AllocError>
-    ensures takes_no_memory { IsOk result }
+    ensures takes_no_memory { IsThere memory.old (stored_by (Store op rs1 rs2 off) hart.old memory.old) → IsOk result }
+    ensures hart { OnErr result (hart.new ≡ hart.old) }
+    ensures memory { OnErr result (memory.new ≡ memory.old) }
     ensures effect { IfOk result
         (λ did. record { did = did; state = hart.new; memory = memory.new }
         ≡ after (Store op rs1 rs2 off) hart.old memory.old) }
@@ -151,7 +156,9 @@ fn stop_at_ebreak(hart: &mut Hart) -> Did
 #[inline(always)]
 fn execute(hart: &mut Hart, memory: &mut RankMemory, instr: &Instr) -> Result<Did, AllocError>
     requires { Fits instr.now }
-    ensures takes_no_memory { IsOk result }
+    ensures takes_no_memory { IsThere memory.old (stored_by instr.now hart.old memory.old) → IsOk result }
+    ensures hart { OnErr result (hart.new ≡ hart.old) }
+    ensures memory { OnErr result (memory.new ≡ memory.old) }
     ensures effect { IfOk result
         (λ did. record { did = did; state = hart.new; memory = memory.new } ≡ after instr.now hart.old memory.old) }
 {
@@ -195,13 +202,16 @@ fn execute(hart: &mut Hart, memory: &mut RankMemory, instr: &Instr) -> Result<Di
 }
 
 /// One step of a running hart: the instruction whose word stands at the pc, with its whole effect, or the trap. An
-/// ECALL is answered as `Call` and left to the caller. No step answers an `Err` today: the memory has all its bytes.
-/// What the step leaves is what the table's relation allows, and the relation allows nothing else.
+/// ECALL is answered as `Call` and left to the caller. What the step leaves is what the table's relation allows, and the
+/// relation allows nothing else. The only error is want of memory for the page of a store, and leaves hart and memory as
+/// they were.
 #[inline(always)]
-#[tactic(auto, unfolding(crate::specs::Stepped::stepped))]
+#[tactic(auto, unfolding(crate::specs::Stepped::stepped, crate::specs::Stores::store_range))]
 pub fn step(hart: &mut Hart, memory: &mut RankMemory) -> Result<Did, AllocError>
     requires { hart.old.mode ≡ Running }
-    ensures takes_no_memory { IsOk result }
+    ensures takes_no_memory { IsThere memory.old (store_range_of hart.old memory.old) → IsOk result }
+    ensures hart { OnErr result (hart.new ≡ hart.old) }
+    ensures memory { OnErr result (memory.new ≡ memory.old) }
     ensures effect { IfOk result
         (λ did. record { did = did; state = hart.new; memory = memory.new } ≡ stepped hart.old memory.old) }
     ensures table { IfOk result
@@ -217,4 +227,29 @@ pub fn step(hart: &mut Hart, memory: &mut RankMemory) -> Result<Did, AllocError>
         return Ok(trap(hart, Cause::IllegalInstruction));
     };
     execute(hart, memory, &instr)
+}
+
+/// The same step, with spare pages for what it stores. Takes no memory: the error is that there are fewer spare pages
+/// than pages are missing, and leaves all as it was.
+pub fn step_with(
+    hart: &mut Hart,
+    memory: &mut RankMemory,
+    spares: &mut SparePages,
+) -> Result<Did, AllocError>
+    requires { hart.old.mode ≡ Running }
+    ensures enough { let range = store_range_of hart.old memory.old in
+        missing_pages memory.old.pages range.address range.count ≤ spares.old → IsOk result }
+    ensures taken { let range = store_range_of hart.old memory.old in
+        OnOk result (spares.new + missing_pages memory.old.pages range.address range.count ≡ spares.old) }
+    ensures effect { IfOk result
+        (λ did. record { did = did; state = hart.new; memory = memory.new } ≡ stepped hart.old memory.old) }
+    ensures hart { OnErr result (hart.new ≡ hart.old) }
+    ensures memory { OnErr result (memory.new ≡ memory.old) }
+    ensures kept { OnErr result (spares.new ≡ spares.old) }
+{
+    let range = store_range(hart, memory);
+    if !memory.place(spares, range.address, range.count) {
+        return Err(AllocError);
+    }
+    step(hart, memory)
 }

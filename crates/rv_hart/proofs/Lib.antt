@@ -1,0 +1,2 @@
+-- The lemmas of a step over pages that were made first.
+pub mod Placed
