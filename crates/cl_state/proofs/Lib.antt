@@ -1,12 +1,15 @@
 pub mod Checked
+pub mod Enough
 pub mod Idle
 pub mod Kept
 pub mod Known
 pub mod Moved
 pub mod Moves
+pub mod Pages
 pub mod Passed
 pub mod Phases
 pub mod Places
 pub mod Posts
 pub mod Ready
 pub mod Starts
+pub mod Stepped

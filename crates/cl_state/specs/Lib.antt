@@ -11,6 +11,7 @@ pub mod Standing
 pub mod Room
 pub mod Table
 pub mod Told
+pub mod Writes
 pub mod Turn
 pub mod Moves
 pub mod Laws

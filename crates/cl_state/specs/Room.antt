@@ -1,11 +1,13 @@
 -- What contracts see of a running rank, and the room that a turn needs.
-use Rattle.std.specs.Prelude.{◌≡◌, ◌<◌, ◌≤◌, ℕ, ◌+◌, get_or, vec_len, vec_capacity}
+use Rattle.std.specs.Prelude.{◌≡◌, ◌<◌, ◌≤◌, ℕ, ◌+◌, List, get_or, vec_len, vec_capacity}
 use Rattle.cl_calls.specs.declared.checking.Standing.{Standing}
 use Rattle.cl_state.specs.Asked.{doing, no_hart, part_of}
 use Rattle.cl_state.specs.Rank.{Rank}
 use Rattle.cl_state.specs.Right.{IsChecked, IsRunning, output_of}
 use Rattle.cl_state.specs.declared.asking.Doing.{Doing}
+use Rattle.cl_state.specs.Writes.{IsEnough, writes_in}
 use Rattle.cl_state.specs.declared.state.RankState.{RankState}
+use Rattle.cl_state.specs.declared.writes.Range.{Range}
 
 abbrev pub rank_of : RankState → Rank
 rank_of s =
@@ -19,11 +21,20 @@ rank_of s =
       clock = s.clock;
     }
 
+-- what the next turn of a hart may write
+abbrev pub writes_of : RankState → ℕ → List Range
+writes_of s hart =
+    let part = part_of (rank_of s) hart in writes_in s.site hart (doing s.site part) part
+
 -- the bytes that the hart's turn puts behind the output lie ready, and the output has room for them
-abbrev pub HasRoom : RankState → ℕ → Type 0
-HasRoom s hart =
+abbrev pub HasRoomBehind : RankState → ℕ → Type 0
+HasRoomBehind s hart =
     (s.fresh.items ≡ output_of s.memory (doing s.site (part_of (rank_of s) hart)))
     × (vec_len s.out + vec_len s.fresh ≤ vec_capacity s.out)
+
+-- and there are enough spare pages for what the turn may write
+abbrev pub HasRoom : RankState → ℕ → Type 0
+HasRoom s hart = HasRoomBehind s hart × IsEnough s.memory.pages s.spares (writes_of s hart)
 
 -- what the next turn of a hart is, that is there, and what the checks made sure of
 pub record IsNext (s : RankState) (hart : ℕ) (d : Doing) : Type 0 where

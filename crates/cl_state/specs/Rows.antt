@@ -1,5 +1,5 @@
 -- A small rank of 2, its one hart at an ECALL.
-use Rattle.std.specs.Prelude.{ℕ, List, [], ◌∷◌, ◌++◌, replicate, take}
+use Rattle.std.specs.Prelude.{ℕ, List, [], ◌∷◌, ◌++◌, replicate, take, Bool, true}
 use Rattle.rv_memory.specs.Memory.{Memory}
 use Rattle.rv_hart.specs.State.{State}
 use Rattle.rv_hart.specs.declared.state.Mode.TheVariants.{Running}
@@ -12,9 +12,17 @@ use Rattle.cl_state.specs.Rank.{Rank}
 abbrev pub first_of_two : Site
 first_of_two = record { number = 0; ranks = 2; comms = (0 ∷ 1 ∷ []) ∷ []; links = []; version = One }
 
+-- the one page of a small memory is there
+abbrev pub one_page : List Bool
+one_page = true ∷ []
+
 -- 8 bytes of text, the second word ECALL's, and 56 bytes of data that begin with "hi\n"
 abbrev pub small_memory : Memory
-small_memory = record { bytes = 0 ∷ 0 ∷ 0 ∷ 0 ∷ 0x73 ∷ 0 ∷ 0 ∷ 0 ∷ 104 ∷ 105 ∷ 10 ∷ replicate 53 9; text = 8 }
+small_memory = record {
+  bytes = 0 ∷ 0 ∷ 0 ∷ 0 ∷ 0x73 ∷ 0 ∷ 0 ∷ 0 ∷ 104 ∷ 105 ∷ 10 ∷ replicate 53 9;
+  text = 8;
+  pages = one_page;
+}
 
 -- a hart at the ECALL, with a0 to a5 and the call's number in a7
 abbrev pub calling : List ℕ → ℕ → State

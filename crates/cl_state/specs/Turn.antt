@@ -1,6 +1,6 @@
 -- A hart's turn under way, and the part of its rank that it changes.
 use Rattle.std.specs.Prelude.{◌≡◌, ◌≤◌, ℕ, ◌+◌, List, length, vec_len, vec_capacity, IsTrue, not}
-use Rattle.rv_memory.specs.Memory.{bytes_at}
+use Rattle.rv_memory.specs.Memory.{Memory, bytes_at}
 use Rattle.rv_hart.specs.State.{State}
 use Rattle.rv_hart.specs.declared.state.Mode.TheVariants.{Running}
 use Rattle.mp_request.specs.Entries.{is_new}
@@ -32,6 +32,8 @@ use Rattle.cl_calls.specs.Needs.{needs_of}
 use Rattle.cl_state.specs.Several.{pendings, posts_of}
 use Rattle.cl_state.specs.Table.{row_in}
 use Rattle.cl_state.specs.Told.{told_in}
+use Rattle.cl_state.specs.Writes.{IsEnough, how_many}
+use Rattle.cl_state.specs.declared.writes.Range.{Range}
 
 -- what may change, as it is now
 abbrev pub part_in : Turn → Part
@@ -44,16 +46,26 @@ part_in turn =
       out = turn.out.now.items;
     }
 
--- this part stands behind the same references now
+-- the part with another memory
+abbrev pub with_memory : Part → Memory → Part
+with_memory part memory = record part { memory = memory }
+
+-- the spare pages are enough for all pages that the ranges touch
+abbrev pub HasPages : Turn → List Range → Type 0
+HasPages turn ranges = IsEnough turn.memory.now.pages turn.spares.now ranges
+
+-- this part stands behind the same references now, and a page that became there was a spare one
 pub record Becomes (old new : Turn) (then : Part) : Type 0 where
   pub part : part_in new ≡ then
   pub site : new.site ≡ old.site
   pub number : new.number ≡ old.number
   pub hart : new.hart.ghost_name ≡ old.hart.ghost_name
   pub memory : new.memory.ghost_name ≡ old.memory.ghost_name
+  pub spares : new.spares.ghost_name ≡ old.spares.ghost_name
   pub requests : new.requests.ghost_name ≡ old.requests.ghost_name
   pub phases : new.phases.ghost_name ≡ old.phases.ghost_name
   pub out : new.out.ghost_name ≡ old.out.ghost_name
+  pub pages : how_many new.memory.now.pages + new.spares.now ≡ how_many old.memory.now.pages + old.spares.now
 
 -- what the checks made sure of
 abbrev pub IsCheckedIn : Turn → Doing → Type 0
@@ -79,6 +91,7 @@ part_with hart common = record {
 -- behind the same references
 pub record KeepsPlaces (old new : Common) : Type 0 where
   pub memory : new.memory.ghost_name ≡ old.memory.ghost_name
+  pub spares : new.spares.ghost_name ≡ old.spares.ghost_name
   pub requests : new.requests.ghost_name ≡ old.requests.ghost_name
   pub phases : new.phases.ghost_name ≡ old.phases.ghost_name
   pub out : new.out.ghost_name ≡ old.out.ghost_name

@@ -17,6 +17,7 @@ mod table;
 mod telling;
 mod transfers;
 mod turn;
+mod writes;
 
 pub use asking::{Answer, Ask, Doing};
 pub use doing::is_ecall;
@@ -24,3 +25,4 @@ pub use partitions::Awaited;
 pub use pending::{Manner, Pending, Target};
 pub use row::{Outcome, Purpose, Row, Visit, Wanted};
 pub use state::{RankParts, RankState};
+pub use writes::Range;

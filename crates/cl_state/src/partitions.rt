@@ -1,6 +1,6 @@
 //! What partitioned requests await, and what they ask.
 
-ghost use Rattle.std.specs.Prelude.{◌≡◌, ◌+◌, ◌*◌, ◌-◌, ◌^◌, min};
+ghost use Rattle.std.specs.Prelude.{◌≡◌, ◌+◌, ◌*◌, ◌-◌, ◌^◌, length, min};
 ghost use Rattle.rv_memory.specs.Memory.{bytes_at};
 ghost use Rattle.mp_request.specs.Table.{request_at};
 ghost use Rattle.part_phase.specs.Phases.{receiving_at};
@@ -20,6 +20,7 @@ use mp_request::{OpenRequest, Partitions, Requests, State, Transfer};
 use mp_types::Request;
 use part_phase::{Contents, Phases, RecvPhase, SendPhase, box_words};
 use rv_image::ImageVersion;
+use rv_memory::RankMemory;
 
 /// What a partitioned request awaits in a phase (MPI 4.1, chapter 4.2).
 #[derive(Clone, Copy, Drop)]
@@ -151,6 +152,14 @@ pub(crate) fn place_at(buffer: u64, part: u8, size: u8) -> u64
     buffer.saturating_add(u64::from(part) * u64::from(size))
 }
 
+/// As many bytes of the memory from an address on as there are and `out` has room for.
+fn read_into<'a>(memory: &RankMemory, address: u64, out: &'a mut [u8]) -> &'a [u8]
+    ensures { result.now ≡ bytes_at memory.now address (length out.old) }
+{
+    let count = memory.read_into(address, out);
+    &out[..count]
+}
+
 /// Bytes as they stand in a box: no more than it has, and 0 behind them.
 fn boxed(version: ImageVersion, bytes: &[u8]) -> Contents
     ensures { result ≡ boxed_of version bytes.now }
@@ -173,9 +182,11 @@ fn contents(standing: &Standing, side: &Partitions, part: u8) -> Contents
     // an address past all others is past the memory too
     prove!(standing.memory.size() <= 1048576);
     let address = place_at(side.buffer, part, side.size);
+    let mut bytes = [0; 255];
+    let size = usize::from(side.size);
     boxed(
         standing.site.version,
-        standing.memory.bytes(address, u64::from(side.size)),
+        read_into(standing.memory, address, &mut bytes[..size]),
     )
 }
 

@@ -1,6 +1,6 @@
 //! Calls that complete several requests together.
 
-ghost use Rattle.std.specs.Prelude.{◌≡◌, ◌<◌, ◌≤◌, [], IsTrue, MatchResult, length};
+ghost use Rattle.std.specs.Prelude.{◌≡◌, ◌<◌, ◌≤◌, ◌+◌, ◌∷◌, [], IsTrue, MatchResult, length};
 ghost use Rattle.std.specs.List.{list_any};
 ghost use Rattle.cl_calls.specs.Checks.{is_array, is_few};
 ghost use Rattle.cl_calls.specs.Needs.{array_at};
@@ -11,7 +11,8 @@ ghost use Rattle.cl_state.specs.Several.{Given, are_fit, completed_each, fits_on
 ghost use Rattle.cl_state.specs.Several.{given_one, got_of, has_posts};
 ghost use Rattle.cl_state.specs.Several.{left_of, pendings, post_of, posts_of, status_of, statuses_of, with_all_bytes};
 ghost use Rattle.cl_state.specs.Told.{completed_all, done, gathered};
-ghost use Rattle.cl_state.specs.Turn.{Becomes, HasArray, handles_of, part_in};
+ghost use Rattle.cl_state.specs.Turn.{Becomes, HasArray, HasPages, handles_of, part_in};
+ghost use Rattle.cl_state.specs.Writes.{IsEnough, how_many, messages_into, several_into, statuses_from};
 ghost use Rattle.cl_state.specs.declared.row.Outcome.TheVariants.{CompletesAll};
 ghost use Rattle.mp_request.specs.Table.{request_at};
 
@@ -22,7 +23,7 @@ use arrayvec::ArrayVec;
 use cl_calls::{ANY, Array, NO_RANK, Several, Site, handles_at, place};
 use mp_request::Requests;
 use mp_types::{Code, Message, Posts, Request};
-use rv_memory::RankMemory;
+use rv_memory::{RankMemory, SparePages};
 use std::alloc::{AllocError, Global};
 
 /// The bytes of all statuses of an array.
@@ -231,6 +232,8 @@ struct Deal<'a> {
     site: &'a Site,
     handles: &'a [u64],
     gots: &'a [Option<Message>],
+    /// Where the statuses are to stand, or 0.
+    address: u64,
 }
 
 /// Writes all bytes, in the array's order, and gathers all statuses. The answer is whether a message was truncated.
@@ -238,13 +241,19 @@ fn write_all(
     deal: &Deal<'_>,
     requests: &Requests,
     memory: &mut RankMemory,
+    spares: &mut SparePages,
     statuses: &mut Statuses,
 ) -> bool
+    requires pages { IsEnough memory.old.pages spares.old
+        (messages_into requests.now deal.now.handles.now deal.now.address) }
     requires few { length deal.now.handles.now ≤ 255 }
     requires empty { statuses.old.items ≡ [] }
     ensures memory { memory.new ≡ with_all_bytes memory.old (given_in deal.now requests.now) }
     ensures statuses { statuses.new.items ≡ statuses_of (given_in deal.now requests.now) }
     ensures truncated { result ≡ list_any (λ (g : Given). g.truncated) (given_in deal.now requests.now) }
+    ensures pages { how_many memory.new.pages + spares.new ≡ how_many memory.old.pages + spares.old }
+    ensures left { IsEnough memory.new.pages spares.new
+        (statuses_from deal.now.address (length deal.now.handles.now) ∷ []) }
 {
     let mut truncated = false;
     let mut rest = deal.handles;
@@ -252,7 +261,7 @@ fn write_all(
     while let Some((handle, after)) = rest.split_first() {
         let pending = pending(requests, *handle);
         let given = Giving::one(deal.site, pending, behind);
-        write_where_right(memory, given.buffer, given.bytes);
+        write_where_right(memory, spares, given.buffer, given.bytes);
         let Ok(()) = statuses.try_extend_from_slice(&given.status()) else {
             unreachable!()
         };
@@ -302,7 +311,8 @@ impl<'a> Turn<'a> {
     /// All requests complete: all bytes are written, then all statuses.
     #[tactic(auto, unfolding(crate::specs::Told::completed_all))]
     fn complete_all(&mut self, value: u64, address: u64, handles: &[u64], gots: &[Option<Message>])
-        requires { length handles.now ≤ 255 }
+        requires few { length handles.now ≤ 255 }
+        requires pages { HasPages self.old (messages_into self.old.requests.now handles.now address) }
         ensures { Becomes self.old self.new
             (completed_all self.old.site.now value address handles.now gots.now (part_in self.old)) }
     {
@@ -310,11 +320,12 @@ impl<'a> Turn<'a> {
             site: self.site,
             handles,
             gots,
+            address,
         };
         let mut statuses = ArrayVec::new();
-        let truncated = write_all(&deal, self.requests, self.memory, &mut statuses);
+        let truncated = write_all(&deal, self.requests, self.memory, self.spares, &mut statuses);
         if address != 0 {
-            write_where_right(self.memory, address, statuses.as_slice());
+            write_where_right(self.memory, self.spares, address, statuses.as_slice());
         }
         let code = if truncated { Code::Truncated } else { Code::Ok };
         close_all(self.requests, handles);
@@ -323,7 +334,8 @@ impl<'a> Turn<'a> {
 
     /// All requests of an array complete, where none needs the hub.
     pub(crate) fn complete_several(&mut self, value: u64, several: Several)
-        requires { HasArray self.old several }
+        requires there { HasArray self.old several }
+        requires pages { HasPages self.old (several_into (part_in self.old) several) }
         ensures { Becomes self.old self.new (done self.old.site.now (CompletesAll value several) (part_in self.old)) }
     {
         let handles = handles_at(self.memory, array(&several));
@@ -332,7 +344,8 @@ impl<'a> Turn<'a> {
 
     /// All requests of an array complete, where each got what it needs.
     pub(crate) fn gather(&mut self, value: u64, several: Several, gots: &[Option<Message>])
-        requires { HasArray self.old several }
+        requires there { HasArray self.old several }
+        requires pages { HasPages self.old (several_into (part_in self.old) several) }
         ensures { Becomes self.old self.new
             (gathered self.old.site.now value several.statuses (handles_of self.old several) gots.now
             (part_in self.old)) }

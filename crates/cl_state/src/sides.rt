@@ -1,6 +1,6 @@
 //! What answers do to partitioned transfers and their phases.
 
-ghost use Rattle.std.specs.Prelude.{◌≡◌, IsTrue, not};
+ghost use Rattle.std.specs.Prelude.{◌≡◌, ◌∷◌, List, [], IsTrue, not};
 ghost use Rattle.mp_request.specs.Table.{IsInactive};
 ghost use Rattle.part_phase.specs.Phases.{sending_at};
 ghost use Rattle.part_phase.specs.Sending.{all_freed};
@@ -9,11 +9,13 @@ ghost use Rattle.cl_calls.specs.declared.calls.Call.TheVariants as call;
 ghost use Rattle.cl_state.specs.Right.{IsRight};
 ghost use Rattle.cl_state.specs.Told.{arrived, cut_known, freed_one, made_receiving, made_sending, part_readied};
 ghost use Rattle.cl_state.specs.Told.{phase_begun, seen_one, taken_one, with_box};
-ghost use Rattle.cl_state.specs.Turn.{Becomes, part_in};
+ghost use Rattle.cl_state.specs.Turn.{Becomes, HasPages, part_in};
+ghost use Rattle.cl_state.specs.declared.writes.Range.{Range};
+ghost use Rattle.cl_state.specs.Writes.{box_into, message_into, statuses_from};
 
 use crate::partitions::{place_at, side_on};
 use crate::pending::{Manner, Target};
-use crate::turn::{Turn, write_status, write_where_right};
+use crate::turn::{Turn, write_where_right};
 use cl_calls::{ANY, Partitioning, place};
 use mp_request::{OpenRequest, Partitions, Progress, State, Transfer};
 use mp_types::Code;
@@ -117,7 +119,8 @@ impl<'a> Turn<'a> {
     /// One more partition was found taken; with the last one the send completes.
     #[tactic(auto, unfolding(crate::specs::Told::freed_one))]
     pub(crate) fn free_part(&mut self, manner: Manner, link: u8, target: Target)
-        requires { IsTrue (not (all_freed (sending_at self.old.phases.now link))) }
+        requires going { IsTrue (not (all_freed (sending_at self.old.phases.now link))) }
+        requires pages { HasPages self.old (message_into target 0) }
         ensures { Becomes self.old self.new (freed_one manner link target (part_in self.old)) }
     {
         self.phases.free_one(link);
@@ -131,6 +134,7 @@ impl<'a> Turn<'a> {
     /// A partitioned receive completes: its status has the source, the tag and all the bytes.
     #[tactic(auto, unfolding(crate::specs::Told::arrived))]
     pub(crate) fn arrive(&mut self, side: &Partitions, target: Target)
+        requires { HasPages self.old (statuses_from target.status 1 ∷ []) }
         ensures { Becomes self.old self.new (arrived self.old.site.now side.now target (part_in self.old)) }
     {
         match place(side.peer, self.site.members(u64::from(side.comm))) {
@@ -138,13 +142,7 @@ impl<'a> Turn<'a> {
             Some(source) => {
                 let _ = self.requests.complete(target.handle);
                 let count = u64::from(side.parts) * u64::from(side.size);
-                write_status(
-                    self.memory,
-                    target.status,
-                    source,
-                    u64::from(side.tag),
-                    count,
-                );
+                self.write_status(target.status, source, u64::from(side.tag), count);
                 self.end(Code::Ok, target.value)
             }
         }
@@ -153,21 +151,28 @@ impl<'a> Turn<'a> {
     /// The bytes of a box that was taken stand behind the buffer, at its number times the sender's size.
     #[tactic(auto, using(crate::proofs::Places::written_at))]
     fn put_box(&mut self, taken: &Taken)
-        ensures { Becomes self.old self.new
+        requires { HasPages self.old (box_into self.old.phases.now taken.now.side taken.now.part ∷ []) }
+        ensures becomes { Becomes self.old self.new
             (with_box taken.now.side taken.now.part taken.now.bytes.now (part_in self.old)) }
+        ensures left { (rs : List Range)
+            → HasPages self.old (box_into self.old.phases.now taken.now.side taken.now.part ∷ rs)
+            → HasPages self.new rs }
     {
         // an address past all others is past the memory too
         prove!(self.memory.size() <= 1048576);
         let side = taken.side;
         let bytes = self.phases.receiving(side.link).bytes;
         let address = place_at(side.buffer, taken.part, bytes);
-        write_where_right(self.memory, address, taken.bytes.first(bytes as usize));
+        let bytes = taken.bytes.first(bytes as usize);
+        write_where_right(self.memory, self.spares, address, bytes);
         self.phases.take_one(side.link, taken.part);
     }
 
     /// A box was taken; with the last one the receive completes.
     #[tactic(auto, unfolding(crate::specs::Told::taken_one))]
     pub(crate) fn take_box(&mut self, manner: Manner, taken: &Taken, target: Target)
+        requires { HasPages self.old
+            (box_into self.old.phases.now taken.now.side taken.now.part ∷ statuses_from target.status 1 ∷ []) }
         ensures { Becomes self.old self.new
             (taken_one self.old.site.now manner taken.now.side taken.now.part target taken.now.bytes.now
             (part_in self.old)) }
@@ -183,6 +188,7 @@ impl<'a> Turn<'a> {
     /// A box was taken: the partition that was asked about has arrived where none of its boxes is left.
     #[tactic(auto, unfolding(crate::specs::Told::seen_one))]
     pub(crate) fn see_box(&mut self, taken: &Taken, asked: u8)
+        requires { HasPages self.old (box_into self.old.phases.now taken.now.side taken.now.part ∷ []) }
         ensures { Becomes self.old self.new
             (seen_one taken.now.side taken.now.part asked taken.now.bytes.now (part_in self.old)) }
     {

@@ -9,12 +9,13 @@ ghost use Rattle.cl_state.specs.Told.{told};
 
 use crate::asking::{Answer, Ask, Doing};
 use crate::telling::{Common, News, tell_hart};
+use crate::turn::Turn;
 use cl_calls::{Call, Site, Standing};
 use mp_request::Requests;
 use mp_types::Stamp;
 use part_phase::Phases;
 use rv_hart::Hart;
-use rv_memory::RankMemory;
+use rv_memory::{RankMemory, SparePages};
 use std::alloc::{AllocError, Global};
 
 /// A rank's parts as they are loaded: what the image fixes, its memory, its harts, its requests and its phases.
@@ -40,12 +41,15 @@ pub struct RankState {
     pub out: Vec<u8>,
     /// The bytes that the next turn puts behind the output, once `room` made them.
     pub fresh: Vec<u8>,
+    /// Pages for what the next turn writes, once `room` made them.
+    pub spares: SparePages,
     pub clock: Stamp,
 }
 
 impl RankState {
     ghost use Rattle.std.specs.Prelude.{[]};
-    ghost use Rattle.cl_state.specs.Room.{HasRoom, IsNext, IsStanding, rank_of};
+    ghost use Rattle.cl_state.specs.Room.{HasRoom, HasRoomBehind, IsNext, IsStanding, rank_of, writes_of};
+    ghost use Rattle.cl_state.specs.Writes.{missing_for};
 
     /// A rank with these parts, with no output, at clock 0.
     pub fn new(alloc: Global, parts: RankParts) -> RankState
@@ -77,6 +81,7 @@ impl RankState {
             phases,
             out: Vec::new(alloc),
             fresh: Vec::new(alloc),
+            spares: SparePages::new(alloc),
             clock: 0,
         }
     }
@@ -142,13 +147,37 @@ impl RankState {
         }
     }
 
-    /// Makes all growths of the hart's next turn. The rank stays as it is. Where nothing grows nothing is refused.
+    /// How many pages that the hart's turn may write aren't there, summed over its ranges. The rank stays as it is.
+    fn missing_pages(&mut self, hart: u8, doing: &Doing) -> usize
+        requires next { IsNext self.old hart doing.now }
+        requires room { HasRoomBehind self.old hart }
+        ensures missing { result ≡ missing_for self.old.memory.pages (writes_of self.old hart) }
+        ensures same { self.new ≡ self.old }
+    {
+        let mut at = self.harts[hart as usize];
+        let turn = Turn {
+            site: &self.site,
+            number: hart,
+            fresh: self.fresh.as_slice(),
+            hart: &mut at,
+            memory: &mut self.memory,
+            spares: &mut self.spares,
+            requests: &mut self.requests,
+            phases: &mut self.phases,
+            out: &mut self.out,
+        };
+        turn.missing_pages(doing)
+    }
+
+    /// Makes all growths of the hart's next turn, and spare pages for what it may write where none are. The rank stays
+    /// as it is. Where nothing grows, and no page is missing, nothing is refused.
     pub fn room(&mut self, hart: u8) -> Result<(), AllocError>
         requires { hart < vec_len self.old.harts }
         ensures same { rank_of self.new ≡ rank_of self.old }
         ensures harts { vec_len self.new.harts ≡ vec_len self.old.harts }
         ensures room { OnOk result (HasRoom self.new hart) }
-        ensures sure { growth_of (doing_of self.old.site (part_of (rank_of self.old) hart)) ≡ 0 → IsOk result }
+        ensures sure { growth_of (doing_of self.old.site (part_of (rank_of self.old) hart)) ≡ 0
+            → missing_for self.old.memory.pages (writes_of self.old hart) ≡ 0 → IsOk result }
     {
         let doing = self.next(hart);
         self.room_next(hart, &doing)
@@ -160,6 +189,21 @@ impl RankState {
         ensures same { rank_of self.new ≡ rank_of self.old }
         ensures harts { vec_len self.new.harts ≡ vec_len self.old.harts }
         ensures room { OnOk result (HasRoom self.new hart) }
+        ensures sure { growth_of doing.now ≡ 0
+            → missing_for self.old.memory.pages (writes_of self.old hart) ≡ 0 → IsOk result }
+        ensures next { IsNext self.new hart doing.now }
+    {
+        self.room_behind(hart, doing)?;
+        let missing = self.missing_pages(hart, doing);
+        self.spares.make_up_to(missing)
+    }
+
+    /// Makes the bytes that the turn puts behind the output, and room for them there.
+    fn room_behind(&mut self, hart: u8, doing: &Doing) -> Result<(), AllocError>
+        requires { IsNext self.old hart doing.now }
+        ensures same { rank_of self.new ≡ rank_of self.old }
+        ensures harts { vec_len self.new.harts ≡ vec_len self.old.harts }
+        ensures room { OnOk result (HasRoomBehind self.new hart) }
         ensures sure { growth_of doing.now ≡ 0 → IsOk result }
         ensures next { IsNext self.new hart doing.now }
     {
@@ -205,6 +249,7 @@ impl RankState {
         };
         let mut common = Common {
             memory: &mut self.memory,
+            spares: &mut self.spares,
             requests: &mut self.requests,
             phases: &mut self.phases,
             out: &mut self.out,

@@ -3,8 +3,10 @@
 ghost use Rattle.std.specs.Prelude.{◌≡◌, ◌≤◌, ◌+◌, length, vec_capacity, vec_len};
 ghost use Rattle.cl_state.specs.Right.{IsChecked, IsRunning, output_of};
 ghost use Rattle.cl_state.specs.Told.{done, replied, told_in, told_row, visited};
-ghost use Rattle.cl_state.specs.Turn.{Becomes, IsAble, IsReady, IsRow, IsVisitable, IsWantable, KeepsPlaces};
+ghost use Rattle.cl_state.specs.Turn.{Becomes, HasPages, IsAble, IsReady, IsRow, IsVisitable, IsWantable};
+ghost use Rattle.cl_state.specs.Turn.{KeepsPlaces};
 ghost use Rattle.cl_state.specs.Turn.{part_in, part_with, told_by};
+ghost use Rattle.cl_state.specs.Writes.{IsEnough, writes_at_once, writes_by, writes_in, writes_on_box, writes_on_reply};
 
 use crate::asking::{Answer, Doing};
 use crate::pending::Manner;
@@ -18,12 +20,13 @@ use mp_request::Requests;
 use mp_types::{Code, Reply};
 use part_phase::Phases;
 use rv_hart::{Hart, Mode};
-use rv_memory::RankMemory;
+use rv_memory::{RankMemory, SparePages};
 
 impl<'a> Turn<'a> {
     /// What is done at once.
     fn act(&mut self, outcome: Outcome)
-        requires { IsAble self.old outcome }
+        requires able { IsAble self.old outcome }
+        requires pages { HasPages self.old (writes_at_once (part_in self.old) outcome) }
         ensures { Becomes self.old self.new (done self.old.site.now outcome (part_in self.old)) }
     {
         match outcome {
@@ -47,7 +50,8 @@ impl<'a> Turn<'a> {
 
     /// What a reply does where it is wanted. Any other doesn't fit.
     fn take(&mut self, wanted: Wanted, reply: &Reply)
-        requires { IsWantable self.old wanted }
+        requires wantable { IsWantable self.old wanted }
+        requires pages { HasPages self.old (writes_on_reply (part_in self.old) wanted) }
         ensures { Becomes self.old self.new (replied self.old.site.now wanted reply.now (part_in self.old)) }
     {
         match (wanted, reply) {
@@ -93,7 +97,8 @@ impl<'a> Turn<'a> {
 
     /// What the answer of a box does. Any other doesn't fit.
     fn visit(&mut self, visit: Visit, answer: &Answer)
-        requires { IsVisitable self.old visit }
+        requires visitable { IsVisitable self.old visit }
+        requires pages { HasPages self.old (writes_on_box (part_in self.old) visit) }
         ensures { Becomes self.old self.new (visited self.old.site.now visit answer.now (part_in self.old)) }
     {
         match (visit, answer) {
@@ -131,7 +136,8 @@ impl<'a> Turn<'a> {
 
     /// What a row does with the answer. NotYet and a code are told alike to all calls.
     fn answer(&mut self, row: Row, answer: &Answer)
-        requires { IsRow self.old row }
+        requires row { IsRow self.old row }
+        requires pages { HasPages self.old (writes_by (part_in self.old) row) }
         ensures { Becomes self.old self.new (told_row self.old.site.now row answer.now (part_in self.old)) }
     {
         match row {
@@ -149,7 +155,9 @@ impl<'a> Turn<'a> {
     /// The turn is answered what it asked.
     #[tactic(auto, using(crate::proofs::Ready::row_of_ready))]
     fn finish(&mut self, doing: &Doing, answer: &Answer)
-        requires { IsReady self.old doing.now }
+        requires ready { IsReady self.old doing.now }
+        requires pages { HasPages self.old
+            (writes_in self.old.site.now self.old.number doing.now (part_in self.old)) }
         ensures { Becomes self.old self.new
             (told_in self.old.site.now self.old.number doing.now answer.now (part_in self.old)) }
     {
@@ -173,6 +181,7 @@ pub(crate) struct News<'a> {
 #[derive(Drop)]
 pub(crate) struct Common<'a> {
     pub(crate) memory: &'a mut RankMemory,
+    pub(crate) spares: &'a mut SparePages,
     pub(crate) requests: &'a mut Requests,
     pub(crate) phases: &'a mut Phases,
     pub(crate) out: &'a mut Vec<u8>,
@@ -185,6 +194,8 @@ pub(crate) fn tell_hart(news: &News, hart: &mut Hart, common: &mut Common)
         news.now.doing.now }
     requires fresh { news.now.fresh.now ≡ output_of common.old.memory.now news.now.doing.now }
     requires room { vec_len common.old.out.now + length news.now.fresh.now ≤ vec_capacity common.old.out.now }
+    requires pages { IsEnough common.old.memory.now.pages common.old.spares.now
+        (writes_in news.now.site.now news.now.number news.now.doing.now (part_with hart.old common.old)) }
     ensures told { part_with hart.new common.new ≡ told_by news.now (part_with hart.old common.old) }
     ensures places { KeepsPlaces common.old common.new }
 {
@@ -194,6 +205,7 @@ pub(crate) fn tell_hart(news: &News, hart: &mut Hart, common: &mut Common)
         fresh: news.fresh,
         hart,
         memory: &mut *common.memory,
+        spares: &mut *common.spares,
         requests: &mut *common.requests,
         phases: &mut *common.phases,
         out: &mut *common.out,

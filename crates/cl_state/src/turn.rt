@@ -1,6 +1,6 @@
 //! A hart's turn under way: what it reads, and the part of its rank that it changes.
 
-ghost use Rattle.std.specs.Prelude.{◌≡◌, ◌≤◌, ◌+◌, ◌++◌, IsTrue, length, nat_lt, take, vec_capacity, vec_len};
+ghost use Rattle.std.specs.Prelude.{◌≡◌, ◌≤◌, ◌+◌, ◌++◌, ◌∷◌, [], IsTrue, length, nat_lt, take, vec_capacity, vec_len};
 ghost use Rattle.rv_hart.specs.declared.state.Mode.TheVariants.{Running};
 ghost use Rattle.rv_memory.specs.Memory.{bytes_of};
 ghost use Rattle.mp_request.specs.Entries.{is_new};
@@ -9,7 +9,8 @@ ghost use Rattle.cl_state.specs.declared.row.Outcome.TheVariants as outcome;
 ghost use Rattle.cl_state.specs.Told.{again, done, ended, found as found_by, found_nothing, freed};
 ghost use Rattle.cl_state.specs.Told.{not_yet as not_yet_of};
 ghost use Rattle.cl_state.specs.Told.{opened, received, received_message, returned, waiting, with_status};
-ghost use Rattle.cl_state.specs.Turn.{Becomes, IsAble, part_in};
+ghost use Rattle.cl_state.specs.Turn.{Becomes, HasPages, IsAble, part_in, with_memory};
+ghost use Rattle.cl_state.specs.Writes.{IsEnough, bytes_from, how_many, message_into, statuses_from, writes_at_once};
 ghost use Rattle.cl_state.specs.Written.{written as written_in};
 
 use crate::pending::{Manner, Target};
@@ -18,8 +19,8 @@ use mp_request::{OpenRequest, Progress, Requests};
 use mp_types::{Code, Envelope, Message};
 use part_phase::Phases;
 use rv_decode::Reg;
-use rv_hart::{Hart, Mode, Wait, step};
-use rv_memory::RankMemory;
+use rv_hart::{Hart, Mode, Wait, step_with};
+use rv_memory::{RankMemory, SparePages};
 
 /// A hart's turn under way: what it reads, and the part of its rank that it changes.
 #[derive(Drop)]
@@ -31,6 +32,8 @@ pub(crate) struct Turn<'a> {
     pub(crate) fresh: &'a [u8],
     pub(crate) hart: &'a mut Hart,
     pub(crate) memory: &'a mut RankMemory,
+    /// Pages for what the turn writes.
+    pub(crate) spares: &'a mut SparePages,
     pub(crate) requests: &'a mut Requests,
     pub(crate) phases: &'a mut Phases,
     pub(crate) out: &'a mut Vec<u8>,
@@ -48,12 +51,19 @@ fn return_to(hart: &mut Hart, code: Code, value: u64)
     hart.set_mode(Mode::Running);
 }
 
-/// Writes bytes where they may be.
-pub(crate) fn write_where_right(memory: &mut RankMemory, address: u64, bytes: &[u8])
-    ensures { memory.new ≡ written_in memory.old address bytes.now }
+/// Writes bytes where they may be, in pages that are there or are spare. Takes no memory.
+pub(crate) fn write_where_right(
+    memory: &mut RankMemory,
+    spares: &mut SparePages,
+    address: u64,
+    bytes: &[u8],
+)
+    requires { IsEnough memory.old.pages spares.old (bytes_from address (length bytes.now) ∷ []) }
+    ensures written { memory.new ≡ written_in memory.old address bytes.now }
+    ensures pages { how_many memory.new.pages + spares.new ≡ how_many memory.old.pages + spares.old }
 {
     if !bytes.is_empty() {
-        let _ = memory.write_bytes(address, bytes);
+        let _ = memory.write_with(spares, address, bytes);
     }
 }
 
@@ -88,17 +98,20 @@ pub(crate) fn status_bytes(source: u64, tag: u64, count: u64) -> [u8; 24]
     ]
 }
 
-#[tactic(auto, unfolding(crate::specs::Told::with_status))]
-pub(crate) fn write_status(memory: &mut RankMemory, address: u64, source: u64, tag: u64, count: u64)
-    ensures { memory.new ≡ with_status memory.old address source tag count }
-{
-    if address != 0 {
-        let bytes = status_bytes(source, tag, count);
-        write_where_right(memory, address, &bytes);
-    }
-}
-
 impl<'a> Turn<'a> {
+    /// Writes a status, where one is wanted.
+    #[tactic(auto, unfolding(crate::specs::Told::with_status))]
+    pub(crate) fn write_status(&mut self, address: u64, source: u64, tag: u64, count: u64)
+        requires { HasPages self.old (statuses_from address 1 ∷ []) }
+        ensures { Becomes self.old self.new
+            (with_memory (part_in self.old) (with_status self.old.memory.now address source tag count)) }
+    {
+        if address != 0 {
+            let bytes = status_bytes(source, tag, count);
+            write_where_right(self.memory, self.spares, address, &bytes);
+        }
+    }
+
     /// Ends the call with a code and a value.
     pub(crate) fn end(&mut self, code: Code, value: u64)
         ensures { Becomes self.old self.new (ended code value (part_in self.old)) }
@@ -135,12 +148,14 @@ impl<'a> Turn<'a> {
     /// A receive completes with these bytes, and with it the target's request.
     #[tactic(auto, unfolding(crate::specs::Told::received))]
     pub(crate) fn receive(&mut self, target: Target, source: u64, tag: u64, bytes: &[u8])
+        requires { HasPages self.old (message_into target (length (take target.capacity bytes.now))) }
         ensures { Becomes self.old self.new (received target source tag bytes.now (part_in self.old)) }
     {
         let _ = self.requests.complete(target.handle);
         let kept = kept(target.capacity, bytes);
-        write_where_right(self.memory, target.buffer, kept);
-        write_status(self.memory, target.status, source, tag, kept.len() as u64);
+        write_where_right(self.memory, self.spares, target.buffer, kept);
+        let count = kept.len() as u64;
+        self.write_status(target.status, source, tag, count);
         if is_longer(target.capacity, bytes) {
             self.end(Code::Truncated, target.value);
         } else {
@@ -151,6 +166,7 @@ impl<'a> Turn<'a> {
     /// A receive completes with a message, whose source has to be a member of its communicator.
     #[tactic(auto, unfolding(crate::specs::Told::received_message))]
     pub(crate) fn receive_message(&mut self, target: Target, message: &Message)
+        requires { HasPages self.old (message_into target target.capacity) }
         ensures { Becomes self.old self.new (received_message self.old.site.now target message.now (part_in self.old)) }
     {
         let envelope = message.envelope;
@@ -166,6 +182,7 @@ impl<'a> Turn<'a> {
     /// A message was found: the call gives this value.
     #[tactic(auto, unfolding(crate::specs::Told::found))]
     pub(crate) fn find(&mut self, value: u64, status: u64, envelope: Envelope)
+        requires { HasPages self.old (statuses_from status 1 ∷ []) }
         ensures { Becomes self.old self.new (found_by self.old.site.now value status envelope (part_in self.old)) }
     {
         match place(envelope.source, self.site.members(u64::from(envelope.comm))) {
@@ -173,7 +190,7 @@ impl<'a> Turn<'a> {
             Some(source) => {
                 let tag = u64::from(envelope.tag);
                 let count = u64::from(envelope.count);
-                write_status(self.memory, status, source, tag, count);
+                self.write_status(status, source, tag, count);
                 self.end(Code::Ok, value)
             }
         }
@@ -182,9 +199,10 @@ impl<'a> Turn<'a> {
     /// Nothing comes from the null process, and that is found at once.
     #[tactic(auto, unfolding(crate::specs::Told::found_nothing))]
     pub(crate) fn find_nothing(&mut self, value: u64, status: u64)
+        requires { HasPages self.old (statuses_from status 1 ∷ []) }
         ensures { Becomes self.old self.new (found_nothing value status (part_in self.old)) }
     {
-        write_status(self.memory, status, NO_RANK, ANY, 0);
+        self.write_status(status, NO_RANK, ANY, 0);
         self.end(Code::Ok, value)
     }
 
@@ -236,10 +254,11 @@ impl<'a> Turn<'a> {
 
     /// Does the instruction at the pc.
     pub(crate) fn step(&mut self)
-        requires { self.old.hart.now.mode ≡ Running }
+        requires running { self.old.hart.now.mode ≡ Running }
+        requires pages { HasPages self.old (writes_at_once (part_in self.old) outcome.Steps) }
         ensures { Becomes self.old self.new (done self.old.site.now outcome.Steps (part_in self.old)) }
     {
-        let Ok(_) = step(self.hart, self.memory) else {
+        let Ok(_) = step_with(self.hart, self.memory, self.spares) else {
             unreachable!()
         };
     }
