@@ -1,12 +1,15 @@
 -- The pages that are there, one by one.
-use Rattle.std.proofs.Common.{◌≡◌, ℕ, zero, suc, ◌+◌, ◌<◌, ◌≤◌, List, [], ◌∷◌, ◌++◌, length, get_or, take, drop, refl, ap, sym, ◌∙◌, zero-add, add-zero, add-suc, arith, take-append-drop, drop-cons}
+use Rattle.std.proofs.Common.{◌≡◌, ℕ, zero, suc, ◌+◌, ◌*◌, ◌<◌, ◌≤◌, List, [], ◌∷◌, ◌++◌, length, get_or, take, drop, refl, ap, sym, ◌∙◌, zero-add, add-zero, add-suc, arith, take-append-drop, drop-cons}
 use Rattle.std.specs.Int.{bytes_low_first}
 use Rattle.std.proofs.lemmas.Grind.{common_steps}
+use Rattle.std.proofs.lemmas.Bool.Decides.{nat_tests}
 use Rattle.std.proofs.Math.ListN.{set}
 use Rattle.std.specs.Prelude.{Bool, true, false, not, ◌||◌, ◌&&◌, if◌then◌else◌}
 use Rattle.rv_memory.specs.Memory.{Memory, with_bytes, with_pages, overwritten, bytes_of}
-use Rattle.rv_memory.specs.Access.{stored}
-use Rattle.rv_memory.specs.Pages.{touches, written_from, missing_from}
+use Rattle.rv_memory.specs.Access.{stored, IsWritable, IsPresent, is_inside}
+use Rattle.std.specs.Prelude.{IsTrue, nat_le, ◌==◌}
+use Rattle.std.proofs.Common.{rules}
+use Rattle.rv_memory.specs.Pages.{touches, written_from, missing_from, missing_pages}
 
 pub written_from-length : (page : ℕ) (pages : List Bool) (address count : ℕ) → length (written_from page pages address count) ≡ length pages
 written_from-length page [] address count = refl
@@ -35,6 +38,9 @@ pub written_from-twice : (page : ℕ) (pages : List Bool) (address count : ℕ) 
 written_from-twice page [] address count = refl
 written_from-twice page (there ∷ pages) address count =
     rw (written_from-twice (suc page) pages address count, or-twice there (touches address count page)) refl
+
+pub overwritten-none : (xs : List ℕ) (at : ℕ) → overwritten xs at [] ≡ xs
+overwritten-none xs at = grind (arith, common_steps, take-append-drop)
 
 -- no bytes written are no change
 pub with_no_bytes : (memory : Memory) (address : ℕ) → with_bytes memory address [] ≡ memory
@@ -122,3 +128,78 @@ front-same (w ∷ ws) (q ∷ ps) zero p long here = ap (λ x. x ∷ ps) (sym her
 front-same (w ∷ ws) (q ∷ ps) (suc i) p long here =
     let e : suc i + 1 ≡ suc (i + 1) = omega arith in
     rw e (ap (λ xs. w ∷ xs) (front-same ws ps i (omega (arith, p)) (omega (arith, long)) here))
+
+touches-below : (a c k : ℕ) → a + c ≤ k * 4096 → touches a c k ≡ false
+touches-below a c k p = grind (arith, nat_tests)
+
+touches-above : (a c k : ℕ) → (k + 1) * 4096 ≤ a → touches a c k ≡ false
+touches-above a c k p = grind (arith, nat_tests)
+
+pub touches-in : (a c k : ℕ) → 0 < c → k * 4096 < a + c → a < (k + 1) * 4096 → touches a c k ≡ true
+touches-in a c k p q r = grind (arith, nat_tests)
+
+or-false : (a : Bool) → (a || false) ≡ a
+or-false true = refl
+or-false false = refl
+
+or-true : (a : Bool) → (a || true) ≡ true
+or-true true = refl
+or-true false = refl
+
+-- pages above a range stay
+written-above : (k : ℕ) (pages : List Bool) (a c : ℕ) → a + c ≤ k * 4096 → written_from k pages a c ≡ pages
+written-above k [] a c p = refl
+written-above k (t ∷ pages) a c p = rw (touches-below a c k p, or-false t, written-above (suc k) pages a c (omega (arith, p))) refl
+
+-- a range in one page makes that page
+pub written-one : (k p : ℕ) (pages : List Bool) (a c : ℕ) → p < length pages → 0 < c → (k + p) * 4096 ≤ a → a + c ≤ (k + p + 1) * 4096 → written_from k pages a c ≡ set pages p true
+written-one k p [] a c inside some least most = absurd (omega (arith, inside))
+written-one k zero (t ∷ pages) a c inside some least most =
+    rw (touches-in a c k some (omega (arith, some, least)) (omega (arith, some, most)), or-true t, written-above (suc k) pages a c (omega (arith, most))) refl
+written-one k (suc p) (t ∷ pages) a c inside some least most =
+    rw (touches-above a c k (omega (arith, least)), or-false t) (ap (λ xs. t ∷ xs) (written-one (suc k) p pages a c (omega (arith, inside)) some (omega (arith, least)) (omega (arith, most))))
+
+-- where no page is missing, one that is touched is there
+pub missing-there : (k p : ℕ) (pages : List Bool) (a c : ℕ) → missing_from k pages a c ≡ 0 → p < length pages → touches a c (k + p) ≡ true → get_or pages p false ≡ true
+missing-there k p [] a c none inside here = absurd (omega (arith, inside))
+missing-there k zero (true ∷ pages) a c none inside here = refl
+missing-there k zero (false ∷ pages) a c none inside here =
+    let e : touches a c k ≡ true = rw (← add-zero k) here in
+    absurd (omega (arith, rw e at none))
+missing-there k (suc p) (t ∷ pages) a c none inside here =
+    let e : k + suc p ≡ suc k + p = omega arith in
+    missing-there (suc k) p pages a c (omega (arith, none)) (omega (arith, inside)) (rw (← e) here)
+
+pub front-get : (ws ps : List Bool) (i : ℕ) → i < length ps → length ws ≡ length ps → get_or (take i ws ++ drop i ps) i false ≡ get_or ps i false
+front-get [] [] i p long = absurd (omega (arith, p))
+front-get [] (q ∷ ps) i p long = absurd (omega (arith, long))
+front-get (w ∷ ws) [] i p long = absurd (omega (arith, long))
+front-get (w ∷ ws) (q ∷ ps) zero p long = refl
+front-get (w ∷ ws) (q ∷ ps) (suc i) p long = front-get ws ps i (omega (arith, p)) (omega (arith, long))
+
+present-bit : (t x : Bool) → ◌≡◌ {A = ℕ} (if (x && not t) then 1 else 0) 0 → (t || x) ≡ t
+present-bit true x e = refl
+present-bit false true e = absurd (omega (arith, e))
+present-bit false false e = refl
+
+-- where no page is missing a write makes none
+pub written-present : (k : ℕ) (pages : List Bool) (a c : ℕ) → missing_from k pages a c ≡ 0 → written_from k pages a c ≡ pages
+written-present k [] a c none = refl
+written-present k (t ∷ pages) a c none =
+    rw (present-bit t (touches a c k) (omega (arith, none)), written-present (suc k) pages a c (omega (arith, none))) refl
+
+writable-go : (zero inside front : Bool) → zero ≡ false → IsTrue (zero || (inside && front)) → (inside ≡ true) × (front ≡ true)
+writable-go true inside front z w = absurd (search rules)
+writable-go false true true z w = (refl, refl)
+writable-go false true false z w = absurd (search rules)
+writable-go false false front z w = absurd (search rules)
+
+pub writable-inside : (memory : Memory) (a n : ℕ) → 0 < n → IsWritable memory a n → a + n ≤ length memory.bytes
+writable-inside memory a n some w =
+    let h = writable-go (n == 0) (is_inside memory a n) (nat_le memory.text a) (grind (arith, nat_tests)) w in
+    grind (arith, nat_tests, h.0)
+
+pub present-none : (memory : Memory) (a n : ℕ) → 0 < n → IsPresent memory a n → missing_pages memory.pages a n ≡ 0
+present-none memory a n some w =
+    let h = writable-go (n == 0) (is_inside memory a n) (missing_pages memory.pages a n == 0) (grind (arith, nat_tests)) w in
+    grind (arith, nat_tests, h.1)

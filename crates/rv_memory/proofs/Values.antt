@@ -30,7 +30,7 @@ value_at-below xs a (suc n) small =
 from_le_bytes-value_at : (xs : List ℕ) → from_le_bytes w64 xs ≡ value_at xs 0 8
 from_le_bytes-value_at xs = omega arith
 
-get_or-zeros : (k i : ℕ) → get_or {A = ℕ} (replicate k 0) i 0 ≡ 0
+pub get_or-zeros : (k i : ℕ) → get_or {A = ℕ} (replicate k 0) i 0 ≡ 0
 get_or-zeros zero i = refl
 get_or-zeros (suc k) zero = refl
 get_or-zeros (suc k) (suc i) = get_or-zeros k i

@@ -1,6 +1,7 @@
 -- What a memory is, what its loads and stores answer, and worked values.
 pub mod Fault
 pub mod Pages
+pub mod Held
 pub mod Memory
 pub mod Access
 pub mod Worked

@@ -4,6 +4,7 @@
 
 pub mod fault;
 pub mod memory;
+mod page;
 mod pages;
 pub mod spares;
 

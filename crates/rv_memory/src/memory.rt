@@ -11,7 +11,8 @@ ghost use Rattle.rv_memory.specs.Pages.{missing_pages};
 ghost use Rattle.rv_memory.specs.Memory.{loaded_memory};
 
 use crate::fault::{BytesFault, Cause, StoreFault};
-use crate::pages::{loaded, mark, missing};
+use crate::page::{Page, read, store, value};
+use crate::pages;
 use crate::spares::SparePages;
 use std::alloc::{AllocError, Global};
 use std::marker::Model;
@@ -33,7 +34,9 @@ impl Width {
     /// How many bytes it is.
     #[inline(always)]
     pub fn size(self) -> u64
-        ensures { result ≡ size_of self }
+        ensures value { result ≡ size_of self }
+        ensures some { 0 < result }
+        ensures most { result ≤ 8 }
     {
         match self {
             Width::Byte => 1,
@@ -47,74 +50,26 @@ impl Width {
 /// The bytes of a rank, from address 0. The first of them are the text, which no store and no write reaches.
 #[derive(Drop)]
 pub struct RankMemory {
-    bytes: Vec<u8>,
-    pages: Vec<bool>,
-    text: u64,
+    alloc: Global,
+    /// The text once more in one piece, for fetches.
+    text: Vec<u8>,
+    pages: Vec<Option<Page>>,
 }
 
 impl Model for RankMemory {
-    ghost use Rattle.std.specs.Prelude.{◌≡◌, ◌<◌, ◌≤◌, ◌^◌, ◌*◌, length};
+    ghost use Rattle.std.specs.Prelude.{length, map};
+    ghost use Rattle.rv_memory.specs.Held.{all_bytes, is_there, IsHeld};
     ghost use Rattle.rv_memory.specs.Memory.{Memory};
 
     ghost Value = { Memory };
 
-    ghost view = { λ m. record { bytes = m.bytes.items; text = m.text; pages = m.pages.items } };
+    ghost view = { λ m. record {
+      bytes = all_bytes m.pages.items;
+      text = length m.text.items;
+      pages = map is_there m.pages.items;
+    } };
 
-    ghost invariant = { λ m. (m.text ≤ length m.bytes.items) × (4096 ≤ length m.bytes.items)
-        × (length m.bytes.items ≤ 2 ^ 20) × (length m.bytes.items ≡ 4096 * length m.pages.items) };
-}
-
-/// Bytes, 8 at most, with zeros behind them.
-#[inline(always)]
-fn widened(bytes: &[u8]) -> [u8; 8]
-    requires { length bytes.now ≤ 8 }
-    ensures { result ≡ bytes.now ++ replicate (8 - length bytes.now) 0 }
-{
-    let mut wide = [0; 8];
-    wide[..bytes.len()].copy_from_slice(bytes);
-    wide
-}
-
-/// The value of `count` bytes, 8 at most, from a place on. With a constant count it compiles to one load.
-#[inline(always)]
-fn value(bytes: &[u8], at: usize, count: usize) -> u64
-    requires inside { at + count ≤ length bytes.now }
-    requires most { count ≤ 8 }
-    ensures value { result ≡ value_at bytes.now at count }
-    ensures bound { result < 256 ^ count }
-{
-    u64::from_le_bytes(widened(&bytes[at..at + count]))
-}
-
-/// Puts other bytes from a place on.
-#[inline(always)]
-fn put(bytes: &mut [u8], at: usize, new: &[u8])
-    requires { at + length new.now ≤ length bytes.old }
-    ensures { bytes.new ≡ overwritten bytes.old at new.now }
-{
-    bytes[at..at + new.len()].copy_from_slice(new);
-}
-
-/// Puts other bytes from a place on.
-#[inline(always)]
-fn put_bytes(bytes: &mut Vec<u8>, at: usize, new: &[u8])
-    requires { at + length new.now ≤ length bytes.old.items }
-    ensures put { bytes.new.items ≡ overwritten bytes.old.items at new.now }
-    ensures length { length bytes.new.items ≡ length bytes.old.items }
-{
-    put(bytes.as_mut_slice(), at, new);
-}
-
-/// Puts the lowest `count` bytes of a value, 8 at most, from a place on. With a constant count it compiles to one
-/// store.
-#[inline(always)]
-fn put_value(bytes: &mut Vec<u8>, at: usize, value: u64, count: usize)
-    requires inside { at + count ≤ length bytes.old.items }
-    requires most { count ≤ 8 }
-    ensures put { bytes.new.items ≡ overwritten bytes.old.items at (bytes_of value count) }
-    ensures length { length bytes.new.items ≡ length bytes.old.items }
-{
-    put_bytes(bytes, at, &value.to_le_bytes()[..count]);
+    ghost invariant = { λ m. IsHeld m.text.items m.pages.items };
 }
 
 impl RankMemory {
@@ -134,21 +89,13 @@ impl RankMemory {
         ensures { IfOk result (λ memory. memory ≡ loaded_memory size text.now init.now) }
     {
         let start = (text.len() + 15) / 16 * 16;
-        let mut bytes = Vec::from_slice(alloc, text)?;
-        bytes.resize(start, 0)?;
-        bytes.extend_from_slice(init)?;
-        bytes.resize(size, 0)?;
-        let pages = loaded(
-            alloc,
-            size,
-            text.len() as u64,
-            start as u64,
-            init.len() as u64,
-        )?;
+        let mut pages = pages::none(alloc, size / 4096)?;
+        pages::write(&mut pages, alloc, 0, text)?;
+        pages::write(&mut pages, alloc, start, init)?;
         Ok(RankMemory {
-            bytes,
+            alloc,
+            text: Vec::from_slice(alloc, text)?,
             pages,
-            text: text.len() as u64,
         })
     }
 
@@ -156,12 +103,10 @@ impl RankMemory {
     pub fn try_copy(&self, alloc: Global) -> Result<RankMemory, AllocError>
         ensures { IfOk result (λ copy. copy ≡ self.now) }
     {
-        let bytes = Vec::from_slice(alloc, self.bytes.as_slice())?;
-        let pages = Vec::from_slice(alloc, self.pages.as_slice())?;
         Ok(RankMemory {
-            bytes,
-            pages,
-            text: self.text,
+            alloc,
+            text: Vec::from_slice(alloc, self.text.as_slice())?,
+            pages: pages::try_copy(self.pages.as_slice(), alloc)?,
         })
     }
 
@@ -172,7 +117,7 @@ impl RankMemory {
         ensures least { 4096 ≤ result }
         ensures most { result ≤ 2 ^ 20 }
     {
-        self.bytes.len() as u64
+        self.pages.len() as u64 * 4096
     }
 
     /// The word at a pc, or `None` where one of its four bytes isn't text.
@@ -180,10 +125,11 @@ impl RankMemory {
     pub fn text_word(&self, pc: u64) -> Option<u32>
         ensures { result ≡ word_at self.now pc }
     {
-        if self.text < 4 || pc > self.text - 4 {
+        let size = self.text.len() as u64;
+        if size < 4 || pc > size - 4 {
             return None;
         }
-        Some(value(self.bytes.as_slice(), pc as usize, 4) as u32)
+        Some(value(self.text.as_slice(), pc as usize, 4) as u32)
     }
 
     /// The value of the bytes at an address, zero-extended. Traps as `LoadMisaligned` where the address isn't a
@@ -196,29 +142,30 @@ impl RankMemory {
             (λ cause. result ≡ Err cause) }
     {
         match width {
-            Width::Byte => self.load_bytes(address, 1),
-            Width::Half => self.load_bytes(address, 2),
-            Width::Word => self.load_bytes(address, 4),
-            Width::Double => self.load_bytes(address, 8),
+            Width::Byte => self.load_bytes(address, Width::Byte),
+            Width::Half => self.load_bytes(address, Width::Half),
+            Width::Word => self.load_bytes(address, Width::Word),
+            Width::Double => self.load_bytes(address, Width::Double),
         }
     }
 
-    /// A load of `size` bytes.
+    /// A load of a width that is known where this is compiled.
     #[inline(always)]
-    fn load_bytes(&self, address: u64, size: u64) -> Result<u64, Cause>
-        requires some { 0 < size }
-        requires most { size ≤ 8 }
-        ensures value { IfOk result (λ value. value ≡ value_at self.now.bytes address size) }
-        ensures bound { IfOk result (λ value. value < 256 ^ size) }
-        ensures trap { MatchOption (load_trap self.now address size) (IsOk result) (λ cause. result ≡ Err cause) }
+    fn load_bytes(&self, address: u64, width: Width) -> Result<u64, Cause>
+        ensures value { IfOk result (λ value. value ≡ value_at self.now.bytes address (size_of width)) }
+        ensures bound { IfOk result (λ value. value < 256 ^ size_of width) }
+        ensures trap { MatchOption (load_trap self.now address (size_of width)) (IsOk result)
+            (λ cause. result ≡ Err cause) }
     {
+        let size = width.size();
         if address % size != 0 {
             return Err(Cause::LoadMisaligned);
         }
         if address > self.size() - size {
             return Err(Cause::LoadAccess);
         }
-        Ok(value(self.bytes.as_slice(), address as usize, size as usize))
+        let page = &self.pages[(address / 4096) as usize];
+        Ok(read(page, (address % 4096) as usize, size as usize))
     }
 
     /// The trap of a store, or `None` where it doesn't trap: `StoreMisaligned` where the address isn't a multiple of the
@@ -248,33 +195,32 @@ impl RankMemory {
         ensures takes_no_memory { IsPresent self.old address (size_of width) → result ≢ Err StoreFault.Memory }
     {
         match width {
-            Width::Byte => self.store_bytes(address, 1, value),
-            Width::Half => self.store_bytes(address, 2, value),
-            Width::Word => self.store_bytes(address, 4, value),
-            Width::Double => self.store_bytes(address, 8, value),
+            Width::Byte => self.store_bytes(address, Width::Byte, value),
+            Width::Half => self.store_bytes(address, Width::Half, value),
+            Width::Word => self.store_bytes(address, Width::Word, value),
+            Width::Double => self.store_bytes(address, Width::Double, value),
         }
     }
 
-    /// A store of `size` bytes.
+    /// A store of a width that is known where this is compiled.
     #[inline(always)]
-    fn store_bytes(&mut self, address: u64, size: u64, value: u64) -> Result<(), StoreFault>
-        requires some { 0 < size }
-        requires most { size ≤ 8 }
-        ensures stored { OnOk result (self.new ≡ stored self.old address size value) }
-        ensures trap { MatchOption (store_trap self.old address size) (result ≢ Err StoreFault.Memory → IsOk result)
+    fn store_bytes(&mut self, address: u64, width: Width, value: u64) -> Result<(), StoreFault>
+        ensures stored { OnOk result (self.new ≡ stored self.old address (size_of width) value) }
+        ensures trap { MatchOption (store_trap self.old address (size_of width)) (result ≢ Err StoreFault.Memory → IsOk result)
             (λ cause. result ≡ Err (StoreFault.Trap cause)) }
         ensures unchanged { OnErr result (self.new ≡ self.old) }
-        ensures takes_no_memory { IsPresent self.old address size → result ≢ Err StoreFault.Memory }
+        ensures takes_no_memory { IsPresent self.old address (size_of width) → result ≢ Err StoreFault.Memory }
     {
+        let size = width.size();
         if address % size != 0 {
             return Err(StoreFault::Trap(Cause::StoreMisaligned));
         }
-        if address > self.size() - size || address < self.text {
+        if address > self.size() - size || address < self.text.len() as u64 {
             return Err(StoreFault::Trap(Cause::StoreAccess));
         }
-        put_value(&mut self.bytes, address as usize, value, size as usize);
-        mark(&mut self.pages, address, size);
-        Ok(())
+        let page = &mut self.pages[(address / 4096) as usize];
+        let at = (address % 4096) as usize;
+        store(page, self.alloc, at, value, size as usize)
     }
 
     /// The value of the 8 bytes at an address in the memory, which needs no alignment.
@@ -282,7 +228,9 @@ impl RankMemory {
         requires { address + 8 ≤ length self.now.bytes }
         ensures { result ≡ value_at self.now.bytes address 8 }
     {
-        value(self.bytes.as_slice(), address as usize, 8)
+        let mut bytes = [0; 8];
+        pages::copy(self.pages.as_slice(), address as usize, &mut bytes);
+        value(&bytes, 0, 8)
     }
 
     /// Whether `count` bytes from an address on may be read, or with `writing` be written: they are all in the memory
@@ -296,7 +244,7 @@ impl RankMemory {
         if count > self.size() || address > self.size() - count {
             return false;
         }
-        !writing || self.text <= address
+        !writing || self.text.len() as u64 <= address
     }
 
     /// Whether a write of `count` bytes from an address on takes no memory: they are all in the memory, and the pages
@@ -312,7 +260,7 @@ impl RankMemory {
         ensures value { result ≡ missing_pages self.now.pages address count }
         ensures most { result ≤ 256 }
     {
-        missing(self.pages.as_slice(), address, count)
+        pages::missing(self.pages.as_slice(), address, count)
     }
 
     /// Puts the bytes from an address on into the front of `out`, as many as are in the memory and `out` has room for,
@@ -324,9 +272,8 @@ impl RankMemory {
         if address >= self.size() {
             return 0;
         }
-        let at = address as usize;
-        let count = out.len().min(self.bytes.len() - at);
-        put(out, 0, &self.bytes[at..at + count]);
+        let count = out.len().min((self.size() - address) as usize);
+        pages::copy(self.pages.as_slice(), address as usize, &mut out[..count]);
         count
     }
 
@@ -343,11 +290,21 @@ impl RankMemory {
         if count == 0 {
             return Ok(Vec::new(alloc));
         }
-        let at = address as usize;
-        match Vec::from_slice(alloc, &self.bytes[at..at + count as usize]) {
+        match self.read_out(alloc, address as usize, count as usize) {
             Ok(bytes) => Ok(bytes),
             Err(_) => Err(BytesFault::Memory),
         }
+    }
+
+    /// A copy of bytes that are in the memory.
+    fn read_out(&self, alloc: Global, address: usize, count: usize) -> Result<Vec<u8>, AllocError>
+        requires { address + count ≤ length self.now.bytes }
+        ensures { IfOk result (λ bytes. bytes.items ≡ bytes_at self.now address count) }
+    {
+        let mut bytes = Vec::new(alloc);
+        bytes.resize(count, 0)?;
+        pages::copy(self.pages.as_slice(), address, bytes.as_mut_slice());
+        Ok(bytes)
     }
 
     /// Writes all the bytes from an address on, or none. `Range` where one would be outside the memory or in the text;
@@ -362,8 +319,13 @@ impl RankMemory {
         if !self.in_range(address, count, true) {
             return Err(BytesFault::Range);
         }
-        self.fill(address, bytes);
-        Ok(())
+        if bytes.is_empty() {
+            return Ok(());
+        }
+        match pages::write(&mut self.pages, self.alloc, address as usize, bytes) {
+            Ok(()) => Ok(()),
+            Err(_) => Err(BytesFault::Memory),
+        }
     }
 
     /// Writes all the bytes from an address on, or none, in pages that are there or are spare. Takes no memory. `Range`
@@ -409,19 +371,18 @@ impl RankMemory {
         if spares.len() < missing {
             return false;
         }
-        spares.take(missing);
-        mark(&mut self.pages, address, count);
+        pages::place(&mut self.pages, spares, address, count);
         true
     }
 
-    /// Writes bytes that are right.
+    /// Writes bytes that are right into pages that are there.
     fn fill(&mut self, address: u64, bytes: &[u8])
-        requires { IsWritable self.old address (length bytes.now) }
+        requires right { IsWritable self.old address (length bytes.now) }
+        requires present { missing_pages self.old.pages address (length bytes.now) ≡ 0 }
         ensures { self.new ≡ with_bytes self.old address bytes.now }
     {
         if !bytes.is_empty() {
-            put_bytes(&mut self.bytes, address as usize, bytes);
-            mark(&mut self.pages, address, bytes.len() as u64);
+            pages::fill(&mut self.pages, address as usize, bytes);
         }
     }
 }

@@ -1,7 +1,13 @@
-//! The pages of a memory that a range of bytes touches.
-ghost use Rattle.std.specs.Prelude.{◌≡◌, ◌≤◌, ◌<◌, ◌^◌, ◌/◌, length, replicate, false, IfOk};
+//! The pages of a memory, and the ranges of bytes that touch them.
+ghost use Rattle.std.specs.Prelude.{◌≡◌, ◌+◌, ◌-◌, ◌*◌, ◌/◌, ◌<◌, ◌≤◌, ◌^◌, length, map, take, drop, replicate, true};
+ghost use Rattle.std.specs.Prelude.{◌&&◌, ◌||◌, if◌then◌else◌, not};
+ghost use Rattle.std.specs.Prelude.{IfOk, OnOk, OnErr, IsOk, None, Option};
+ghost use Rattle.rv_memory.specs.Held.{page_bytes, is_there, all_bytes, AreWhole};
+ghost use Rattle.rv_memory.specs.Memory.{overwritten};
 ghost use Rattle.rv_memory.specs.Pages.{touches as touches_page, written_pages, missing_pages};
 
+use crate::page::{Page, is_missing, put};
+use crate::spares::SparePages;
 use std::alloc::{AllocError, Global};
 
 /// Whether one at least of `count` bytes from an address on is in a page.
@@ -14,50 +20,210 @@ fn touches(address: u64, count: u64, page: usize) -> bool
     0 < count && start < address.saturating_add(count) && address < start + 4096
 }
 
-/// The pages that `count` bytes from an address on touch are there.
-pub(crate) fn mark(pages: &mut Vec<bool>, address: u64, count: u64)
-    requires { length pages.old.items ≤ 2 ^ 20 }
-    ensures written { pages.new.items ≡ written_pages pages.old.items address count }
-    ensures length { length pages.new.items ≡ length pages.old.items }
+/// So many pages, none of which is there.
+pub(crate) fn none(alloc: Global, count: usize) -> Result<Vec<Option<Page>>, AllocError>
+    ensures { IfOk result (λ pages. pages.items ≡ replicate count None) }
 {
-    for page in 0..pages.len() {
-        if touches(address, count, page) {
-            pages[page] = true;
-        }
+    let mut pages = Vec::new(alloc);
+    for _page in 0..count {
+        pages.push(None)?;
     }
+    Ok(pages)
+}
+
+/// 1 for a page that is touched and isn't there, else 0.
+fn missing_page(page: &Option<Page>, touched: bool) -> usize
+    ensures value { result ≡ (if (touched && not (is_there page.now)) then 1 else 0) }
+    ensures most { result ≤ 1 }
+{
+    if touched && is_missing(page) { 1 } else { 0 }
 }
 
 /// How many of the pages that `count` bytes from an address on touch aren't there.
-pub(crate) fn missing(pages: &[bool], address: u64, count: u64) -> usize
+pub(crate) fn missing(pages: &[Option<Page>], address: u64, count: u64) -> usize
     requires { length pages.now ≤ 2 ^ 20 }
-    ensures value { result ≡ missing_pages pages.now address count }
+    ensures value { result ≡ missing_pages (map is_there pages.now) address count }
     ensures most { result ≤ length pages.now }
 {
     let mut missing = 0;
     for page in 0..pages.len() {
-        if touches(address, count, page) && !pages[page] {
-            missing += 1;
-        }
+        missing += missing_page(&pages[page], touches(address, count, page));
     }
     missing
 }
 
-/// The pages of a rank that is loaded.
-pub(crate) fn loaded(
-    alloc: Global,
-    size: usize,
-    text: u64,
-    start: u64,
-    init: u64,
-) -> Result<Vec<bool>, AllocError>
-    requires { size ≤ 2 ^ 20 }
-    ensures pages { IfOk result (λ pages. pages.items
-        ≡ written_pages (written_pages (replicate (size / 4096) false) 0 text) start init) }
-    ensures length { IfOk result (λ pages. length pages.items ≡ size / 4096) }
+/// A page that is touched and isn't there is taken from the spare ones.
+fn place_page(page: &mut Option<Page>, spares: &mut SparePages, touched: bool)
+    requires { (if (touched && not (is_there page.old)) then 1 else 0) ≤ spares.old }
+    ensures bytes { page_bytes page.new ≡ page_bytes page.old }
+    ensures there { is_there page.new ≡ (is_there page.old || touched) }
+    ensures taken { spares.new + (if (touched && not (is_there page.old)) then 1 else 0) ≡ spares.old }
 {
-    let mut pages = Vec::new(alloc);
-    pages.resize(size / 4096, false)?;
-    mark(&mut pages, 0, text);
-    mark(&mut pages, start, init);
-    Ok(pages)
+    if touched && is_missing(page) {
+        *page = spares.take();
+    }
+}
+
+/// The pages that `count` bytes from an address on touch are there: those that weren't are taken from the spare ones.
+pub(crate) fn place(
+    pages: &mut Vec<Option<Page>>,
+    spares: &mut SparePages,
+    address: u64,
+    count: u64,
+)
+    requires most { length pages.old.items ≤ 2 ^ 20 }
+    requires whole { AreWhole pages.old.items }
+    requires enough { missing_pages (map is_there pages.old.items) address count ≤ spares.old }
+    ensures bytes { all_bytes pages.new.items ≡ all_bytes pages.old.items }
+    ensures whole { AreWhole pages.new.items }
+    ensures there { map is_there pages.new.items ≡ written_pages (map is_there pages.old.items) address count }
+    ensures long { length pages.new.items ≡ length pages.old.items }
+    ensures taken { spares.new + missing_pages (map is_there pages.old.items) address count ≡ spares.old }
+{
+    for page in 0..pages.len() {
+        place_page(&mut pages[page], spares, touches(address, count, page));
+    }
+}
+
+/// Puts other bytes from a place on into a page that is there.
+fn put_in(page: &mut Option<Page>, at: usize, new: &[u8])
+    requires inside { at + length new.now ≤ 4096 }
+    requires there { is_there page.old ≡ true }
+    ensures put { page_bytes page.new ≡ overwritten (page_bytes page.old) at new.now }
+    ensures there { is_there page.new ≡ true }
+    ensures length { length (page_bytes page.new) ≡ 4096 }
+{
+    let Some(page) = page else { unreachable!() };
+    page.put(at, new);
+}
+
+/// Writes those bytes from `done` on that are in one page, and says how many are done then.
+fn fill_page(pages: &mut Vec<Option<Page>>, address: usize, bytes: &[u8], done: usize) -> usize
+    requires inside { address + length bytes.now ≤ 4096 * length pages.old.items }
+    requires most { length pages.old.items ≤ 2 ^ 20 }
+    requires whole { AreWhole pages.old.items }
+    requires present { missing_pages (map is_there pages.old.items) address (length bytes.now) ≡ 0 }
+    requires left { done < length bytes.now }
+    ensures more { done < result }
+    ensures end { result ≤ length bytes.now }
+    ensures bytes { all_bytes pages.new.items
+        ≡ overwritten (all_bytes pages.old.items) (address + done) (take (result - done) (drop done bytes.now)) }
+    ensures there { map is_there pages.new.items ≡ map is_there pages.old.items }
+    ensures whole { AreWhole pages.new.items }
+    ensures long { length pages.new.items ≡ length pages.old.items }
+{
+    let at = (address + done) % 4096;
+    let end = bytes.len().min(done + (4096 - at));
+    put_in(&mut pages[(address + done) / 4096], at, &bytes[done..end]);
+    end
+}
+
+/// Writes bytes into pages that are there.
+pub(crate) fn fill(pages: &mut Vec<Option<Page>>, address: usize, bytes: &[u8])
+    requires inside { address + length bytes.now ≤ 4096 * length pages.old.items }
+    requires most { length pages.old.items ≤ 2 ^ 20 }
+    requires whole { AreWhole pages.old.items }
+    requires present { missing_pages (map is_there pages.old.items) address (length bytes.now) ≡ 0 }
+    ensures bytes { all_bytes pages.new.items ≡ overwritten (all_bytes pages.old.items) address bytes.now }
+    ensures there { map is_there pages.new.items ≡ map is_there pages.old.items }
+    ensures whole { AreWhole pages.new.items }
+    ensures long { length pages.new.items ≡ length pages.old.items }
+{
+    let mut done = 0;
+    while done < bytes.len() {
+        done = fill_page(pages, address, bytes, done);
+    }
+}
+
+/// Writes bytes, in pages that are made where they aren't there. The only error is want of memory for these, and leaves
+/// all as it was.
+pub(crate) fn write(
+    pages: &mut Vec<Option<Page>>,
+    alloc: Global,
+    address: usize,
+    bytes: &[u8],
+) -> Result<(), AllocError>
+    requires inside { address + length bytes.now ≤ 4096 * length pages.old.items }
+    requires most { length pages.old.items ≤ 2 ^ 20 }
+    requires whole { AreWhole pages.old.items }
+    ensures bytes { OnOk result
+        (all_bytes pages.new.items ≡ overwritten (all_bytes pages.old.items) address bytes.now) }
+    ensures there { OnOk result (map is_there pages.new.items
+        ≡ written_pages (map is_there pages.old.items) address (length bytes.now)) }
+    ensures whole { OnOk result (AreWhole pages.new.items) }
+    ensures long { OnOk result (length pages.new.items ≡ length pages.old.items) }
+    ensures unchanged { OnErr result (pages.new.items ≡ pages.old.items) }
+    ensures takes_no_memory { missing_pages (map is_there pages.old.items) address (length bytes.now) ≡ 0 → IsOk result }
+{
+    let count = bytes.len() as u64;
+    let mut spares = SparePages::new(alloc);
+    spares.make_up_to(missing(pages.as_slice(), address as u64, count))?;
+    place(pages, &mut spares, address as u64, count);
+    fill(pages, address, bytes);
+    Ok(())
+}
+
+/// Copies `count` bytes of a page from `at` on into `out` from `done` on.
+fn copy_part(page: &Option<Page>, at: usize, out: &mut [u8], done: usize, count: usize)
+    requires inside { at + count ≤ 4096 }
+    requires room { done + count ≤ length out.old }
+    ensures { out.new ≡ overwritten out.old done (take count (drop at (page_bytes page.now))) }
+{
+    match page {
+        Some(page) => put(out, done, &page.bytes()[at..at + count]),
+        None => put(out, done, &[0; 4096][..count]),
+    }
+}
+
+/// Copies those bytes from `done` on that are in one page, and says how many are done then.
+fn copy_page(pages: &[Option<Page>], address: usize, out: &mut [u8], done: usize) -> usize
+    requires inside { address + length out.old ≤ 4096 * length pages.now }
+    requires most { length pages.now ≤ 2 ^ 20 }
+    requires whole { AreWhole pages.now }
+    requires left { done < length out.old }
+    ensures more { done < result }
+    ensures end { result ≤ length out.old }
+    ensures bytes { out.new ≡ overwritten out.old done (take (result - done) (drop (address + done) (all_bytes pages.now))) }
+{
+    let at = (address + done) % 4096;
+    let end = out.len().min(done + (4096 - at));
+    copy_part(&pages[(address + done) / 4096], at, out, done, end - done);
+    end
+}
+
+/// Copies the bytes from an address on into all of `out`.
+pub(crate) fn copy(pages: &[Option<Page>], address: usize, out: &mut [u8])
+    requires inside { address + length out.old ≤ 4096 * length pages.now }
+    requires most { length pages.now ≤ 2 ^ 20 }
+    requires whole { AreWhole pages.now }
+    ensures { out.new ≡ take (length out.old) (drop address (all_bytes pages.now)) }
+{
+    let mut done = 0;
+    while done < out.len() {
+        done = copy_page(pages, address, out, done);
+    }
+}
+
+/// A copy of one page, if it is there.
+fn try_copy_page(page: &Option<Page>, alloc: Global) -> Result<Option<Page>, AllocError>
+    ensures { IfOk result (λ copy. copy ≡ page.now) }
+{
+    match page {
+        Some(page) => Ok(Some(page.try_copy(alloc)?)),
+        None => Ok(None),
+    }
+}
+
+/// The same pages, those that are there in memory of their own. The only error is want of memory.
+pub(crate) fn try_copy(
+    pages: &[Option<Page>],
+    alloc: Global,
+) -> Result<Vec<Option<Page>>, AllocError>
+    ensures { IfOk result (λ copies. copies.items ≡ pages.now) }
+{
+    let mut copies = Vec::new(alloc);
+    for page in pages {
+        copies.push(try_copy_page(page, alloc)?)?;
+    }
+    Ok(copies)
 }

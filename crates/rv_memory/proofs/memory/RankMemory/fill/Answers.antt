@@ -1,12 +1,24 @@
-use Rattle.std.proofs.Common.{◌≡◌, List, [], ◌∷◌, length, sym, arith, refl}
+use Rattle.std.proofs.Common.{◌≡◌, ◌<◌, List, [], ◌∷◌, length, ap, sym, refl, arith}
 use Rattle.std.specs.Prelude.{ℕ}
-use Rattle.rv_memory.specs.Memory.{with_bytes}
-use Rattle.rv_memory.proofs.Marked.{with_no_bytes}
+use Rattle.rv_memory.specs.Held.{all_bytes}
+use Rattle.rv_memory.specs.Memory.{Memory, with_bytes}
+use Rattle.rv_memory.proofs.Marked.{with_no_bytes, writable-inside, written-present}
+use Rattle.rv_memory.proofs.Paged.{all-length}
 use Rattle.rv_memory.proofs.memory.RankMemory.fill.Goals as goal
 
 empty : (xs : List ℕ) → length xs ≡ 0 → xs ≡ []
 empty [] e = refl
 empty (x ∷ xs) e = absurd (omega (arith, e))
+
+pub fill-requires-clause-inside : goal.fill-requires-clause-inside
+fill-requires-clause-inside c =
+    let bytes : length (all_bytes c.self.inside.pages.items) ≡ length c.args.self.now.bytes = ap (λ (m : Memory). length m.bytes) c.self.view_is in
+    let some : 0 < length c.args.bytes.now = grind arith in
+    omega (arith, bytes, all-length c.self.inside.pages.items c.self.invariant.whole, writable-inside c.args.self.now c.args.address (length c.args.bytes.now) some c.requires.right)
+
+pub returns-then-not-is_empty : goal.returns-then-not-is_empty
+returns-then-not-is_empty c =
+    rw (← c.self.view_is, c.fill.ensures.bytes, c.fill.ensures.there, written-present 0 _ c.args.address (length c.args.bytes.now) (rw (← c.self.view_is) at c.requires.present)) refl
 
 pub returns-else-not-is_empty : goal.returns-else-not-is_empty
 returns-else-not-is_empty c =

@@ -1,5 +1,5 @@
 -- The value that is read is that of the bytes at the place, and below 256 to their count.
-use Rattle.rv_memory.proofs.memory.value.Goals as goal
+use Rattle.rv_memory.proofs.page.value.Goals as goal
 use Rattle.std.proofs.Common.{◌≡◌, ◌<◌, ◌≤◌, ℕ, List, length, get_or, drop, ◌+◌, ◌-◌, ◌∙◌, ap, arith, length-take, length-drop}
 use Rattle.std.proofs.lemmas.List.{get_or-take, get_or-drop}
 use Rattle.std.specs.Int.{w64, from_le_bytes}
