@@ -18,3 +18,4 @@ pub mod Tables
 pub mod Taken
 pub mod Turned
 pub mod Went
+pub mod Unstepped

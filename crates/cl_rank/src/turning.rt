@@ -3,6 +3,7 @@
 ghost use Rattle.std.specs.Prelude.{◌≡◌, ◌<◌, ◌+◌, ◌^◌, ℕ, List, length, vec_len, IfErr, OnOk};
 ghost use Rattle.std.specs.Prelude.{OnErr, IsTrue, IsFalse, Some, slice_get, true};
 ghost use Rattle.rv_hart.specs.State.{State};
+ghost use Rattle.rv_hart.specs.Stores.{IsThere, store_range};
 ghost use Rattle.rv_hart.specs.declared.state.Mode.TheVariants.{Running};
 ghost use Rattle.rv_memory.specs.Access.{word_at};
 ghost use Rattle.mp_types.specs.declared.replies.Reply.{Reply};
@@ -32,7 +33,8 @@ use part_phase::{Contents, box_words};
 use rv_hart::{Hart, Mode, step};
 
 /// Does the instruction of a running hart, where it is no ECALL, at this stamp. Else nothing is done: the hart isn't
-/// running, or its word is ECALL's.
+/// running, its word is ECALL's, or there is no memory for the page that the instruction stores to. Where that page is
+/// there no memory is taken.
 #[inline(always)]
 #[tactic(auto, unfolding(cl_state::specs::Asked::asked, cl_state::specs::Told::told, cl_state::specs::Asked::doing))]
 pub fn step_plain(state: &mut RankState, hart: u8, stamp: Stamp) -> bool
@@ -43,6 +45,7 @@ pub fn step_plain(state: &mut RankState, hart: u8, stamp: Stamp) -> bool
     ensures clock { IsTrue result → state.new.clock ≡ stamp }
     ensures none { IsFalse result → state.new ≡ state.old }
     ensures other { IsFalse result → (at : State) → slice_get state.old.harts.items hart ≡ Some at → at.mode ≡ Running
+        → IsThere state.old.memory (store_range at state.old.memory)
         → is_ecall_of (word_at state.old.memory at.pc) ≡ true }
     ensures harts { vec_len state.new.harts ≡ vec_len state.old.harts }
 {
@@ -54,9 +57,9 @@ pub fn step_plain(state: &mut RankState, hart: u8, stamp: Stamp) -> bool
     if is_ecall(state.memory.text_word(at.pc())) {
         return false;
     }
-    let Ok(_) = step(&mut state.harts[hart as usize], &mut state.memory) else {
-        unreachable!()
-    };
+    if step(&mut state.harts[hart as usize], &mut state.memory).is_err() {
+        return false;
+    }
     state.clock = stamp;
     true
 }
