@@ -1,7 +1,7 @@
 -- When a send is complete.
-use Rattle.std.proofs.Common.{◌≡◌, ℕ, suc, ◌+◌, ◌⊎◌, inl, inr, List, Bool, true, false, cond, not, Option, Some, None, refl, sym, ap, ◌∙◌, add-one}
-use Rattle.std.specs.Prelude.{◌||◌, ◌==◌}
-use Rattle.std.specs.List.{slice_get, Contains}
+use Rattle.std.proofs.Common.{◌≡◌, ℕ, suc, ◌⊎◌, inl, inr, List, Bool, true, false, cond, not, Option, Some, None, refl, sym, ap, ◌∙◌, add-one}
+use Rattle.std.specs.Prelude.{◌||◌}
+use Rattle.std.specs.List.{slice_get}
 use Rattle.std.proofs.lemmas.Bool.{not-true, eq-eqb}
 use Rattle.std.proofs.lemmas.Option.{same_Some}
 use Rattle.rv_image.specs.declared.images.Link.{Link}
@@ -14,15 +14,15 @@ use Rattle.mp_match.specs.declared.posts.Selection.{Selection}
 use Rattle.mp_match.specs.declared.posts.Post.{Post}
 use Rattle.mp_match.specs.declared.posts.Post.TheVariants as post
 use Rattle.mp_match.specs.declared.posts.Line.{Line}
-use Rattle.mp_match.specs.Order.{SendsAt, ReceivesAt, TakesAt}
+use Rattle.mp_match.specs.Order.{SendsAt, TakesAt}
 use Rattle.mp_match.specs.Matches.{Matches}
-use Rattle.mp_match.specs.Board.{Board, line_of, partner_of, is_send_of, is_standard, is_receive, is_receive_at, is_finished, claim_in, claim_at, claim_of}
+use Rattle.mp_match.specs.Board.{line_of, partner_of, is_send_of, is_standard, is_receive, is_receive_at, is_finished, claim_in, claim_at, claim_of}
 use Rattle.mp_match.proofs.Matched.{line_at, pairing_laws}
-use Rattle.mp_probe.specs.Claims.{may_receive, is_waiting}
+use Rattle.mp_probe.specs.Claims.{is_waiting}
 use Rattle.mp_hub.specs.Hub.{HubView, Call, was_received, is_complete, hub_after, reply_of}
-use Rattle.mp_hub.specs.Histories.{posts_after, partner_after, received_after}
+use Rattle.mp_hub.specs.Histories.{posts_after, partner_after}
 use Rattle.mp_hub.specs.Finished.{IsReceived, IsComplete, FinishedLaw}
-use Rattle.mp_hub.proofs.Handles.{Handles, handles, may_wait, or_cases}
+use Rattle.mp_hub.proofs.Handles.{handles, may_wait, or_cases}
 use Rattle.mp_hub.proofs.Losses.{partner_is, post_at}
 
 or_right : (a b : Bool) → b ≡ true → (a || b) ≡ true
@@ -37,7 +37,7 @@ module _ (links : List Link) (calls : List Call) where
   now = hub_after links calls
 
   -- what the line of a post at a place tells
-  line_tells : {A : Type 0} (f : Option Line → A) (place : ℕ) (p : Post)
+  pub line_tells : {A : Type 0} (f : Option Line → A) (place : ℕ) (p : Post)
       → slice_get (posts_after links calls) place ≡ Some p
       → (o : Option ℕ) × (f (slice_get (now).board.lines place) ≡ f (Some (record { post = p; partner = o })))
   line_tells f place p at =
@@ -68,7 +68,8 @@ module _ (links : List Link) (calls : List Call) where
       → claim_at (now).board (Some j) ≡ Some (suc j)
   claim_number j a at = (line_tells (claim_in j) j (post.Claim a) at).1 ∙ ap (λ n. Some n) (add-one j)
 
-  complete_from : (place : ℕ) (s : Sent) → SendsAt (posts_after links calls) place s → IsComplete links calls place s
+  pub complete_from : (place : ℕ) (s : Sent) → SendsAt (posts_after links calls) place s
+      → IsComplete links calls place s
       → is_complete (now) (suc place) ≡ true
   complete_from place s sends (inl standard) =
       let here : is_standard (line_of (now).board (suc place)) ≡ true =
@@ -140,10 +141,10 @@ module _ (links : List Link) (calls : List Call) where
           at t = elim t.1 [
             | inl receives ↦ (j, t.0, pair, inl receives)
             | inr claims ↦ elim ((handles links calls).waits j t.0 (post_at links calls j (post.Claim t.0) claims)) [
-                | inl received ↦ (j, t.0, pair, inr (claims, received))
-                | inr w ↦ (let no : true ≡ false =
-                    sym (may_wait (now).claims (t.0).rank (suc j) w) ∙ past t.0 claims in absurd (cc))
-              ]
+              | inl received ↦ (j, t.0, pair, inr (claims, received))
+              | inr w ↦ (let no : true ≡ false =
+                  sym (may_wait (now).claims (t.0).rank (suc j) w) ∙ past t.0 claims in absurd (cc))
+            ]
           ]
 
   -- the reply to the rank that sent it

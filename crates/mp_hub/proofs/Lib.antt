@@ -13,3 +13,4 @@ pub mod Handles
 pub mod Owners
 pub mod Links
 pub mod Finished
+pub mod Together

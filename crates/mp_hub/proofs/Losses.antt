@@ -80,7 +80,7 @@ module _ (links : List Link) (calls : List Call) where
       (let same : post.Claim a ≡ post.Send s = same_Some (post.Claim a) (post.Send s) (sym e ∙ f) in cc)
 
   -- the message of a post that is paired and whose message wasn't got
-  paired_message : (place j : ℕ) (a : Selection) → TakesAt (posts_after links calls) place a
+  pub paired_message : (place j : ℕ) (a : Selection) → TakesAt (posts_after links calls) place a
       → partner_after links calls place ≡ Some j → (Contains (got_after links calls) (suc place) → ⊥)
       → (x : List ℕ) × (m : Message) × (slice_get (hub).board.bodies j ≡ Some (Some x))
       × (message_at (hub).board j ≡ Some m)
@@ -108,7 +108,7 @@ module _ (links : List Link) (calls : List Call) where
 
   -- ---- Collect
 
-  takes_of : (rank place : ℕ) → CollectsOf links calls rank place
+  pub takes_of : (rank place : ℕ) → CollectsOf links calls rank place
       → (a : Selection) × TakesAt (posts_after links calls) place a × (a.rank ≡ rank)
   takes_of rank place (inl r) = (r.0, inl r.1, r.2)
   takes_of rank place (inr c) = ((c.0).0, inr (c.0).1, (c.0).2)
@@ -139,7 +139,7 @@ module _ (links : List Link) (calls : List Call) where
       (sym (post_at place (post.Receive r.0) r.1) ∙ ap (λ k. slice_get (posts_of (hub).board.lines) k) same ∙ c.3) in
       cc)
 
-  may : (rank place : ℕ) → CollectsOf links calls rank place → is_collected (hub).board (suc place) ≡ false
+  pub may : (rank place : ℕ) → CollectsOf links calls rank place → is_collected (hub).board (suc place) ≡ false
       → may_collect (hub) rank (suc place) ≡ true
   may rank place c gone =
       let t = takes_of rank place c in

@@ -1,6 +1,6 @@
 //! Laws of the hub's meaning, with no code: each function's contract is the law.
 
-ghost use Rattle.mp_hub.specs.Finished.{FinishedLaw};
+ghost use Rattle.mp_hub.specs.Finished.{FinishedLaw, TogetherLaw};
 ghost use Rattle.mp_hub.specs.Laws.{BoardLaw, CountLaw, SentLaw};
 ghost use Rattle.mp_hub.specs.Links.{LinksLaw};
 ghost use Rattle.mp_hub.specs.Losses.{LossLaw};
@@ -30,6 +30,12 @@ pub fn loss_law()
 /// receive has its message, also by way of a claim.
 pub fn finished_law()
     ensures { FinishedLaw }
+{}
+
+/// Posts of a rank that are all ready, each named once, complete together: receives and received claims with a message
+/// that wasn't got, and sends that are complete. (MPI 4.1, chapter 3.7.5.)
+pub fn together_law()
+    ensures { TogetherLaw }
 {}
 
 /// A rank may ask for its own posts alone, and for a message once: anything else is refused, and what is refused
