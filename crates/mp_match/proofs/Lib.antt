@@ -10,3 +10,4 @@ pub mod Queueing
 pub mod Fronts
 pub mod Wildcards
 pub mod Matched
+pub mod Within

@@ -1,5 +1,5 @@
 -- Queues of places in a map by key.
-use Rattle.std.specs.Prelude.{ℕ, ◌==◌, ◌&&◌, Bool, false, cond, min, List, [], ◌∷◌, Option, Some, None, slice_get}
+use Rattle.std.specs.Prelude.{ℕ, ◌+◌, ◌==◌, ◌&&◌, Bool, false, cond, min, List, [], ◌∷◌, Option, Some, None, slice_get}
 use Rattle.std.specs.BTreeMap as tree
 use Rattle.std.specs.BTreeMap.{BTreeMap}
 use Rattle.std.specs.declared.alloc.Global.{Global}
@@ -40,6 +40,13 @@ admits_key wanted (Some x) = admits wanted x
 abbrev pub accepts_key : Selection → Selection → Bool
 accepts_key a k =
     (k.rank == a.rank) && (k.comm == a.comm) && admits_key a.source k.source && admits_key a.tag k.tag
+
+-- the first of all keys of the rank and the communicator, and of the next communicator
+abbrev pub first_key : Selection → Selection
+first_key a = record { rank = a.rank; comm = a.comm; source = None; tag = None }
+
+abbrev pub next_key : Selection → Selection
+next_key a = record { rank = a.rank; comm = a.comm + 1; source = None; tag = None }
 
 -- the least of the place and the first places of the queues whose messages are accepted
 abbrev pub least_accepted : Selection → Option ℕ → List Entry → Option ℕ

@@ -1,13 +1,16 @@
 //! Queues of posts by key, each a queue of places.
 
-ghost use Rattle.std.specs.Prelude.{◌≡◌, [], IfOk, OnErr, OnOk, None, Some, cond, slice_get, true};
+ghost use Rattle.std.specs.Prelude.{◌≡◌, [], IfOk, OnErr, OnOk, None, Some, cond, slice_get, true, ◌<◌};
 ghost use Rattle.std.specs.BTreeMap as tree;
 ghost use Rattle.mp_match.specs.declared.posts.Selection.{Selection};
-ghost use Rattle.mp_match.specs.Queued.{accepts_key, admits_key, least, least_accepted, queue, selection_cmp};
+ghost use Rattle.mp_match.specs.Queued.{accepts_key, admits_key, first_key, least, least_accepted, next_key};
+ghost use Rattle.mp_match.specs.Queued.{queue};
+ghost use Rattle.mp_match.specs.Queued.{selection_cmp};
 ghost use Rattle.mp_match.specs.Waiting.{popped, pushed};
 
 use crate::posts::Selection;
 use std::alloc::{AllocError, Global};
+use std::collections::btree_map::Range;
 use std::collections::{BTreeMap, VecDeque};
 
 pub fn least_of(a: Option<u64>, b: Option<u64>) -> Option<u64>
@@ -71,6 +74,39 @@ fn less_of(
         least_of(best, front_of(queue))
     } else {
         best
+    }
+}
+
+// The least of the first places of these queues, where their messages are accepted.
+fn least_within(selection: Selection, rest: Range<'_, Selection, VecDeque<u64>>) -> Option<u64>
+    ensures { result ≡ least_accepted selection None rest.entry }
+{
+    let mut best = None;
+    for (key, queue) in rest {
+        best = less_of(best, selection, *key, queue);
+    }
+    best
+}
+
+// The first of all keys of the selection's rank and communicator.
+fn first_key(selection: Selection) -> Selection
+    ensures { result ≡ first_key selection }
+{
+    Selection {
+        source: None,
+        tag: None,
+        ..selection
+    }
+}
+
+// The first of all keys of the rank and the next communicator.
+fn next_key(selection: Selection) -> Selection
+    requires { selection.comm < 255 }
+    ensures { result ≡ next_key selection }
+{
+    Selection {
+        comm: selection.comm + 1,
+        ..first_key(selection)
     }
 }
 
@@ -158,15 +194,17 @@ impl PostQueues {
         }
     }
 
-    /// The least of the first places of the queues whose messages are accepted.
+    /// The least of the first places of the queues whose messages are accepted. Queues of other ranks and other
+    /// communicators aren't looked at.
     pub fn least_accepted(&self, selection: Selection) -> Option<u64>
         ensures least { result ≡ least_accepted selection None self.now.map.entries }
         ensures ordered { tree.IsOrdered selection_cmp self.now.map }
     {
-        let mut best = None;
-        for (key, queue) in self.map.iter() {
-            best = less_of(best, selection, *key, queue);
+        let first = first_key(selection);
+        if selection.comm == u8::MAX {
+            return least_within(selection, self.map.range(first..));
         }
-        best
+        let next = next_key(selection);
+        least_within(selection, self.map.range(first..next))
     }
 }

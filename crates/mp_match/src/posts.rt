@@ -12,7 +12,8 @@ pub struct Sent {
     pub envelope: Envelope,
 }
 
-/// What a receive, a probe or a claim selects (MPI 4.1, chapter 3.2.4). A source or tag of None is any.
+/// What a receive, a probe or a claim selects (MPI 4.1, chapter 3.2.4). A source or tag of None is any. Selections are
+/// ordered by their ranks first, then by their communicators.
 #[derive(Clone, Copy, PartialEq, Eq, PartialOrd, Ord)]
 pub struct Selection {
     /// The rank that asks.
