@@ -1,5 +1,5 @@
 -- Tokens without where their bytes lie.
-use Rattle.std.specs.Prelude.{ℕ, ℤ, pos, neg_ℤ, List, map, if◌then◌else◌}
+use Rattle.std.specs.Prelude.{ℕ, ℤ, pos, neg_ℤ, List, if◌then◌else◌}
 use Rattle.rv_asm_tokens.specs.declared.number.Number.{Number as SignedMagnitude}
 use Rattle.rv_asm_tokens.specs.declared.token.Token.{Token}
 use Rattle.rv_asm_tokens.specs.declared.token.Token.TheVariants.{Name, Number, Text, Comma, Colon, Open, Close, Plus}
@@ -28,6 +28,3 @@ lexeme_of Colon = colon
 lexeme_of Open = opens
 lexeme_of Close = closes
 lexeme_of Plus = plus
-
-abbrev pub lexemes_of : List Token → List Lexeme
-lexemes_of ts = map lexeme_of ts
