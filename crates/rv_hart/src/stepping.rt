@@ -202,9 +202,9 @@ fn execute(hart: &mut Hart, memory: &mut RankMemory, instr: &Instr) -> Result<Di
 }
 
 /// One step of a running hart: the instruction whose word stands at the pc, with its whole effect, or the trap. An
-/// ECALL is answered as `Call` and left to the caller. What the step leaves is what the table's relation allows, and the
-/// relation allows nothing else. The only error is want of memory for the page of a store, and leaves hart and memory as
-/// they were.
+/// ECALL is answered as `Call` and left to the caller. What the step leaves is what the table's relation allows, and
+/// the relation allows nothing else. The only error is want of memory for the page of a store, and leaves hart and
+/// memory as they were.
 #[inline(always)]
 #[tactic(auto, unfolding(crate::specs::Stepped::stepped, crate::specs::Stores::store_range))]
 pub fn step(hart: &mut Hart, memory: &mut RankMemory) -> Result<Did, AllocError>

@@ -1,5 +1,6 @@
 -- What a memory's pages hold: one that is there its bytes, one that isn't zeros.
-use Rattle.std.specs.Prelude.{◌≡◌, ◌≤◌, ◌*◌, take, ℕ, ◌++◌, List, [], ◌∷◌, length, replicate, Option, Some, None, Bool, true, false}
+use Rattle.std.specs.Prelude.{◌≡◌, ℕ, ◌*◌, ◌≤◌, List, [], ◌∷◌, ◌++◌, length, replicate, take, Option, Some, None}
+use Rattle.std.specs.Prelude.{Bool, true, false}
 
 unfoldable pub blank_page : List ℕ
 blank_page = replicate 4096 0

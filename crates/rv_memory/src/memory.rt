@@ -1,14 +1,11 @@
 //! The bytes of a rank, with their loads, stores, fetches and ranges.
-ghost use Rattle.std.specs.Prelude.{◌≡◌, ◌≢◌, ◌↔◌, ◌+◌, ◌-◌, ◌%◌, ◌^◌, ◌<◌, ◌≤◌, ◌++◌, length, replicate, cond, IsOk, IsTrue};
-ghost use Rattle.std.specs.Prelude.{nat_le, false, drop};
+ghost use Rattle.std.specs.Prelude.{◌≡◌, ◌≢◌, ◌↔◌, ◌+◌, ◌-◌, ◌%◌, ◌^◌, ◌<◌, ◌≤◌, ◌++◌, length, cond, IsOk};
+ghost use Rattle.std.specs.Prelude.{IsTrue, nat_le, false, drop};
 ghost use Rattle.std.specs.Prelude.{IfOk, OnOk, OnErr, MatchOption};
 ghost use Rattle.rv_memory.specs.Access.{size_of, load_trap, store_trap, stored, word_at, is_readable, is_writable};
-ghost use Rattle.rv_memory.specs.Access.{is_present, IsPresent};
-ghost use Rattle.rv_memory.specs.Access.{IsReadable, IsWritable};
-ghost use Rattle.rv_memory.specs.Memory.{Memory, value_at, bytes_of, bytes_at, overwritten, with_bytes, init_start};
-ghost use Rattle.rv_memory.specs.Memory.{with_pages};
+ghost use Rattle.rv_memory.specs.Access.{is_present, IsReadable, IsWritable, IsPresent};
+ghost use Rattle.rv_memory.specs.Memory.{Memory, value_at, bytes_at, with_bytes, with_pages, init_start, loaded_memory};
 ghost use Rattle.rv_memory.specs.Pages.{missing_pages};
-ghost use Rattle.rv_memory.specs.Memory.{loaded_memory};
 
 use crate::fault::{BytesFault, Cause, StoreFault};
 use crate::page::{Page, read, store, value};
@@ -168,8 +165,8 @@ impl RankMemory {
         Ok(read(page, (address % 4096) as usize, size as usize))
     }
 
-    /// The trap of a store, or `None` where it doesn't trap: `StoreMisaligned` where the address isn't a multiple of the
-    /// width, else `StoreAccess` where the bytes aren't all in the memory or are text.
+    /// The trap of a store, or `None` where it doesn't trap: `StoreMisaligned` where the address isn't a multiple of
+    /// the width, else `StoreAccess` where the bytes aren't all in the memory or are text.
     pub fn store_trap(&self, address: u64, width: Width) -> Option<Cause>
         ensures { result ≡ store_trap self.now address (size_of width) }
     {
@@ -184,12 +181,13 @@ impl RankMemory {
     }
 
     /// Writes the lowest bytes of a value. Traps as `StoreMisaligned` where the address isn't a multiple of the
-    /// width, else as `StoreAccess` where the bytes aren't all in the memory or are text. `Memory` where their page isn't
-    /// there, and there is no memory for it.
+    /// width, else as `StoreAccess` where the bytes aren't all in the memory or are text. `Memory` where their page
+    /// isn't there, and there is no memory for it.
     #[inline(always)]
     pub fn store(&mut self, address: u64, width: Width, value: u64) -> Result<(), StoreFault>
         ensures stored { OnOk result (self.new ≡ stored self.old address (size_of width) value) }
-        ensures trap { MatchOption (store_trap self.old address (size_of width)) (result ≢ Err StoreFault.Memory → IsOk result)
+        ensures trap { MatchOption (store_trap self.old address (size_of width))
+            (result ≢ Err StoreFault.Memory → IsOk result)
             (λ cause. result ≡ Err (StoreFault.Trap cause)) }
         ensures unchanged { OnErr result (self.new ≡ self.old) }
         ensures takes_no_memory { IsPresent self.old address (size_of width) → result ≢ Err StoreFault.Memory }
@@ -206,7 +204,8 @@ impl RankMemory {
     #[inline(always)]
     fn store_bytes(&mut self, address: u64, width: Width, value: u64) -> Result<(), StoreFault>
         ensures stored { OnOk result (self.new ≡ stored self.old address (size_of width) value) }
-        ensures trap { MatchOption (store_trap self.old address (size_of width)) (result ≢ Err StoreFault.Memory → IsOk result)
+        ensures trap { MatchOption (store_trap self.old address (size_of width))
+            (result ≢ Err StoreFault.Memory → IsOk result)
             (λ cause. result ≡ Err (StoreFault.Trap cause)) }
         ensures unchanged { OnErr result (self.new ≡ self.old) }
         ensures takes_no_memory { IsPresent self.old address (size_of width) → result ≢ Err StoreFault.Memory }

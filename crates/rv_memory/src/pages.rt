@@ -153,7 +153,8 @@ pub(crate) fn write(
     ensures whole { OnOk result (AreWhole pages.new.items) }
     ensures long { OnOk result (length pages.new.items ≡ length pages.old.items) }
     ensures unchanged { OnErr result (pages.new.items ≡ pages.old.items) }
-    ensures takes_no_memory { missing_pages (map is_there pages.old.items) address (length bytes.now) ≡ 0 → IsOk result }
+    ensures takes_no_memory { missing_pages (map is_there pages.old.items) address (length bytes.now) ≡ 0
+        → IsOk result }
 {
     let count = bytes.len() as u64;
     let mut spares = SparePages::new(alloc);
@@ -183,7 +184,8 @@ fn copy_page(pages: &[Option<Page>], address: usize, out: &mut [u8], done: usize
     requires left { done < length out.old }
     ensures more { done < result }
     ensures end { result ≤ length out.old }
-    ensures bytes { out.new ≡ overwritten out.old done (take (result - done) (drop (address + done) (all_bytes pages.now))) }
+    ensures bytes { out.new
+        ≡ overwritten out.old done (take (result - done) (drop (address + done) (all_bytes pages.now))) }
 {
     let at = (address + done) % 4096;
     let end = out.len().min(done + (4096 - at));

@@ -241,7 +241,7 @@ pub fn offsets_go_round()
 
 /// A store of a half changes two bytes, and takes the lowest ones of its value.
 pub fn half_changes_two_bytes()
-    ensures { (stored (record { bytes = 0x88 ∷ 0x87 ∷ 0x86 ∷ 0x85 ∷ []; text = 0 }) 2 2 0x0102030405060708).bytes
+    ensures { (stored (record { bytes = 0x88 ∷ 0x87 ∷ 0x86 ∷ 0x85 ∷ []; text = 0; pages = [] }) 2 2 0x0102030405060708).bytes
         ≡ 0x88 ∷ 0x87 ∷ 0x08 ∷ 0x07 ∷ [] }
 {}
 

@@ -58,7 +58,7 @@ pub fn no_bytes_are_read_anywhere(
 
 /// Bytes are read from where they stand: the third and the fourth of these four.
 pub fn bytes_are_read_from_their_address()
-    ensures { bytes_at (record { bytes = 1 ∷ 2 ∷ 3 ∷ 4 ∷ []; text = 0 }) 2 2 ≡ 3 ∷ 4 ∷ [] }
+    ensures { bytes_at (record { bytes = 1 ∷ 2 ∷ 3 ∷ 4 ∷ []; text = 0; pages = [] }) 2 2 ≡ 3 ∷ 4 ∷ [] }
 {}
 
 /// A write that begins in the text writes nothing, not even what lies behind the text.
