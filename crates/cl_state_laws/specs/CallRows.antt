@@ -19,7 +19,7 @@ use Rattle.cl_calls.specs.Calls.{any, no_rank}
 use Rattle.cl_calls.specs.Needs.{needs_of}
 use Rattle.cl_calls.specs.Checks.{checks, first_fault}
 use Rattle.cl_state.specs.Rank.{Rank}
-use Rattle.cl_state.specs.Rows.{first_of_two, small_memory, calling, guest, send}
+use Rattle.cl_state.specs.Rows.{calling, first_of_two, guest, one_page, send, small_memory}
 use Rattle.cl_state.specs.Asked.{asked}
 use Rattle.cl_state.specs.Told.{told}
 
@@ -66,6 +66,7 @@ TruncatedRow =
       memory = record {
         bytes = take 16 small_memory.bytes ++ 1 ∷ 2 ∷ 3 ∷ 4 ∷ replicate 12 9 ++ status_bytes 1 7 4 ++ replicate 8 9;
         text = 8;
+        pages = one_page;
       };
       clock = 9;
     })
@@ -85,7 +86,7 @@ WaitingRow =
     × (told (waiting 9) 0 (Answer.Reply reply.NotYet) 10 ≡ waiting 10)
     × (told (waiting 10) 0 (Answer.Reply (reply.Got (message []))) 12 ≡ record receive {
       harts = behind (0 ∷ 0 ∷ any ∷ any ∷ 0 ∷ 32 ∷ []) 18 ∷ [];
-      memory = record { bytes = take 32 small_memory.bytes ++ status_bytes 1 7 0 ++ replicate 8 9; text = 8 };
+      memory = record { bytes = take 32 small_memory.bytes ++ status_bytes 1 7 0 ++ replicate 8 9; text = 8; pages = one_page };
       clock = 12;
     })
 
@@ -114,6 +115,7 @@ NullRow =
       memory = record {
         bytes = take 32 small_memory.bytes ++ 254 ∷ replicate 15 255 ++ replicate 8 0 ++ replicate 8 9;
         text = 8;
+        pages = one_page;
       };
       clock = 9;
     })

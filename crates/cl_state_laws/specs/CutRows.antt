@@ -10,6 +10,7 @@ use Rattle.mp_request.specs.declared.entries.Transfer.TheVariants.{ReceivePartit
 use Rattle.part_phase.specs.declared.phases.Phase.{Phase}
 use Rattle.part_phase.specs.declared.phases.Phase.TheVariants.{Receiving}
 use Rattle.part_phase.specs.Receiving.{unshaped_receiving}
+use Rattle.cl_state.specs.Rows.{one_page}
 use Rattle.cl_state.specs.declared.asking.Answer.{Answer}
 use Rattle.cl_state.specs.declared.asking.Ask.{Ask}
 use Rattle.cl_state.specs.Rank.{Rank}
@@ -25,6 +26,7 @@ thirds first second third status = record {
   bytes = (0 ∷ 0 ∷ 0 ∷ 0 ∷ 0x73 ∷ 0 ∷ 0 ∷ 0 ∷ replicate 8 0) ++ replicate 64 first ++ replicate 64 second
       ++ replicate 64 third ++ status;
   text = 8;
+  pages = one_page;
 }
 
 abbrev pub no_status : List ℕ

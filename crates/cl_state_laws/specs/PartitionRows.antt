@@ -22,7 +22,7 @@ use Rattle.cl_state.specs.declared.asking.Ask.{Ask}
 use Rattle.cl_state.specs.Rank.{Rank, below}
 use Rattle.cl_state.specs.Asked.{asked}
 use Rattle.cl_state.specs.Told.{told}
-use Rattle.cl_state.specs.Rows.{calling}
+use Rattle.cl_state.specs.Rows.{calling, one_page}
 use Rattle.cl_state_laws.specs.CallRows.{behind}
 use Rattle.cl_state_laws.specs.RequestRows.{active, empty_status, inactive, table_of}
 
@@ -38,7 +38,7 @@ linked version number =
 
 -- 8 bytes of text, the second word ECALL's; then each byte tells its address
 abbrev pub told_apart : Memory
-told_apart = record { bytes = 0 ∷ 0 ∷ 0 ∷ 0 ∷ 0x73 ∷ 0 ∷ 0 ∷ 0 ∷ drop 8 (below 64); text = 8 }
+told_apart = record { bytes = 0 ∷ 0 ∷ 0 ∷ 0 ∷ 0x73 ∷ 0 ∷ 0 ∷ 0 ∷ drop 8 (below 64); text = 8; pages = one_page }
 
 -- a rank at a call, at clock 8
 abbrev pub caller : Site → Memory → Table → List Phase → List ℕ → ℕ → Rank
@@ -152,7 +152,7 @@ sender_status ready freed = sender ready freed (1 ∷ 32 ∷ []) 22
 
 abbrev pub with_empty_status : Memory
 with_empty_status =
-    record { bytes = take 32 told_apart.bytes ++ empty_status ++ drop 56 told_apart.bytes; text = 8 }
+    record { bytes = take 32 told_apart.bytes ++ empty_status ++ drop 56 told_apart.bytes; text = 8; pages = one_page }
 
 abbrev pub sent_whole : Rank
 sent_whole = record (ended_in (sender none_ready 4 [] 22) 0 1 [] 22) {

@@ -27,7 +27,7 @@ use Rattle.cl_state.specs.declared.asking.Ask.{Ask}
 use Rattle.cl_state.specs.Rank.{Rank}
 use Rattle.cl_state.specs.Asked.{asked}
 use Rattle.cl_state.specs.Told.{told}
-use Rattle.cl_state.specs.Rows.{first_of_two, small_memory, calling, guest}
+use Rattle.cl_state.specs.Rows.{calling, first_of_two, guest, one_page, small_memory}
 use Rattle.cl_state_laws.specs.CallRows.{behind, message, sending, status_bytes}
 
 -- what the first handles name; the others are free
@@ -109,7 +109,7 @@ empty_status = replicate 16 255 ++ replicate 8 0
 -- code 0, flag 1, and the empty status at 32
 abbrev pub complete_empty : Table → Rank
 complete_empty table = record (ended_with 0 1 table [] 22) {
-  memory = record { bytes = take 32 small_memory.bytes ++ empty_status ++ replicate 8 9; text = 8 };
+  memory = record { bytes = take 32 small_memory.bytes ++ empty_status ++ replicate 8 9; text = 8; pages = one_page };
 }
 
 -- of handle 0 and of an inactive request: complete at once; a completed standard send frees its handle
@@ -136,6 +136,7 @@ test_received c value = record (ended_with c value no_requests [] 22) {
   memory = record {
     bytes = take 16 small_memory.bytes ++ 1 ∷ 2 ∷ 3 ∷ 4 ∷ replicate 12 9 ++ status_bytes 1 7 4 ++ replicate 8 9;
     text = 8;
+    pages = one_page;
   };
 }
 
@@ -192,7 +193,7 @@ envelope = (message []).envelope
 -- what a receive would give, with the message's whole count
 abbrev pub probed : ℕ → List ℕ → ℕ → Rank
 probed value status number = record (ended_with 0 value no_requests (0 ∷ 32 ∷ []) number) {
-  memory = record { bytes = take 32 small_memory.bytes ++ status ++ replicate 8 9; text = 8 };
+  memory = record { bytes = take 32 small_memory.bytes ++ status ++ replicate 8 9; text = 8; pages = one_page };
 }
 
 abbrev pub null_status : List ℕ

@@ -21,14 +21,14 @@ use Rattle.cl_state.specs.declared.asking.Ask.{Ask}
 use Rattle.cl_state.specs.Rank.{Rank}
 use Rattle.cl_state.specs.Asked.{asked}
 use Rattle.cl_state.specs.Told.{told}
-use Rattle.cl_state.specs.Rows.{first_of_two, small_memory, calling}
+use Rattle.cl_state.specs.Rows.{calling, first_of_two, one_page, small_memory}
 use Rattle.cl_state_laws.specs.CallRows.{behind, message, stranger, status_bytes}
 use Rattle.cl_state_laws.specs.RequestRows.{table_of, holder, ordinary, inactive, active, replied, empty_status}
 use Rattle.cl_state_laws.specs.RequestRows.{null_status, send, receive}
 
 -- the small memory with 16 other bytes at 16
 abbrev pub arrayed : List ℕ → Memory
-arrayed bytes = record { bytes = take 16 small_memory.bytes ++ bytes ++ replicate 32 9; text = 8 }
+arrayed bytes = record { bytes = take 16 small_memory.bytes ++ bytes ++ replicate 32 9; text = 8; pages = one_page }
 
 -- a handle of 8 bytes
 abbrev pub handle : ℕ → List ℕ
@@ -68,6 +68,7 @@ two_written first second fourth = record {
       take 16 small_memory.bytes ++ handle first ++ handle second ++ replicate 8 9 ++ 1 ∷ 2 ∷ 3 ∷ 4 ∷ fourth
       ++ replicate 16 9;
   text = 8;
+  pages = one_page;
 }
 
 -- one done and one pending: flag 0, and both are as they were; with the message both complete
@@ -114,19 +115,19 @@ StatusesRow =
     (asked (completing_two no_requests 0 0 16 34) 0 ≡ Ask.Local)
     × (told (completing_two no_requests 0 0 16 34) 0 Answer.Alone 9
     ≡ ended_two 0 1 no_requests
-    (record { bytes = take 16 small_memory.bytes ++ empty_status ++ empty_status; text = 8 }) 16 34)
+    (record { bytes = take 16 small_memory.bytes ++ empty_status ++ empty_status; text = 8; pages = one_page }) 16 34)
     ×
     (told (completing_two (table_of
     (ordinary ReceiveFromNull Finished ∷ inactive receive ∷ [])) 1 2 16 34) 0 Answer.Alone 9
     ≡ ended_two 0 1 (table_of (None ∷ inactive receive ∷ []))
-    (record { bytes = take 16 small_memory.bytes ++ null_status ++ empty_status; text = 8 }) 16 34)
+    (record { bytes = take 16 small_memory.bytes ++ null_status ++ empty_status; text = 8; pages = one_page }) 16 34)
 
 -- the statuses lie over the buffer: all bytes are written first
 abbrev pub OverlapRow : Type 0
 OverlapRow =
     replied (completing_two done_and_pending 1 2 16 34) (reply.AllGot (Some (message (1 ∷ 2 ∷ 3 ∷ 4 ∷ [])) ∷ []))
     ≡ ended_two 0 1 no_requests
-    (record { bytes = take 16 small_memory.bytes ++ empty_status ++ status_bytes 1 7 4; text = 8 }) 16 34
+    (record { bytes = take 16 small_memory.bytes ++ empty_status ++ status_bytes 1 7 4; text = 8; pages = one_page }) 16 34
 
 -- no handles: complete at once, whatever the addresses
 abbrev pub NoneRow : Type 0
