@@ -22,7 +22,7 @@ use Rattle.cl_calls.specs.declared.sites.Site.{Site}
 use Rattle.cl_calls.specs.Calls.{any, no_rank}
 use Rattle.cl_calls.specs.Needs.{needs_of}
 use Rattle.cl_calls.specs.Checks.{checks, first_fault}
-use Rattle.cl_state.specs.Rows.{first_of_two}
+use Rattle.cl_state.specs.Rows.{first_of_two, one_page}
 use Rattle.cl_state_laws.specs.RequestRows.{full}
 
 -- rank 0 of 2 in an image of a version, with 8 bytes of text and 152 behind them
@@ -30,7 +30,7 @@ abbrev pub site_of : ImageVersion → Site
 site_of version = record first_of_two { version = version }
 
 abbrev pub memory : Memory
-memory = record { bytes = replicate 160 0; text = 8 }
+memory = record { bytes = replicate 160 0; text = 8; pages = one_page }
 
 abbrev pub code_in : ImageVersion → Table → Call → Option Code
 code_in version table call = first_fault (checks (site_of version) memory table [] 0 (needs_of call))

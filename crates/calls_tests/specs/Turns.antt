@@ -23,7 +23,7 @@ use Rattle.cl_state.specs.declared.asking.Answer.{Answer}
 use Rattle.cl_state.specs.declared.asking.Ask.{Ask}
 use Rattle.cl_state.specs.Asked.{asked}
 use Rattle.cl_state.specs.Rank.{Rank, loaded}
-use Rattle.cl_state.specs.Rows.{small_memory, calling, guest}
+use Rattle.cl_state.specs.Rows.{calling, guest, one_page, small_memory}
 use Rattle.cl_state.specs.Several.{Given, with_statuses}
 use Rattle.cl_state.specs.Told.{told, with_status}
 use Rattle.cl_state_laws.specs.CallRows.{behind, message, status_bytes}
@@ -86,7 +86,7 @@ StoppedRows = ((code : ℕ) → IsIdle (Ended code)) × ((cause : Cause) (pc : �
 -- EBREAK is no call
 abbrev pub BreakRow : Type 0
 BreakRow =
-    asked (record (guest [] 0) { memory = record { bytes = replicate 4 0 ++ 0x73 ∷ 0 ∷ 0x10 ∷ 0 ∷ []; text = 8 } }) 0
+    asked (record (guest [] 0) { memory = record { bytes = replicate 4 0 ++ 0x73 ∷ 0 ∷ 0x10 ∷ 0 ∷ []; text = 8; pages = one_page } }) 0
     ≡ Ask.Plain
 
 -- ---- the null process
@@ -106,11 +106,11 @@ abbrev pub ReceiveFromNullRow : Type 0
 ReceiveFromNullRow =
     (asked (completing (one (ordinary ReceiveFromNull Finished)) 1 22) 0 ≡ Ask.Local)
     × (alone (completing (one (ordinary ReceiveFromNull Finished)) 1 22) ≡ record (ended_with 0 1 no_requests [] 22) {
-      memory = record { bytes = take 32 small_memory.bytes ++ null_status ++ replicate 8 9; text = 8 };
+      memory = record { bytes = take 32 small_memory.bytes ++ null_status ++ replicate 8 9; text = 8; pages = one_page };
     })
     ×
     (alone (guest (16 ∷ 4 ∷ no_message ∷ 32 ∷ []) 29) ≡ record (ended_with 0 0 no_requests (no_message ∷ 32 ∷ []) 29) {
-      memory = record { bytes = take 32 small_memory.bytes ++ null_status ++ replicate 8 9; text = 8 };
+      memory = record { bytes = take 32 small_memory.bytes ++ null_status ++ replicate 8 9; text = 8; pages = one_page };
     })
 
 -- ---- positions
@@ -137,6 +137,7 @@ status_at_32 rank =
       memory = record {
         bytes = take 32 small_memory.bytes ++ status_bytes 0 7 10 ++ replicate 8 9;
         text = 8;
+        pages = one_page;
       };
     }
 
@@ -144,7 +145,7 @@ abbrev pub ToldPlaces : Type 0
 ToldPlaces =
     (replied (placed (16 ∷ 0 ∷ any ∷ any ∷ 1 ∷ 32 ∷ []) 18) (reply.Got (placed_message []))
     ≡ record (placed_told (0 ∷ 0 ∷ any ∷ any ∷ 1 ∷ 32 ∷ []) 18) {
-      memory = record { bytes = take 32 small_memory.bytes ++ status_bytes 0 7 0 ++ replicate 8 9; text = 8 };
+      memory = record { bytes = take 32 small_memory.bytes ++ status_bytes 0 7 0 ++ replicate 8 9; text = 8; pages = one_page };
     })
     ×
     (replied (placed (any ∷ any ∷ 1 ∷ 32 ∷ []) 25) (reply.Seen placed_envelope)
@@ -165,6 +166,7 @@ SeveralPlaces =
     (record {
       bytes = take 16 small_memory.bytes ++ status_bytes 0 7 0 ++ replicate 16 255 ++ replicate 8 0;
       text = 8;
+      pages = one_page;
     }) 16 34) {
       site = of_two;
     }
@@ -218,7 +220,7 @@ abbrev pub StatusOverBuffer : Type 0
 StatusOverBuffer =
     replied (guest (16 ∷ 4 ∷ any ∷ any ∷ 0 ∷ 16 ∷ []) 18) (reply.Got (message (1 ∷ 2 ∷ 3 ∷ 4 ∷ [])))
     ≡ record (ended_with 0 0 no_requests (any ∷ any ∷ 0 ∷ 16 ∷ []) 18) {
-      memory = record { bytes = take 16 small_memory.bytes ++ status_bytes 1 7 4 ++ replicate 24 9; text = 8 };
+      memory = record { bytes = take 16 small_memory.bytes ++ status_bytes 1 7 4 ++ replicate 24 9; text = 8; pages = one_page };
     }
 
 -- at address 0 none is written, whatever the memory

@@ -3,7 +3,8 @@
 ghost use Rattle.std.specs.Prelude.{◌≡◌, ◌<◌, [], Ok, vec_len, IsOk, OnOk, OnErr};
 ghost use Rattle.cl_state.specs.declared.asking.Doing.TheVariants.{Step};
 ghost use Rattle.cl_state.specs.Asked.{asked, carried, doing, part_of};
-ghost use Rattle.cl_state.specs.Room.{rank_of};
+ghost use Rattle.cl_state.specs.Room.{rank_of, writes_of};
+ghost use Rattle.cl_state.specs.Writes.{missing_for};
 ghost use Rattle.cl_state.specs.Told.{told};
 ghost use Rattle.calls_tests.specs.Turns.{AskedPlaces, BreakRow, ExitRow, IssendAmongSeveral, IssendRow, LoadedRow};
 ghost use Rattle.calls_tests.specs.Turns.{NoStatus, ProbeWaits, RankSizeRow, ReceiveFromNullRow, SecondHartRow};
@@ -128,10 +129,11 @@ pub fn begins_at_clock_0(alloc: Global, parts: RankParts) -> RankState
     RankState::new(alloc, parts)
 }
 
-/// An instruction needs no room.
+/// An instruction needs no room where the pages that it stores to are there.
 pub fn steps_in_place(rank: &mut RankState, hart: u8) -> Result<(), AllocError>
     requires hart { hart < vec_len rank.old.harts }
     requires step { doing rank.old.site (part_of (rank_of rank.old) hart) ≡ Step }
+    requires pages { missing_for rank.old.memory.pages (writes_of rank.old hart) ≡ 0 }
     ensures { IsOk result }
 {
     rank.room(hart)
