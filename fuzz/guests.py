@@ -208,6 +208,9 @@ class Guests:
         for rank in range(self.ranks):
             for hart in range(self.harts):
                 tables[(rank, hart)] = [self.call() for _ in range(3 + self.below(22))]
+        if self.below(12) == 0:
+            # one hart opens all handles, or more
+            tables[(0, 0)] = 260 * [[31, ROOM, 8, WORD - 2, 0]] + tables[(0, 0)]
         return self.image(lines, tables)
 
     def pieces(self):
@@ -217,6 +220,9 @@ class Guests:
         size, parts = self.random.choice([(8, 6), (16, 3), (24, 2), (48, 1), (32, 4), (64, 2), (64, 3)])
         total = size * parts
         cuts = [(cut, total // cut) for cut in range(8, 129, 8) if total % cut == 0 and total // cut <= 16]
+        if self.below(8) == 0:
+            # mostly another total
+            cuts = [(16, 3), (8, 5), (128, 1)]
         tables = {}
         for rank in (0, 1):
             for hart in range(self.harts):
@@ -229,7 +235,7 @@ class Guests:
         size, parts = own if sends else other
         rows = [[40 if sends else 41, ROOM + 8 * self.below(20), parts, size, 1 - rank, 0, 0]]
         for _ in range(1 + self.below(3)):
-            rows.append([32, 1])
+            rows += [[32, 1]] if self.below(8) else []
             tries = [[42 if sends else 43, 1, part] for part in range(parts)]
             tries += [self.random.choice([[22, 1, self.status()], [43, 1, self.below(parts)]]) for _ in range(4)]
             self.random.shuffle(tries)
