@@ -19,7 +19,7 @@ mod images;
 use images::{print_image, print_memory, print_parts};
 use rv_decode::{Reg, decode, encode, print_instr};
 use rv_hart::{Hart, Mode, step};
-use rv_memory::RankMemory;
+use rv_memory::{RankMemory, Width};
 use std::alloc::{AllocError, Global};
 use std::io;
 use std::io::Write;
@@ -95,11 +95,21 @@ fn print_line<W: Write>(alloc: Global, out: &mut W, line: &str) -> io::Result<()
     print_words(alloc, out, &words)
 }
 
+/// Whether the last 8 bytes of a new memory without data are present, before and after a store there.
+fn print_present<W: Write>(alloc: Global, out: &mut W) -> io::Result<()> {
+    let size: u64 = 1 << 20;
+    let mut memory = RankMemory::new(alloc, 1 << 20, &0x13u32.to_le_bytes(), &[])?;
+    let before = memory.present(size - 8, 8);
+    let stored = memory.store(size - 8, Width::Double, 7).is_ok();
+    let after = memory.present(size - 8, 8);
+    writeln!(out, "present {before} {stored} {after}")
+}
+
 fn main(rt: HostRuntime) -> io::Result<()> {
     let alloc = rt.alloc();
     for line in rt.lines(alloc) {
         let line = line?;
         print_line(alloc, &mut rt.stdout(), line.as_str())?;
     }
-    Ok(())
+    print_present(alloc, &mut rt.stdout())
 }
