@@ -81,8 +81,12 @@ long_statuses site [] gots = refl
 long_statuses site (p ∷ ps) gots =
     let g = given_one site p (got_of (post_of p) gots) in
     let rest = given site ps (left_of (post_of p) gots) in
-    omega (arith, length-append (status_of g) (statuses_of rest), long_status g,
-    long_statuses site ps (left_of (post_of p) gots))
+    omega (
+      arith,
+      length-append (status_of g) (statuses_of rest),
+      long_status g,
+      long_statuses site ps (left_of (post_of p) gots),
+    )
 
 -- of several requests the first is the one that is next
 pub enough_next : (ps : List Bool) (spares : ℕ) (table : Table) (handles : List ℕ) (handle : ℕ) (rest : List ℕ)

@@ -61,11 +61,10 @@ pub grows : (page : ℕ) (ps qs : List Bool) (a m n : ℕ) → Within ps qs → 
 grows page [] [] a m n inside most = tt
 grows page [] (q ∷ qs) a m n inside most = absurd inside
 grows page (p ∷ ps) [] a m n inside most = absurd inside
-grows page (p ∷ ps) (q ∷ qs) a m n inside most =
-    (
-      either p q (touches a m page) (touches a n page) inside.0 (touches_more a m n page most),
-      grows (suc page) ps qs a m n inside.1 most,
-    )
+grows page (p ∷ ps) (q ∷ qs) a m n inside most = (
+  either p q (touches a m page) (touches a n page) inside.0 (touches_more a m n page most),
+  grows (suc page) ps qs a m n inside.1 most,
+)
 
 pub same_within : (ps : List Bool) → Within ps ps
 same_within [] = tt
@@ -149,29 +148,47 @@ enough_missing ps spares rs few = omega (arith, few, most ps rs)
     most : (ps : List Bool) (rs : List Bytes) → how_many (written_for ps rs) ≤ how_many ps + missing_for ps rs
     most ps [] = omega arith
     most ps (r ∷ rs) =
-        omega (arith, most (written_pages ps r.address r.count) rs, all_made ps r.address r.count,
-        all_fewer ps (written_pages ps r.address r.count) rs (stays 0 ps r.address r.count))
+        omega (
+          arith,
+          most (written_pages ps r.address r.count) rs,
+          all_made ps r.address r.count,
+          all_fewer ps (written_pages ps r.address r.count) rs (stays 0 ps r.address r.count),
+        )
 
 -- enough for all is enough for the first of them, or for fewer bytes there
 pub enough_first : (ps : List Bool) (spares a c n : ℕ) (rs : List Bytes) → IsEnough ps spares (bytes_from a c ∷ rs)
     → n ≤ c → missing_pages ps a n ≤ spares
 enough_first ps spares a c n rs enough few =
-    omega (arith, enough, all_made ps a c, fewer 0 ps ps a n c (same_within ps) few,
-    counted (written_pages ps a c) (written_for (written_pages ps a c) rs)
-    (all_stay (written_pages ps a c) (written_pages ps a c) rs (same_within (written_pages ps a c))))
+    omega (
+      arith,
+      enough,
+      all_made ps a c,
+      fewer 0 ps ps a n c (same_within ps) few,
+      counted (written_pages ps a c) (written_for (written_pages ps a c) rs)
+          (all_stay (written_pages ps a c) (written_pages ps a c) rs (same_within (written_pages ps a c))),
+    )
 
 pub enough_fewer : (ps : List Bool) (spares a c n : ℕ) (rs : List Bytes) → IsEnough ps spares (bytes_from a c ∷ rs)
     → n ≤ c → IsEnough ps spares (bytes_from a n ∷ rs)
 enough_fewer ps spares a c n rs enough few =
-    omega (arith, enough, counted (written_for (written_pages ps a n) rs) (written_for (written_pages ps a c) rs)
-    (all_grow (written_pages ps a n) (written_pages ps a c) rs (grows 0 ps ps a n c (same_within ps) few)))
+    omega (
+      arith,
+      enough,
+      counted (written_for (written_pages ps a n) rs) (written_for (written_pages ps a c) rs)
+          (all_grow (written_pages ps a n) (written_pages ps a c) rs (grows 0 ps ps a n c (same_within ps) few)),
+    )
 
 -- and what is left then is enough for the rest
 pub enough_rest : (ps qs : List Bool) (spares left a c : ℕ) (rs : List Bytes) → IsEnough ps spares (bytes_from a c ∷ rs)
     → Within qs (written_pages ps a c) → how_many qs + left ≡ how_many ps + spares → IsEnough qs left rs
 enough_rest ps qs spares left a c rs enough inside same =
-    omega (arith, enough, same, counted (written_for qs rs) (written_for (written_pages ps a c) rs)
-    (all_grow qs (written_pages ps a c) rs inside))
+    omega (
+      arith,
+      enough,
+      same,
+      counted (written_for qs rs) (written_for (written_pages ps a c) rs)
+          (all_grow qs (written_pages ps a c) rs inside),
+    )
 
 -- enough for all is enough for the first alone, or for fewer bytes there
 pub enough_head : (ps : List Bool) (spares a c n : ℕ) (rs : List Bytes) → IsEnough ps spares (bytes_from a c ∷ rs)
@@ -247,7 +264,7 @@ write_done (Ok x) m after spares left a bytes done taken range same kept enough 
     total : how_many after.pages + left ≡ how_many m.pages + spares
     total =
         let pages : how_many after.pages ≡ how_many (written_pages m.pages a (length bytes)) =
-            ap (λ (x : Memory). how_many x.pages) done in
+        ap (λ (x : Memory). how_many x.pages) done in
         omega (arith, pages, taken, all_made m.pages a (length bytes))
 write_done (Err Range) m after spares left a bytes done taken range same kept enough room some =
     (same ∙ sym (isnt_written m a bytes wrong), total)
@@ -270,8 +287,8 @@ pub step_total : (s : State) (m after : Memory) (spares left : ℕ) → after �
     → how_many after.pages + left ≡ how_many m.pages + spares
 step_total s m after spares left is taken =
     let pages : how_many after.pages
-        ≡ how_many (written_pages m.pages (store_range s m).address (store_range s m).count) =
-        ap (λ (x : Memory). how_many x.pages) is ∙ ap how_many (stepped_pages s m) in
+    ≡ how_many (written_pages m.pages (store_range s m).address (store_range s m).count) =
+    ap (λ (x : Memory). how_many x.pages) is ∙ ap how_many (stepped_pages s m) in
     omega (arith, pages, taken, all_made m.pages (store_range s m).address (store_range s m).count)
 
 pub one_enough : (ps : List Bool) (spares a n : ℕ) → IsEnough ps spares (bytes_from a n ∷ [])

@@ -323,7 +323,13 @@ impl<'a> Turn<'a> {
             address,
         };
         let mut statuses = ArrayVec::new();
-        let truncated = write_all(&deal, self.requests, self.memory, self.spares, &mut statuses);
+        let truncated = write_all(
+            &deal,
+            self.requests,
+            self.memory,
+            self.spares,
+            &mut statuses,
+        );
         if address != 0 {
             write_where_right(self.memory, self.spares, address, statuses.as_slice());
         }
