@@ -1,6 +1,7 @@
 -- Steps that lead on.
 use Rattle.std.specs.Prelude.{ℕ, ◌+◌, ◌≤◌, ◌≡◌, List, length, slice_get, Some}
 use Rattle.std.proofs.Common.{refl, arith}
+use Rattle.std.proofs.lemmas.Option.{slice_get_within}
 use Rattle.rv_image.specs.declared.images.ImageParts.{ImageParts}
 use Rattle.cl_machine.specs.declared.steps.Step.{Step}
 use Rattle.cl_replay.specs.declared.states.ClusterState.{ClusterState}
@@ -55,3 +56,11 @@ only_memory image steps from state to run reached within DebugFault.NoRank h = a
 only_memory image steps from state to run reached within DebugFault.NoHart h = absurd h
 only_memory image steps from state to run reached within DebugFault.Range h = absurd h
 only_memory image steps from state to run reached within DebugFault.NoSymbol h = absurd h
+
+-- and the machine has each of them
+pub never_nowhere : (image : ImageParts) (steps : List Step) (n : ℕ) (state : ClusterState)
+    → IsRunUpTo image steps (length steps) → IsReached image steps n state → (e : Step) → slice_get steps n ≡ Some e
+    → ¬ LeadsNowhere state e
+never_nowhere image steps n state run reached e there nowhere =
+    run_law image steps (length steps) n run (slice_get_within steps n e there)
+    (breaks image steps n state reached e there nowhere)
