@@ -28,7 +28,12 @@ fn mode_text(alloc: Global, hart: &Hart) -> Result<String, AllocError>
 }
 
 /// The line of a hart, as `rank 0 hart 0 running at 0x8`, with a newline behind it.
-pub fn hart_line(alloc: Global, rank: usize, number: usize, hart: &Hart) -> Result<String, AllocError>
+pub fn hart_line(
+    alloc: Global,
+    rank: usize,
+    number: usize,
+    hart: &Hart,
+) -> Result<String, AllocError>
     ensures { IfOk result (λ text. string_bytes text ≡ hart_text rank number hart.now) }
 {
     let mode = mode_text(alloc, hart)?;
