@@ -21,8 +21,8 @@ use std::alloc::{AllocError, Global};
 use std::sync::Wait;
 use std::thread::Threads;
 
-/// How an answer ends: with a status, or cut short by a fault, whose line then stands on standard error and whose status
-/// is the answer's.
+/// How an answer ends: with a status, or cut short by a fault, whose line then stands on standard error and whose
+/// status is the answer's.
 #[derive(Clone, Copy, Drop)]
 pub enum End {
     Status(u8),
