@@ -1,8 +1,8 @@
 -- What a turn is, by what it asks: only an instruction asks nothing as one, and only a local call puts bytes out.
-use Rattle.std.specs.Prelude.{ℕ, zero, suc, ◌≡◌, ◌<◌, ◌==◌, if◌then◌else◌, List, [], ◌∷◌, Bool, true, false, Option}
+use Rattle.std.specs.Prelude.{ℕ, zero, suc, ◌≡◌, ◌<◌, ◌==◌, ◌⊎◌, if◌then◌else◌, List, [], ◌∷◌, Bool, true, false, Option}
 use Rattle.std.specs.Prelude.{Some, None}
 use Rattle.std.specs.Prelude.{length, slice_get, vec_len}
-use Rattle.std.proofs.Common.{refl, sym, ap, ◌∙◌, subst, arith, get_or}
+use Rattle.std.proofs.Common.{refl, sym, ap, ◌∙◌, subst, arith, get_or, inl, inr}
 use Rattle.std.proofs.lemmas.Option.{slice_get-get_or}
 use Rattle.rv_hart.specs.State.{State}
 use Rattle.cl_state.specs.declared.state.RankState.{RankState}
@@ -30,7 +30,9 @@ use Rattle.cl_calls.specs.Needs.{array_at, needs_of}
 use Rattle.cl_calls.specs.declared.calls.Call.{Call}
 use Rattle.cl_calls.specs.declared.calls.Call.TheVariants as call
 use Rattle.cl_calls.specs.declared.sites.Site.{Site}
+use Rattle.cl_state.specs.declared.asking.Answer.{Answer}
 use Rattle.cl_state.specs.declared.asking.Ask.{Ask}
+use Rattle.cl_state.specs.Told.{told}
 use Rattle.cl_state.specs.declared.asking.Ask.TheVariants as ask
 use Rattle.cl_state.specs.declared.asking.Doing.{Doing}
 use Rattle.cl_state.specs.declared.asking.Doing.TheVariants.{Step, Refused, Go, Poll, Stopped}
@@ -217,6 +219,18 @@ look_out r hart d is a asks look = nothing_out r hart d is a (sym asks) (by_ask 
     by_ask ask.Held look = absurd look
     by_ask ask.Idle look = absurd look
 
+pub positive : (n : ℕ) → (n ≡ 0 → ⊥) → 0 < n
+positive zero never = absurd (never refl)
+positive (suc n) never = omega arith
+
+pub either : (a b : ℕ) → (a ≡ 0 → b ≡ 0 → ⊥) → (0 < b) ⊎ (0 < a)
+either zero b never = inl (positive b (never refl))
+either (suc a) b never = inr (omega arith)
+
+-- the same rank, hart and stamp are told the same
+pub told_same : (r s : Rank) (h k : ℕ) (a : Answer) (t u : ℕ) → r ≡ s → h ≡ k → t ≡ u → told r h a t ≡ told s k a u
+told_same r s h k a t u rank hart stamp = λ i. told (rank i) (hart i) a (stamp i)
+
 -- of the quiet steps a local one alone puts bytes out
 pub quiet_grows : (r : Rank) (hart : ℕ) (d : Doing) → d ≡ doing r.site (part_of r hart) → (a : Ask) → a ≡ asked r hart
     → (k : Kind) → quiet_ask k ≡ Some a → (growth_of d ≡ 0 → ⊥)
@@ -225,10 +239,6 @@ quiet_grows r hart d is a asks k quiet more =
     let up : 0 < growth_of d = positive (growth_of d) more in
     (by_kind k (quiet ∙ ap Some (asks ∙ grows r hart d is up)), subst (λ x. 0 < growth_of x) is up)
   where
-    positive : (n : ℕ) → (n ≡ 0 → ⊥) → 0 < n
-    positive zero never = absurd (never refl)
-    positive (suc n) never = omega arith
-
     by_kind : (k : Kind) → quiet_ask k ≡ Some ask.Local → k ≡ Kind.Local
     by_kind Kind.Local e = refl
     by_kind Kind.Held e = absurd (cc)

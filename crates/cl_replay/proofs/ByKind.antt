@@ -31,9 +31,9 @@ use Rattle.cl_replay.specs.declared.faults.StepFault.{StepFault}
 use Rattle.cl_replay.specs.declared.states.ClusterState.{ClusterState}
 use Rattle.cl_replay.specs.Boxes.{ChangesBox, filled, vacant}
 use Rattle.cl_replay.specs.States.{StandsFor}
-use Rattle.cl_replay.specs.Steps.{KindTakesMemory, Leads, LeadsNowhere, MayTakeMemory, StepFaultHolds, TakesMemory}
+use Rattle.cl_replay.specs.Steps.{KindTakesMemory, Leads, LeadsNowhere, StepFaultHolds, TakesMemory}
 use Rattle.cl_replay.specs.Turns.{AsksNext, CallFault, Calls, HasCalls, IsFreed, IsLook, IsMiss, IsQuiet, IsReady}
-use Rattle.cl_replay.specs.Turns.{QuietFault}
+use Rattle.cl_replay.specs.Turns.{AloneFault, LacksPages, QuietFault}
 use Rattle.cl_replay.specs.Turns.{IsTake, IsTold, Readies, Takes, quiet_ask}
 use Rattle.cl_replay.proofs.Boxed.{empty_is, held_is, shown_of_box, shown_of_settled, shows_made, shows_taken}
 use Rattle.cl_replay.proofs.Lifts.{case_of, lead_alone, lead_boxed, lead_called, rank_there}
@@ -145,25 +145,29 @@ module _ (old : ClusterState) (e : Step) (s : RankState) (at : slice_get old.ran
         gives = c.2 ∙ reply_is image cluster stands c.0;
       }))
 
+  pub alone_takes : LacksPages (rank_of s) e.hart → TakesMemory old e
+  alone_takes lacks = λ image cluster stands. (rank_of s, rank_there image old cluster stands e s at, inl lacks)
+
   pub call_takes : (reply : Reply) → e.kind ≡ Kind.Hub reply
       → CallFault (rank_of s) old.hub old.clock e reply StepFault.Memory → TakesMemory old e
   call_takes reply is takes = λ image cluster stands.
-      let t = takes image.links (calls_of cluster.journal.entries) (has_calls image cluster stands) in (
+      ⊎_elim (λ lacks. alone_takes lacks image cluster stands) (λ t. (
         rank_of s,
         rank_there image old cluster stands e s at,
-        subst (λ k. KindTakesMemory cluster e (rank_of s) k) (sym is) (
+        inr (subst (λ k. KindTakesMemory cluster e (rank_of s) k) (sym is) (
           t.0,
           t.1,
           ⊎_elim (λ carries. inl carries)
               (λ made. inr (ap (makes t.0) (reply_is image cluster stands t.0) ∙ made)) t.2,
-        ),
-      )
+        )),
+      ))
+      (takes image.links (calls_of cluster.journal.entries) (has_calls image cluster stands))
 
   pub quiet_takes : e.kind ≡ Kind.Local → 0 < growth_of (doing s.site (part_of (rank_of s) e.hart)) → TakesMemory old e
   quiet_takes is grows = λ image cluster stands. (
     rank_of s,
     rank_there image old cluster stands e s at,
-    subst (λ k. KindTakesMemory cluster e (rank_of s) k) (sym is) grows,
+    inr (subst (λ k. KindTakesMemory cluster e (rank_of s) k) (sym is) grows),
   )
 
   -- ---- steps that lead on
@@ -325,12 +329,15 @@ at_step old e i n h m s rank count below low value hart harts inside = record {
   low = omega (arith, low);
 }
 
-pub done_fault : (old : ClusterState) (e : Step) (r : Result (Unit {0}) StepFault) (b : Bool)
-    → (IsFalse b → LeadsNowhere old e) → OnErr r ((r ≡ Err StepFault.NotAStep) × IsFalse b)
-    → IfErr r (StepFaultHolds old e)
-done_fault old e (Ok x) b nowhere h = tt
-done_fault old e (Err StepFault.NotAStep) b nowhere h = nowhere h.1
-done_fault old e (Err StepFault.Memory) b nowhere h = absurd (let no = h.0 in cc)
+pub weaker_err : {T E : Type 0} (r : Result T E) (Q S : E → Type 0) → IfErr r Q → ((y : E) → Q y → S y) → IfErr r S
+weaker_err (Ok x) Q S h f = tt
+weaker_err (Err y) Q S h f = f y h
+
+-- a step that was no call, and put nothing out
+pub alone_fault : (old : ClusterState) (e : Step) (s : RankState) → IsAt old e s → (step : Type 0)
+    → ((step → ⊥) → LeadsNowhere old e) → (f : StepFault) → AloneFault (rank_of s) e step f → StepFaultHolds old e f
+alone_fault old e s here step nowhere StepFault.NotAStep none = nowhere none
+alone_fault old e s here step nowhere StepFault.Memory lacks = alone_takes old e s here.there lacks
 
 pub matched_ok : {T E R : Type 0} (r : Result T E) (P : T → Type 0) (Q : E → Type 0) → MatchResult r P Q
     → ((x : T) → P x → R) → OnOk r R
@@ -350,14 +357,13 @@ quiet_fault old e s here is StepFault.NotAStep none =
     (λ rest. ⊎_elim (λ h. quiet_nowhere old e s here.there Kind.Held Ask.Held h refl none)
     (λ i. quiet_nowhere old e s here.there Kind.Idle Ask.Idle i refl none) rest) is
 quiet_fault old e s here is StepFault.Memory h =
-    (subst MayTakeMemory (sym h.0) tt, quiet_takes old e s here.there h.0 h.1)
+    ⊎_elim (alone_takes old e s here.there) (λ more. quiet_takes old e s here.there more.0 more.1) h
 
 pub call_fault : (old : ClusterState) (e : Step) (s : RankState) → IsAt old e s → (reply : Reply)
     → e.kind ≡ Kind.Hub reply → (f : StepFault) → CallFault (rank_of s) old.hub old.clock e reply f
     → StepFaultHolds old e f
 call_fault old e s here reply is StepFault.NotAStep none = call_nowhere old e s here.there reply is none
-call_fault old e s here reply is StepFault.Memory takes =
-    (subst MayTakeMemory (sym is) tt, call_takes old e s here.there reply is takes)
+call_fault old e s here reply is StepFault.Memory takes = call_takes old e s here.there reply is takes
 
 -- boxes that were changed in place
 pub changed_items : (boxes : Vec (List Settled)) (n : ℕ) (s : Settled) (after : List (List Settled))

@@ -1,6 +1,9 @@
 -- A cluster whose parts are as they were.
-use Rattle.std.specs.Prelude.{ℕ, ◌≡◌, map, slice_set}
-use Rattle.std.specs.Vec.{with_item}
+use Rattle.std.specs.Prelude.{ℕ, ◌≡◌, List, length, map, slice_set}
+use Rattle.std.specs.Global.{Vec}
+use Rattle.std.specs.Vec.{with_item, with_items}
+use Rattle.std.proofs.lemmas.List.{with_items_is}
+use Rattle.part_box.specs.declared.settled.Settled.{Settled}
 use Rattle.std.proofs.Common.{ap, get_or, subst, sym, ◌∙◌}
 use Rattle.std.proofs.Math.Seq.{map-set_same}
 use Rattle.rv_image.specs.declared.images.ImageParts.{ImageParts}
@@ -16,12 +19,12 @@ use Rattle.cl_replay.specs.declared.states.ClusterState.{ClusterState}
 -- one rank is another in memory, and the same to those who look
 pub same_but_rank : (old new : ClusterState) (i : ℕ) (s t : RankState) → s ≡ get_or old.ranks.items i s
     → rank_of t ≡ rank_of s → new.ranks ≡ with_item old.ranks i t → new.hub ≡ old.hub → new.clock ≡ old.clock
-    → new.boxes ≡ old.boxes → AreSame old new
+    → new.boxes.items ≡ old.boxes.items → AreSame old new
 same_but_rank old new i s t value same ranks hub clock boxes = record {
   ranks = ap (λ r. map rank_of r.items) ranks ∙ map-set_same rank_of old.ranks.items i t s (same ∙ ap rank_of value);
   hub = hub;
   clock = clock;
-  boxes = ap (λ b. b.items) boxes;
+  boxes = boxes;
 }
 
 -- whichever cluster the one is, the other is that too
@@ -33,3 +36,9 @@ same_stands one other same image cluster stands = record {
   clock_is = same.clock ∙ stands.clock_is;
   boxes_show = subst (λ boxes. ShowsAll image boxes cluster.boxes) (sym same.boxes) stands.boxes_show;
 }
+
+-- boxes that were written back as they were
+pub same_items : (boxes : Vec (List Settled)) (after : List (List Settled)) → after ≡ boxes.items
+    → (with_items boxes after).items ≡ boxes.items
+same_items boxes after same =
+    with_items_is boxes after (ap (λ (xs : List (List Settled)). length xs) same ∙ sym boxes.ok.0) ∙ same

@@ -15,6 +15,7 @@ use Rattle.cl_machine.specs.Journal.{reply_in}
 use Rattle.cl_replay.specs.declared.states.ClusterState.{ClusterState}
 use Rattle.cl_replay.specs.declared.faults.StepFault.{StepFault}
 use Rattle.cl_replay.specs.States.{StandsFor}
+use Rattle.cl_replay.specs.Turns.{LacksPages}
 
 -- whichever cluster the old state is, the step leads from it to one that the new state is
 abbrev pub Leads : ClusterState → Step → ClusterState → Type 0
@@ -36,18 +37,14 @@ KindTakesMemory cluster e rank (Kind.Hub reply) =
     × ((0 < carried_by_request request) ⊎ (makes request (reply_in cluster.journal e.rank request) ≡ true))
 KindTakesMemory cluster e rank _ = ⊥
 
--- so no step of any other kind takes memory
-abbrev pub MayTakeMemory : Kind → Type 0
-MayTakeMemory Kind.Local = Unit {0}
-MayTakeMemory (Kind.Hub reply) = Unit {0}
-MayTakeMemory _ = ⊥
-
+-- or a page is made that the turn may write
 abbrev pub TakesMemory : ClusterState → Step → Type 0
 TakesMemory old e =
     (image : ImageParts) (cluster : Cluster) → StandsFor image old cluster
-    → (rank : Rank) × (slice_get cluster.ranks e.rank ≡ Some rank) × KindTakesMemory cluster e rank e.kind
+    → (rank : Rank) × (slice_get cluster.ranks e.rank ≡ Some rank)
+    × (LacksPages rank e.hart ⊎ KindTakesMemory cluster e rank e.kind)
 
 -- why there was no step
 abbrev pub StepFaultHolds : ClusterState → Step → StepFault → Type 0
 StepFaultHolds old e StepFault.NotAStep = LeadsNowhere old e
-StepFaultHolds old e StepFault.Memory = MayTakeMemory e.kind × TakesMemory old e
+StepFaultHolds old e StepFault.Memory = TakesMemory old e

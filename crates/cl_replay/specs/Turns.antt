@@ -14,6 +14,7 @@ use Rattle.cl_state.specs.Asked.{asked, doing, part_of}
 use Rattle.cl_state.specs.Right.{growth_of}
 use Rattle.cl_state.specs.Rank.{Rank}
 use Rattle.cl_state.specs.Told.{told}
+use Rattle.cl_state.specs.Writes.{missing_for, writes_in}
 use Rattle.cl_trace.specs.declared.events.Kind.{Kind}
 use Rattle.cl_record.specs.Keys.{bytes_in}
 use Rattle.cl_machine.specs.Boxes.{box_number}
@@ -107,10 +108,23 @@ pub record Calls (old : Rank) (before : HubView) (clock : ℕ) (e : Step) (reply
   pub told : IsTold old e (Answer.Reply reply) new
   pub stands : StandsFor after links (calls ++ (e.rank, call.request) ∷ [])
 
--- why a quiet step wasn't done: there is none, or its bytes found no room behind the output
+-- a page that the hart's turn may write isn't there
+abbrev pub LacksPages : Rank → ℕ → Type 0
+LacksPages rank hart =
+    let part = part_of rank hart in
+    0 < missing_for rank.memory.pages (writes_in rank.site hart (doing rank.site part) part)
+
+-- why a step wasn't done that puts nothing out and asks nothing of the hub: there is none, or a page was refused
+abbrev pub AloneFault : Rank → Step → Type 0 → StepFault → Type 0
+AloneFault rank e step StepFault.NotAStep = ¬ step
+AloneFault rank e step StepFault.Memory = LacksPages rank e.hart
+
+-- why a quiet step wasn't done: there is none, or a page was refused, or room for its bytes behind the output
 abbrev pub QuietFault : Rank → Step → StepFault → Type 0
 QuietFault rank e StepFault.NotAStep = ¬ IsQuiet rank e
-QuietFault rank e StepFault.Memory = (e.kind ≡ Kind.Local) × (0 < growth_of (doing rank.site (part_of rank e.hart)))
+QuietFault rank e StepFault.Memory =
+    LacksPages rank e.hart
+    ⊎ ((e.kind ≡ Kind.Local) × (0 < growth_of (doing rank.site (part_of rank e.hart))))
 
 -- a hub to which no more calls were made than its clock tells
 abbrev pub HasCalls : HubView → ℕ → List Link → List Call → Type 0
@@ -128,4 +142,5 @@ CallFault rank hub clock e reply StepFault.NotAStep =
     (links : List Link) (calls : List Call) → HasCalls hub clock links calls
     → ¬ IsCall rank hub clock e reply links calls
 CallFault rank hub clock e reply StepFault.Memory =
-    (links : List Link) (calls : List Call) → HasCalls hub clock links calls → RequestTakesMemory rank e links calls
+    (links : List Link) (calls : List Call) → HasCalls hub clock links calls
+    → LacksPages rank e.hart ⊎ RequestTakesMemory rank e links calls

@@ -7,7 +7,7 @@ ghost use Rattle.cl_state.specs.Room.{rank_of};
 ghost use Rattle.cl_replay.specs.Turns.{CallFault, Calls, HasCalls};
 
 use crate::faults::StepFault;
-use crate::turns::{follows_both, tell};
+use crate::turns::{follows_both, room};
 use cl_machine::Step;
 use cl_state::{Answer, Ask, RankState};
 use mp_hub::HubState;
@@ -45,12 +45,13 @@ pub(crate) fn call(
     if !follows_both(state.clock, clock, step.stamp()) {
         return Err(StepFault::NotAStep);
     }
+    room(state, step, &doing)?;
     let Ok(given) = hub.answer(step.rank(), &request) else {
         return Err(StepFault::Memory);
     };
     if !given.is_same(reply) {
         return Err(StepFault::NotAStep);
     }
-    tell(state, step, &doing, &Answer::Reply(given));
+    state.tell_next(hart, &doing, &Answer::Reply(given), step.stamp());
     Ok(())
 }

@@ -1,6 +1,6 @@
 //! One step of a cluster.
 
-ghost use Rattle.std.specs.Prelude.{◌≡◌, IfErr, IsFalse, IsTrue, OnErr, OnOk, Err};
+ghost use Rattle.std.specs.Prelude.{◌≡◌, IfErr, OnOk, Err};
 ghost use Rattle.cl_replay.specs.States.{AreSame};
 ghost use Rattle.cl_replay.specs.Steps.{Leads, StepFaultHolds};
 
@@ -12,19 +12,6 @@ use cl_journal::CLOCK_MAX;
 use cl_machine::{KindRef, Step};
 use cl_trace::Bare;
 
-/// A step that was done, or is none of the machine.
-#[inline(always)]
-fn done(is_done: bool) -> Result<(), StepFault>
-    ensures ok { OnOk result (IsTrue is_done) }
-    ensures err { OnErr result ((result ≡ Err StepFault.NotAStep) × IsFalse is_done) }
-{
-    if is_done {
-        Ok(())
-    } else {
-        Err(StepFault::NotAStep)
-    }
-}
-
 impl ClusterState {
     /// Does one step, if the machine has it from here: the rank and its hart are there, the hart
     /// asks what the step's kind says, the stamp and the hub's reply are the machine's, and the box
@@ -33,9 +20,10 @@ impl ClusterState {
     /// A plain step copies nothing; it costs what the hart's own step costs, and one look at the
     /// word before.
     ///
-    /// Refusals: NotAStep just where the machine has no such step; Memory where a local step puts
-    /// bytes behind the output, or a call of the hub carries or makes something, and in no step of
-    /// another kind, and then the cluster is as it was. After NotAStep the state may be anything.
+    /// Refusals: NotAStep just where the machine has no such step; Memory where a page that the turn
+    /// may write isn't there, where a local step puts bytes behind the output, or where a call of the
+    /// hub carries or makes something, and in no other step, and then the cluster is as it was. After
+    /// NotAStep the state may be anything.
     pub fn step(&mut self, step: &Step) -> Result<(), StepFault>
         ensures leads { OnOk result (Leads self.old step.now self.new) }
         ensures fault { IfErr result (StepFaultHolds self.old step.now) }
@@ -51,12 +39,12 @@ impl ClusterState {
         }
         match step.kind() {
             KindRef::Bare(kind) => match kind {
-                Bare::Plain => done(plain(state, step)),
+                Bare::Plain => plain(state, step),
                 Bare::Local | Bare::Held | Bare::Idle => quiet(state, step),
-                Bare::Ready => done(ready(state, self.boxes.as_mut_slice(), step)),
-                Bare::Take => done(take(state, self.boxes.as_mut_slice(), step)),
-                Bare::Miss => done(miss(state, step)),
-                Bare::Freed => done(freed(state, self.boxes.as_slice(), step)),
+                Bare::Ready => ready(state, self.boxes.as_mut_slice(), step),
+                Bare::Take => take(state, self.boxes.as_mut_slice(), step),
+                Bare::Miss => miss(state, step),
+                Bare::Freed => freed(state, self.boxes.as_slice(), step),
             },
             KindRef::Hub(reply) => match call(state, &mut self.hub, self.clock, step, reply) {
                 Ok(()) => {

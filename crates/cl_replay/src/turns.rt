@@ -1,14 +1,15 @@
 //! One rank's part of a step, with the box that the step touches.
 
-ghost use Rattle.std.specs.Prelude.{◌≡◌, ◌<◌, ◌+◌, ◌↔◌, ◌^◌, Err, IsFalse, IsTrue, MatchResult, max, vec_len, Some};
+ghost use Rattle.std.specs.Prelude.{◌≡◌, ◌<◌, ◌+◌, ◌↔◌, ◌^◌, Err, IfErr, IsTrue, MatchResult, OnErr, OnOk, max};
+ghost use Rattle.std.specs.Prelude.{vec_len, Some};
 ghost use Rattle.cl_state.specs.declared.asking.Ask.TheVariants as ask;
 ghost use Rattle.cl_state.specs.declared.asking.Answer.TheVariants as answer;
 ghost use Rattle.cl_state.specs.Right.{growth_of};
-ghost use Rattle.cl_state.specs.Room.{IsNext, rank_of};
+ghost use Rattle.cl_state.specs.Room.{HasRoom, IsNext, rank_of};
 ghost use Rattle.cl_state.specs.Told.{told};
 ghost use Rattle.cl_trace.specs.Traces.{kind_of_bare};
-ghost use Rattle.cl_replay.specs.Turns.{AsksNext, IsFreed, IsMiss, IsQuiet, IsReady, IsTake, IsTold, Readies, Takes};
-ghost use Rattle.cl_replay.specs.Turns.{IsLook, QuietFault, quiet_ask};
+ghost use Rattle.cl_replay.specs.Turns.{AloneFault, AsksNext, IsFreed, IsLook, IsMiss, IsQuiet, IsReady, IsTake};
+ghost use Rattle.cl_replay.specs.Turns.{IsTold, LacksPages, QuietFault, Readies, Takes, quiet_ask};
 
 use crate::boxes::{get, number_of, set};
 use crate::faults::StepFault;
@@ -36,28 +37,72 @@ pub(crate) fn follows_both(clock: Stamp, other: Stamp, stamp: Stamp) -> bool
     follows(clock.max(other), stamp)
 }
 
-/// Does the instruction of a running hart, where it is no ECALL and the stamp is the next. Else
-/// nothing is done.
-#[inline(always)]
-pub(crate) fn plain(state: &mut RankState, step: &Step) -> bool
-    requires { step.now.hart < vec_len state.old.harts }
-    ensures goes { IsTrue result → AsksNext (rank_of state.old) step.now ask.Plain }
-    ensures told { IsTrue result → IsTold (rank_of state.old) step.now answer.Alone (rank_of state.new) }
-    ensures none { IsFalse result → ¬ AsksNext (rank_of state.old) step.now ask.Plain }
-{
-    follows(state.clock, step.stamp()) && step_plain(state, step.hart(), step.stamp())
-}
-
-/// Tells a rank the answer to a turn that puts nothing out: for that no memory is taken.
-pub(crate) fn tell(state: &mut RankState, step: &Step, doing: &Doing, answer: &Answer)
+/// Makes the spare pages that a turn wants which puts nothing out. The rank stays as it is. The only error is want of
+/// memory, where a page that the turn may write isn't there.
+pub(crate) fn room(state: &mut RankState, step: &Step, doing: &Doing) -> Result<(), StepFault>
     requires next { IsNext state.old step.now.hart doing.now }
     requires nothing_out { growth_of doing.now ≡ 0 }
-    ensures { IsTold (rank_of state.old) step.now answer.now (rank_of state.new) }
+    ensures same { rank_of state.new ≡ rank_of state.old }
+    ensures next { IsNext state.new step.now.hart doing.now }
+    ensures room { OnOk result (HasRoom state.new step.now.hart) }
+    ensures fault { OnErr result ((result ≡ Err StepFault.Memory) × LacksPages (rank_of state.old) step.now.hart) }
 {
-    let Ok(()) = state.room_next(step.hart(), doing) else {
-        unreachable!()
+    match state.room_next(step.hart(), doing) {
+        Ok(()) => Ok(()),
+        Err(_) => Err(StepFault::Memory),
+    }
+}
+
+/// Whether a hart asks for an instruction to be done.
+fn is_plain(asked: &Ask) -> bool
+    ensures { IsTrue result ↔ (asked.now ≡ ask.Plain) }
+{
+    match asked {
+        Ask::Plain => true,
+        _ => false,
+    }
+}
+
+/// Does the instruction of a running hart, where it is no ECALL, and makes the page first that it stores to.
+fn plain_with_room(state: &mut RankState, step: &Step) -> Result<(), StepFault>
+    requires hart { step.now.hart < vec_len state.old.harts }
+    requires stamp { step.now.stamp ≡ state.old.clock + 1 }
+    ensures goes { OnOk result (AsksNext (rank_of state.old) step.now ask.Plain
+        × IsTold (rank_of state.old) step.now answer.Alone (rank_of state.new)) }
+    ensures fault { IfErr result
+        (AloneFault (rank_of state.old) step.now (AsksNext (rank_of state.old) step.now ask.Plain)) }
+    ensures same { result ≡ Err StepFault.Memory → rank_of state.new ≡ rank_of state.old }
+{
+    let hart = step.hart();
+    let doing = state.next(hart);
+    let Ok(ask) = state.ask_next(hart, &doing) else {
+        return Err(StepFault::NotAStep);
     };
-    state.tell_next(step.hart(), doing, answer, step.stamp())
+    if !is_plain(&ask) {
+        return Err(StepFault::NotAStep);
+    }
+    room(state, step, &doing)?;
+    state.tell_next(hart, &doing, &Answer::Alone, step.stamp());
+    Ok(())
+}
+
+/// Does the instruction of a running hart, where it is no ECALL and the stamp is the next.
+#[inline(always)]
+pub(crate) fn plain(state: &mut RankState, step: &Step) -> Result<(), StepFault>
+    requires { step.now.hart < vec_len state.old.harts }
+    ensures goes { OnOk result (AsksNext (rank_of state.old) step.now ask.Plain
+        × IsTold (rank_of state.old) step.now answer.Alone (rank_of state.new)) }
+    ensures fault { IfErr result
+        (AloneFault (rank_of state.old) step.now (AsksNext (rank_of state.old) step.now ask.Plain)) }
+    ensures same { result ≡ Err StepFault.Memory → rank_of state.new ≡ rank_of state.old }
+{
+    if !follows(state.clock, step.stamp()) {
+        return Err(StepFault::NotAStep);
+    }
+    if step_plain(state, step.hart(), step.stamp()) {
+        return Ok(());
+    }
+    plain_with_room(state, step)
 }
 
 /// Whether a hart asks this in a step of a kind that touches its rank alone.
@@ -111,47 +156,57 @@ fn is_look(ask: &Ask) -> bool
 }
 
 /// A look at a box in vain.
-pub(crate) fn miss(state: &mut RankState, step: &Step) -> bool
+pub(crate) fn miss(state: &mut RankState, step: &Step) -> Result<(), StepFault>
     requires { step.now.hart < vec_len state.old.harts }
-    ensures goes { IsTrue result → IsMiss (rank_of state.old) step.now }
-    ensures told { IsTrue result → IsTold (rank_of state.old) step.now answer.Missed (rank_of state.new) }
-    ensures none { IsFalse result → ¬ IsMiss (rank_of state.old) step.now }
+    ensures goes { OnOk result (IsMiss (rank_of state.old) step.now
+        × IsTold (rank_of state.old) step.now answer.Missed (rank_of state.new)) }
+    ensures fault { IfErr result (AloneFault (rank_of state.old) step.now (IsMiss (rank_of state.old) step.now)) }
+    ensures same { result ≡ Err StepFault.Memory → rank_of state.new ≡ rank_of state.old }
 {
     let hart = step.hart();
     let doing = state.next(hart);
     let Ok(ask) = state.ask_next(hart, &doing) else {
-        return false;
+        return Err(StepFault::NotAStep);
     };
     if !is_look(&ask) || !follows(state.clock, step.stamp()) {
-        return false;
+        return Err(StepFault::NotAStep);
     }
-    tell(state, step, &doing, &Answer::Missed);
-    true
+    room(state, step, &doing)?;
+    state.tell_next(hart, &doing, &Answer::Missed, step.stamp());
+    Ok(())
 }
 
 /// A partition is made ready in an empty box.
-pub(crate) fn ready(state: &mut RankState, boxes: &mut [[Settled; 16]], step: &Step) -> bool
+pub(crate) fn ready(
+    state: &mut RankState,
+    boxes: &mut [[Settled; 16]],
+    step: &Step,
+) -> Result<(), StepFault>
     requires { step.now.hart < vec_len state.old.harts }
-    ensures goes { IsTrue result → Readies (rank_of state.old) boxes.old step.now (rank_of state.new) boxes.new }
-    ensures none { IsFalse result → ¬ IsReady (rank_of state.old) boxes.old step.now }
+    ensures goes { OnOk result (Readies (rank_of state.old) boxes.old step.now (rank_of state.new) boxes.new) }
+    ensures fault { IfErr result
+        (AloneFault (rank_of state.old) step.now (IsReady (rank_of state.old) boxes.old step.now)) }
+    ensures same_rank { result ≡ Err StepFault.Memory → rank_of state.new ≡ rank_of state.old }
+    ensures same_boxes { result ≡ Err StepFault.Memory → boxes.new ≡ boxes.old }
 {
     let hart = step.hart();
     let doing = state.next(hart);
     let Ok(ask) = state.ask_next(hart, &doing) else {
-        return false;
+        return Err(StepFault::NotAStep);
     };
     let Ask::Ready { link, part, bytes } = ask else {
-        return false;
+        return Err(StepFault::NotAStep);
     };
     let number = number_of(link, part);
     let Some(settled) = get(boxes, number) else {
-        return false;
+        return Err(StepFault::NotAStep);
     };
     if settled.full || !follows(state.clock, step.stamp()) {
-        return false;
+        return Err(StepFault::NotAStep);
     }
     let words = to_words(bytes.as_slice());
     let stamp = step.stamp();
+    room(state, step, &doing)?;
     set(
         boxes,
         number,
@@ -161,33 +216,41 @@ pub(crate) fn ready(state: &mut RankState, boxes: &mut [[Settled; 16]], step: &S
             words,
         },
     );
-    tell(state, step, &doing, &Answer::Alone);
-    true
+    state.tell_next(hart, &doing, &Answer::Alone, stamp);
+    Ok(())
 }
 
 /// What stands in a box is taken.
-pub(crate) fn take(state: &mut RankState, boxes: &mut [[Settled; 16]], step: &Step) -> bool
+pub(crate) fn take(
+    state: &mut RankState,
+    boxes: &mut [[Settled; 16]],
+    step: &Step,
+) -> Result<(), StepFault>
     requires { step.now.hart < vec_len state.old.harts }
-    ensures goes { IsTrue result → Takes (rank_of state.old) boxes.old step.now (rank_of state.new) boxes.new }
-    ensures none { IsFalse result → ¬ IsTake (rank_of state.old) boxes.old step.now }
+    ensures goes { OnOk result (Takes (rank_of state.old) boxes.old step.now (rank_of state.new) boxes.new) }
+    ensures fault { IfErr result
+        (AloneFault (rank_of state.old) step.now (IsTake (rank_of state.old) boxes.old step.now)) }
+    ensures same_rank { result ≡ Err StepFault.Memory → rank_of state.new ≡ rank_of state.old }
+    ensures same_boxes { result ≡ Err StepFault.Memory → boxes.new ≡ boxes.old }
 {
     let hart = step.hart();
     let doing = state.next(hart);
     let Ok(ask) = state.ask_next(hart, &doing) else {
-        return false;
+        return Err(StepFault::NotAStep);
     };
     let Ask::Look { link, part } = ask else {
-        return false;
+        return Err(StepFault::NotAStep);
     };
     let number = number_of(link, part);
     let Some(settled) = get(boxes, number) else {
-        return false;
+        return Err(StepFault::NotAStep);
     };
     if !settled.full || !follows_both(state.clock, settled.stamp, step.stamp()) {
-        return false;
+        return Err(StepFault::NotAStep);
     }
     let taken = Answer::Taken(contents(state.site.version, &settled.words));
     let (stamp, words) = (step.stamp(), [0; 16]);
+    room(state, step, &doing)?;
     set(
         boxes,
         number,
@@ -197,31 +260,38 @@ pub(crate) fn take(state: &mut RankState, boxes: &mut [[Settled; 16]], step: &St
             words,
         },
     );
-    tell(state, step, &doing, &taken);
-    true
+    state.tell_next(hart, &doing, &taken, stamp);
+    Ok(())
 }
 
 /// A box is seen empty by its sender.
-pub(crate) fn freed(state: &mut RankState, boxes: &[[Settled; 16]], step: &Step) -> bool
+pub(crate) fn freed(
+    state: &mut RankState,
+    boxes: &[[Settled; 16]],
+    step: &Step,
+) -> Result<(), StepFault>
     requires { step.now.hart < vec_len state.old.harts }
-    ensures goes { IsTrue result → IsFreed (rank_of state.old) boxes.now step.now }
-    ensures told { IsTrue result → IsTold (rank_of state.old) step.now answer.Freed (rank_of state.new) }
-    ensures none { IsFalse result → ¬ IsFreed (rank_of state.old) boxes.now step.now }
+    ensures goes { OnOk result (IsFreed (rank_of state.old) boxes.now step.now
+        × IsTold (rank_of state.old) step.now answer.Freed (rank_of state.new)) }
+    ensures fault { IfErr result
+        (AloneFault (rank_of state.old) step.now (IsFreed (rank_of state.old) boxes.now step.now)) }
+    ensures same { result ≡ Err StepFault.Memory → rank_of state.new ≡ rank_of state.old }
 {
     let hart = step.hart();
     let doing = state.next(hart);
     let Ok(ask) = state.ask_next(hart, &doing) else {
-        return false;
+        return Err(StepFault::NotAStep);
     };
     let Ask::Freed { link, part } = ask else {
-        return false;
+        return Err(StepFault::NotAStep);
     };
     let Some(settled) = get(boxes, number_of(link, part)) else {
-        return false;
+        return Err(StepFault::NotAStep);
     };
     if settled.full || !follows_both(state.clock, settled.stamp, step.stamp()) {
-        return false;
+        return Err(StepFault::NotAStep);
     }
-    tell(state, step, &doing, &Answer::Freed);
-    true
+    room(state, step, &doing)?;
+    state.tell_next(hart, &doing, &Answer::Freed, step.stamp());
+    Ok(())
 }

@@ -6,7 +6,7 @@ use Rattle.cl_state.specs.declared.asking.Ask.TheVariants as ask
 use Rattle.cl_state.specs.Asked.{asked}
 use Rattle.cl_state.specs.Room.{rank_of}
 use Rattle.cl_state.specs.Told.{told}
-use Rattle.cl_replay.proofs.Asks.{nothing_out}
+use Rattle.cl_replay.proofs.Asks.{nothing_out, told_same}
 use Rattle.cl_replay.proofs.calls.call.Goals as goal
 
 pub returns-then-posts-ge18446744073709551615-clause-fault : goal.returns-then-posts-ge18446744073709551615-clause-fault
@@ -15,8 +15,8 @@ returns-then-posts-ge18446744073709551615-clause-fault c = λ links calls has is
     let lines = ap (λ (h : HubView). length h.board.lines) has.0 in
     omega (arith, few, lines, has.1, is.stamp, c.posts.ensures, c.requires.low, c.if-posts-ge18446744073709551615.true)
 
-pub tell-requires-clause-nothing_out : goal.tell-requires-clause-nothing_out
-tell-requires-clause-nothing_out c =
+pub room-requires-clause-nothing_out : goal.room-requires-clause-nothing_out
+room-requires-clause-nothing_out c =
     nothing_out (rank_of c.args.state.now) c.hart-hart.result c.next-doing.result c.next-doing.ensures.spelled
     (ask.Hub c.in-Hub.request) (sym c.in-Ok.ensures ∙ c.in-Hub.is) refl
 
@@ -29,7 +29,8 @@ returns-clause-calls c = λ links calls has. record {
     gives = sym (c.is_same.ensures.0 c.if-not-is_same.false) ∙ c.in-Ok-answer.ensures.reply links calls has.0
         ∙ ap (λ r. reply_of links calls r c.in-Hub.request) c.rank.ensures;
   };
-  told = c.tell.ensures
+  told = c.tell_next.ensures.told
+      ∙ told_same _ _ _ _ (answer.Reply c.in-Ok-answer.given) _ _ c.room.ensures.same c.hart-hart.ensures c.stamp-2.ensures
       ∙ ap (λ r. told (rank_of c.args.state.now) c.args.step.now.hart (answer.Reply r) c.args.step.now.stamp)
       (c.is_same.ensures.0 c.if-not-is_same.false);
   stands = subst (λ r. StandsFor c.answer.new.self links (calls ++ (r, c.in-Hub.request) ∷ [])) c.rank.ensures

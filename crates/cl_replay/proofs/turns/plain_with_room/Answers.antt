@@ -1,0 +1,10 @@
+use Rattle.std.proofs.Common.{refl, sym, ◌∙◌}
+use Rattle.cl_state.specs.declared.asking.Ask.TheVariants as ask
+use Rattle.cl_state.specs.Room.{rank_of}
+use Rattle.cl_replay.proofs.Asks.{nothing_out}
+use Rattle.cl_replay.proofs.turns.plain_with_room.Goals as goal
+
+pub room-requires-clause-nothing_out : goal.room-requires-clause-nothing_out
+room-requires-clause-nothing_out c =
+    nothing_out (rank_of c.args.state.now) c.hart-hart.result c.next-doing.result c.next-doing.ensures.spelled
+    ask.Plain (sym c.in-Ok.ensures ∙ c.is_plain.ensures.0 c.if-not-is_plain.false) refl
