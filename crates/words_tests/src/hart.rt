@@ -63,7 +63,7 @@ pub fn third_stack_is_below_two_others() -> u64
 // ---- steps
 
 /// An ECALL changes nothing, the pc with it.
-#[tactic(auto, unfolding(rv_hart::specs::Stepped::stepped, rv_decode::specs::Decoded::decoded))]
+#[tactic(auto, unfolding(rv_hart::specs::Stepped::stepped, rv_hart::specs::Stores::store_range, rv_decode::specs::Decoded::decoded))]
 pub fn ecall_changes_nothing(hart: &mut Hart, memory: &mut RankMemory) -> Result<Did, AllocError>
     requires running { hart.old.mode ≡ Running }
     requires ecall { word_at memory.old hart.old.pc ≡ Some 0x00000073 }
@@ -75,7 +75,7 @@ pub fn ecall_changes_nothing(hart: &mut Hart, memory: &mut RankMemory) -> Result
 }
 
 /// An EBREAK stops the hart where it is, and is no plain instruction.
-#[tactic(auto, unfolding(rv_hart::specs::Stepped::stepped, rv_decode::specs::Decoded::decoded))]
+#[tactic(auto, unfolding(rv_hart::specs::Stepped::stepped, rv_hart::specs::Stores::store_range, rv_decode::specs::Decoded::decoded))]
 pub fn ebreak_stops_the_hart(hart: &mut Hart, memory: &mut RankMemory) -> Result<Did, AllocError>
     requires running { hart.old.mode ≡ Running }
     requires ebreak { word_at memory.old hart.old.pc ≡ Some 0x00100073 }
@@ -86,7 +86,7 @@ pub fn ebreak_stops_the_hart(hart: &mut Hart, memory: &mut RankMemory) -> Result
 }
 
 /// A trap leaves the pc where it is.
-#[tactic(auto, unfolding(rv_hart::specs::Stepped::stepped, rv_decode::specs::Decoded::decoded))]
+#[tactic(auto, unfolding(rv_hart::specs::Stepped::stepped, rv_hart::specs::Stores::store_range, rv_decode::specs::Decoded::decoded))]
 pub fn trap_leaves_the_pc(hart: &mut Hart, memory: &mut RankMemory) -> Result<Did, AllocError>
     requires running { hart.old.mode ≡ Running }
     requires illegal { word_at memory.old hart.old.pc ≡ Some 0xffffffff }
@@ -97,7 +97,7 @@ pub fn trap_leaves_the_pc(hart: &mut Hart, memory: &mut RankMemory) -> Result<Di
 }
 
 /// A branch that isn't taken goes on to the next instruction: 00001463 is `bne x0, x0, 8`.
-#[tactic(auto, unfolding(rv_hart::specs::Stepped::stepped, rv_decode::specs::Decoded::decoded, rv_hart::specs::Results::is_taken))]
+#[tactic(auto, unfolding(rv_hart::specs::Stepped::stepped, rv_hart::specs::Stores::store_range, rv_decode::specs::Decoded::decoded, rv_hart::specs::Results::is_taken))]
 pub fn branch_not_taken_goes_on(hart: &mut Hart, memory: &mut RankMemory) -> Result<Did, AllocError>
     requires running { hart.old.mode ≡ Running }
     requires at_four { hart.old.pc ≡ 4 }
@@ -109,7 +109,7 @@ pub fn branch_not_taken_goes_on(hart: &mut Hart, memory: &mut RankMemory) -> Res
 }
 
 /// A jump to an address that isn't a multiple of 4 leaves the link as it was: 002000ef is `jal x1, 2`.
-#[tactic(auto, unfolding(rv_hart::specs::Stepped::stepped, rv_decode::specs::Decoded::decoded, rv_hart::specs::Effect::jumps))]
+#[tactic(auto, unfolding(rv_hart::specs::Stepped::stepped, rv_hart::specs::Stores::store_range, rv_decode::specs::Decoded::decoded, rv_hart::specs::Effect::jumps))]
 pub fn misaligned_jump_leaves_the_link(
     hart: &mut Hart,
     memory: &mut RankMemory,
@@ -124,7 +124,7 @@ pub fn misaligned_jump_leaves_the_link(
 }
 
 /// A fence is done, and not given up: 0ff0000f is `fence`.
-#[tactic(auto, unfolding(rv_hart::specs::Stepped::stepped, rv_decode::specs::Decoded::decoded))]
+#[tactic(auto, unfolding(rv_hart::specs::Stepped::stepped, rv_hart::specs::Stores::store_range, rv_decode::specs::Decoded::decoded))]
 pub fn fence_goes_on(hart: &mut Hart, memory: &mut RankMemory) -> Result<Did, AllocError>
     requires running { hart.old.mode ≡ Running }
     requires at_four { hart.old.pc ≡ 4 }
@@ -136,7 +136,7 @@ pub fn fence_goes_on(hart: &mut Hart, memory: &mut RankMemory) -> Result<Did, Al
 }
 
 /// A jump leaves the address of the instruction behind it: 008000ef is `jal x1, 8`.
-#[tactic(auto, unfolding(rv_hart::specs::Stepped::stepped, rv_decode::specs::Decoded::decoded, rv_hart::specs::Effect::jumps))]
+#[tactic(auto, unfolding(rv_hart::specs::Stepped::stepped, rv_hart::specs::Stores::store_range, rv_decode::specs::Decoded::decoded, rv_hart::specs::Effect::jumps))]
 pub fn jump_links_to_what_is_behind_it(
     hart: &mut Hart,
     memory: &mut RankMemory,
@@ -151,7 +151,7 @@ pub fn jump_links_to_what_is_behind_it(
 }
 
 /// A jump by a register drops bit 0 of its target: 00100067 is `jalr x0, 1(x0)`.
-#[tactic(auto, unfolding(rv_hart::specs::Stepped::stepped, rv_decode::specs::Decoded::decoded, rv_hart::specs::Effect::jumps))]
+#[tactic(auto, unfolding(rv_hart::specs::Stepped::stepped, rv_hart::specs::Stores::store_range, rv_decode::specs::Decoded::decoded, rv_hart::specs::Effect::jumps))]
 pub fn jump_by_a_register_drops_bit_0(
     hart: &mut Hart,
     memory: &mut RankMemory,
@@ -165,7 +165,7 @@ pub fn jump_by_a_register_drops_bit_0(
 }
 
 /// A jump by the register that it writes goes by what that held before: 000080e7 is `jalr x1, 0(x1)`.
-#[tactic(auto, unfolding(rv_hart::specs::Stepped::stepped, rv_decode::specs::Decoded::decoded, rv_hart::specs::Effect::jumps))]
+#[tactic(auto, unfolding(rv_hart::specs::Stepped::stepped, rv_hart::specs::Stores::store_range, rv_decode::specs::Decoded::decoded, rv_hart::specs::Effect::jumps))]
 pub fn jump_by_its_own_link(hart: &mut Hart, memory: &mut RankMemory) -> Result<Did, AllocError>
     requires running { hart.old.mode ≡ Running }
     requires at_four { hart.old.pc ≡ 4 }
