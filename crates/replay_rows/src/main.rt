@@ -14,6 +14,7 @@ use part_box::Settled;
 use rv_decode::Reg;
 use rv_hart::Hart;
 use rv_image::{Image, read_image};
+use rv_memory::RankMemory;
 use std::alloc::{AllocError, Global};
 use std::io;
 use std::io::Read;
@@ -137,12 +138,29 @@ fn are_same_harts(one: &[Hart], other: &[Hart]) -> bool {
             .all(|(a, b)| is_same_hart(a, b))
 }
 
+/// Whether two memories have the same bytes, and the same pages, one after another.
+fn are_same_pages(one: &RankMemory, other: &RankMemory) -> bool {
+    if one.size() != other.size() {
+        return false;
+    }
+    let (mut here, mut there) = ([0; 4096], [0; 4096]);
+    for page in 0..one.size() / 4096 {
+        let at = page * 4096;
+        let read = one.read_into(at, &mut here);
+        if other.read_into(at, &mut there) != read || here[..] != there[..] {
+            return false;
+        }
+        if one.present(at, 4096) != other.present(at, 4096) {
+            return false;
+        }
+    }
+    true
+}
+
 /// Whether two ranks have the same harts, memory, output and clock.
 fn is_same_rank(one: &RankState, other: &RankState) -> bool {
-    let size = one.memory.size();
     one.clock == other.clock
-        && size == other.memory.size()
-        && one.memory.bytes(0, size) == other.memory.bytes(0, size)
+        && are_same_pages(&one.memory, &other.memory)
         && one.out.as_slice() == other.out.as_slice()
         && are_same_harts(one.harts.as_slice(), other.harts.as_slice())
 }
