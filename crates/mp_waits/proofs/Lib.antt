@@ -1,0 +1,11 @@
+pub mod Sets
+pub mod Lines
+pub mod Moves
+pub mod Owned
+pub mod Collects
+pub mod Probes
+pub mod Sends
+pub mod Fresh
+pub mod Several
+pub mod Cuts
+pub mod Waits
