@@ -193,7 +193,7 @@ call_delayed site hart memory table phases (call.Parrived handle part_number) pa
     (arrived_manner phases part_number (receiving_side (request_at table handle)))
 call_delayed site hart memory table phases _ part waits = absurd waits
 
-turn_delayed : (rank : Rank) (hart : ℕ) (d : Doing) (r : Request)
+pub turn_delayed : (rank : Rank) (hart : ℕ) (d : Doing) (r : Request)
     → asked_in rank.site rank.memory rank.requests rank.phases d ≡ ask.Hub r
     → (told_in rank.site hart d (answer.Reply reply.NotYet) (part_of rank hart)).hart
     ≡ delayed d (part_of rank hart).hart

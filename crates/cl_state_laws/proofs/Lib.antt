@@ -8,3 +8,4 @@ pub mod Misses
 pub mod WorkedPartitions
 pub mod Leaves
 pub mod Delays
+pub mod Vain

@@ -63,7 +63,7 @@ no_look memory now (transfer.ReceiveClaimed buffer capacity) look = look
 no_look memory now (transfer.SendPartitions side) look = look
 no_look memory now (transfer.ReceivePartitions side) look = look
 
-no_look_if : (b : Bool) (r : Request) → IsLook (if b then ask.Local else ask.Hub r) → ⊥
+pub no_look_if : (b : Bool) (r : Request) → IsLook (if b then ask.Local else ask.Hub r) → ⊥
 no_look_if true r look = look
 no_look_if false r look = look
 
@@ -77,7 +77,7 @@ no_look_pending pending.FromNull look = look
 no_look_pending (pending.Message post buffer capacity) look = look
 no_look_pending (pending.Word post) look = look
 
-no_look_all : (posts : List ℕ) → IsLook (asked_all posts) → ⊥
+pub no_look_all : (posts : List ℕ) → IsLook (asked_all posts) → ⊥
 no_look_all [] look = look
 no_look_all (post ∷ posts) look = look
 
@@ -193,7 +193,7 @@ looks_call site hart part (call.Waitall s) look =
     absurd (no_look_all (posts_of (pendings part.requests (handles_in part.memory (array_at s.array s.count)))) look)
 looks_call site hart part _ look = absurd look
 
-no_look_poll : (c : Call) (post : ℕ) → IsLook (asked_poll c post) → ⊥
+pub no_look_poll : (c : Call) (post : ℕ) → IsLook (asked_poll c post) → ⊥
 no_look_poll (call.Ssend s) post look = look
 no_look_poll _ post look = look
 

@@ -206,7 +206,7 @@ pub record IsPartKept (old new : Part) : Type 0 where
   pub phases : new.phases ≡ old.phases
   pub out : new.out ≡ old.out
 
-row_kept : (site : Site) (row : Row) (part : Part) → Waits row
+pub row_kept : (site : Site) (row : Row) (part : Part) → Waits row
     → IsPartKept part (told_row site row (answer.Reply reply.NotYet) part)
 row_kept site (AtOnce o) part waits = absurd waits
 row_kept site (OnBox v) part waits = absurd waits

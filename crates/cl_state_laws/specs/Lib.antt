@@ -1,5 +1,6 @@
 pub mod Laws
 pub mod Leaves
+pub mod Vain
 pub mod CallRows
 pub mod CutRows
 pub mod PartitionRows

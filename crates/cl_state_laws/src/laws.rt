@@ -3,6 +3,7 @@
 ghost use Rattle.cl_state.specs.Laws.{ToldLaw};
 ghost use Rattle.cl_state.specs.Moves.{KnownLaw, MovedLaw};
 ghost use Rattle.cl_state_laws.specs.Leaves.{BytesLaw, DelayLaw, HartLaw};
+ghost use Rattle.cl_state_laws.specs.Vain.{VainLaw};
 ghost use Rattle.cl_state_laws.specs.Laws.{HubRefusalLaw, MissLaw, NotYetLaw, PostsLaw, RefusalLaw, ReturnLaw};
 
 /// A told rank has the event's stamp as its clock, and keeps what the image fixes and its number of harts.
@@ -69,4 +70,10 @@ pub fn delay_law()
 /// box, and its statuses.
 pub fn bytes_law()
     ensures { BytesLaw }
+{}
+
+/// A turn in vain changes nothing of its rank but the clock: of a hart that is stopped, or of one that waits and is told
+/// that nothing is there. What is asked doesn't depend on the clock.
+pub fn vain_law()
+    ensures { VainLaw }
 {}
