@@ -9,3 +9,4 @@ pub mod WorkedPartitions
 pub mod Leaves
 pub mod Delays
 pub mod Vain
+pub mod Members

@@ -1,6 +1,7 @@
 pub mod Laws
 pub mod Leaves
 pub mod Vain
+pub mod Members
 pub mod CallRows
 pub mod CutRows
 pub mod PartitionRows

@@ -3,6 +3,7 @@
 ghost use Rattle.cl_state.specs.Laws.{ToldLaw};
 ghost use Rattle.cl_state.specs.Moves.{KnownLaw, MovedLaw};
 ghost use Rattle.cl_state_laws.specs.Leaves.{BytesLaw, DelayLaw, HartLaw};
+ghost use Rattle.cl_state_laws.specs.Members.{MembersLaw};
 ghost use Rattle.cl_state_laws.specs.Vain.{VainLaw};
 ghost use Rattle.cl_state_laws.specs.Laws.{HubRefusalLaw, MissLaw, NotYetLaw, PostsLaw, RefusalLaw, ReturnLaw};
 
@@ -76,4 +77,10 @@ pub fn bytes_law()
 /// that nothing is there. What is asked doesn't depend on the clock.
 pub fn vain_law()
     ensures { VainLaw }
+{}
+
+/// A rank sends in communicators of which it is a member, and no others: the check of the call that opens a send holds
+/// for each start of it.
+pub fn members_law()
+    ensures { MembersLaw }
 {}
