@@ -1,0 +1,5 @@
+pub mod Reached
+pub mod Boxes
+pub mod Own
+pub mod Others
+pub mod Runs
