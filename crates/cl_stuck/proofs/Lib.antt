@@ -3,3 +3,4 @@ pub mod Boxes
 pub mod Own
 pub mod Others
 pub mod Runs
+pub mod Unions

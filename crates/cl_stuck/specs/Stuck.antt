@@ -1,6 +1,6 @@
 -- Ranks that are stuck: each of their harts is stopped, or waits on what none but these ranks could bring. And a
 -- deadlock: ranks whom no run of the machine lets go on.
-use Rattle.std.specs.Prelude.{ℕ, ◌<◌, ◌≡◌, ◌==◌, ◌⊎◌, Bool, IsTrue, List, length, Some, slice_get, is_some}
+use Rattle.std.specs.Prelude.{ℕ, ◌<◌, ◌≡◌, ◌==◌, ◌⊎◌, Bool, IsTrue, List, ◌++◌, length, Some, slice_get, is_some}
 use Rattle.std.specs.List.{list_any}
 use Rattle.rv_image.specs.declared.images.ImageParts.{ImageParts}
 use Rattle.mp_transfers.specs.Inits.{is_receiver}
@@ -95,3 +95,9 @@ abbrev pub DeadlockLaw : Type 0
 DeadlockLaw =
     (image : ImageParts) (cluster : Cluster) (ranks : List ℕ) → IsReached image cluster → AreStuck ranks cluster
     → SomeWaits ranks cluster → IsDeadlock ranks cluster
+
+-- ranks that are stuck together with some, or with others, are stuck together with all: so there are the most that are
+abbrev pub UnionLaw : Type 0
+UnionLaw =
+    (some others : List ℕ) (cluster : Cluster) → AreStuck some cluster → AreStuck others cluster
+    → AreStuck (some ++ others) cluster
