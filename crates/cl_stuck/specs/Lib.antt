@@ -1,1 +1,2 @@
 pub mod Stuck
+pub mod Rows

@@ -1,0 +1,150 @@
+-- The worked rows.
+use Rattle.std.specs.Prelude.{ℕ, zero, suc, ◌<◌, ◌≡◌, ◌⊎◌, ◌==◌, ◌&&◌, true, false, List, [], ◌∷◌, length, Some, None}
+use Rattle.std.proofs.Common.{refl, ap, subst, sym, inl, inr, arith}
+use Rattle.std.proofs.lemmas.Bool.{and_parts, cases_eq, eqb-true, ne_eqb}
+use Rattle.std.proofs.lemmas.Option.{same_Some}
+use Rattle.mp_types.specs.declared.replies.Reply.TheVariants as reply
+use Rattle.mp_types.specs.declared.requests.Request.TheVariants as request
+use Rattle.cl_calls.specs.Calls.{any}
+use Rattle.cl_state.specs.declared.asking.Answer.{Answer}
+use Rattle.cl_state.specs.Asked.{asked, doing}
+use Rattle.cl_state.specs.Rank.{Rank}
+use Rattle.cl_state.specs.Rows.{first_of_two}
+use Rattle.cl_state.specs.Told.{told}
+use Rattle.cl_state_laws.specs.Vain.{IsStopped, mode_of}
+use Rattle.cl_machine.specs.Cluster.{Cluster}
+use Rattle.cl_machine.specs.Journal.{Journal, reply_in}
+use Rattle.cl_stuck.specs.Rows.{NobodyLeft, OneAlone, OneRuns, ReceiveFirst, SendFirst, ended, recv, ssend}
+use Rattle.cl_stuck.specs.Stuck.{AreStuck, IsHeld, is_among, is_member}
+
+-- two ranks with a hart each
+module _ (ranks : List ℕ) (a b : Rank) (j : Journal) (one_a : length a.harts ≡ 1) (one_b : length b.harts ≡ 1) where
+  abbrev two : Cluster
+  two = record { ranks = a ∷ b ∷ []; journal = j; boxes = [] }
+
+  abbrev Rest : ℕ → Rank → ℕ → Type 0
+  Rest r rank hart = IsStopped (mode_of rank hart) ⊎ IsHeld ranks two r rank hart
+
+  of_rank : (r : ℕ) (rank x : Rank) (hart : ℕ) → length rank.harts ≡ 1 → rank ≡ x → Rest r rank 0
+      → hart < length x.harts → Rest r x hart
+  of_rank r rank x zero one same rest low = subst (λ (y : Rank). Rest r y 0) same rest
+  of_rank r rank x (suc hart) one same rest low =
+      (let n : length rank.harts ≡ length x.harts = ap (λ (y : Rank). length y.harts) same in
+      absurd (omega (arith, n, one, low)))
+
+  both_stuck : Rest 0 a 0 → Rest 1 b 0 → AreStuck ranks two
+  both_stuck first second zero rank hart among here low =
+      of_rank 0 a rank hart one_a (same_Some a rank here) first low
+  both_stuck first second (suc zero) rank hart among here low =
+      of_rank 1 b rank hart one_b (same_Some b rank here) second low
+  both_stuck first second (suc (suc r)) rank hart among here low = absurd (cc)
+
+from_one : (source k : ℕ) → is_among (0 ∷ 1 ∷ []) source ≡ true → ((k == source) && is_member first_of_two 0 k) ≡ true
+    → is_among (0 ∷ 1 ∷ []) k ≡ true
+from_one source k its may =
+    subst (λ n. is_among (0 ∷ 1 ∷ []) n ≡ true)
+    (sym (eqb-true k source (and_parts (k == source) (is_member first_of_two 0 k) may).0)) its
+
+-- the members of communicator 0 are ranks 0 and 1
+from_any : (k : ℕ) → is_member first_of_two 0 k ≡ true → is_among (0 ∷ 1 ∷ []) k ≡ true
+from_any k may = elim (cases_eq 0 k) [
+  | inl zero_is ↦ subst (λ n. is_among (0 ∷ 1 ∷ []) n ≡ true) zero_is refl
+  | inr not_zero ↦ elim (cases_eq 1 k) [
+    | inl one_is ↦ subst (λ n. is_among (0 ∷ 1 ∷ []) n ≡ true) one_is refl
+    | inr not_one ↦
+        let first : (0 == k) ≡ false = ne_eqb 0 k not_zero in
+        let second : (1 == k) ≡ false = ne_eqb 1 k not_one in
+        let none : is_member first_of_two 0 k ≡ false = rw (first, second) refl in absurd (cc)
+  ]
+]
+
+to_one : (dest k : ℕ) → is_among (0 ∷ 1 ∷ []) dest ≡ true → (dest == k) ≡ true → is_among (0 ∷ 1 ∷ []) k ≡ true
+to_one dest k its may = subst (λ n. is_among (0 ∷ 1 ∷ []) n ≡ true) (eqb-true dest k may) its
+
+pub receive_first : ReceiveFirst
+unfolding asked told doing reply_in
+receive_first = (
+  _,
+  (
+    _,
+    (recv 0 1, refl, omega arith, omega arith, (request.Recv true 0 (Some 1) (Some 7), refl, refl, refl, refl)),
+    (
+      _,
+      (recv 1 0, refl, omega arith, omega arith, (request.Recv true 0 (Some 0) (Some 7), refl, refl, refl, refl)),
+      refl,
+    ),
+  ),
+  both_stuck (0 ∷ 1 ∷ []) (told (recv 0 1) 0 (Answer.Reply (reply.Posted 1 false)) 9)
+      (told (recv 1 0) 0 (Answer.Reply (reply.Posted 2 false)) 10) _ refl refl
+      (inr (record { patient = record { waits = tt; on = refl }; in_vain = (refl, λ k may. from_one 1 k refl may) }))
+      (inr (record { patient = record { waits = tt; on = refl }; in_vain = (refl, λ k may. from_one 0 k refl may) })),
+)
+
+pub send_first : SendFirst
+unfolding asked told doing reply_in
+send_first = (
+  _,
+  (
+    _,
+    (ssend 0 1, refl, omega arith, omega arith, (request.Send true 0 1 7 (105 ∷ 10 ∷ []), refl, refl, refl, refl)),
+    (
+      _,
+      (
+        ssend 1 0,
+        refl,
+        omega arith,
+        omega arith,
+        (request.Send true 0 0 7 (105 ∷ 10 ∷ []), refl, refl, refl, refl),
+      ),
+      refl,
+    ),
+  ),
+  both_stuck (0 ∷ 1 ∷ []) (told (ssend 0 1) 0 (Answer.Reply (reply.Posted 1 false)) 9)
+      (told (ssend 1 0) 0 (Answer.Reply (reply.Posted 2 false)) 10) _ refl refl
+      (inr (record { patient = record { waits = tt; on = refl }; in_vain = (refl, λ k may. to_one 1 k refl may) }))
+      (inr (record { patient = record { waits = tt; on = refl }; in_vain = (refl, λ k may. to_one 0 k refl may) })),
+)
+
+pub nobody_left : NobodyLeft
+unfolding asked told doing reply_in
+nobody_left = (
+  _,
+  (_, (recv 1 any, refl, omega arith, omega arith, (request.Recv true 0 None (Some 7), refl, refl, refl, refl)), refl),
+  both_stuck (0 ∷ 1 ∷ []) (ended (recv 0 1)) (told (recv 1 any) 0 (Answer.Reply (reply.Posted 1 false)) 9) _ refl refl
+      (inl tt)
+      (inr (record { patient = record { waits = tt; on = refl }; in_vain = (refl, from_any) })),
+)
+
+pub one_alone : OneAlone
+unfolding asked told doing reply_in
+one_alone = (
+  _,
+  (
+    _,
+    (recv 0 1, refl, omega arith, omega arith, (request.Recv true 0 (Some 1) (Some 7), refl, refl, refl, refl)),
+    (
+      _,
+      (recv 1 0, refl, omega arith, omega arith, (request.Recv true 0 (Some 0) (Some 7), refl, refl, refl, refl)),
+      refl,
+    ),
+  ),
+  λ stuck. elim (stuck 1 (told (recv 1 0) 0 (Answer.Reply (reply.Posted 2 false)) 10) 0 refl refl (omega arith)) [
+    | inl stopped ↦ absurd stopped
+    | inr held ↦ (let among : is_among (1 ∷ []) 0 ≡ true = (held.in_vain).1 0 refl in absurd (cc))
+  ],
+)
+
+pub one_runs : OneRuns
+unfolding asked told doing reply_in
+one_runs = (
+  _,
+  (
+    _,
+    (recv 1 0, refl, omega arith, omega arith, (request.Recv true 0 (Some 0) (Some 7), refl, refl, refl, refl)),
+    refl,
+  ),
+  λ stuck. elim (stuck 0 (recv 0 1) 0 refl refl (omega arith)) [
+    | inl stopped ↦ absurd stopped
+    | inr held ↦ absurd held.patient.waits
+  ],
+)

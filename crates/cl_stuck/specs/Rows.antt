@@ -1,0 +1,65 @@
+-- Worked rows: two ranks that are stuck, one that isn't, and what each waits for.
+use Rattle.std.specs.Prelude.{ℕ, List, [], ◌∷◌, map, false}
+use Rattle.rv_hart.specs.State.{in_mode}
+use Rattle.rv_hart.specs.declared.state.Mode.TheVariants.{Ended}
+use Rattle.mp_types.specs.declared.replies.Reply.TheVariants as reply
+use Rattle.cl_calls.specs.Calls.{any}
+use Rattle.cl_trace.specs.declared.events.Kind.{Kind}
+use Rattle.cl_state.specs.Rank.{Rank}
+use Rattle.cl_state.specs.Rows.{first_of_two, guest}
+use Rattle.cl_machine.specs.declared.steps.Step.{Step}
+use Rattle.cl_machine.specs.Cluster.{Cluster, IsRun}
+use Rattle.cl_machine.specs.Journal.{empty_journal}
+use Rattle.cl_machine.specs.Rows.{step}
+use Rattle.cl_stuck.specs.Stuck.{AreStuck}
+
+-- this rank of two, at a call with these arguments and this number
+abbrev pub at_call : ℕ → List ℕ → ℕ → Rank
+at_call rank arguments number = record (guest arguments number) { site = record first_of_two { number = rank } }
+
+-- RECV of 4 bytes with tag 7 to 16, SSEND of 2 bytes at 9 with tag 7
+abbrev pub recv : ℕ → ℕ → Rank
+recv rank source = at_call rank (16 ∷ 4 ∷ source ∷ 7 ∷ 0 ∷ 0 ∷ []) 18
+
+abbrev pub ssend : ℕ → ℕ → Rank
+ssend rank dest = at_call rank (9 ∷ 2 ∷ dest ∷ 7 ∷ 0 ∷ []) 17
+
+abbrev pub ended : Rank → Rank
+ended rank = record rank { harts = map (λ hart. in_mode hart (Ended 0)) rank.harts }
+
+abbrev pub both : Rank → Rank → Cluster
+both first second = record { ranks = first ∷ second ∷ []; journal = empty_journal []; boxes = [] }
+
+-- these steps lead to a cluster in which these ranks are stuck
+abbrev pub GetStuck : List ℕ → Cluster → List Step → Type 0
+GetStuck ranks start steps = (end : Cluster) × IsRun start steps end × AreStuck ranks end
+
+-- and in which these aren't
+abbrev pub GetNotStuck : List ℕ → Cluster → List Step → Type 0
+GetNotStuck ranks start steps = (end : Cluster) × IsRun start steps end × (AreStuck ranks end → ⊥)
+
+-- each makes its call
+abbrev pub receives : List Step
+receives = step 0 9 (Kind.Hub (reply.Posted 1 false)) ∷ step 1 10 (Kind.Hub (reply.Posted 2 false)) ∷ []
+
+-- each receives from the other before it sends
+abbrev pub ReceiveFirst : Type 0
+ReceiveFirst = GetStuck (0 ∷ 1 ∷ []) (both (recv 0 1) (recv 1 0)) receives
+
+-- each sends synchronously to the other before it receives
+abbrev pub SendFirst : Type 0
+SendFirst = GetStuck (0 ∷ 1 ∷ []) (both (ssend 0 1) (ssend 1 0)) receives
+
+-- a receive from any source, where the other rank has ended
+abbrev pub NobodyLeft : Type 0
+NobodyLeft =
+    GetStuck (0 ∷ 1 ∷ []) (both (ended (recv 0 1)) (recv 1 any)) (step 1 9 (Kind.Hub (reply.Posted 1 false)) ∷ [])
+
+-- rank 1 alone isn't stuck: rank 0 could send
+abbrev pub OneAlone : Type 0
+OneAlone = GetNotStuck (1 ∷ []) (both (recv 0 1) (recv 1 0)) receives
+
+-- and where rank 0 still runs, nobody is
+abbrev pub OneRuns : Type 0
+OneRuns =
+    GetNotStuck (0 ∷ 1 ∷ []) (both (recv 0 1) (recv 1 0)) (step 1 9 (Kind.Hub (reply.Posted 1 false)) ∷ [])
