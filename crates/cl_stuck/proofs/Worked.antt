@@ -12,15 +12,18 @@ use Rattle.cl_state.specs.Rank.{Rank}
 use Rattle.cl_state.specs.Rows.{first_of_two}
 use Rattle.cl_state.specs.Told.{told}
 use Rattle.cl_state_laws.specs.Vain.{IsStopped, mode_of}
+use Rattle.cl_machine.specs.Boxes.{Box, IsEmpty, empty_box}
 use Rattle.cl_machine.specs.Cluster.{Cluster}
 use Rattle.cl_machine.specs.Journal.{Journal, reply_in}
-use Rattle.cl_stuck.specs.Rows.{NobodyLeft, OneAlone, OneRuns, ReceiveFirst, SendFirst, ended, recv, ssend}
+use Rattle.cl_stuck.specs.Rows.{NobodyLeft, NoneReady, NoneTakes, OneAlone, OneRuns, ReceiveFirst, SendFirst, ended}
+use Rattle.cl_stuck.specs.Rows.{left_there, recv, ssend, waits_for_it, waits_to_be_taken, waits_unready}
 use Rattle.cl_stuck.specs.Stuck.{AreStuck, IsHeld, is_among, is_member}
 
 -- two ranks with a hart each
-module _ (ranks : List ℕ) (a b : Rank) (j : Journal) (one_a : length a.harts ≡ 1) (one_b : length b.harts ≡ 1) where
+module _ (ranks : List ℕ) (a b : Rank) (j : Journal) (bs : List Box) (one_a : length a.harts ≡ 1)
+    (one_b : length b.harts ≡ 1) where
   abbrev two : Cluster
-  two = record { ranks = a ∷ b ∷ []; journal = j; boxes = [] }
+  two = record { ranks = a ∷ b ∷ []; journal = j; boxes = bs }
 
   abbrev Rest : ℕ → Rank → ℕ → Type 0
   Rest r rank hart = IsStopped (mode_of rank hart) ⊎ IsHeld ranks two r rank hart
@@ -75,7 +78,7 @@ receive_first = (
     ),
   ),
   both_stuck (0 ∷ 1 ∷ []) (told (recv 0 1) 0 (Answer.Reply (reply.Posted 1 false)) 9)
-      (told (recv 1 0) 0 (Answer.Reply (reply.Posted 2 false)) 10) _ refl refl
+      (told (recv 1 0) 0 (Answer.Reply (reply.Posted 2 false)) 10) _ _ refl refl
       (inr (record { patient = record { waits = tt; on = refl }; in_vain = (refl, λ k may. from_one 1 k refl may) }))
       (inr (record { patient = record { waits = tt; on = refl }; in_vain = (refl, λ k may. from_one 0 k refl may) })),
 )
@@ -100,7 +103,7 @@ send_first = (
     ),
   ),
   both_stuck (0 ∷ 1 ∷ []) (told (ssend 0 1) 0 (Answer.Reply (reply.Posted 1 false)) 9)
-      (told (ssend 1 0) 0 (Answer.Reply (reply.Posted 2 false)) 10) _ refl refl
+      (told (ssend 1 0) 0 (Answer.Reply (reply.Posted 2 false)) 10) _ _ refl refl
       (inr (record { patient = record { waits = tt; on = refl }; in_vain = (refl, λ k may. to_one 1 k refl may) }))
       (inr (record { patient = record { waits = tt; on = refl }; in_vain = (refl, λ k may. to_one 0 k refl may) })),
 )
@@ -110,7 +113,7 @@ unfolding asked told doing reply_in
 nobody_left = (
   _,
   (_, (recv 1 any, refl, omega arith, omega arith, (request.Recv true 0 None (Some 7), refl, refl, refl, refl)), refl),
-  both_stuck (0 ∷ 1 ∷ []) (ended (recv 0 1)) (told (recv 1 any) 0 (Answer.Reply (reply.Posted 1 false)) 9) _ refl refl
+  both_stuck (0 ∷ 1 ∷ []) (ended (recv 0 1)) (told (recv 1 any) 0 (Answer.Reply (reply.Posted 1 false)) 9) _ _ refl refl
       (inl tt)
       (inr (record { patient = record { waits = tt; on = refl }; in_vain = (refl, from_any) })),
 )
@@ -147,4 +150,43 @@ one_runs = (
     | inl stopped ↦ absurd stopped
     | inr held ↦ absurd held.patient.waits
   ],
+)
+
+pub none_ready : NoneReady
+unfolding asked told doing reply_in
+none_ready = (
+  _,
+  (
+    _,
+    (waits_unready, refl, omega arith, omega arith, (refl, refl, refl)),
+    (_, (waits_for_it, refl, omega arith, omega arith, (0, 0, inl refl, refl, refl)), refl),
+  ),
+  both_stuck (0 ∷ 1 ∷ []) (told waits_unready 0 Answer.Alone 1) (told waits_for_it 0 Answer.Missed 1) _ _ refl refl
+      (inr (record { patient = record { waits = tt; on = refl }; in_vain = tt }))
+      (inr (record {
+        patient = record { waits = tt; on = refl };
+        in_vain = (
+          λ box there. subst (λ (b : Box). IsEmpty b) (same_Some empty_box box there) refl,
+          λ k may. to_one 0 k refl may,
+        );
+      })),
+)
+
+pub none_takes : NoneTakes
+unfolding asked told doing reply_in
+none_takes = (
+  _,
+  (_, (waits_to_be_taken, refl, omega arith, omega arith, (0, 0, inr refl, refl, refl)), refl),
+  both_stuck (0 ∷ 1 ∷ []) (told waits_to_be_taken 0 Answer.Missed 1) (ended waits_for_it) _ _ refl refl
+      (inr (record {
+        patient = record { waits = tt; on = refl };
+        in_vain = (
+          λ box there empty.
+              (let is : IsEmpty left_there = subst (λ (b : Box). IsEmpty b) (sym (same_Some left_there box there))
+              empty in
+              absurd (cc)),
+          λ k may. to_one 1 k refl may,
+        );
+      }))
+      (inl tt),
 )

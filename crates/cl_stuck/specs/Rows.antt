@@ -6,11 +6,14 @@ use Rattle.mp_types.specs.declared.replies.Reply.TheVariants as reply
 use Rattle.cl_calls.specs.Calls.{any}
 use Rattle.cl_trace.specs.declared.events.Kind.{Kind}
 use Rattle.cl_state.specs.Rank.{Rank}
-use Rattle.cl_state.specs.Rows.{first_of_two, guest}
+use Rattle.part_phase.specs.declared.phases.Phase.TheVariants.{Sending}
+use Rattle.part_phase.specs.Sending.{begun_sending, readied, shaped_sending, unshaped_sending}
+use Rattle.cl_state.specs.Rows.{calling, first_of_two, guest}
 use Rattle.cl_machine.specs.declared.steps.Step.{Step}
 use Rattle.cl_machine.specs.Cluster.{Cluster, IsRun}
 use Rattle.cl_machine.specs.Journal.{empty_journal}
-use Rattle.cl_machine.specs.Rows.{step}
+use Rattle.cl_machine.specs.Boxes.{Box, empty_box, with_made}
+use Rattle.cl_machine.specs.Rows.{linked, partition_bytes, partition_receiver, partition_sender, step}
 use Rattle.cl_stuck.specs.Stuck.{AreStuck}
 
 -- this rank of two, at a call with these arguments and this number
@@ -63,3 +66,36 @@ OneAlone = GetNotStuck (1 ∷ []) (both (recv 0 1) (recv 1 0)) receives
 abbrev pub OneRuns : Type 0
 OneRuns =
     GetNotStuck (0 ∷ 1 ∷ []) (both (recv 0 1) (recv 1 0)) (step 1 9 (Kind.Hub (reply.Posted 1 false)) ∷ [])
+
+-- ---- partitions of one link, from rank 0 to rank 1, in a phase
+
+-- WAIT for handle 1: the sender, which made its partition ready or didn't, and the receiver
+abbrev pub waits_unready : Rank
+waits_unready = record partition_sender { harts = calling (1 ∷ 0 ∷ []) 23 ∷ [] }
+
+abbrev pub waits_to_be_taken : Rank
+waits_to_be_taken = record waits_unready {
+  phases = Sending (readied 0 (begun_sending (shaped_sending 1 8 unshaped_sending))) ∷ [];
+}
+
+abbrev pub waits_for_it : Rank
+waits_for_it = record partition_receiver { harts = calling (1 ∷ 0 ∷ []) 23 ∷ [] }
+
+-- what stands in the box where one thing was made and wasn't taken
+abbrev pub left_there : Box
+left_there = with_made empty_box 0 partition_bytes
+
+abbrev pub over_link : Rank → Rank → Box → Cluster
+over_link first second box =
+    record { ranks = first ∷ second ∷ []; journal = empty_journal linked.links; boxes = box ∷ [] }
+
+-- a PREADY that is missing: the sender waits for its own partition, and the receiver for the sender
+abbrev pub NoneReady : Type 0
+NoneReady =
+    GetStuck (0 ∷ 1 ∷ []) (over_link waits_unready waits_for_it empty_box)
+    (step 0 1 Kind.Held ∷ step 1 1 Kind.Miss ∷ [])
+
+-- a receiver that ended before it took what the sender made ready
+abbrev pub NoneTakes : Type 0
+NoneTakes =
+    GetStuck (0 ∷ 1 ∷ []) (over_link waits_to_be_taken (ended waits_for_it) left_there) (step 0 1 Kind.Miss ∷ [])

@@ -1,6 +1,6 @@
 //! Worked rows: runs into deadlock, and runs that only look like one.
 
-ghost use Rattle.cl_stuck.specs.Rows.{NobodyLeft, OneAlone, OneRuns, ReceiveFirst, SendFirst};
+ghost use Rattle.cl_stuck.specs.Rows.{NobodyLeft, NoneReady, NoneTakes, OneAlone, OneRuns, ReceiveFirst, SendFirst};
 
 /// Two ranks that each receive from the other first are stuck.
 pub fn each_receives_first()
@@ -25,4 +25,14 @@ pub fn waits_for_one_outside()
 /// Two ranks of which one still runs aren't stuck.
 pub fn waits_for_one_that_runs()
     ensures { OneRuns }
+{}
+
+/// Where a PREADY is missing both ranks are stuck: the sender waits for its own partition, the receiver for the sender.
+pub fn waits_for_its_own_partition()
+    ensures { NoneReady }
+{}
+
+/// A sender is stuck that waits for its partition to be taken, where the receiver has ended.
+pub fn waits_to_be_taken_from()
+    ensures { NoneTakes }
 {}
