@@ -1,6 +1,6 @@
 -- The worked rows.
 use Rattle.std.specs.Prelude.{ℕ, zero, suc, ◌<◌, ◌≡◌, ◌⊎◌, ◌==◌, ◌&&◌, true, false, List, [], ◌∷◌, length, Some, None}
-use Rattle.std.proofs.Common.{refl, ap, subst, sym, inl, inr, arith}
+use Rattle.std.proofs.Common.{refl, ap, subst, sym, ◌∙◌, inl, inr, arith}
 use Rattle.std.proofs.lemmas.Bool.{and_parts, cases_eq, eqb-true, ne_eqb}
 use Rattle.std.proofs.lemmas.Option.{same_Some}
 use Rattle.mp_types.specs.declared.replies.Reply.TheVariants as reply
@@ -15,6 +15,7 @@ use Rattle.cl_state_laws.specs.Vain.{IsStopped, mode_of}
 use Rattle.cl_machine.specs.Boxes.{Box, IsEmpty, empty_box}
 use Rattle.cl_machine.specs.Cluster.{Cluster}
 use Rattle.cl_machine.specs.Journal.{Journal, reply_in}
+use Rattle.cl_stuck.specs.Rows.{AnySource, FromItself, SentBefore, WaitForSecond, waitall}
 use Rattle.cl_stuck.specs.Rows.{NobodyLeft, NoneReady, NoneTakes, OneAlone, OneRuns, ReceiveFirst, SendFirst, ended}
 use Rattle.cl_stuck.specs.Rows.{left_there, recv, ssend, waits_for_it, waits_to_be_taken, waits_unready}
 use Rattle.cl_stuck.specs.Stuck.{AreStuck, IsHeld, is_among, is_member}
@@ -41,6 +42,13 @@ module _ (ranks : List ℕ) (a b : Rank) (j : Journal) (bs : List Box) (one_a : 
   both_stuck first second (suc zero) rank hart among here low =
       of_rank 1 b rank hart one_b (same_Some b rank here) second low
   both_stuck first second (suc (suc r)) rank hart among here low = absurd (cc)
+
+  -- the second isn't one of these
+  first_stuck : is_among ranks 1 ≡ false → Rest 0 a 0 → AreStuck ranks two
+  first_stuck out first zero rank hart among here low =
+      of_rank 0 a rank hart one_a (same_Some a rank here) first low
+  first_stuck out first (suc zero) rank hart among here low = (let no : false ≡ true = sym out ∙ among in absurd (cc))
+  first_stuck out first (suc (suc r)) rank hart among here low = absurd (cc)
 
 from_one : (source k : ℕ) → is_among (0 ∷ 1 ∷ []) source ≡ true → ((k == source) && is_member first_of_two 0 k) ≡ true
     → is_among (0 ∷ 1 ∷ []) k ≡ true
@@ -187,6 +195,67 @@ none_takes = (
               absurd (cc)),
           λ k may. to_one 1 k refl may,
         );
+      }))
+      (inl tt),
+)
+
+pub any_source : AnySource
+unfolding asked told doing reply_in
+any_source = (
+  _,
+  (_, (recv 1 any, refl, omega arith, omega arith, (request.Recv true 0 None (Some 7), refl, refl, refl, refl)), refl),
+  λ stuck. elim (stuck 1 (told (recv 1 any) 0 (Answer.Reply (reply.Posted 1 false)) 9) 0 refl refl (omega arith)) [
+    | inl stopped ↦ absurd stopped
+    | inr held ↦ (let among : is_among (1 ∷ []) 0 ≡ true = (held.in_vain).1 0 refl in absurd (cc))
+  ],
+)
+
+pub sent_before : SentBefore
+unfolding asked told doing reply_in
+sent_before = (
+  _,
+  (
+    _,
+    (recv 1 0, refl, omega arith, omega arith, (request.Recv true 0 (Some 0) (Some 7), refl, refl, refl, refl)),
+    (
+      _,
+      (ssend 0 1, refl, omega arith, omega arith, (request.Send true 0 1 7 (105 ∷ 10 ∷ []), refl, refl, refl, refl)),
+      refl,
+    ),
+  ),
+  λ stuck. elim (stuck 1 (told (recv 1 0) 0 (Answer.Reply (reply.Posted 1 false)) 9) 0 refl refl (omega arith)) [
+    | inl stopped ↦ absurd stopped
+    | inr held ↦ (let not_yet = (held.in_vain).0 in absurd (cc))
+  ],
+)
+
+pub from_itself : FromItself
+unfolding asked told doing reply_in
+from_itself = (
+  _,
+  (
+    _,
+    (recv 0 0, refl, omega arith, omega arith, (request.Recv true 0 (Some 0) (Some 7), refl, refl, refl, refl)),
+    refl,
+  ),
+  first_stuck (0 ∷ []) (told (recv 0 0) 0 (Answer.Reply (reply.Posted 1 false)) 9) (recv 1 0) _ _ refl refl refl
+      (inr (record { patient = record { waits = tt; on = refl }; in_vain = (refl, λ k may. itself k may) })),
+)
+  where
+    itself : (k : ℕ) → ((k == 0) && is_member first_of_two 0 k) ≡ true → is_among (0 ∷ []) k ≡ true
+    itself k may =
+        subst (λ n. is_among (0 ∷ []) n ≡ true)
+        (sym (eqb-true k 0 (and_parts (k == 0) (is_member first_of_two 0 k) may).0)) refl
+
+pub wait_for_second : WaitForSecond
+unfolding asked told doing reply_in
+wait_for_second = (
+  _,
+  (_, (waitall, refl, omega arith, omega arith, (request.All (1 ∷ 2 ∷ []), refl, refl, refl, refl)), refl),
+  both_stuck (0 ∷ 1 ∷ []) (told waitall 0 (Answer.Reply reply.NotYet) 9) (ended (recv 1 0)) _ _ refl refl
+      (inr (record {
+        patient = record { waits = tt; on = refl };
+        in_vain = (refl, (1, 2, refl, refl, λ k may. from_one 1 k refl may));
       }))
       (inl tt),
 )

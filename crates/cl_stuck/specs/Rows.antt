@@ -1,8 +1,14 @@
 -- Worked rows: two ranks that are stuck, one that isn't, and what each waits for.
-use Rattle.std.specs.Prelude.{ℕ, List, [], ◌∷◌, map, false}
+use Rattle.std.specs.Prelude.{ℕ, List, [], ◌∷◌, map, false, true, Some, None}
 use Rattle.rv_hart.specs.State.{in_mode}
 use Rattle.rv_hart.specs.declared.state.Mode.TheVariants.{Ended}
 use Rattle.mp_types.specs.declared.replies.Reply.TheVariants as reply
+use Rattle.mp_types.specs.declared.requests.Request.TheVariants as request
+use Rattle.mp_request.specs.declared.entries.Progress.TheVariants.{OnPost}
+use Rattle.cl_journal.specs.declared.entries.Entry.{Entry}
+use Rattle.cl_state_laws.specs.RequestRows.{ordinary, table_of}
+use Rattle.cl_state_laws.specs.SeveralRows.{completing_two, receive_at}
+use Rattle.cl_machine.specs.Journal.{Journal, with_entry}
 use Rattle.cl_calls.specs.Calls.{any}
 use Rattle.cl_trace.specs.declared.events.Kind.{Kind}
 use Rattle.cl_state.specs.Rank.{Rank}
@@ -66,6 +72,53 @@ OneAlone = GetNotStuck (1 ∷ []) (both (recv 0 1) (recv 1 0)) receives
 abbrev pub OneRuns : Type 0
 OneRuns =
     GetNotStuck (0 ∷ 1 ∷ []) (both (recv 0 1) (recv 1 0)) (step 1 9 (Kind.Hub (reply.Posted 1 false)) ∷ [])
+
+-- a receive from any source waits for each member, and rank 0 is one
+abbrev pub AnySource : Type 0
+AnySource = GetNotStuck (1 ∷ []) (both (recv 0 1) (recv 1 any)) (step 1 9 (Kind.Hub (reply.Posted 1 false)) ∷ [])
+
+-- a message that is there already: the receive of rank 1 goes on where it takes its turn
+abbrev pub SentBefore : Type 0
+SentBefore =
+    GetNotStuck (0 ∷ 1 ∷ []) (both (ssend 0 1) (recv 1 0))
+    (step 1 9 (Kind.Hub (reply.Posted 1 false)) ∷ step 0 10 (Kind.Hub (reply.Posted 2 true)) ∷ [])
+
+-- a rank that receives from itself is stuck alone, whatever the other does
+abbrev pub FromItself : Type 0
+FromItself = GetStuck (0 ∷ []) (both (recv 0 0) (recv 1 0)) (step 0 9 (Kind.Hub (reply.Posted 1 false)) ∷ [])
+
+-- rank 0 posted two receives from rank 1, which sent one message and ended: of the two posts the second isn't ready
+abbrev pub irecv : ℕ → Entry
+irecv post = record {
+  rank = 0;
+  hart = 0;
+  clock = 0;
+  stamp = post;
+  request = request.Recv false 0 (Some 1) None;
+  reply = reply.Posted post false;
+}
+
+abbrev pub isend : ℕ → Entry
+isend post = record {
+  rank = 1;
+  hart = 0;
+  clock = 0;
+  stamp = post;
+  request = request.Send false 0 0 7 (5 ∷ []);
+  reply = reply.Posted post true;
+}
+
+abbrev pub posts : Journal
+posts = with_entry (with_entry (with_entry (empty_journal []) (irecv 1)) (irecv 2)) (isend 3)
+
+abbrev pub waitall : Rank
+waitall =
+    completing_two (table_of (ordinary (receive_at 40) (OnPost 1) ∷ ordinary (receive_at 44) (OnPost 2) ∷ [])) 1 2 0 35
+
+abbrev pub WaitForSecond : Type 0
+WaitForSecond =
+    GetStuck (0 ∷ 1 ∷ []) (record { ranks = waitall ∷ ended (recv 1 0) ∷ []; journal = posts; boxes = [] })
+    (step 0 9 (Kind.Hub reply.NotYet) ∷ [])
 
 -- ---- partitions of one link, from rank 0 to rank 1, in a phase
 
