@@ -14,7 +14,7 @@ use Rattle.cl_state.specs.Asked.{asked}
 use Rattle.cl_state.specs.Rank.{Rank}
 use Rattle.cl_state_laws.specs.Vain.{IsStopped, mode_of}
 use Rattle.cl_machine.specs.Cluster.{Cluster}
-use Rattle.cl_stuck.specs.Stuck.{AsksInVain, IsHeld, UnionLaw, is_among, is_member}
+use Rattle.cl_stuck.specs.Stuck.{AsksInVain, IsHeld, NarrowLaw, UnionLaw, is_among, is_member}
 use Rattle.cl_stuck.proofs.Own.{hub_of}
 
 -- each of these ranks is one of those
@@ -67,3 +67,7 @@ union_law some others cluster first second r rank hart among here low =
   where
     both : (k : ℕ) → is_among (some ++ others) k ≡ (is_among some k || is_among others k)
     both k = list_any-append (λ m. m == k) some others
+
+pub narrow_law : NarrowLaw
+narrow_law all some cluster r within out stuck among =
+    out (λ rank hart here low. wider some all within cluster r rank hart (stuck r rank hart among here low))

@@ -101,3 +101,16 @@ abbrev pub UnionLaw : Type 0
 UnionLaw =
     (some others : List ℕ) (cluster : Cluster) → AreStuck some cluster → AreStuck others cluster
     → AreStuck (some ++ others) cluster
+
+-- each hart of the rank is stopped, or held beside these
+abbrev pub IsStuckBeside : List ℕ → Cluster → ℕ → Type 0
+IsStuckBeside ranks cluster r =
+    (rank : Rank) (hart : ℕ) → slice_get cluster.ranks r ≡ Some rank → hart < length rank.harts
+    → IsStopped (mode_of rank hart) ⊎ IsHeld ranks cluster r rank hart
+
+-- who isn't stuck beside a company is stuck in no part of it: so the most are found by leaving out whoever isn't stuck
+-- beside the rest, until nobody is left out
+abbrev pub NarrowLaw : Type 0
+NarrowLaw =
+    (all some : List ℕ) (cluster : Cluster) (r : ℕ) → OnlyOf (is_among all) (is_among some)
+    → ¬ IsStuckBeside all cluster r → AreStuck some cluster → ¬ IsTrue (is_among some r)

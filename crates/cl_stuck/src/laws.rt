@@ -1,6 +1,6 @@
 //! Laws of the cluster, over the definitions alone: functions with empty bodies, whose contracts are the laws.
 
-ghost use Rattle.cl_stuck.specs.Stuck.{DeadlockLaw, UnionLaw};
+ghost use Rattle.cl_stuck.specs.Stuck.{DeadlockLaw, NarrowLaw, UnionLaw};
 
 /// Ranks that are stuck are in a deadlock: whatever steps any rank takes, nothing of theirs changes but their clocks.
 pub fn deadlock_law()
@@ -10,4 +10,9 @@ pub fn deadlock_law()
 /// Of ranks that are stuck there are the most: those that are stuck in any company are so all together.
 pub fn union_law()
     ensures { UnionLaw }
+{}
+
+/// Who isn't stuck beside a company is stuck in no part of it.
+pub fn narrow_law()
+    ensures { NarrowLaw }
 {}
