@@ -9,5 +9,6 @@ pub mod Losses
 pub mod Finished
 pub mod Replies
 pub mod Links
+pub mod Vain
 pub mod Rows
 pub mod RankRows

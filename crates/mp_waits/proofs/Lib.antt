@@ -9,3 +9,4 @@ pub mod Fresh
 pub mod Several
 pub mod Cuts
 pub mod Waits
+pub mod Vain

@@ -1,5 +1,5 @@
 -- Who could bring what a rank asks for, where the hub answers that it isn't there yet.
-use Rattle.std.specs.Prelude.{ℕ, ◌≡◌, ◌==◌, ◌&&◌, Bool, true, false, List, [], ◌∷◌, ◌++◌, Option, Some, None}
+use Rattle.std.specs.Prelude.{ℕ, ◌≡◌, ◌↔◌, ◌==◌, ◌&&◌, Bool, true, false, List, [], ◌∷◌, ◌++◌, Option, Some, None}
 use Rattle.std.specs.List.{slice_get}
 use Rattle.rv_image.specs.declared.images.Link.{Link}
 use Rattle.mp_types.specs.declared.requests.Request.{Request}
@@ -11,6 +11,7 @@ use Rattle.mp_match.specs.declared.posts.Selection.{Selection}
 use Rattle.mp_match.specs.Board.{line_of}
 use Rattle.mp_match.specs.Pairs.{admits}
 use Rattle.mp_hub.specs.Hub.{Call, HubView, hub_after, is_ready, reply_of, selecting}
+use Rattle.mp_hub.specs.Vain.{asks_in_vain}
 
 -- of all ranks these alone could: the ones that the test names
 abbrev pub OnlyOf : (ℕ → Bool) → (ℕ → Bool) → Type 0
@@ -73,3 +74,9 @@ pub record WaitsLaw : Type 0 where
   pub own : (member : ℕ → ℕ → Bool) (among : ℕ → Bool) (links : List Link) (calls : List Call) (rank : ℕ) (q : Request)
       → WaitsFor member among links calls rank q
       → hub_after links (calls ++ (rank, q) ∷ []) ≡ hub_after links calls
+
+-- a call is answered NotYet exactly where it is told so without making it
+abbrev pub VainLaw : Type 0
+VainLaw =
+    (links : List Link) (calls : List Call) (rank : ℕ) (q : Request)
+    → (asks_in_vain (hub_after links calls) rank q ≡ true) ↔ (reply_of links calls rank q ≡ NotYet)
