@@ -4,3 +4,4 @@ pub mod Waiting
 pub mod Queued
 pub mod Matches
 pub mod Board
+pub mod Free

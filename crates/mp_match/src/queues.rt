@@ -7,6 +7,7 @@ ghost use Rattle.mp_match.specs.Board.{bytes_in, claim_of, claimed_if, collect, 
 ghost use Rattle.mp_match.specs.Board.{envelope_at, held_count, is_collected, is_finished, is_held, is_receive_at};
 ghost use Rattle.mp_match.specs.Board.{is_receive_of, is_send_of, line_of, message_at, no_posts, partner_of, posted};
 ghost use Rattle.mp_match.specs.Board.{probed, receive_posted, send_posted};
+ghost use Rattle.mp_match.specs.Free.{free_post};
 ghost use Rattle.mp_types.specs.Carried.{carried_by_message};
 
 use crate::lists::{body_copies, count_of, set_partners, take_body};
@@ -385,6 +386,17 @@ impl Queues {
         ensures { result ≡ is_some (partner_of self.now post) }
     {
         self.partner(post).is_some()
+    }
+
+    /// The post of this number, where it has no partner.
+    pub fn free_post(&self, post: u64) -> Option<Post>
+        ensures { result ≡ free_post self.now post }
+    {
+        let line = self.line(post)?;
+        match line.partner {
+            None => Some(line.post),
+            Some(_) => None,
+        }
     }
 
     /// Whether the post has a message that isn't held any more.

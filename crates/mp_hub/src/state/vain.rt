@@ -1,11 +1,14 @@
-//! Calls that would be answered NotYet, told without making them.
+//! Calls that would be answered NotYet, told without making them, and what they wait for.
 
 ghost use Rattle.std.specs.Prelude.{◌≡◌};
 ghost use Rattle.mp_hub.specs.Vain.{asks_in_vain};
+ghost use Rattle.mp_match.specs.Free.{free_post};
 
 use super::{HubState, has_distinct, selection_of};
+use mp_match::Post;
 use mp_transfers::{find_sender, receives_over};
 use mp_types::Request;
+use rv_image::Link;
 
 impl HubState {
     /// Whether a call of the rank would be answered NotYet if it were made now. Changes nothing, and takes no memory.
@@ -33,5 +36,20 @@ impl HubState {
             }
             _ => false,
         }
+    }
+
+    /// The post of this number, where it has no partner: a receive or a claim without a message, or a send that no
+    /// receive and no claim has.
+    pub fn free_post(&self, post: u64) -> Option<Post>
+        ensures { result ≡ free_post self.now.board post }
+    {
+        self.queues.free_post(post)
+    }
+
+    /// The image's links.
+    pub fn links(&self) -> &[Link]
+        ensures { result.now ≡ self.now.links }
+    {
+        self.links.as_slice()
     }
 }
