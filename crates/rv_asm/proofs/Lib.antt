@@ -15,3 +15,8 @@ pub mod Staying
 pub mod LongLines
 pub mod LineCount
 pub mod Saying
+pub mod AddedUp
+pub mod Said
+pub mod Distinct
+pub mod Directing
+pub mod Directed

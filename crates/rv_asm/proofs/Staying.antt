@@ -19,7 +19,7 @@ rest_of n e s t (line ∷ before) after h all = go (line_step n e line) (λ f. r
     go (Ok f) again h all = again f h all
     go (Err kind) again h all = absurd cc
 
-found_before : (w : List ℕ) (ls others : Labels) (place : Place) → place_in w ls ≡ Some place → place_in w (ls ++ others) ≡ Some place
+pub found_before : (w : List ℕ) (ls others : Labels) (place : Place) → place_in w ls ≡ Some place → place_in w (ls ++ others) ≡ Some place
 found_before w [] others place h = absurd cc
 found_before w (l ∷ ls) others place h = go (bytes_eq w l.0) (found_before w ls others place) h
   where

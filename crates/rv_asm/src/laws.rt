@@ -6,6 +6,7 @@ ghost use Rattle.rv_image.specs.declared.images.ImageParts.{ImageParts};
 ghost use Rattle.rv_image.specs.declared.images.ImageVersion.TheVariants.{Two};
 ghost use Rattle.rv_asm_lines.specs.Layout.{Layout as Laid, layout_of};
 ghost use Rattle.rv_asm_lines.specs.Places.{IsPlaced, LabelsStay};
+ghost use Rattle.rv_asm.specs.Directed.{IsDirected, PartsAddUp};
 ghost use Rattle.rv_asm.specs.Said.{said_from, said_in};
 ghost use Rattle.rv_asm.specs.Source.{AreGlobals, NamesFit, meaning};
 
@@ -31,6 +32,20 @@ pub fn labels_stay()
 pub fn symbols_are_those_of_globl(_source: &str)
     ensures { (s : Laid) (image : ImageParts) → layout_of _source.now ≡ Ok s → meaning _source.now ≡ Ok image
         → AreGlobals s image.symbols }
+{}
+
+/// Text and data of an image have just the bytes of their statements: four for each instruction, 1, 2, 4 or 8 for each
+/// number, those of a string, as many zeros as are asked for, and a padding of fewer than its multiple.
+pub fn parts_add_up(_source: &str)
+    ensures { (s : Laid) (image : ImageParts) → layout_of _source.now ≡ Ok s → meaning _source.now ≡ Ok image
+        → PartsAddUp s image }
+{}
+
+/// An image is what the directives of its source say: ranks, harts and memory, where harts begin, and the communicators
+/// and links in the order of their lines.
+pub fn images_are_directed(_source: &str)
+    ensures { (s : Laid) (image : ImageParts) → layout_of _source.now ≡ Ok s → meaning _source.now ≡ Ok image
+        → IsDirected s image }
 {}
 
 /// Every image of a source is of version 2.
