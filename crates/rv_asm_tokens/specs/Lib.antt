@@ -5,3 +5,4 @@ pub mod Escapes
 pub mod Scan
 pub mod FrontView
 pub mod Cursor
+pub mod Grammar

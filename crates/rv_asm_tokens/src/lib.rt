@@ -4,6 +4,7 @@
 mod digits;
 mod escapes;
 mod fault;
+pub mod laws;
 mod number;
 mod scanning;
 mod token;
