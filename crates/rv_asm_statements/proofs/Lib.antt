@@ -4,3 +4,4 @@ pub mod Pieces
 pub mod Few
 pub mod Long
 pub mod RegisterNumbers
+pub mod Filling

@@ -11,3 +11,4 @@ pub mod Limits
 pub mod Directives
 pub mod DirectiveRowView
 pub mod Statements
+pub mod Filling

@@ -6,6 +6,7 @@ mod directive_forms;
 mod directive_rows;
 mod directives;
 mod filled;
+pub mod laws;
 mod limited;
 mod mnemonics;
 mod operand_list;
