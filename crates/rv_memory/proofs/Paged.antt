@@ -6,12 +6,13 @@ use Rattle.std.specs.Prelude.{◌^◌}
 use Rattle.std.proofs.Math.Seq.{take-append-add, drop-append-add}
 use Rattle.std.proofs.lemmas.Grind.{common_steps}
 use Rattle.std.proofs.lemmas.List.{replicate-append-replicate, length-replicate, get_or_append_left, get_or-append-add, take-append-le, drop-append-le, length-set, map-set, length-map, take-take}
-use Rattle.std.specs.Prelude.{Option, Some, None, Bool, true, false, map, MatchOption, IsSome}
+use Rattle.std.proofs.lemmas.Bool.Decides.{nat_tests}
+use Rattle.std.specs.Prelude.{Option, Some, None, Bool, true, false, map, MatchOption, IsSome, nat_le, nat_lt}
 use Rattle.std.specs.Option.{option_to_list}
 use Rattle.std.proofs.Common.{rules, take-add}
 use Rattle.std.proofs.lemmas.List.{length-take-le, drop-drop}
 use Rattle.rv_memory.specs.Held.{blank_page, page_bytes, is_there, all_bytes, AreWhole, AreBlank, IsHeld}
-use Rattle.rv_memory.specs.Memory.{Memory, value_at, bytes_of, overwritten, init_start, loaded_memory, loaded_pages}
+use Rattle.rv_memory.specs.Memory.{value_at, bytes_of, overwritten, init_start, loaded_memory, loaded_pages}
 use Rattle.rv_memory.specs.Pages.{written_from, written_pages}
 use Rattle.rv_memory.specs.Access.{stored}
 use Rattle.rv_memory.specs.declared.fault.StoreFault.{StoreFault}
@@ -167,9 +168,18 @@ pub below-power : (n : ℕ) → 0 < 256 ^ n
 below-power zero = omega arith
 below-power (suc n) = omega (arith, pow-suc 256 n, below-power n)
 
--- an address that has bytes behind it is in a page
-pub page-inside : (pages : List (Option (List ℕ))) (a n : ℕ) → AreWhole pages → 0 < n → a + n ≤ length (all_bytes pages) → a / 4096 < length pages
-page-inside pages a n w some inside = omega (arith, all-length pages w, some, inside)
+-- an aligned value stands in one page, so it is inside where this is one of the memory's
+pub inside-by-page : (pages : List (Option (List ℕ))) (width : Width) (a : ℕ) → AreWhole pages → a % size_of width ≡ 0
+    → nat_lt (a / 4096) (length pages) ≡ nat_le (a + size_of width) (length (all_bytes pages))
+inside-by-page pages width a whole aligned =
+    let long : length (all_bytes pages) ≡ 4096 * length pages = all-length pages whole in
+    let some : 0 < size_of width = size-some width in
+    let small : a % 4096 + size_of width ≤ 4096 = in_page width a aligned in
+    grind (arith, nat_tests, long, some, small)
+
+-- a page of the memory is one of its list
+pub page-listed : (pages : List (Option (List ℕ))) (marks : List Bool) (p : ℕ) → map is_there pages ≡ marks → p < length marks → p < length pages
+page-listed pages marks p same inside = omega (arith, ap length same, length-map pages is_there, inside)
 
 pub blank-push : (pages : List (List ℕ)) (page : List ℕ) → AreBlank pages → page ≡ blank_page → AreBlank (pages ++ page ∷ [])
 blank-push [] page b e = (e, tt)

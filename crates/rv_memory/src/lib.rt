@@ -7,6 +7,7 @@ pub mod memory;
 mod page;
 mod pages;
 pub mod spares;
+mod text;
 
 pub use fault::{BytesFault, Cause, StoreFault};
 pub use memory::{RankMemory, Width};

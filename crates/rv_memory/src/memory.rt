@@ -1,9 +1,9 @@
 //! The bytes of a rank, with their loads, stores, fetches and ranges.
-ghost use Rattle.std.specs.Prelude.{◌≡◌, ◌≢◌, ◌↔◌, ◌+◌, ◌-◌, ◌%◌, ◌^◌, ◌<◌, ◌≤◌, ◌++◌, length, cond, IsOk};
+ghost use Rattle.std.specs.Prelude.{◌≡◌, ◌≢◌, ◌↔◌, ◌+◌, ◌-◌, ◌/◌, ◌%◌, ◌^◌, ◌<◌, ◌≤◌, ◌++◌, length, cond, IsOk};
 ghost use Rattle.std.specs.Prelude.{IsTrue, nat_le, false, drop};
 ghost use Rattle.std.specs.Prelude.{IfOk, OnOk, OnErr, MatchOption};
 ghost use Rattle.rv_memory.specs.Access.{size_of, load_trap, store_trap, stored, word_at, is_readable, is_writable};
-ghost use Rattle.rv_memory.specs.Access.{is_present, IsReadable, IsWritable, IsPresent};
+ghost use Rattle.rv_memory.specs.Access.{is_inside, is_present, IsReadable, IsWritable, IsPresent};
 ghost use Rattle.rv_memory.specs.Memory.{Memory, value_at, bytes_at, with_bytes, with_pages, init_start, loaded_memory};
 ghost use Rattle.rv_memory.specs.Pages.{missing_pages};
 
@@ -11,6 +11,7 @@ use crate::fault::{BytesFault, Cause, StoreFault};
 use crate::page::{Page, read, store, value};
 use crate::pages;
 use crate::spares::SparePages;
+use crate::text::Text;
 use std::alloc::{AllocError, Global};
 use std::marker::Model;
 
@@ -49,7 +50,7 @@ impl Width {
 pub struct RankMemory {
     alloc: Global,
     /// The text once more in one piece, for fetches.
-    text: Vec<u8>,
+    text: Text,
     pages: Vec<Option<Page>>,
 }
 
@@ -62,11 +63,11 @@ impl Model for RankMemory {
 
     ghost view = { λ m. record {
       bytes = all_bytes m.pages.items;
-      text = length m.text.items;
+      text = length m.text;
       pages = map is_there m.pages.items;
     } };
 
-    ghost invariant = { λ m. IsHeld m.text.items m.pages.items };
+    ghost invariant = { λ m. IsHeld m.text m.pages.items };
 }
 
 impl RankMemory {
@@ -91,7 +92,7 @@ impl RankMemory {
         pages::write(&mut pages, alloc, start, init)?;
         Ok(RankMemory {
             alloc,
-            text: Vec::from_slice(alloc, text)?,
+            text: Text::new(alloc, text)?,
             pages,
         })
     }
@@ -102,7 +103,7 @@ impl RankMemory {
     {
         Ok(RankMemory {
             alloc,
-            text: Vec::from_slice(alloc, self.text.as_slice())?,
+            text: self.text.try_copy(alloc)?,
             pages: pages::try_copy(self.pages.as_slice(), alloc)?,
         })
     }
@@ -122,11 +123,7 @@ impl RankMemory {
     pub fn text_word(&self, pc: u64) -> Option<u32>
         ensures { result ≡ word_at self.now pc }
     {
-        let size = self.text.len() as u64;
-        if size < 4 || pc > size - 4 {
-            return None;
-        }
-        Some(value(self.text.as_slice(), pc as usize, 4) as u32)
+        self.text.word(pc)
     }
 
     /// The value of the bytes at an address, zero-extended. Traps as `LoadMisaligned` where the address isn't a
@@ -146,6 +143,17 @@ impl RankMemory {
         }
     }
 
+    /// Whether the bytes of an aligned load or store are all in the memory. They are in one page, so it is enough that
+    /// this is one of the memory's: one comparison.
+    #[inline(always)]
+    fn has_page(&self, address: u64, width: Width) -> bool
+        requires aligned { address % size_of width ≡ 0 }
+        ensures inside { result ≡ is_inside self.now address (size_of width) }
+        ensures page { IsTrue result → address / 4096 < length self.now.pages }
+    {
+        ((address / 4096) as usize) < self.pages.len()
+    }
+
     /// A load of a width that is known where this is compiled.
     #[inline(always)]
     fn load_bytes(&self, address: u64, width: Width) -> Result<u64, Cause>
@@ -158,7 +166,7 @@ impl RankMemory {
         if address % size != 0 {
             return Err(Cause::LoadMisaligned);
         }
-        if address > self.size() - size {
+        if !self.has_page(address, width) {
             return Err(Cause::LoadAccess);
         }
         let page = &self.pages[(address / 4096) as usize];
@@ -214,7 +222,7 @@ impl RankMemory {
         if address % size != 0 {
             return Err(StoreFault::Trap(Cause::StoreMisaligned));
         }
-        if address > self.size() - size || address < self.text.len() as u64 {
+        if !self.has_page(address, width) || address < self.text.len() as u64 {
             return Err(StoreFault::Trap(Cause::StoreAccess));
         }
         let page = &mut self.pages[(address / 4096) as usize];

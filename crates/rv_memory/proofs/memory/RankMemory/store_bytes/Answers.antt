@@ -1,52 +1,48 @@
 -- A store is one in the page that has its bytes.
-use Rattle.std.proofs.Common.{◌≡◌, ◌∙◌, ◌+◌, ◌<◌, ◌≤◌, ◌*◌, ◌/◌, ◌%◌, length, get_or, sym, ap, arith, rules, zero-add}
+use Rattle.std.proofs.Common.{◌≡◌, ◌∙◌, ◌+◌, ◌<◌, ◌≤◌, ◌/◌, ◌%◌, List, length, get_or, sym, ap, refl, arith, rules, zero-add}
 use Rattle.std.proofs.lemmas.List.{get_or_default, length-map}
-use Rattle.std.proofs.Common.{◌-◌, List}
-use Rattle.rv_memory.specs.Held.{AreWhole}
 use Rattle.std.specs.Prelude.{ℕ, Option, None, Result, Ok, Err, IsOk, Bool, map}
-use Rattle.rv_memory.specs.Access.{size_of, IsPresent}
-use Rattle.rv_memory.specs.Held.{page_bytes, is_there, all_bytes}
+use Rattle.rv_memory.specs.Access.{size_of}
+use Rattle.rv_memory.specs.Held.{is_there}
 use Rattle.rv_memory.specs.Memory.{Memory}
 use Rattle.rv_memory.specs.Pages.{missing_pages}
 use Rattle.rv_memory.proofs.Marked.{present-none, missing-there, touches-in}
-use Rattle.rv_memory.proofs.Paged.{page-inside, in_page, stored-view, stored-held, there-get}
+use Rattle.rv_memory.proofs.Paged.{page-listed, in_page, stored-view, stored-held, there-get}
 use Rattle.rv_memory.proofs.memory.RankMemory.store_bytes.Goals as goal
 
 no_err : {A E : Type 0} (r : Result A E) (x : E) → IsOk r → r ≡ Err x → ⊥
 no_err (Ok y) x ok e = grind arith
 no_err (Err y) x ok e = absurd (search rules)
 
-within : (pages : List (Option (List ℕ))) (self : Memory) (a size most : ℕ) → AreWhole pages → all_bytes pages ≡ self.bytes → most ≡ length self.bytes → 4096 ≤ most
-    → 0 < size → size ≤ 8 → a ≤ most - size → a / 4096 < length pages
-within pages self a size most whole bytes all least some small inside =
-    page-inside pages a size whole some (omega (arith, ap length bytes, all, least, small, inside))
-
 pub index_mut-page-requires : goal.index_mut-page-requires
 index_mut-page-requires c =
-    let there = within c.self.inside.pages.items c.args.self.now c.args.address c.size-size.result c.size.result c.self.invariant.whole (ap (λ (m : Memory). m.bytes) c.self.view_is) c.size.ensures.value c.size.ensures.least c.size-size.ensures.some c.size-size.ensures.most c.if-address-size.false in
+    let there : c.args.address / 4096 < length c.self.inside.pages.items =
+    page-listed c.self.inside.pages.items c.args.self.now.pages (c.args.address / 4096) (ap (λ (m : Memory). m.pages) c.self.view_is) (c.if-not-has_page.ensures.page refl) in
     omega (arith, there)
 
 pub invariant_of-self : goal.invariant_of-self
 invariant_of-self c =
     let pages : List (Option (List ℕ)) = c.self.inside.pages.items in
-    let there = within pages c.args.self.now c.args.address c.size-size.result c.size.result c.self.invariant.whole (ap (λ (m : Memory). m.bytes) c.self.view_is) c.size.ensures.value c.size.ensures.least c.size-size.ensures.some c.size-size.ensures.most c.if-address-size.false in
+    let there : c.args.address / 4096 < length c.self.inside.pages.items =
+    page-listed c.self.inside.pages.items c.args.self.now.pages (c.args.address / 4096) (ap (λ (m : Memory). m.pages) c.self.view_is) (c.if-not-has_page.ensures.page refl) in
     let e : c.size-size.result ≡ size_of c.args.width = c.size-size.ensures.value in
     let small : c.args.address % 4096 + c.size-size.result ≤ 4096 = rw e (in_page c.args.width c.args.address (rw e at c.if-address-size-ne0.false)) in
-    let behind : length c.self.inside.text.items ≤ c.args.address = omega (arith, c.len.ensures, c.if-address-len.false) in
+    let behind : length c.self.inside.text ≤ c.args.address = omega (arith, c.len.ensures, c.if-address-len.false) in
     let page : c.index_mut-page.result.now ≡ get_or pages (c.args.address / 4096) None =
     c.index_mut-page.ensures.value ∙ get_or_default pages (c.args.address / 4096) c.index_mut-page.result.now None there in
-    stored-held c.store.result c.self.inside.text.items pages c.args.address c.size-size.result c.args.value c.index_mut-page.result.now c.store.new.page
+    stored-held c.store.result c.self.inside.text pages c.args.address c.size-size.result c.args.value c.index_mut-page.result.now c.store.new.page
     c.self.invariant there small behind page c.store.ensures.put c.store.ensures.length c.store.ensures.unchanged
 
 pub returns-clause-stored : goal.returns-clause-stored
 returns-clause-stored c =
     let pages : List (Option (List ℕ)) = c.self.inside.pages.items in
-    let there = within pages c.args.self.now c.args.address c.size-size.result c.size.result c.self.invariant.whole (ap (λ (m : Memory). m.bytes) c.self.view_is) c.size.ensures.value c.size.ensures.least c.size-size.ensures.some c.size-size.ensures.most c.if-address-size.false in
+    let there : c.args.address / 4096 < length c.self.inside.pages.items =
+    page-listed c.self.inside.pages.items c.args.self.now.pages (c.args.address / 4096) (ap (λ (m : Memory). m.pages) c.self.view_is) (c.if-not-has_page.ensures.page refl) in
     let e : c.size-size.result ≡ size_of c.args.width = c.size-size.ensures.value in
     let small : c.args.address % 4096 + c.size-size.result ≤ 4096 = rw e (in_page c.args.width c.args.address (rw e at c.if-address-size-ne0.false)) in
     let page : c.index_mut-page.result.now ≡ get_or pages (c.args.address / 4096) None =
     c.index_mut-page.ensures.value ∙ get_or_default pages (c.args.address / 4096) c.index_mut-page.result.now None there in
-    rw (← c.self.view_is, ← e) (stored-view c.store.result (length c.self.inside.text.items) pages c.args.address c.size-size.result c.args.value c.index_mut-page.result.now c.store.new.page
+    rw (← c.self.view_is, ← e) (stored-view c.store.result (length c.self.inside.text) pages c.args.address c.size-size.result c.args.value c.index_mut-page.result.now c.store.new.page
     c.self.invariant.whole there small c.size-size.ensures.some page c.store.ensures.put c.store.ensures.there)
 
 pub returns-clause-takes_no_memory : goal.returns-clause-takes_no_memory
@@ -56,7 +52,8 @@ returns-clause-takes_no_memory c =
     let size : ℕ = size_of c.args.width in
     let e : c.size-size.result ≡ size = c.size-size.ensures.value in
     let some : 0 < size = omega (arith, e, c.size-size.ensures.some) in
-    let there = within pages c.args.self.now c.args.address c.size-size.result c.size.result c.self.invariant.whole (ap (λ (m : Memory). m.bytes) c.self.view_is) c.size.ensures.value c.size.ensures.least c.size-size.ensures.some c.size-size.ensures.most c.if-address-size.false in
+    let there : c.args.address / 4096 < length c.self.inside.pages.items =
+    page-listed c.self.inside.pages.items c.args.self.now.pages (c.args.address / 4096) (ap (λ (m : Memory). m.pages) c.self.view_is) (c.if-not-has_page.ensures.page refl) in
     let page : c.index_mut-page.result.now ≡ get_or pages p None =
     c.index_mut-page.ensures.value ∙ get_or_default pages p c.index_mut-page.result.now None there in
     let same : map is_there pages ≡ c.args.self.now.pages = ap (λ (m : Memory). m.pages) c.self.view_is in
