@@ -49,15 +49,16 @@ fn all_harts(alloc: Global, parts: &ImageParts, rank: u8) -> Result<Vec<Hart>, A
     Ok(harts)
 }
 
+/// The memory of a rank as it is loaded. Its text for fetches is the image's own, which all ranks of the image share.
 #[tactic(auto, using(crate::proofs::Starts::start_is))]
 fn memory(alloc: Global, parts: &ImageParts) -> Result<RankMemory, AllocError>
     requires { IsImage parts.now }
     ensures { IfOk result (λ memory. memory ≡ loaded_memory parts.now.memory parts.now.text parts.now.init) }
 {
-    RankMemory::new(
+    RankMemory::sharing(
         alloc,
         parts.memory as usize,
-        parts.text.as_slice(),
+        parts.text.share()?,
         parts.init.as_slice(),
     )
 }

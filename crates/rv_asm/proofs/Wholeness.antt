@@ -1,7 +1,7 @@
 -- What the passes make: whole words, as many as the first pass counted, and an image that holds them.
 use Rattle.std.proofs.Common.{◌≡◌, ℕ, ◌%◌, List, [], length, Option, Some, None, Result, Ok, Err, Bool, true, false, refl, sym, ap, subst, ◌∙◌, arith}
 use Rattle.std.proofs.lemmas.List.Elements.{All-nil}
-use Rattle.std.specs.Prelude.{◌==◌, if◌then◌else◌, IfOk, MatchResult}
+use Rattle.std.specs.Prelude.{◌==◌, if◌then◌else◌, IfOk}
 use Rattle.std.specs.Str.Lines.{lines}
 use Rattle.rv_image.specs.declared.images.ImageParts.{ImageParts}
 use Rattle.rv_image.specs.declared.images.ImageVersion.TheVariants.{Two}
@@ -68,7 +68,7 @@ finished_parts f o symbols p h =
 
 -- the image holds the instructions and the bytes of the layout
 pub image_holds : (source : List ℕ) (r : Result ImageParts AsmFault) (kept : Layout) (o : Output) (symbols : List Symbol) → layout_of source ≡ Ok kept → items_from kept empty_output kept.items ≡ Ok o → AreSound (addresses kept.text kept.labels) kept.items
-    → MatchResult r (λ image. finished kept.fields o symbols ≡ Ok image) (λ fault. finished kept.fields o symbols ≡ Err fault) → IfOk r (λ image. (s : Layout) → layout_of source ≡ Ok s → HoldCode (addresses s.text s.labels) image.text image.init s.items)
+    → IfOk r (λ image. finished kept.fields o symbols ≡ Ok image) → IfOk r (λ image. (s : Layout) → layout_of source ≡ Ok s → HoldCode (addresses s.text s.labels) image.text image.init s.items)
 image_holds source (Err fault) kept o symbols laid made sound h = tt
 image_holds source (Ok image) kept o symbols laid made sound h = λ s again.
     let same : kept ≡ s = line_ok kept s (sym laid ∙ again) in

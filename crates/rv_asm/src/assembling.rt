@@ -202,13 +202,29 @@ fn fits(harts: u32, memory: u32, text: usize, init: usize) -> bool
     u128::from(start) + init as u128 <= u128::from(memory)
 }
 
-/// The image of what was made, with what the fields say and the symbols.
+/// The bytes of a part, as an image has them. The only fault is `Memory`, of no line.
+fn segment(bytes: Vec<u8>) -> Result<Segment, AsmFault>
+    ensures bytes { IfOk result (λ segment. segment ≡ bytes.items) }
+    ensures memory { IfErr result (λ fault. fault.kind ≡ kinds.Memory) }
+{
+    match Segment::from_vec(bytes) {
+        Ok(segment) => Ok(segment),
+        Err(_) => Err(AsmFault {
+            line: 0,
+            kind: AsmFaultKind::Memory,
+        }),
+    }
+}
+
+/// The image of what was made, with what the fields say and the symbols. `Memory` is answered only for an image, where
+/// the system refused memory.
 #[tactic(auto, unfolding(crate::specs::Source::finished))]
 fn finish(fields: &Fields, output: Output, symbols: Symbols) -> Result<Image, AsmFault>
     requires { IsWhole (ranks_meant fields.now) (output_view output) symbols }
-    ensures { MatchResult result
-        (λ image. finished fields.now (output_view output) symbols ≡ Ok image)
-        (λ fault. finished fields.now (output_view output) symbols ≡ Err fault) }
+    ensures image { IfOk result (λ image. finished fields.now (output_view output) symbols ≡ Ok image) }
+    ensures fault { IfErr result (λ fault. FailsAt fault (finished fields.now (output_view output) symbols)) }
+    ensures told { (fault : AsmFault) → finished fields.now (output_view output) symbols ≡ Err fault
+        → result ≡ Err fault }
 {
     let harts = harts_of(fields);
     let memory = memory_of(fields);
@@ -239,8 +255,8 @@ fn finish(fields: &Fields, output: Output, symbols: Symbols) -> Result<Image, As
         harts,
         memory,
         entry,
-        text: Segment::from_vec(output.text),
-        init: Segment::from_vec(output.init),
+        text: segment(output.text)?,
+        init: segment(output.init)?,
         comms: Comms::from_vec(output.comms),
         links: Links::from_vec(output.links),
         symbols,

@@ -1,31 +1,36 @@
 //! The lists that an image holds, which contracts see as lists.
 
 ghost use Rattle.std.specs.Prelude.{◌≡◌, [], IfOk, IsOk};
+ghost use Rattle.std.specs.Arc.{arc_slice_items};
 
 use crate::images::{Link, Symbol};
 use std::alloc::{AllocError, Global};
 use std::marker::Model;
+use std::sync::ArcSlice;
 
 /// Bytes that are loaded one after the other: the text, or the initial data. Contracts see a list of numbers.
 #[derive(Drop)]
 pub struct Segment {
-    bytes: Vec<u8>,
+    bytes: ArcSlice<u8>,
 }
 
 impl Model for Segment {
     ghost use Rattle.std.specs.Prelude.{List, ℕ};
+    ghost use Rattle.std.specs.Arc.{arc_slice_items};
 
     ghost Value = { List ℕ };
 
-    ghost view = { λ segment. segment.bytes.items };
+    ghost view = { λ segment. arc_slice_items segment.bytes };
 }
 
 impl Segment {
-    /// The vector's bytes. Takes no memory.
-    pub fn from_vec(bytes: Vec<u8>) -> Segment
-        ensures { result ≡ bytes.items }
+    /// The vector's bytes, which aren't copied. The only error is want of memory, for their count of holders.
+    pub fn from_vec(bytes: Vec<u8>) -> Result<Segment, AllocError>
+        ensures { IfOk result (λ segment. segment ≡ bytes.items) }
     {
-        Segment { bytes }
+        Ok(Segment {
+            bytes: ArcSlice::from_vec(bytes)?,
+        })
     }
 
     /// The bytes.
@@ -33,6 +38,13 @@ impl Segment {
         ensures { result.now ≡ self.now }
     {
         self.bytes.as_slice()
+    }
+
+    /// The bytes once more, for who loads them: they aren't copied. The only error is that 2^63 - 1 hold them already.
+    pub fn share(&self) -> Result<ArcSlice<u8>, AllocError>
+        ensures { IfOk result (λ bytes. arc_slice_items bytes ≡ self.now) }
+    {
+        self.bytes.clone()
     }
 }
 

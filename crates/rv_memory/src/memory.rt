@@ -2,6 +2,7 @@
 ghost use Rattle.std.specs.Prelude.{◌≡◌, ◌≢◌, ◌↔◌, ◌+◌, ◌-◌, ◌/◌, ◌%◌, ◌^◌, ◌<◌, ◌≤◌, ◌++◌, length, cond, IsOk};
 ghost use Rattle.std.specs.Prelude.{IsTrue, nat_le, false, drop};
 ghost use Rattle.std.specs.Prelude.{IfOk, OnOk, OnErr, MatchOption};
+ghost use Rattle.std.specs.Arc.{arc_slice_items};
 ghost use Rattle.rv_memory.specs.Access.{size_of, load_trap, store_trap, stored, word_at, is_readable, is_writable};
 ghost use Rattle.rv_memory.specs.Access.{is_inside, is_present, IsReadable, IsWritable, IsPresent};
 ghost use Rattle.rv_memory.specs.Memory.{Memory, value_at, bytes_at, with_bytes, with_pages, init_start, loaded_memory};
@@ -14,6 +15,7 @@ use crate::spares::SparePages;
 use crate::text::Text;
 use std::alloc::{AllocError, Global};
 use std::marker::Model;
+use std::sync::ArcSlice;
 
 /// How many bytes a load or a store moves: 1, 2, 4 or 8.
 #[derive(Clone, Copy, Drop)]
@@ -49,7 +51,7 @@ impl Width {
 #[derive(Drop)]
 pub struct RankMemory {
     alloc: Global,
-    /// The text once more in one piece, for fetches.
+    /// The text once more in one piece, for fetches, shared with the memories of other ranks and with copies.
     text: Text,
     pages: Vec<Option<Page>>,
 }
@@ -86,24 +88,37 @@ impl RankMemory {
         requires room { init_start text.now + length init.now ≤ size }
         ensures { IfOk result (λ memory. memory ≡ loaded_memory size text.now init.now) }
     {
-        let start = (text.len() + 15) / 16 * 16;
-        let mut pages = pages::none(alloc, size / 4096)?;
-        pages::write(&mut pages, alloc, 0, text)?;
-        pages::write(&mut pages, alloc, start, init)?;
-        Ok(RankMemory {
-            alloc,
-            text: Text::new(alloc, text)?,
-            pages,
-        })
+        RankMemory::sharing(alloc, size, ArcSlice::from_slice(alloc, text)?, init)
     }
 
-    /// The same bytes and text, in memory of their own. The only error is want of memory.
+    /// The same of a text that others may hold, which isn't copied for fetches. The only error is want of memory.
+    pub fn sharing(
+        alloc: Global,
+        size: usize,
+        text: ArcSlice<u8>,
+        init: &[u8],
+    ) -> Result<RankMemory, AllocError>
+        requires least { 4096 ≤ size }
+        requires most { size ≤ 2 ^ 20 }
+        requires whole { size % 4096 ≡ 0 }
+        requires room { init_start (arc_slice_items text) + length init.now ≤ size }
+        ensures { IfOk result (λ memory. memory ≡ loaded_memory size (arc_slice_items text) init.now) }
+    {
+        let text = Text::new(text);
+        let start = (text.len() + 15) / 16 * 16;
+        let mut pages = pages::none(alloc, size / 4096)?;
+        pages::write(&mut pages, alloc, 0, text.as_slice())?;
+        pages::write(&mut pages, alloc, start, init)?;
+        Ok(RankMemory { alloc, text, pages })
+    }
+
+    /// The same bytes and text, in pages of its own. The text for fetches is shared. The only error is want of memory.
     pub fn try_copy(&self, alloc: Global) -> Result<RankMemory, AllocError>
         ensures { IfOk result (λ copy. copy ≡ self.now) }
     {
         Ok(RankMemory {
             alloc,
-            text: self.text.try_copy(alloc)?,
+            text: self.text.share()?,
             pages: pages::try_copy(self.pages.as_slice(), alloc)?,
         })
     }

@@ -10,10 +10,17 @@ use rv_image::{
 use std::alloc::{AllocError, Global};
 
 /// A segment has and shows each of its bytes.
-pub fn segment_has_all_its_bytes(bytes: Vec<u8>) -> usize
-    ensures { result ≡ length bytes.items }
+pub fn segment_has_all_its_bytes(bytes: Vec<u8>) -> Result<usize, AllocError>
+    ensures { IfOk result (λ count. count ≡ length bytes.items) }
 {
-    Segment::from_vec(bytes).as_slice().len()
+    Ok(Segment::from_vec(bytes)?.as_slice().len())
+}
+
+/// A text that is loaded is the segment's.
+pub fn shared_bytes_are_the_same(segment: &Segment) -> Result<usize, AllocError>
+    ensures { IfOk result (λ count. count ≡ length segment.now) }
+{
+    Ok(segment.share()?.len())
 }
 
 /// A communicator has and shows each of its ranks.

@@ -11,4 +11,4 @@ pub finish-requires : goal.finish-requires
 finish-requires c = rw (c.in-Ok.ensures) (whole_output c.args.source.now (layout_view c.in_ok-layout.layout) (output_view c.in_ok-output.output) c.in_ok-layout.ensures c.in_ok-output.ensures.output)
 
 pub returns-clause-decodes : goal.returns-clause-decodes
-returns-clause-decodes c = image_holds c.args.source.now c.finish.result (layout_view c.in_ok-layout.layout) (output_view c.in_ok-output.output) _ c.in_ok-layout.ensures c.in_ok-output.ensures.output c.in_ok-output.ensures.sound c.finish.ensures
+returns-clause-decodes c = image_holds c.args.source.now c.finish.result (layout_view c.in_ok-layout.layout) (output_view c.in_ok-output.output) _ c.in_ok-layout.ensures c.in_ok-output.ensures.output c.in_ok-output.ensures.sound c.finish.ensures.image
