@@ -535,7 +535,7 @@ fn by_opcode(word: u32) -> Option<Instr>
 }
 
 /// The instruction that a word stands for, by the table; `None` for an illegal word, which no row has.
-#[inline]
+#[inline(always)]
 pub fn decode(word: u32) -> Option<Instr>
     ensures value { result ≡ decoded word }
     ensures found { (i : Instr) → (result ≡ Some i) ↔ IsWordOf word i }

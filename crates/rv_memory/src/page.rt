@@ -1,6 +1,6 @@
 //! One page: 4,096 bytes in memory of their own.
 ghost use Rattle.std.specs.Prelude.{◌≡◌, ◌+◌, ◌-◌, ◌^◌, ◌<◌, ◌≤◌, ◌++◌, length, replicate, IfOk, OnOk, OnErr, IsOk};
-ghost use Rattle.std.specs.Prelude.{true, not, Option, ◌≢◌};
+ghost use Rattle.std.specs.Prelude.{true, false, not, Option, ◌≢◌};
 ghost use Rattle.rv_memory.specs.Held.{blank_page, page_bytes, is_there};
 ghost use Rattle.rv_memory.specs.Memory.{value_at, bytes_of, overwritten};
 
@@ -130,6 +130,33 @@ pub(crate) fn read(page: &Option<Page>, at: usize, count: usize) -> u64
     }
 }
 
+/// Makes a page that isn't there, with the lowest `count` bytes of a value, 8 at most. The only fault is want of memory,
+/// and leaves it as it was. It stands by itself, so that what each store does of its own stays small.
+#[inline(never)]
+fn make_with(
+    page: &mut Option<Page>,
+    alloc: Global,
+    at: usize,
+    value: u64,
+    count: usize,
+) -> Result<(), StoreFault>
+    requires inside { at + count ≤ 4096 }
+    requires most { count ≤ 8 }
+    requires missing { is_there page.old ≡ false }
+    ensures put { OnOk result (page_bytes page.new ≡ overwritten (page_bytes page.old) at (bytes_of value count)) }
+    ensures there { OnOk result (is_there page.new ≡ true) }
+    ensures length { OnOk result (length (page_bytes page.new) ≡ 4096) }
+    ensures unchanged { OnErr result (page.new ≡ page.old) }
+    ensures only { result ≢ Err StoreFault.Memory → IsOk result }
+{
+    let Ok(mut made) = Page::blank(alloc) else {
+        return Err(StoreFault::Memory);
+    };
+    made.put_value(at, value, count);
+    *page = Some(made);
+    Ok(())
+}
+
 /// Puts the lowest `count` bytes of a value, 8 at most, into a page, which is made where it isn't there. The only fault
 /// is want of memory for it, and leaves it as it was.
 #[inline(always)]
@@ -150,14 +177,10 @@ pub(crate) fn store(
     ensures takes_no_memory { is_there page.old ≡ true → IsOk result }
 {
     match page {
-        Some(page) => page.put_value(at, value, count),
-        None => {
-            let Ok(mut made) = Page::blank(alloc) else {
-                return Err(StoreFault::Memory);
-            };
-            made.put_value(at, value, count);
-            *page = Some(made);
+        Some(page) => {
+            page.put_value(at, value, count);
+            Ok(())
         }
+        None => make_with(page, alloc, at, value, count),
     }
-    Ok(())
 }
