@@ -11,3 +11,6 @@ pub mod Fronts
 pub mod Wildcards
 pub mod Matched
 pub mod Within
+pub mod Partners
+pub mod Kept
+pub mod Asked

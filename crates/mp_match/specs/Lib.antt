@@ -5,3 +5,4 @@ pub mod Queued
 pub mod Matches
 pub mod Board
 pub mod Free
+pub mod Live

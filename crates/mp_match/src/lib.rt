@@ -5,11 +5,14 @@
 //! least-numbered receive without a partner that accepts it (MPI 4.1, chapter 3.5).
 #![tactic(auto)]
 
+mod entering;
+mod history;
 pub mod laws;
-mod lists;
+mod live;
 mod post_queues;
 mod posts;
 mod queues;
+mod table;
 mod waiting;
 
 pub use posts::{Line, Post, Selection, Sent};

@@ -5,13 +5,20 @@ ghost use Rattle.std.specs.Prelude.{IsNone, IsOk, OnErr, OnOk, Err, None, Some, 
 ghost use Rattle.mp_match.specs.Pairs.{partner_for};
 ghost use Rattle.mp_match.specs.Board.{bytes_in, claim_of, claimed_if, collect, collect_from, compared_after};
 ghost use Rattle.mp_match.specs.Board.{envelope_at, held_count, is_collected, is_finished, is_held, is_receive_at};
-ghost use Rattle.mp_match.specs.Board.{is_receive_of, is_send_of, line_of, message_at, no_posts, partner_of, posted};
-ghost use Rattle.mp_match.specs.Board.{probed, receive_posted, send_posted};
+ghost use Rattle.mp_match.specs.Board.{is_receive_of, is_send_of, line_of, message_at, message_in, no_posts};
+ghost use Rattle.mp_match.specs.Board.{partner_of, posted};
+ghost use Rattle.mp_match.specs.Board.{probed, receive_posted, send_posted, without};
+ghost use Rattle.mp_match.specs.Live.{IsPast, owner_in};
 ghost use Rattle.mp_match.specs.Free.{free_post};
 ghost use Rattle.mp_types.specs.Carried.{carried_by_message};
 
-use crate::lists::{body_copies, count_of, set_partners, take_body};
+use crate::entering::enter;
+use crate::history::History;
+use crate::live::{
+    Live, Owner, count_of, is_sender, is_standard, is_taker, owner_at, owner_of, sends,
+};
 use crate::posts::{Line, Post, Selection, Sent};
+use crate::table::Table;
 use crate::waiting::{Found, Waiting};
 use mp_types::{Bytes, Envelope, Message};
 use std::alloc::{AllocError, Global};
@@ -32,28 +39,46 @@ pub enum PostFault {
 ///
 /// A message is held from its send until its receive is collected. Posts go by their numbers, from 1; a number that no
 /// post has is the number of a post that never gets a message.
+///
+/// What is kept is what may still be asked for: of each post two bytes; of one that waits for a partner, or whose message
+/// is held, all; and of a send that was claimed all but its message.
 #[derive(Drop)]
 pub struct Queues {
-    lines: Vec<Line>,
-    bodies: Vec<Option<Bytes>>,
-    held: u64,
+    alloc: Global,
+    owners: Vec<Owner>,
+    table: Table,
     waiting: Waiting,
+    held: u64,
     compared: u64,
+    // What the others stand for: all posts ever made. No bytes.
+    history: History,
 }
 
 impl Model for Queues {
-    ghost use Rattle.std.specs.Prelude.{◌≡◌, length};
+    ghost use Rattle.std.specs.Prelude.{◌≡◌};
     ghost use Rattle.mp_match.specs.Board.{Board, held_count};
+    ghost use Rattle.mp_match.specs.Live.{StandFor, kept};
     ghost use Rattle.mp_match.specs.Queued.{queue};
     ghost use Rattle.mp_match.specs.Waiting.{AreQueued, message_key, receive_key};
 
     ghost Value = { Board };
 
-    ghost view = { λ q. record { lines = q.lines.items; bodies = q.bodies.items; compared = q.compared } };
+    ghost view = { λ q. q.history.board };
 
-    ghost invariant = { λ q. (q.held ≡ held_count q.bodies.items) × (length q.bodies.items ≡ length q.lines.items)
-        × AreQueued message_key (queue q.waiting.messages.map) q.lines.items
-        × AreQueued receive_key (queue q.waiting.receives.map) q.lines.items };
+    ghost invariant = { λ q. StandFor q.owners.items (kept q.table.map) q.history.board
+        × (q.held ≡ held_count q.history.board.bodies) × (q.compared ≡ q.history.board.compared)
+        × AreQueued message_key (queue q.waiting.messages.map) q.history.board.lines
+        × AreQueued receive_key (queue q.waiting.receives.map) q.history.board.lines };
+}
+
+// A message that is held, of its envelope and its bytes.
+fn message_of(envelope: Option<Envelope>, body: Option<Bytes>) -> Option<Message>
+    ensures { result ≡ message_in envelope (Some body) }
+{
+    match (envelope, body) {
+        (Some(envelope), Some(bytes)) => Some(Message { envelope, bytes }),
+        _ => None,
+    }
 }
 
 impl Queues {
@@ -62,11 +87,13 @@ impl Queues {
         ensures { result ≡ no_posts }
     {
         Queues {
-            lines: Vec::new(alloc),
-            bodies: Vec::new(alloc),
-            held: 0,
+            alloc,
+            owners: Vec::new(alloc),
+            table: Table::new(alloc),
             waiting: Waiting::new(alloc),
+            held: 0,
             compared: 0,
+            history: History::new(),
         }
     }
 
@@ -75,21 +102,27 @@ impl Queues {
         ensures copy { IfOk result (λ copy. copy ≡ self.now) }
         ensures free { self.now ≡ no_posts → IsOk result }
     {
-        if self.lines.is_empty() {
+        if self.owners.is_empty() {
             return Ok(Queues {
+                alloc,
+                owners: Vec::new(alloc),
+                table: Table::new(alloc),
+                waiting: Waiting::new(alloc),
+                held: 0,
                 compared: self.compared,
-                ..Queues::new(alloc)
+                history: self.history.again(),
             });
         }
-        let mut lines = Vec::with_capacity(alloc, self.lines.len())?;
-        lines.extend_from_slice(self.lines.as_slice())?;
-        let bodies = body_copies(alloc, self.bodies.as_slice())?;
+        let mut owners = Vec::with_capacity(alloc, self.owners.len())?;
+        owners.extend_from_slice(self.owners.as_slice())?;
         Ok(Queues {
-            lines,
-            bodies,
-            held: self.held,
+            alloc,
+            owners,
+            table: self.table.try_copy()?,
             waiting: self.waiting.try_copy()?,
+            held: self.held,
             compared: self.compared,
+            history: self.history.again(),
         })
     }
 
@@ -97,7 +130,7 @@ impl Queues {
     pub fn posts(&self) -> u64
         ensures { result ≡ length self.now.lines }
     {
-        self.lines.len() as u64
+        self.owners.len() as u64
     }
 
     /// How many messages are held.
@@ -152,24 +185,33 @@ impl Queues {
         ensures ok { OnOk result (self.new ≡ posted self.old new body) }
         ensures err { OnErr result (self.new ≡ self.old) }
     {
-        let partner = found.partner;
-        self.lines.reserve(1)?;
-        self.bodies.reserve(1)?;
-        self.waiting.add(self.lines.as_slice(), new, partner)?;
-        let place = self.lines.len() as u64;
+        let place = self.owners.len() as u64;
+        let line = Line {
+            post: new,
+            partner: found.partner,
+        };
         let more = count_of(&body);
-        let line = Line { post: new, partner };
-        match self.lines.push(line) {
+        let history = self.history.with_post(&new, &body);
+        self.owners.reserve(1)?;
+        let live = Live {
+            alloc: self.alloc,
+            line,
+            body,
+        };
+        enter(
+            &self.history,
+            &mut self.table,
+            &mut self.waiting,
+            place,
+            live,
+        )?;
+        match self.owners.push(owner_of(new)) {
             Ok(()) => {}
             Err(_) => unreachable!(),
         }
-        match self.bodies.push(body) {
-            Ok(()) => {}
-            Err(_) => unreachable!(),
-        }
-        set_partners(&mut self.lines, partner, place);
         self.held += more;
         self.compared = found.compared;
+        self.history = history;
         Ok(())
     }
 
@@ -208,7 +250,7 @@ impl Queues {
     fn probe_for(&self, new: Post) -> Option<Envelope>
         ensures { result ≡ probed self.now new }
     {
-        self.envelope_from(self.find(new).partner)
+        self.envelope_of(new, self.find(new).partner)
     }
 
     /// What a receive would be given, if anything, and so what a claim would be given. (MPI 4.1, chapter 3.8.1.)
@@ -229,7 +271,7 @@ impl Queues {
         ensures err { OnErr result (self.new ≡ self.old) }
     {
         let found = self.find(Post::Claim(selection));
-        match self.envelope_from(found.partner) {
+        match self.envelope_of(Post::Claim(selection), found.partner) {
             None => Ok(None),
             Some(envelope) => {
                 self.add_to(found, Post::Claim(selection), None)?;
@@ -243,7 +285,7 @@ impl Queues {
         ensures message { result ≡ (collect self.old post).0 }
         ensures after { self.new ≡ (collect self.old post).1 }
     {
-        let partner = self.partner(post);
+        let partner = self.kept_partner(post);
         self.collect_from(partner)
     }
 
@@ -262,7 +304,7 @@ impl Queues {
         ensures free { carried_by_message (collect self.old post).0 ≡ 0 → IsOk result }
         ensures err { OnErr result (self.new ≡ self.old) }
     {
-        let partner = self.partner(post);
+        let partner = self.kept_partner(post);
         let copy = self.copy_from(alloc, partner)?;
         Ok((self.collect_from(partner), copy))
     }
@@ -274,7 +316,7 @@ impl Queues {
         ensures copy { IfOk result (λ copy. copy ≡ (collect self.now post).0) }
         ensures free { carried_by_message (collect self.now post).0 ≡ 0 → IsOk result }
     {
-        self.copy_from(alloc, self.partner(post))
+        self.copy_from(alloc, self.kept_partner(post))
     }
 
     /// Posts a receive and takes out its message at once, where there is one, and gives it twice as `collect_twice`
@@ -312,13 +354,8 @@ impl Queues {
         ensures copy { IfOk result (λ copy. copy ≡ message_at self.now place) }
         ensures free { carried_by_message (message_at self.now place) ≡ 0 → IsOk result }
     {
-        match (self.envelope(place), self.body(place)) {
-            (Some(envelope), Some(bytes)) => {
-                let bytes = bytes.try_copy(alloc)?;
-                Ok(Some(Message { envelope, bytes }))
-            }
-            _ => Ok(None),
-        }
+        let copy = self.table.message_copy(alloc, place)?;
+        Ok(copy)
     }
 
     // Takes out the message of the send at the place, if any.
@@ -328,15 +365,39 @@ impl Queues {
     {
         match place {
             None => None,
-            Some(send) => {
-                let envelope = self.envelope(send);
-                let body = take_body(&mut self.bodies, send);
-                self.held -= count_of(&body);
-                match (envelope, body) {
-                    (Some(envelope), Some(bytes)) => Some(Message { envelope, bytes }),
-                    _ => None,
-                }
+            Some(place) => {
+                let message = self.take(place);
+                self.forget(place);
+                message
             }
+        }
+    }
+
+    // Takes out the message of the send at the place.
+    fn take(&mut self, place: u64) -> Option<Message>
+        ensures message { result ≡ message_at self.old place }
+        ensures after { self.new ≡ without self.old place }
+    {
+        let envelope = self.table.envelope(place);
+        let body = self.table.take_body(place);
+        self.history = self.history.without(&place);
+        self.held -= count_of(&body);
+        message_of(envelope, body)
+    }
+
+    // Lets go of a send whose message was taken, and of the receive or the claim that had it, by what both their lines
+    // say. A claimed send stays, since it is asked for its claim.
+    fn forget(&mut self, send: u64)
+        ensures { self.new ≡ self.old }
+    {
+        let Some(place) = self.table.spent_by(send) else {
+            return;
+        };
+        if self.table.has_received(place, send) {
+            self.table.remove(send);
+            self.table.remove(place);
+        } else if self.table.has_claimed(place, send) {
+            self.table.remove(place);
         }
     }
 
@@ -344,55 +405,41 @@ impl Queues {
     pub fn finished(&self, post: u64) -> bool
         ensures { result ≡ is_finished self.now post }
     {
-        let standard = match self.line(post) {
-            Some(line) => match line.post {
-                Post::Send(sent) => !sent.sync,
-                _ => false,
-            },
-            None => false,
-        };
-        standard || self.has_receive(post)
+        match self.kept(post) {
+            Some(line) => is_standard(line.post) || self.is_receive(line.partner),
+            None => sends(self.owner(post)),
+        }
     }
 
     /// Whether the post is a receive or a claim of the rank.
     pub fn is_receive_of(&self, rank: u8, post: u64) -> bool
         ensures { result ≡ is_receive_of rank (line_of self.now post) }
     {
-        match self.line(post) {
-            Some(line) => match line.post {
-                Post::Send(_) => false,
-                Post::Receive(selection) => selection.rank == rank,
-                Post::Claim(selection) => selection.rank == rank,
-            },
-            None => false,
-        }
+        is_taker(rank, self.owner(post))
     }
 
     /// Whether the post is a send of the rank.
     pub fn is_send_of(&self, rank: u8, post: u64) -> bool
         ensures { result ≡ is_send_of rank (line_of self.now post) }
     {
-        match self.line(post) {
-            Some(line) => match line.post {
-                Post::Send(sent) => sent.envelope.source == rank,
-                _ => false,
-            },
-            None => false,
-        }
+        is_sender(rank, self.owner(post))
     }
 
     /// Whether the post has a partner.
     pub fn has_partner(&self, post: u64) -> bool
         ensures { result ≡ is_some (partner_of self.now post) }
     {
-        self.partner(post).is_some()
+        match self.kept(post) {
+            Some(line) => line.partner.is_some(),
+            None => self.owner(post).is_some(),
+        }
     }
 
     /// The post of this number, where it has no partner.
     pub fn free_post(&self, post: u64) -> Option<Post>
         ensures { result ≡ free_post self.now post }
     {
-        let line = self.line(post)?;
+        let line = self.kept(post)?;
         match line.partner {
             None => Some(line.post),
             Some(_) => None,
@@ -403,9 +450,12 @@ impl Queues {
     pub fn is_collected(&self, post: u64) -> bool
         ensures { result ≡ is_collected self.now post }
     {
-        match self.partner(post) {
-            None => false,
-            Some(send) => !self.is_held(send),
+        match self.kept(post) {
+            Some(line) => match line.partner {
+                None => false,
+                Some(place) => !self.table.is_held(place),
+            },
+            None => self.owner(post).is_some(),
         }
     }
 
@@ -413,79 +463,62 @@ impl Queues {
     pub fn claim_of(&self, post: u64) -> Option<u64>
         ensures { result ≡ claim_of self.now post }
     {
-        let place = self.partner(post)?;
-        match self.lines.get(place as usize) {
-            Some(line) => match line.post {
-                Post::Claim(_) => Some(place + 1),
-                _ => None,
-            },
-            None => None,
+        let place = self.kept(post)?.partner?;
+        match self.owners.get(place as usize) {
+            Some(Owner::Claims(_)) => Some(place + 1),
+            _ => None,
         }
     }
 
-    fn line(&self, post: u64) -> Option<Line>
-        ensures { result ≡ line_of self.now post }
+    // Whose the post is.
+    fn owner(&self, post: u64) -> Option<Owner>
+        ensures { result ≡ owner_in (line_of self.now post) }
     {
         if post == 0 {
             return None;
         }
-        self.lines.get((post - 1) as usize).copied()
+        owner_at(self.owners.as_slice(), post - 1)
     }
 
-    // The place of the post's partner.
-    fn partner(&self, post: u64) -> Option<u64>
-        ensures { result ≡ partner_of self.now post }
+    // The post's line, if it isn't over.
+    fn kept(&self, post: u64) -> Option<Line>
+        ensures some { IfSome result (λ line. line_of self.now post ≡ Some line) }
+        ensures none { IsNone result → IsPast self.now post }
     {
-        match self.line(post) {
+        if post == 0 {
+            return None;
+        }
+        self.table.line(post - 1)
+    }
+
+    // The place of the post's partner, if it isn't over.
+    fn kept_partner(&self, post: u64) -> Option<u64>
+        ensures { collect_from self.now result ≡ collect self.now post }
+    {
+        match self.kept(post) {
             None => None,
             Some(line) => line.partner,
         }
     }
 
-    fn has_receive(&self, post: u64) -> bool
-        ensures { result ≡ is_receive_at self.now (partner_of self.now post) }
-    {
-        match self.partner(post) {
-            None => false,
-            Some(place) => match self.lines.get(place as usize) {
-                Some(line) => matches!(line.post, Post::Receive(_)),
-                None => false,
-            },
-        }
-    }
-
-    fn envelope_from(&self, place: Option<u64>) -> Option<Envelope>
-        ensures { result ≡ envelope_at self.now place }
+    // Whether there is a receive at the place, and no claim.
+    fn is_receive(&self, place: Option<u64>) -> bool
+        ensures { result ≡ is_receive_at self.now place }
     {
         match place {
-            None => None,
-            Some(place) => self.envelope(place),
+            None => false,
+            Some(place) => { matches!(self.owners.get(place as usize), Some(Owner::Receives(_))) }
         }
     }
 
-    fn envelope(&self, place: u64) -> Option<Envelope>
-        ensures { result ≡ envelope_at self.now (Some place) }
+    // The envelope of the message that waits for the new post.
+    fn envelope_of(&self, _new: Post, partner: Option<u64>) -> Option<Envelope>
+        requires { partner ≡ partner_for self.now.lines _new }
+        ensures { result ≡ envelope_at self.now partner }
     {
-        match self.lines.get(place as usize) {
-            Some(line) => match line.post {
-                Post::Send(sent) => Some(sent.envelope),
-                _ => None,
-            },
+        match partner {
             None => None,
+            Some(place) => self.table.envelope(place),
         }
-    }
-
-    // The bytes of the message at the place, while it is held.
-    fn body(&self, place: u64) -> Option<&Bytes>
-        ensures none { IsNone result ↔ (bytes_in (slice_get self.now.bodies place) ≡ None) }
-        ensures some { IfSome result (λ bytes. bytes_in (slice_get self.now.bodies place) ≡ Some bytes.now) }
-    {
-        self.bodies.get(place as usize)?.as_ref()
-    }
-
-    fn is_held(&self, place: u64) -> bool
-        ensures { result ≡ is_held (slice_get self.now.bodies place) }
-    {
-        matches!(self.bodies.get(place as usize), Some(Some(_)))
     }
 }

@@ -1,16 +1,18 @@
 //! The posts that wait for a partner, in queues by key.
 
-ghost use Rattle.std.specs.Prelude.{◌≡◌, ◌≤◌, [], IfOk, List, OnErr, OnOk};
+ghost use Rattle.std.specs.Prelude.{◌≡◌, ◌≤◌, [], length, IfOk, List, OnErr, OnOk};
 ghost use Rattle.mp_match.specs.declared.posts.Line.{Line};
 ghost use Rattle.mp_match.specs.declared.posts.Post.{Post};
 ghost use Rattle.mp_match.specs.declared.posts.Selection.{Selection};
 ghost use Rattle.mp_match.specs.Pairs.{add, partner_for};
+ghost use Rattle.mp_match.specs.Live.{post_at};
 ghost use Rattle.mp_match.specs.Queued.{queue};
 ghost use Rattle.mp_match.specs.Waiting.{AreQueued, compared_for, key_of, key_with, message_key, one_if, popped};
 ghost use Rattle.mp_match.specs.Waiting.{pushed, receive_key};
 
+use crate::history::History;
 use crate::post_queues::{PostQueues, least_of};
-use crate::posts::{Line, Post, Selection, Sent};
+use crate::posts::{Post, Selection, Sent};
 use std::alloc::{AllocError, Global};
 
 fn key_with(sent: Sent, source: Option<u8>, tag: Option<u16>) -> Selection
@@ -146,25 +148,35 @@ impl Waiting {
         }
     }
 
-    /// The new post waits, or its partner doesn't wait any more. After a refusal for memory all is as it was.
-    pub fn add(&mut self, lines: &[Line], new: Post, partner: Option<u64>) -> Result<(), AllocError>
-        requires partner { partner ≡ partner_for lines.now new }
-        requires messages { AreQueued message_key (queue self.old.messages.map) lines.now }
-        requires receives { AreQueued receive_key (queue self.old.receives.map) lines.now }
-        ensures messages { OnOk result (AreQueued message_key (queue self.new.messages.map) (add lines.now new)) }
-        ensures receives { OnOk result (AreQueued receive_key (queue self.new.receives.map) (add lines.now new)) }
-        ensures err_messages { OnErr result (AreQueued message_key (queue self.new.messages.map) lines.now) }
-        ensures err_receives { OnErr result (AreQueued receive_key (queue self.new.receives.map) lines.now) }
+    /// The new post, at that place, waits, or else its partner doesn't wait any more. After a refusal for memory all is
+    /// as it was.
+    pub fn add(
+        &mut self,
+        _history: &History,
+        place: u64,
+        new: Post,
+        partner: Option<Post>,
+    ) -> Result<(), AllocError>
+        requires place { place ≡ length _history.now.board.lines }
+        requires partner { partner ≡ post_at _history.now.board.lines (partner_for _history.now.board.lines new) }
+        requires messages { AreQueued message_key (queue self.old.messages.map) _history.now.board.lines }
+        requires receives { AreQueued receive_key (queue self.old.receives.map) _history.now.board.lines }
+        ensures messages { OnOk result
+            (AreQueued message_key (queue self.new.messages.map) (add _history.now.board.lines new)) }
+        ensures receives { OnOk result
+            (AreQueued receive_key (queue self.new.receives.map) (add _history.now.board.lines new)) }
+        ensures err_messages { OnErr result
+            (AreQueued message_key (queue self.new.messages.map) _history.now.board.lines) }
+        ensures err_receives { OnErr result
+            (AreQueued receive_key (queue self.new.receives.map) _history.now.board.lines) }
     {
         match partner {
             None => {
-                self.enter(new, lines.len() as u64)?;
+                self.enter(new, place)?;
                 Ok(())
             }
-            Some(place) => {
-                if let Some(line) = lines.get(place as usize) {
-                    self.leave(line.post);
-                }
+            Some(post) => {
+                self.leave(post);
                 Ok(())
             }
         }

@@ -1,56 +1,59 @@
-use Rattle.std.proofs.Common.{◌≡◌, ◌∷◌, ◌++◌, [], length, arith, ap, sym, ◌∙◌, length-append}
-use Rattle.mp_match.specs.declared.posts.Line.{Line}
-use Rattle.mp_match.specs.Pairs.{add, partner_for}
+use Rattle.std.proofs.Common.{◌≡◌, ◌∷◌, ◌++◌, [], ℕ, length, arith, ap, sym, ◌∙◌}
+use Rattle.mp_match.specs.declared.live.Live.{Live}
+use Rattle.mp_match.specs.Pairs.{partner_for}
 use Rattle.mp_match.specs.Board.{Board, compared_after}
-use Rattle.mp_match.specs.Waiting.{is_open_at, places, message_key, receive_key}
-use Rattle.mp_match.proofs.Lines.{add_length}
-use Rattle.mp_match.proofs.Rows.{held_snoc, held_below, one_held, partners_end, board_is}
+use Rattle.mp_match.specs.Live.{entered, kept, owner_of}
+use Rattle.mp_match.proofs.Asked.{next_none, owners_length, post_waits}
+use Rattle.mp_match.proofs.Kept.{stand_add}
+use Rattle.mp_match.proofs.Rows.{held_snoc, held_below, one_held}
 use Rattle.mp_match.proofs.queues.Queues.add_to.Goals as goal
+
+pub enter-requires-clause-there : goal.enter-requires-clause-there
+enter-requires-clause-there c =
+    post_waits c.self.inside.owners.items (kept c.self.inside.table.map) c.self.inside.history.board c.self.invariant.0
+    c.args.new c.args.found.partner
+    (c.requires.partner ∙ ap (λ (x : Board). partner_for x.lines c.args.new) (sym c.self.view_is))
+
+pub enter-requires-clause-free : goal.enter-requires-clause-free
+enter-requires-clause-free c =
+    let b = c.self.inside.history.board in
+    let n = owners_length c.self.inside.owners.items (kept c.self.inside.table.map) b c.self.invariant.0 in
+    next_none c.self.inside.owners.items (kept c.self.inside.table.map) b c.self.invariant.0 c.len-place.result
+    (omega (arith, n, c.len-place.ensures))
 
 pub overflow_add-self : goal.overflow_add-self
 overflow_add-self c =
-    let a = held_below c.self.inside.bodies.items in
+    let a = held_below c.self.inside.history.board.bodies in
     let b = one_held c.args.body in
-    let v : c.self.inside.lines.items ≡ c.args.self.now.lines = ap (λ (x : Board). x.lines) c.self.view_is in
-    let n : length c.self.inside.lines.items ≡ length c.args.self.now.lines = ap length v in
-    omega (arith, a, b, n, c.requires.few, c.count_of-more.ensures, c.self.invariant.0, c.self.invariant.1)
-
-found_is : (c : goal.After-self-2-1) → c.args.found.partner ≡ partner_for c.self.inside.lines.items c.args.new
-found_is c = c.requires.partner ∙ ap (λ (x : Board). partner_for x.lines c.args.new) (sym c.self.view_is)
-
-lines_are : (c : goal.After-self-2-1) → c.set_partners.new.lines.items ≡ add c.self.inside.lines.items c.args.new
-lines_are c =
-    let es = c.self.inside.lines.items in
-    let line : Line = record { post = c.args.new; partner = c.args.found.partner } in
-    partners_end es c.push.new.self.items c.set_partners.new.lines.items c.args.found.partner c.args.new
-    c.len-place.result
-    (found_is c)
-    (c.in-Ok.ensures.items ∙ ap (λ l. l ++ line ∷ []) c.in_ok-reserve.ensures.items)
-    (omega (arith, c.in_ok-reserve.ensures.len, c.len-place.ensures))
-    c.set_partners.ensures
-
-bodies_are : (c : goal.After-self-2-1) → c.push-2.new.self.items ≡ c.self.inside.bodies.items ++ c.args.body ∷ []
-bodies_are c = c.in-Ok-push.ensures.items ∙ ap (λ l. l ++ c.args.body ∷ []) c.in_ok-reserve-2.ensures.items
-
--- what the queues were told of are the lines
-told : (c : goal.After-self-2-1) → c.as_slice.result.now ≡ c.self.inside.lines.items
-told c = c.as_slice.ensures.value ∙ c.in_ok-reserve.ensures.items
+    let n : length c.self.inside.history.board.lines ≡ length c.args.self.now.lines =
+    ap (λ (x : Board). length x.lines) c.self.view_is in
+    let i = c.self.invariant in
+    let m = (i.0).bodies in
+    omega (arith, a, b, n, m, c.requires.few, c.count_of-more.ensures, i.1)
 
 pub invariant_of-self-2 : goal.invariant_of-self-2
 invariant_of-self-2 c =
+    let b = c.self.inside.history.board in
     let i = c.self.invariant in
-    let k = held_snoc c.self.inside.bodies.items c.args.body in
-    let l = add_length c.self.inside.lines.items c.args.new in
-    rw (lines_are c, bodies_are c) (
-      omega (arith, k, c.count_of-more.ensures, i.0),
-      omega (arith, l, i.1, length-append c.self.inside.bodies.items (c.args.body ∷ [])),
-      λ k. c.in_ok-add.ensures.messages k
-          ∙ ap (λ ls. places (is_open_at message_key k) 0 (add ls c.args.new)) (told c),
-      λ k. c.in_ok-add.ensures.receives k
-          ∙ ap (λ ls. places (is_open_at receive_key k) 0 (add ls c.args.new)) (told c),
+    let f = kept c.self.inside.table.map in
+    let n = owners_length c.self.inside.owners.items f b i.0 in
+    let place : c.len-place.result ≡ length b.lines = omega (arith, n, c.len-place.ensures) in
+    let new : Live = record {
+      alloc = c.self.inside.alloc;
+      line = record { post = c.args.new; partner = c.args.found.partner };
+      body = c.args.body;
+    } in
+    let found = c.requires.partner ∙ ap (λ (x : Board). partner_for x.lines c.args.new) (sym c.self.view_is) in
+    let h = held_snoc b.bodies c.args.body in
+    let more : c.push.new.self.items ≡ c.self.inside.owners.items ++ owner_of c.args.new ∷ [] =
+    c.in-Ok.ensures.items
+    ∙ (λ j. c.in_ok-reserve.ensures.items j ++ c.owner_of.ensures j ∷ []) in
+    rw c.with_post-history.ensures (
+      stand_add c.self.inside.owners.items c.push.new.self.items f (kept c.enter.new.table.map) b new i.0 found more
+          (λ k. c.in_ok-enter.ensures.table k
+          ∙ ap (λ (m : ℕ). entered f m new c.args.found.partner k) place),
+      omega (arith, h, c.count_of-more.ensures, i.1),
+      c.requires.compared ∙ ap (λ (x : Board). compared_after x c.args.new) (sym c.self.view_is),
+      c.in_ok-enter.ensures.messages,
+      c.in_ok-enter.ensures.receives,
     )
-
-pub returns-clause-ok : goal.returns-clause-ok
-returns-clause-ok c =
-    rw (← c.self.view_is) (board_is _ _ _ _ _ _ (lines_are c) (bodies_are c)
-    (c.requires.compared ∙ ap (λ (x : Board). compared_after x c.args.new) (sym c.self.view_is)))

@@ -1,50 +1,43 @@
-use Rattle.std.proofs.Common.{◌≤◌, length, refl, sym, ◌∙◌, arith}
+use Rattle.std.proofs.Common.{ap, sym, ◌∙◌}
+use Rattle.mp_match.specs.declared.posts.Post.{Post}
 use Rattle.mp_match.specs.Queued.{queue}
-use Rattle.mp_match.specs.Waiting.{message_key, receive_key}
-use Rattle.mp_match.proofs.OrderKept.{chosen}
-use Rattle.mp_match.proofs.Places.{get_within}
-use Rattle.std.proofs.lemmas.Option.{slice_get_read}
+use Rattle.mp_match.specs.Waiting.{message_key, receive_key, popped, pushed}
+use Rattle.mp_match.proofs.Partners.{no_partner, partner_is}
 use Rattle.mp_match.proofs.Queueing.{entered, left, messages_alike, receives_alike}
 use Rattle.mp_match.proofs.waiting.Waiting.add.Goals as goal
 
 pub returns-in_ok-enter-in-None-clause-messages : goal.returns-in_ok-enter-in-None-clause-messages
 returns-in_ok-enter-in-None-clause-messages c = λ k.
+    let ms = c.args._history.now.board.lines in
+    let f = queue c.args.self.now.messages.map in
     c.in_ok-enter-in-None.ensures.messages k
-    ∙ entered message_key messages_alike (queue c.args.self.now.messages.map) c.args.lines.now c.args.new
-    c.requires.messages (sym c.in-None.is ∙ c.requires.partner) k
+    ∙ ap (λ n. pushed f (message_key c.args.new) n k) c.requires.place
+    ∙ entered message_key messages_alike f ms c.args.new c.requires.messages
+    (no_partner ms c.args.new (sym c.in-None.is ∙ c.requires.partner)) k
 
 pub returns-in_ok-enter-in-None-clause-receives : goal.returns-in_ok-enter-in-None-clause-receives
 returns-in_ok-enter-in-None-clause-receives c = λ k.
+    let ms = c.args._history.now.board.lines in
+    let f = queue c.args.self.now.receives.map in
     c.in_ok-enter-in-None.ensures.receives k
-    ∙ entered receive_key receives_alike (queue c.args.self.now.receives.map) c.args.lines.now c.args.new
-    c.requires.receives (sym c.in-None.is ∙ c.requires.partner) k
+    ∙ ap (λ n. pushed f (receive_key c.args.new) n k) c.requires.place
+    ∙ entered receive_key receives_alike f ms c.args.new c.requires.receives
+    (no_partner ms c.args.new (sym c.in-None.is ∙ c.requires.partner)) k
 
-pub returns-in-Some-get-clause-messages : goal.returns-in-Some-get-clause-messages
-returns-in-Some-get-clause-messages c = λ k.
-    let here = slice_get_read c.args.lines.now _ c.in-Some.place c.in-Some-get.line.now refl
-    c.in-Some-get.ensures.lookup.3.0 c.in-Some-get.ensures.lookup.1 in
+pub returns-in-Some-clause-messages : goal.returns-in-Some-clause-messages
+returns-in-Some-clause-messages c = λ k.
+    let ms = c.args._history.now.board.lines in
+    let f = queue c.args.self.now.messages.map in
+    let p = partner_is ms c.args.new c.in-Some.post (sym c.in-Some.is ∙ c.requires.partner) in
     c.leave.ensures.messages k
-    ∙ left message_key messages_alike (queue c.args.self.now.messages.map) c.args.lines.now c.args.new
-    c.requires.messages c.in-Some.place c.in-Some-get.line.now (sym c.in-Some.is ∙ c.requires.partner) here k
+    ∙ ap (λ (x : Post). popped f (message_key x) k) (sym p.post)
+    ∙ left message_key messages_alike f ms c.args.new c.requires.messages p.place p.line p.found p.here k
 
-pub returns-in-Some-get-clause-receives : goal.returns-in-Some-get-clause-receives
-returns-in-Some-get-clause-receives c = λ k.
-    let here = slice_get_read c.args.lines.now _ c.in-Some.place c.in-Some-get.line.now refl
-    c.in-Some-get.ensures.lookup.3.0 c.in-Some-get.ensures.lookup.1 in
+pub returns-in-Some-clause-receives : goal.returns-in-Some-clause-receives
+returns-in-Some-clause-receives c = λ k.
+    let ms = c.args._history.now.board.lines in
+    let f = queue c.args.self.now.receives.map in
+    let p = partner_is ms c.args.new c.in-Some.post (sym c.in-Some.is ∙ c.requires.partner) in
     c.leave.ensures.receives k
-    ∙ left receive_key receives_alike (queue c.args.self.now.receives.map) c.args.lines.now c.args.new
-    c.requires.receives c.in-Some.place c.in-Some-get.line.now (sym c.in-Some.is ∙ c.requires.partner) here k
-
--- there is a line at the partner's place
-is_there : (c : goal.In_default) → ⊥
-is_there c =
-    let f = chosen c.args.lines.now c.args.new c.in-Some.place (sym c.requires.partner ∙ c.in-Some.is) in
-    let within = get_within c.args.lines.now c.in-Some.place f.line f.here in
-    let past : length c.args.lines.now ≤ c.in-Some.place = c.in_default.ensures.lookup.3 in
-    absurd (omega (arith, within, past))
-
-pub returns-in_default-clause-messages : goal.returns-in_default-clause-messages
-returns-in_default-clause-messages c = absurd (is_there c)
-
-pub returns-in_default-clause-receives : goal.returns-in_default-clause-receives
-returns-in_default-clause-receives c = absurd (is_there c)
+    ∙ ap (λ (x : Post). popped f (receive_key x) k) (sym p.post)
+    ∙ left receive_key receives_alike f ms c.args.new c.requires.receives p.place p.line p.found p.here k

@@ -1,0 +1,153 @@
+-- What the board answers, by the table and the owners that stand for it.
+use Rattle.std.specs.Prelude.{ℕ, zero, suc, ◌-◌, ◌<◌, ◌≤◌, ◌≡◌, ◌||◌, List, [], ◌∷◌, length, Option, Some, None}
+use Rattle.std.specs.List.{slice_get, slice_set}
+use Rattle.std.specs.Option.{is_some, option_map}
+use Rattle.std.proofs.Common.{refl, sym, ap, ◌∙◌, subst, arith}
+use Rattle.std.proofs.lemmas.List.{length-map}
+use Rattle.std.proofs.lemmas.Option.{slice_get-map}
+use Rattle.mp_types.specs.declared.messages.Envelope.{Envelope}
+use Rattle.mp_match.specs.declared.posts.Post.{Post}
+use Rattle.mp_match.specs.declared.posts.Line.{Line}
+use Rattle.mp_match.specs.declared.live.Live.{Live}
+use Rattle.mp_match.specs.declared.live.Owner.{Owner}
+use Rattle.mp_match.specs.Pairs.{partner_for, partner_of_line}
+use Rattle.mp_match.specs.Board.{Board, bytes_in, collect, collect_from, envelope_at, envelope_in, is_finished, is_held}
+use Rattle.mp_match.specs.Board.{is_receive_at, is_standard, line_of, message_at, message_in, partner_of}
+use Rattle.mp_match.specs.Live.{IsOver, IsPast, StandFor, body_in, kept_post, line_in, message_of, owner_in, owner_of}
+use Rattle.mp_match.specs.Live.{post_at, post_in}
+use Rattle.mp_match.proofs.OrderKept.{chosen}
+use Rattle.mp_match.proofs.Places.{get_within}
+
+-- ---- of lists
+
+within_get : {A : Type 0} (xs : List A) (i : ℕ) → i < length xs → (x : A) × (slice_get xs i ≡ Some x)
+within_get [] i h = absurd (omega arith)
+within_get (x ∷ xs) zero h = (x, refl)
+within_get (x ∷ xs) (suc i) h = within_get xs i (omega arith)
+
+set_none : (bs : List (Option (List ℕ))) (i : ℕ) → slice_get bs i ≡ Some None → slice_set bs i None ≡ bs
+set_none [] i h = absurd (cc)
+set_none (x ∷ bs) zero h = (let e : x ≡ None = (cc) in ap (λ (y : Option (List ℕ)). y ∷ bs) (sym e))
+set_none (x ∷ bs) (suc i) h = ap (λ (l : List (Option (List ℕ))). x ∷ l) (set_none bs i h)
+
+no_message : (e : Option Envelope) (o : Option (Option (List ℕ))) → bytes_in o ≡ None → message_in e o ≡ None
+no_message None o h = refl
+no_message (Some e) None h = refl
+no_message (Some e) (Some None) h = refl
+no_message (Some e) (Some (Some x)) h = absurd (cc)
+
+held_some : (o : Option (Option (List ℕ))) → is_some (bytes_in o) ≡ is_held o
+held_some None = refl
+held_some (Some None) = refl
+held_some (Some (Some x)) = refl
+
+-- ---- of a post
+
+owner_line : (o : Option Line) → option_map (λ (line : Line). owner_of line.post) o ≡ owner_in o
+owner_line None = refl
+owner_line (Some line) = refl
+
+pub partner_line : (b : Board) (number : ℕ) (line : Line) → line_of b number ≡ Some line
+    → partner_of b number ≡ line.partner
+partner_line b zero line h = absurd (cc)
+partner_line b (suc place) line h = ap partner_of_line h
+
+pub finished_line : (b : Board) (number : ℕ) (line : Line) → line_of b number ≡ Some line
+    → is_finished b number ≡ (is_standard (Some line) || is_receive_at b line.partner)
+finished_line b number line h = (λ i. is_standard (h i) || is_receive_at b (partner_line b number line h i))
+
+-- what is over is collected in vain
+pub past_collected : (b : Board) (number : ℕ) → IsPast b number → (None, b) ≡ collect b number
+past_collected b zero past = refl
+past_collected b (suc place) past = go (slice_get b.lines place) refl
+  where
+    over : (line : Line) → IsOver b place line → (None, b) ≡ collect_from b line.partner
+    over line o =
+        let bodies = set_none b.bodies o.partner o.gone in
+        let message = no_message (envelope_at b (Some o.partner)) (slice_get b.bodies o.partner) (ap bytes_in o.gone) in
+        (
+        λ i. (
+          sym message i,
+          (let c : Board = record { lines = b.lines; bodies = sym bodies i; compared = b.compared } in c),
+        )
+        )
+        ∙ ap (collect_from b) (sym o.paired)
+
+    go : (o : Option Line) → slice_get b.lines place ≡ o → (None, b) ≡ collect b (suc place)
+    go None e = ap (λ (x : Option Line). collect_from b (partner_of_line x)) (sym e)
+    go (Some line) e =
+        let p = past line e in
+        let same : p.0 ≡ place = (let q : suc place ≡ suc p.0 = p.1 in omega (arith, q)) in
+        over line (subst (λ z. IsOver b z line) same p.2)
+        ∙ ap (λ (x : Option Line). collect_from b (partner_of_line x)) (sym e)
+
+module _ (os : List Owner) (f : ℕ → Option Live) (b : Board) (s : StandFor os f b) where
+  pub owner_at : (place : ℕ) → slice_get os place ≡ owner_in (slice_get b.lines place)
+  owner_at place =
+      ap (λ (l : List Owner). slice_get l place) s.owners
+      ∙ slice_get-map (λ (line : Line). owner_of line.post) b.lines place ∙ owner_line (slice_get b.lines place)
+
+  none_body : (place : ℕ) → f place ≡ None → bytes_in (slice_get b.bodies place) ≡ None
+  none_body place h = go (slice_get b.bodies place) refl
+    where
+      go : (o : Option (Option (List ℕ))) → slice_get b.bodies place ≡ o → bytes_in o ≡ None
+      go None e = refl
+      go (Some body) e =
+          let w = get_within b.bodies place body e in
+          let l = within_get b.lines place (omega (arith, w, s.bodies)) in
+          ap bytes_in (sym e ∙ (s.over place l.0 h l.1).empty)
+
+  pub body_is : (place : ℕ) → body_in (f place) ≡ bytes_in (slice_get b.bodies place)
+  body_is place = go (f place) refl
+    where
+      go : (o : Option Live) → f place ≡ o → body_in o ≡ bytes_in (slice_get b.bodies place)
+      go None e = sym (none_body place e)
+      go (Some live) e = ap bytes_in (sym (s.live place live e).body)
+
+  pub held_is : (place : ℕ) → is_some (body_in (f place)) ≡ is_held (slice_get b.bodies place)
+  held_is place = ap is_some (body_is place) ∙ held_some (slice_get b.bodies place)
+
+  pub message_is : (place : ℕ) → message_of (f place) ≡ message_at b place
+  message_is place = go (f place) refl
+    where
+      go : (o : Option Live) → f place ≡ o → message_of o ≡ message_at b place
+      go None e = sym (no_message (envelope_at b (Some place)) (slice_get b.bodies place) (none_body place e))
+      go (Some live) e =
+          let l = s.live place live e in (λ i. message_in (envelope_in (sym l.line i)) (sym l.body i))
+
+  -- the place of the next post has none
+  pub next_none : (place : ℕ) → length b.lines ≤ place → f place ≡ None
+  next_none place past = go (f place) refl
+    where
+      go : (o : Option Live) → f place ≡ o → o ≡ None
+      go None e = refl
+      go (Some live) e =
+          let w = get_within b.lines place live.line (s.live place live e).line in absurd (omega (arith, w, past))
+
+  -- what waits isn't over
+  waits : (p : Post) (q : ℕ) → partner_for b.lines p ≡ Some q → line_in (f q) ≡ slice_get b.lines q
+  waits p q h = go (f q) refl
+    where
+      go : (o : Option Live) → f q ≡ o → line_in o ≡ slice_get b.lines q
+      go None e =
+          let c = chosen b.lines p q h in
+          let o = s.over q c.line e c.here in
+          let bad : None ≡ Some o.partner = sym c.free ∙ o.paired in absurd (cc)
+      go (Some live) e = sym (s.live q live e).line
+
+  pub envelope_waits : (p : Post) (q : ℕ) → partner_for b.lines p ≡ Some q
+      → envelope_in (line_in (f q)) ≡ envelope_at b (Some q)
+  envelope_waits p q h = ap envelope_in (waits p q h)
+
+  pub post_waits : (p : Post) (o : Option ℕ) → o ≡ partner_for b.lines p → kept_post f o ≡ post_at b.lines o
+  post_waits p None h = refl
+  post_waits p (Some q) h = ap post_in (waits p q (sym h))
+
+  pub owners_length : length os ≡ length b.lines
+  owners_length = ap length s.owners ∙ length-map b.lines (λ (line : Line). owner_of line.post)
+
+  pub owner_numbered : (number : ℕ) → (number ≡ 0 → ⊥)
+      → slice_get os (number - 1) ≡ owner_in (line_of b number)
+  owner_numbered zero h = absurd (h refl)
+  owner_numbered (suc place) h =
+      let e : suc place - 1 ≡ place = omega arith in ap (slice_get os) e ∙ owner_at place

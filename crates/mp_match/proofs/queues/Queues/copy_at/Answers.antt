@@ -1,0 +1,12 @@
+use Rattle.std.proofs.Common.{ap, ◌∙◌}
+use Rattle.mp_match.specs.Board.{Board, message_at}
+use Rattle.mp_match.specs.Live.{kept}
+use Rattle.mp_match.proofs.Asked.{message_is}
+use Rattle.mp_match.proofs.queues.Queues.copy_at.Goals as goal
+
+pub returns-clause-copy : goal.returns-clause-copy
+returns-clause-copy c =
+    c.in_ok-copy.ensures.copy
+    ∙ message_is c.self.inside.owners.items (kept c.self.inside.table.map) c.self.inside.history.board
+    c.self.invariant.0 c.args.place
+    ∙ ap (λ (b : Board). message_at b c.args.place) c.self.view_is

@@ -1,0 +1,114 @@
+//! What is kept of posts: two bytes for each, and the line and the message of each that isn't over.
+
+ghost use Rattle.std.specs.Prelude.{◌≡◌, ◌∷◌, [], ℕ, IfOk, Option, Some, slice_get};
+ghost use Rattle.mp_match.specs.Board.{held_count, is_standard};
+ghost use Rattle.mp_match.specs.Live.{is_sender, is_taker, owner_of, sends};
+
+use crate::posts::{Line, Post};
+use mp_types::Bytes;
+use std::alloc::{AllocError, Global};
+
+/// Which rank a post is of, and what it does.
+#[derive(Clone, Copy)]
+pub enum Owner {
+    Sends(u8),
+    Receives(u8),
+    Claims(u8),
+}
+
+/// Which rank the post is of, and what it does.
+pub fn owner_of(post: Post) -> Owner
+    ensures { result ≡ owner_of post }
+{
+    match post {
+        Post::Send(sent) => Owner::Sends(sent.envelope.source),
+        Post::Receive(selection) => Owner::Receives(selection.rank),
+        Post::Claim(selection) => Owner::Claims(selection.rank),
+    }
+}
+
+/// Whose the post at the place is.
+pub fn owner_at(owners: &[Owner], place: u64) -> Option<Owner>
+    ensures { result ≡ slice_get owners.now place }
+{
+    owners.get(place as usize).copied()
+}
+
+/// Whether it is a send of the rank.
+pub fn is_sender(rank: u8, owner: Option<Owner>) -> bool
+    ensures { result ≡ is_sender rank owner }
+{
+    match owner {
+        Some(Owner::Sends(of)) => of == rank,
+        _ => false,
+    }
+}
+
+/// Whether it is a receive or a claim of the rank.
+pub fn is_taker(rank: u8, owner: Option<Owner>) -> bool
+    ensures { result ≡ is_taker rank owner }
+{
+    match owner {
+        Some(Owner::Receives(of)) => of == rank,
+        Some(Owner::Claims(of)) => of == rank,
+        _ => false,
+    }
+}
+
+/// Whether it is a send.
+pub fn sends(owner: Option<Owner>) -> bool
+    ensures { result ≡ sends owner }
+{
+    matches!(owner, Some(Owner::Sends(_)))
+}
+
+/// Whether it is a standard send.
+pub fn is_standard(post: Post) -> bool
+    ensures { (partner : Option ℕ) → result ≡ is_standard (Some (record { post = post; partner = partner })) }
+{
+    match post {
+        Post::Send(sent) => !sent.sync,
+        _ => false,
+    }
+}
+
+/// A post that isn't over: with its partner, and with its message while that is held.
+#[derive(Drop)]
+pub struct Live {
+    /// What a copy takes its memory from; it takes none itself.
+    pub alloc: Global,
+    pub line: Line,
+    pub body: Option<Bytes>,
+}
+
+// 1 for a message that is held, else 0.
+pub fn count_of(body: &Option<Bytes>) -> u64
+    ensures { result ≡ held_count (body.now ∷ []) }
+{
+    match body {
+        Some(_) => 1,
+        None => 0,
+    }
+}
+
+// The bytes of a message in memory of their own, while it is held.
+fn body_copy(alloc: Global, body: &Option<Bytes>) -> Result<Option<Bytes>, AllocError>
+    ensures { IfOk result (λ copy. copy ≡ body.now) }
+{
+    match body {
+        None => Ok(None),
+        Some(bytes) => Ok(Some(bytes.try_copy(alloc)?)),
+    }
+}
+
+impl Clone for Live {
+    ghost is_clone = { λ live copy. copy ≡ live };
+
+    fn clone(&self) -> Result<Live, AllocError> {
+        Ok(Live {
+            alloc: self.alloc,
+            line: self.line,
+            body: body_copy(self.alloc, &self.body)?,
+        })
+    }
+}
