@@ -1,5 +1,5 @@
 -- What the board answers, by the table and the owners that stand for it.
-use Rattle.std.specs.Prelude.{ℕ, zero, suc, ◌-◌, ◌<◌, ◌≤◌, ◌≡◌, ◌||◌, List, [], ◌∷◌, length, Option, Some, None}
+use Rattle.std.specs.Prelude.{cond, ℕ, zero, suc, ◌-◌, ◌<◌, ◌≤◌, ◌≡◌, ◌||◌, List, [], ◌∷◌, length, Option, Some, None}
 use Rattle.std.specs.List.{slice_get, slice_set}
 use Rattle.std.specs.Option.{is_some, option_map}
 use Rattle.std.proofs.Common.{refl, sym, ap, ◌∙◌, subst, arith}
@@ -10,7 +10,8 @@ use Rattle.mp_match.specs.declared.posts.Post.{Post}
 use Rattle.mp_match.specs.declared.posts.Line.{Line}
 use Rattle.mp_match.specs.declared.live.Live.{Live}
 use Rattle.mp_match.specs.declared.live.Owner.{Owner}
-use Rattle.mp_match.specs.Pairs.{partner_for, partner_of_line}
+use Rattle.mp_match.specs.Free.{free_in, free_post}
+use Rattle.mp_match.specs.Pairs.{is_free, partner_for, partner_of_line}
 use Rattle.mp_match.specs.Board.{Board, bytes_in, collect, collect_from, envelope_at, envelope_in, is_finished, is_held}
 use Rattle.mp_match.specs.Board.{is_receive_at, is_standard, line_of, message_at, message_in, partner_of}
 use Rattle.mp_match.specs.Live.{IsOver, IsPast, StandFor, body_in, kept_post, line_in, message_of, owner_in, owner_of}
@@ -80,6 +81,18 @@ past_collected b (suc place) past = go (slice_get b.lines place) refl
         let same : p.0 ≡ place = (let q : suc place ≡ suc p.0 = p.1 in omega (arith, q)) in
         over line (subst (λ z. IsOver b z line) same p.2)
         ∙ ap (λ (x : Option Line). collect_from b (partner_of_line x)) (sym e)
+
+free_line : (line : Line) (partner : ℕ) → line.partner ≡ Some partner → None ≡ free_in (Some line)
+free_line line partner h = ap (λ (o : Option ℕ). cond (is_free o) (Some line.post) None) (sym h)
+
+-- what is over has a partner
+pub past_free : (b : Board) (number : ℕ) → IsPast b number → None ≡ free_post b number
+past_free b number past = go (line_of b number) refl
+  where
+    go : (o : Option Line) → line_of b number ≡ o → None ≡ free_post b number
+    go None e = ap free_in (sym e)
+    go (Some line) e =
+        let p = past line e in free_line line p.2.partner p.2.paired ∙ ap free_in (sym e)
 
 module _ (os : List Owner) (f : ℕ → Option Live) (b : Board) (s : StandFor os f b) where
   pub owner_at : (place : ℕ) → slice_get os place ≡ owner_in (slice_get b.lines place)

@@ -439,10 +439,12 @@ impl Queues {
     pub fn free_post(&self, post: u64) -> Option<Post>
         ensures { result ≡ free_post self.now post }
     {
-        let line = self.kept(post)?;
-        match line.partner {
-            None => Some(line.post),
-            Some(_) => None,
+        match self.kept(post) {
+            None => None,
+            Some(line) => match line.partner {
+                None => Some(line.post),
+                Some(_) => None,
+            },
         }
     }
 
