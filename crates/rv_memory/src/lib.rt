@@ -3,6 +3,7 @@
 #![tactic(auto)]
 
 pub mod fault;
+mod kept;
 pub mod memory;
 mod page;
 mod pages;
@@ -10,5 +11,6 @@ pub mod spares;
 mod text;
 
 pub use fault::{BytesFault, Cause, StoreFault};
+pub use kept::KeptMemory;
 pub use memory::{RankMemory, Width};
 pub use spares::SparePages;

@@ -50,10 +50,10 @@ impl Width {
 /// The bytes of a rank, from address 0. The first of them are the text, which no store and no write reaches.
 #[derive(Drop)]
 pub struct RankMemory {
-    alloc: Global,
+    pub(crate) alloc: Global,
     /// The text once more in one piece, for fetches, shared with the memories of other ranks and with copies.
-    text: Text,
-    pages: Vec<Option<Page>>,
+    pub(crate) text: Text,
+    pub(crate) pages: Vec<Option<Page>>,
 }
 
 impl Model for RankMemory {

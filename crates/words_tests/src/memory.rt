@@ -1,9 +1,9 @@
 //! The bytes of a rank (rv_memory).
 ghost use Rattle.std.specs.Prelude.{◌≡◌, ◌+◌, ◌-◌, ◌*◌, ◌^◌, ◌<◌, ◌≤◌, [], ◌∷◌, length, slice_index, true, false, Some};
 ghost use Rattle.std.specs.Prelude.{None, Err, IsOk, IfOk};
-ghost use Rattle.rv_memory.specs.Memory.{bytes_at, init_start, value_at};
+ghost use Rattle.rv_memory.specs.Memory.{bytes_at, init_start, value_at, with_bytes};
 
-use rv_memory::{BytesFault, Cause, RankMemory, StoreFault, Width};
+use rv_memory::{BytesFault, Cause, KeptMemory, RankMemory, StoreFault, Width};
 use std::alloc::{AllocError, Global};
 
 /// A range of no bytes may be read wherever it is said to be.
@@ -143,6 +143,43 @@ pub fn size_counts_the_text(alloc: Global) -> Result<u64, AllocError>
 {
     let memory = RankMemory::new(alloc, 4096, &[0x13, 0, 0, 0], &[])?;
     Ok(memory.size())
+}
+
+/// What is kept stays as it was while its original is written: what goes on from it is what the original was.
+pub fn kept_stays_as_it_was(
+    memory: &mut RankMemory,
+    alloc: Global,
+    address: u64,
+    bytes: &[u8],
+) -> Result<RankMemory, BytesFault>
+    ensures { IfOk result (λ again. again ≡ memory.old) }
+{
+    let Ok(kept) = memory.keep(alloc, None) else {
+        return Err(BytesFault::Memory);
+    };
+    memory.write_bytes(address, bytes)?;
+    match kept.live(alloc) {
+        Ok(again) => Ok(again),
+        Err(_) => Err(BytesFault::Memory),
+    }
+}
+
+/// What is kept later has what was written since the earlier one was kept.
+pub fn kept_later_has_what_was_written(
+    memory: &mut RankMemory,
+    alloc: Global,
+    earlier: &KeptMemory,
+    address: u64,
+    bytes: &[u8],
+) -> Result<KeptMemory, BytesFault>
+    requires { memory.old ≡ earlier.now }
+    ensures { IfOk result (λ later. later ≡ with_bytes earlier.now address bytes.now) }
+{
+    memory.write_bytes(address, bytes)?;
+    match memory.keep(alloc, Some(earlier)) {
+        Ok(later) => Ok(later),
+        Err(_) => Err(BytesFault::Memory),
+    }
 }
 
 /// A load of what isn't there is trap 5, one of a misaligned address trap 4.
