@@ -6,6 +6,7 @@
 mod asking;
 mod copies;
 mod doing;
+mod keeping;
 mod loading;
 mod partitions;
 mod pending;
@@ -21,6 +22,7 @@ mod writes;
 
 pub use asking::{Answer, Ask, Doing};
 pub use doing::is_ecall;
+pub use keeping::KeptRank;
 pub use partitions::Awaited;
 pub use pending::{Manner, Pending, Target};
 pub use row::{Outcome, Purpose, Row, Visit, Wanted};

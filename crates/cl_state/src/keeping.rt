@@ -1,0 +1,88 @@
+//! A rank that is kept as it was at one time.
+
+ghost use Rattle.std.specs.Prelude.{◌≡◌, IfOk};
+
+use crate::state::{RankParts, RankState};
+use cl_calls::Site;
+use mp_request::Requests;
+use mp_types::Stamp;
+use part_phase::Phases;
+use rv_hart::Hart;
+use rv_memory::KeptMemory;
+use std::alloc::{AllocError, Global};
+use std::marker::Model;
+
+/// A rank that is kept as it was at one time: its pages stand once for all kept ranks in which they are alike.
+/// Contracts see the rank.
+#[derive(Drop)]
+pub struct KeptRank {
+    site: Site,
+    memory: KeptMemory,
+    harts: Vec<Hart>,
+    requests: Requests,
+    phases: Phases,
+    out: Vec<u8>,
+    clock: Stamp,
+}
+
+impl Model for KeptRank {
+    ghost use Rattle.cl_state.specs.Rank.{Rank};
+
+    ghost Value = { Rank };
+
+    ghost view = { λ k. record {
+      site = k.site;
+      memory = k.memory;
+      harts = k.harts.items;
+      requests = k.requests;
+      phases = k.phases;
+      out = k.out.items;
+      clock = k.clock;
+    } };
+}
+
+impl KeptRank {
+    ghost use Rattle.cl_state.specs.Room.{rank_of};
+
+    /// The same rank in memory of its own, that goes on from here: this one stays as it is. The only error is want of
+    /// memory.
+    pub fn live(&self, alloc: Global) -> Result<RankState, AllocError>
+        ensures { IfOk result (λ rank. rank_of rank ≡ self.now) }
+    {
+        let parts = RankParts {
+            site: self.site.try_copy(alloc)?,
+            memory: self.memory.live(alloc)?,
+            harts: Vec::from_slice(alloc, self.harts.as_slice())?,
+            requests: self.requests.try_copy(alloc)?,
+            phases: self.phases.try_copy(alloc)?,
+        };
+        let mut rank = RankState::new(alloc, parts);
+        rank.out = Vec::from_slice(alloc, self.out.as_slice())?;
+        rank.clock = self.clock;
+        Ok(rank)
+    }
+}
+
+impl RankState {
+    ghost use Rattle.cl_state.specs.Room.{rank_of};
+
+    /// The rank as it is now, kept: its parts, output and clock, and no room for the next turn. A page that is as in the
+    /// earlier one stands once for both. The only error is want of memory.
+    pub fn keep(&self, alloc: Global, earlier: Option<&KeptRank>) -> Result<KeptRank, AllocError>
+        ensures { IfOk result (λ kept. kept ≡ rank_of self.now) }
+    {
+        let before = match earlier {
+            Some(kept) => Some(&kept.memory),
+            None => None,
+        };
+        Ok(KeptRank {
+            site: self.site.try_copy(alloc)?,
+            memory: self.memory.keep(alloc, before)?,
+            harts: Vec::from_slice(alloc, self.harts.as_slice())?,
+            requests: self.requests.try_copy(alloc)?,
+            phases: self.phases.try_copy(alloc)?,
+            out: Vec::from_slice(alloc, self.out.as_slice())?,
+            clock: self.clock,
+        })
+    }
+}
