@@ -13,6 +13,7 @@ use Rattle.cl_state.specs.Room.{rank_of}
 use Rattle.cl_state.specs.declared.state.RankState.{RankState}
 use Rattle.cl_machine.specs.Cluster.{Cluster}
 use Rattle.cl_machine.specs.Journal.{calls_of}
+use Rattle.cl_replay.specs.Kept.{Snapshot, snapshot}
 use Rattle.cl_replay.specs.States.{AreSame, StandsAlike, StandsFor}
 use Rattle.cl_replay.specs.declared.states.ClusterState.{ClusterState}
 
@@ -42,3 +43,12 @@ pub same_items : (boxes : Vec (List Settled)) (after : List (List Settled)) → 
     → (with_items boxes after).items ≡ boxes.items
 same_items boxes after same =
     with_items_is boxes after (ap (λ (xs : List (List Settled)). length xs) same ∙ sym boxes.ok.0) ∙ same
+
+-- two states of which the same is kept are the same
+pub snapshot_same : (one other : ClusterState) → snapshot other ≡ snapshot one → AreSame one other
+snapshot_same one other same = record {
+  ranks = ap (λ (kept : Snapshot). kept.ranks) same;
+  hub = ap (λ (kept : Snapshot). kept.hub) same;
+  clock = ap (λ (kept : Snapshot). kept.clock) same;
+  boxes = ap (λ (kept : Snapshot). kept.boxes) same;
+}

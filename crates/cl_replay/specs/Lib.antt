@@ -1,5 +1,6 @@
 pub mod Boxes
 pub mod States
+pub mod Kept
 pub mod Turns
 pub mod Steps
 pub mod Replays
