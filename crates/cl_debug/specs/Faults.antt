@@ -1,8 +1,14 @@
 -- What a debugger's refusals mean.
-use Rattle.std.specs.Prelude.{ℕ, ◌≡◌, ◌<◌, List, length}
+use Rattle.std.specs.Prelude.{ℕ, ◌≡◌, ◌<◌, ◌⊎◌, List, length, slice_get, Some}
 use Rattle.rv_image.specs.declared.images.ImageParts.{ImageParts}
+use Rattle.cl_state.specs.Rank.{Rank}
+use Rattle.cl_machine.specs.Cluster.{Cluster}
 use Rattle.cl_machine.specs.declared.steps.Step.{Step}
 use Rattle.cl_replay.specs.Replays.{BreaksAt}
+use Rattle.cl_replay.specs.Steps.{KindTakesMemory}
+use Rattle.cl_replay.specs.Turns.{LacksPages}
+use Rattle.cl_debug.specs.Debugging.{Debugging}
+use Rattle.cl_debug.specs.Places.{IsAt}
 use Rattle.cl_debug.specs.declared.faults.DebugFault.{DebugFault}
 
 -- a record isn't opened: its steps are no run, and this is the first that isn't the machine's, or memory was refused
@@ -36,3 +42,14 @@ IsBytesFault DebugFault.NoRank = Unit {0}
 IsBytesFault DebugFault.Range = Unit {0}
 IsBytesFault DebugFault.Memory = Unit {0}
 IsBytesFault _ = ⊥
+
+-- memory is taken for the step at the place: for a page that isn't there and that its turn may write, or for what a step
+-- of its kind makes or carries
+pub record NextTakesMemory (debugging : Debugging) : Type 0 where
+  pub step : Step
+  pub next : slice_get debugging.steps debugging.place ≡ Some step
+  pub cluster : Cluster
+  pub here : IsAt debugging.image debugging.steps debugging.place cluster
+  pub rank : Rank
+  pub rank_there : slice_get cluster.ranks step.rank ≡ Some rank
+  pub takes : LacksPages rank step.hart ⊎ KindTakesMemory cluster step rank step.kind

@@ -1,9 +1,9 @@
 //! To another place: by its number, by one step, or by a run.
 
-ghost use Rattle.std.specs.Prelude.{◌≡◌, ◌↔◌, ◌<◌, length, Err, IfErr, IfOk, OnErr, OnOk};
+ghost use Rattle.std.specs.Prelude.{◌≡◌, ◌↔◌, ◌<◌, length, Err, IfErr, IfOk, IsOk, OnErr, OnOk};
 ghost use Rattle.std.specs.Prelude.{Ok, false};
 ghost use Rattle.cl_debug.specs.Debugging.{at_place};
-ghost use Rattle.cl_debug.specs.Faults.{GoFaultHolds};
+ghost use Rattle.cl_debug.specs.Faults.{GoFaultHolds, NextTakesMemory};
 ghost use Rattle.cl_debug.specs.Moves.{MovedBack, MovedOn, RanOn};
 
 use crate::breaks::run_on;
@@ -33,10 +33,12 @@ impl Debugger {
     }
 
     /// One step on: false at the end, and the debugger stays there, which takes no memory. No state is copied: it costs
-    /// what the step itself does. The only error is want of memory, and then the debugger is as it was.
+    /// what the step itself does. The only error is want of memory for what the step makes, and then the debugger is as
+    /// it was.
     pub fn step(&mut self) -> Result<bool, DebugFault>
         ensures moved { IfOk result (λ moved. MovedOn self.old moved self.new) }
         ensures end { self.old.place ≡ length self.old.steps → result ≡ Ok false }
+        ensures taken { OnErr result (NextTakesMemory self.old) }
         ensures unchanged { OnErr result (self.new ≡ self.old) }
         ensures fault { IfErr result (λ fault. fault ≡ DebugFault.Memory) }
     {
@@ -69,13 +71,17 @@ impl Debugger {
         Ok(true)
     }
 
-    /// Runs to the least later place where a break stops it, or else to the end. At the end it stays. The only error is
-    /// want of memory, and then the debugger is as it was.
+    /// Runs to the least later place where a break stops it, or else to the end. At the end it stays, which takes no
+    /// memory. The only error is want of memory, and then the debugger is as it was.
     pub fn run(&mut self) -> Result<(), DebugFault>
         ensures stopped { OnOk result (RanOn self.old self.new) }
+        ensures end { self.old.place ≡ length self.old.steps → IsOk result }
         ensures unchanged { OnErr result (self.new ≡ self.old) }
         ensures fault { IfErr result (λ fault. fault ≡ DebugFault.Memory) }
     {
+        if self.place >= self.steps.len() as u64 {
+            return Ok(());
+        }
         let mut state = self.state.try_copy(self.alloc)?;
         let place = run_on(
             &mut state,
