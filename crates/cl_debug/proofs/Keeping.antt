@@ -8,20 +8,19 @@ use Rattle.std.proofs.lemmas.Option.{same_Some}
 use Rattle.rv_image.specs.declared.images.ImageParts.{ImageParts}
 use Rattle.cl_machine.specs.declared.steps.Step.{Step}
 use Rattle.cl_replay.specs.declared.states.ClusterState.{ClusterState}
+use Rattle.cl_replay.specs.Kept.{Snapshot, snapshot}
 use Rattle.cl_replay.specs.Replays.{IsReached}
-use Rattle.cl_replay.specs.States.{StandsAlike}
 use Rattle.cl_debug.specs.Faults.{OpenFaultHolds}
-use Rattle.cl_debug.specs.Leads.{AreKept, LeadFaultHolds, LeadsTo}
+use Rattle.cl_debug.specs.Leads.{AreKept, IsKeptAt, LeadFaultHolds, LeadsTo}
 use Rattle.cl_debug.specs.Spacing.{IsSpacing, multiples}
 use Rattle.cl_debug.specs.declared.faults.DebugFault.{DebugFault}
-use Rattle.cl_debug.proofs.Led.{copy_reached}
+use Rattle.cl_debug.proofs.Led.{kept_here}
 
 -- so many are kept, each at its multiple, and the state is at the next multiple, or at the end
-pub record KeptSoFar (image : ImageParts) (steps : List Step) (spacing k : ℕ) (kept : List ClusterState)
+pub record KeptSoFar (image : ImageParts) (steps : List Step) (spacing k : ℕ) (kept : List Snapshot)
     (state : ClusterState) : Type 0 where
   pub count : length kept ≡ k
-  pub reached : (j : ℕ) (there : ClusterState) → slice_get kept j ≡ Some there
-      → IsReached image steps (j * spacing) there
+  pub reached : (j : ℕ) (there : Snapshot) → slice_get kept j ≡ Some there → IsKeptAt image steps (j * spacing) there
   pub here : IsReached image steps (min (k * spacing) (length steps)) state
 
 -- a multiple of the spacing up to the length
@@ -44,7 +43,7 @@ each-more P (y ∷ xs) new each here zero x at = each zero x at
 each-more P (y ∷ xs) new each here (suc n) x at =
     each-more (λ m z. P (suc m) z) xs new (λ m z there. each (suc m) z there) here n x at
 
-module _ (image : ImageParts) (steps : List Step) (spacing k : ℕ) (kept : List ClusterState) (state : ClusterState)
+module _ (image : ImageParts) (steps : List Step) (spacing k : ℕ) (kept : List Snapshot) (state : ClusterState)
     (so_far : KeptSoFar image steps spacing k kept state) (within : k * spacing ≤ length steps) where
   pub at_multiple : IsReached image steps (k * spacing) state
   at_multiple = subst (λ n. IsReached image steps n state) (let e : min (k * spacing) (length steps) ≡ k *
@@ -52,23 +51,22 @@ module _ (image : ImageParts) (steps : List Step) (spacing k : ℕ) (kept : List
       so_far.here
 
   -- one more is kept, and the steps up to the next multiple are done
-  pub kept_more : (copy : ClusterState) (more : List ClusterState) (next : ClusterState) (to : ℕ)
-      → StandsAlike state copy
-      → more ≡ kept ++ copy ∷ [] → to ≡ k * spacing + min spacing (length steps - k * spacing)
+  pub kept_more : (here : Snapshot) (more : List Snapshot) (next : ClusterState) (to : ℕ) → here ≡ snapshot state
+      → more ≡ kept ++ here ∷ [] → to ≡ k * spacing + min spacing (length steps - k * spacing)
       → LeadsTo steps (k * spacing) state to next
       → KeptSoFar image steps spacing (k + 1) more next
-  kept_more copy more next to alike is to_is led = record {
-    count = ap length is ∙ (let e : length (kept ++ copy ∷ []) ≡ k + 1 = omega (
+  kept_more here more next to same is to_is led = record {
+    count = ap length is ∙ (let e : length (kept ++ here ∷ []) ≡ k + 1 = omega (
       arith,
       so_far.count,
-      length-append kept (copy ∷ []),
+      length-append kept (here ∷ []),
     ) in e);
-    reached = subst (λ (xs : List ClusterState). (j : ℕ) (there : ClusterState) → slice_get xs j ≡ Some there
-        → IsReached image steps (j * spacing) there)
+    reached = subst (λ (xs : List Snapshot). (j : ℕ) (there : Snapshot) → slice_get xs j ≡ Some there
+        → IsKeptAt image steps (j * spacing) there)
         (sym is)
-        (each-more (λ j there. IsReached image steps (j * spacing) there) kept copy so_far.reached
-        (subst (λ n. IsReached image steps (n * spacing) copy) (sym so_far.count)
-        (copy_reached steps (k * spacing) state copy alike image at_multiple)));
+        (each-more (λ j there. IsKeptAt image steps (j * spacing) there) kept here so_far.reached
+        (subst (λ n. IsKeptAt image steps (n * spacing) here) (sym so_far.count)
+        (kept_here image steps (k * spacing) state here same at_multiple)));
     here = subst (λ n. IsReached image steps n next)
         (let e : to ≡ min ((k + 1) * spacing) (length steps) = omega (arith, to_is, within) in e)
         (led image at_multiple);
@@ -85,7 +83,7 @@ module _ (image : ImageParts) (steps : List Step) (spacing k : ℕ) (kept : List
   kept_fault to DebugFault.Range h = absurd h
   kept_fault to DebugFault.NoSymbol h = absurd h
 
-module _ (image : ImageParts) (steps : List Step) (spacing : ℕ) (kept : List ClusterState) (state : ClusterState)
+module _ (image : ImageParts) (steps : List Step) (spacing : ℕ) (kept : List Snapshot) (state : ClusterState)
     (positive : 0 < spacing) (all : KeptSoFar image steps spacing (multiples spacing (length steps)) kept state) where
   pub all_kept : AreKept image steps spacing kept
   all_kept = record { count = all.count; reached = all.reached }

@@ -1,15 +1,17 @@
 -- Steps that lead on.
 use Rattle.std.specs.Prelude.{ℕ, ◌+◌, ◌≤◌, ◌≡◌, List, length, slice_get, Some}
-use Rattle.std.proofs.Common.{refl, arith}
+use Rattle.std.proofs.Common.{refl, ◌∙◌, arith}
 use Rattle.std.proofs.lemmas.Option.{slice_get_within}
 use Rattle.rv_image.specs.declared.images.ImageParts.{ImageParts}
 use Rattle.cl_machine.specs.declared.steps.Step.{Step}
 use Rattle.cl_replay.specs.declared.states.ClusterState.{ClusterState}
+use Rattle.cl_replay.specs.Kept.{Snapshot, snapshot}
 use Rattle.cl_replay.specs.Replays.{BreaksAt, IsReached, IsRunUpTo}
 use Rattle.cl_replay.specs.States.{StandsAlike}
 use Rattle.cl_replay.specs.Steps.{Leads, LeadsNowhere}
 use Rattle.cl_replay.proofs.Runs.{breaks, reached_more, run_law}
-use Rattle.cl_debug.specs.Leads.{LeadFaultHolds, LeadsTo}
+use Rattle.cl_replay.proofs.Same.{same_stands, snapshot_same}
+use Rattle.cl_debug.specs.Leads.{IsKeptAt, LeadFaultHolds, LeadsTo}
 use Rattle.cl_debug.specs.declared.faults.DebugFault.{DebugFault}
 
 module _ (steps : List Step) (from : ℕ) (old : ClusterState) (n : ℕ) (state : ClusterState)
@@ -32,16 +34,11 @@ copy_reached steps n state copy alike = λ image reached. record {
   stands = alike image reached.cluster reached.stands;
 }
 
-pub copy_fault : (steps : List Step) (from : ℕ) (state copy : ClusterState) (to : ℕ) → StandsAlike state copy
-    → (fault : DebugFault) → LeadFaultHolds steps from copy to fault → LeadFaultHolds steps from state to fault
-copy_fault steps from state copy to alike (DebugFault.NotARun n) h =
-    (h.0, λ image reached. h.1 image (copy_reached steps from state copy alike image reached))
-copy_fault steps from state copy to alike DebugFault.Memory h = tt
-copy_fault steps from state copy to alike (DebugFault.PastEnd n) h = absurd h
-copy_fault steps from state copy to alike DebugFault.NoRank h = absurd h
-copy_fault steps from state copy to alike DebugFault.NoHart h = absurd h
-copy_fault steps from state copy to alike DebugFault.Range h = absurd h
-copy_fault steps from state copy to alike DebugFault.NoSymbol h = absurd h
+-- what is kept of the cluster at a place was kept there
+pub kept_here : (image : ImageParts) (steps : List Step) (n : ℕ) (state : ClusterState) (kept : Snapshot)
+    → kept ≡ snapshot state → IsReached image steps n state → IsKeptAt image steps n kept
+kept_here image steps n state kept is reached other same =
+    copy_reached steps n state other (same_stands state other (snapshot_same state other (same ∙ is))) image reached
 
 -- where the steps are a run, none of them is refused
 pub only_memory : (image : ImageParts) (steps : List Step) (from : ℕ) (state : ClusterState) (to : ℕ)

@@ -3,14 +3,15 @@
 ghost use Rattle.std.specs.Prelude.{◌≡◌, ◌≤◌, [], length, IfErr, IfNone, IfOk, IfSome, OnOk};
 ghost use Rattle.cl_replay.specs.Replays.{IsReached, IsRunUpTo};
 ghost use Rattle.cl_debug.specs.Faults.{OpenFaultHolds};
+ghost use Rattle.cl_debug.specs.Leads.{IsKeptAt};
 ghost use Rattle.cl_debug.specs.Shown.{HasNoSymbol, IsSymbolOf};
 ghost use Rattle.cl_debug.specs.Spacing.{IsSpacing};
 
 use crate::breaks::Break;
 use crate::faults::DebugFault;
 use crate::spacing::spacing_for;
-use crate::stepping::{kept_states, led_copy};
-use cl_replay::{ClusterState, Step};
+use crate::stepping::{advance, kept_states};
+use cl_replay::{ClusterState, KeptCluster, Step};
 use rv_image::Image;
 use std::alloc::Global;
 use std::marker::Model;
@@ -28,8 +29,8 @@ pub struct Debugger {
     pub(crate) place: u64,
     pub(crate) breaks: Vec<Break>,
     pub(crate) spacing: u64,
-    /// The cluster at each multiple of the spacing.
-    pub(crate) kept: Vec<ClusterState>,
+    /// The cluster at each multiple of the spacing. Pages that are alike in several of them stand once.
+    pub(crate) kept: Vec<KeptCluster>,
 }
 
 impl Model for Debugger {
@@ -55,7 +56,7 @@ impl Debugger {
     {
         let spacing = spacing_for(steps.len() as u64);
         let kept = kept_states(alloc, &image, steps.as_slice(), spacing)?;
-        let state = kept[0].try_copy(alloc)?;
+        let state = kept[0].live(alloc)?;
         Ok(Debugger {
             alloc,
             image,
@@ -68,20 +69,22 @@ impl Debugger {
         })
     }
 
-    /// The cluster at a place, from a cluster at an earlier one. The only error is want of memory.
+    /// The cluster at a place, from the one that was kept at an earlier place. The only error is want of memory.
     pub(crate) fn led(
         &self,
-        start: &ClusterState,
+        start: &KeptCluster,
         from: u64,
         to: u64,
     ) -> Result<ClusterState, DebugFault>
         requires forwards { from ≤ to }
         requires within { to ≤ length self.now.steps }
-        requires starts { IsReached self.now.image self.now.steps from start.now }
+        requires starts { IsKeptAt self.now.image self.now.steps from start.now }
         ensures reached { IfOk result (IsReached self.now.image self.now.steps to) }
         ensures fault { IfErr result (λ fault. fault ≡ DebugFault.Memory) }
     {
-        led_copy(self.alloc, start, self.steps.as_slice(), from, to)
+        let mut state = start.live(self.alloc)?;
+        advance(&mut state, self.steps.as_slice(), from, to)?;
+        Ok(state)
     }
 
     /// The place, and how many steps there are. The place is at most the end, and the steps are a run of the image.

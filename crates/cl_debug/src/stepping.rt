@@ -6,7 +6,7 @@ ghost use Rattle.cl_debug.specs.Faults.{OpenFaultHolds};
 ghost use Rattle.cl_debug.specs.Leads.{AreKept, LeadFaultHolds, LeadsTo};
 
 use crate::faults::DebugFault;
-use cl_replay::{ClusterState, Step, StepFault};
+use cl_replay::{ClusterState, KeptCluster, Step, StepFault};
 use rv_image::Image;
 use std::alloc::Global;
 
@@ -32,31 +32,14 @@ pub(crate) fn advance(
     Ok(())
 }
 
-/// A copy of a cluster at one place, led on to another.
-pub(crate) fn led_copy(
-    alloc: Global,
-    start: &ClusterState,
-    steps: &[Step],
-    from: u64,
-    to: u64,
-) -> Result<ClusterState, DebugFault>
-    requires forwards { from ≤ to }
-    requires within { to ≤ length steps.now }
-    ensures leads { IfOk result (LeadsTo steps.now from start.now to) }
-    ensures fault { IfErr result (LeadFaultHolds steps.now from start.now to) }
-{
-    let mut state = start.try_copy(alloc)?;
-    advance(&mut state, steps, from, to)?;
-    Ok(state)
-}
-
-/// The clusters at all multiples of the spacing, made in one pass that does each step once.
+/// The clusters at all multiples of the spacing, each kept beside the one before it, in one pass that does each step
+/// once.
 pub(crate) fn kept_states(
     alloc: Global,
     image: &Image,
     steps: &[Step],
     spacing: u64,
-) -> Result<Vec<ClusterState>, DebugFault>
+) -> Result<Vec<KeptCluster>, DebugFault>
     requires { 0 < spacing }
     ensures kept { IfOk result (λ kept. AreKept image.now steps.now spacing kept.items) }
     ensures run { OnOk result (IsRunUpTo image.now steps.now (length steps.now)) }
@@ -67,7 +50,8 @@ pub(crate) fn kept_states(
     let mut kept = Vec::with_capacity(alloc, count as usize)?;
     let mut state = ClusterState::load(alloc, image)?;
     for k in 0..count {
-        kept.push(state.try_copy(alloc)?)?;
+        let here = state.keep(alloc, kept.last())?;
+        kept.push(here)?;
         let from = k * spacing;
         let to = from + spacing.min(len - from);
         advance(&mut state, steps, from, to)?;

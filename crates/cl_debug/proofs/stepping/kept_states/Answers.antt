@@ -1,6 +1,7 @@
-use Rattle.std.proofs.Common.{◌+◌, ◌*◌, ◌≤◌, arith, length}
+use Rattle.std.proofs.Common.{◌≡◌, ◌+◌, ◌*◌, ◌≤◌, arith, length, subst}
 use Rattle.std.proofs.lemmas.Result.{err_from_is_err_and}
-use Rattle.cl_debug.proofs.Keeping.{at_most, kept_fault, kept_more}
+use Rattle.cl_debug.specs.Spacing.{multiples}
+use Rattle.cl_debug.proofs.Keeping.{KeptSoFar, all_run, at_most, kept_fault, kept_more}
 use Rattle.cl_debug.proofs.stepping.kept_states.Goals as goal
 
 pub returns-in_err-advance-clause-fault : goal.returns-in_err-advance-clause-fault
@@ -21,6 +22,18 @@ loop-k-preserved c =
     at_most c.args.spacing (length steps) c.loop-k.k c.requires c.loop-k-test.true in
     kept_more c.args.image.now steps c.args.spacing c.loop-k.k c.loop-k.kept.items c.loop-k.state
     c.loop-k.invariant within
-    c.in_ok-try_copy.field-0 c.push.new.self.items c.advance.new.state (c.loop-k.k * c.args.spacing + c.min.result)
-    c.in_ok-try_copy.ensures.stands c.in_ok-push.ensures.items (omega (arith, c.min.ensures))
+    c.in_ok-here.here c.push.new.self.items c.advance.new.state (c.loop-k.k * c.args.spacing + c.min.result)
+    c.in_ok-here.ensures c.in_ok-push.ensures.items (omega (arith, c.min.ensures))
     c.in_ok-advance.ensures.leads
+
+pub returns-clause-run : goal.returns-clause-run
+returns-clause-run c =
+    let image = c.args.image.now in
+    let steps = c.args.steps.now in
+    let spacing = c.args.spacing in
+    let kept = c.loop-k.kept.items in
+    let state = c.loop-k.state in
+    let end : c.loop-k.k ≡ multiples spacing (length steps) = omega arith in
+    let all = subst (λ k. KeptSoFar image steps spacing k kept state) end c.loop-k.invariant in
+    let reached = all_run image steps spacing kept state c.requires all in
+    (reached.cluster, reached.run)

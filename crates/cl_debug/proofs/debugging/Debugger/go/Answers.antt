@@ -1,8 +1,8 @@
 use Rattle.std.proofs.Common.{◌*◌, ◌/◌, ◌<◌, ◌≤◌, arith, length, refl, subst}
 use Rattle.std.proofs.lemmas.Nat.{le-div}
 use Rattle.std.proofs.lemmas.Option.{slice_get_read}
-use Rattle.cl_replay.specs.Replays.{IsReached}
 use Rattle.cl_debug.specs.Debugging.{Debugging}
+use Rattle.cl_debug.specs.Leads.{IsKeptAt}
 use Rattle.cl_debug.proofs.Keeping.{positive}
 use Rattle.cl_debug.proofs.debugging.Debugger.go.Goals as goal
 
@@ -17,5 +17,5 @@ led-requires-clause-starts c =
     let count = c.self.invariant.kept_there.count in
     let there = slice_get_read d.kept.items (length d.kept.items) near first refl (omega (arith, low, count))
     c.index.ensures in
-    subst (λ (x : Debugging). IsReached x.image x.steps (near * d.spacing) first) c.self.view_is
+    subst (λ (x : Debugging). IsKeptAt x.image x.steps (near * d.spacing) first) c.self.view_is
     (c.self.invariant.kept_there.reached near first there)
