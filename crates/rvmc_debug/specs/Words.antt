@@ -59,10 +59,22 @@ Does old (Break rank hart at) new text = AddsBreak old rank hart at new text
 Does old (Regs rank hart) new text = TellsRegs old rank hart new text
 Does old (Bytes rank at count) new text = TellsBytes old rank at count new text
 
+-- memory is wanted for a word that isn't refused otherwise, and that prints something or keeps a break: so for all but
+-- one that shows no bytes
+abbrev pub WantsMemory : Debugging → DebugWord → Type 0
+WantsMemory old (Go n) = n ≤ length old.steps
+WantsMemory old (Break rank hart at) =
+    (pc : ℕ) × IsSpot old.image at pc × (rank < old.image.ranks) × (hart < old.image.harts)
+WantsMemory old (Regs rank hart) = (rank < old.image.ranks) × (hart < old.image.harts)
+WantsMemory old (Bytes rank at count) =
+    (address : ℕ) × IsSpot old.image at address × (rank < old.image.ranks) × (¬ IsOutside old rank address count)
+    × (0 < count)
+WantsMemory old _ = ⊤
+
 -- why a word isn't done: the place is past the end; the name is unknown; or else the rank isn't there; or else the hart
--- isn't, or a byte is outside. Any word may want memory
+-- isn't, or a byte is outside; or else memory was refused
 abbrev pub Refuses : Debugging → DebugFault → DebugWord → Type 0
-Refuses old faults.Memory word = ⊤
+Refuses old faults.Memory word = WantsMemory old word
 Refuses old (faults.PastEnd len) (Go n) = (len ≡ length old.steps) × (length old.steps < n)
 Refuses old faults.NoSymbol (Break rank hart at) = IsUnknown old.image at
 Refuses old faults.NoSymbol (Bytes rank at count) = IsUnknown old.image at

@@ -1,10 +1,10 @@
 //! The words, done one after another.
 
-ghost use Rattle.std.specs.Prelude.{◌≡◌, ◌++◌, IfErr, IfOk, List, OnErr, OnOk, ℕ};
+ghost use Rattle.std.specs.Prelude.{◌≡◌, ◌<◌, ◌++◌, IfErr, IfOk, List, OnErr, OnOk, length, ℕ};
 ghost use Rattle.cl_debug.specs.declared.faults.DebugFault.TheVariants.{NoSymbol};
 ghost use Rattle.rvmc_line.specs.declared.debug.DebugWord.TheVariants as word;
 ghost use Rattle.rvmc_debug.specs.Words.{AddsBreak, Does, IsSpot, IsTold, IsUnknown, Refuses, TellsBytes, TellsPlace};
-ghost use Rattle.rvmc_debug.specs.Words.{TellsRegs};
+ghost use Rattle.rvmc_debug.specs.Words.{TellsRegs, WantsMemory};
 
 use crate::texts::{bytes_text, place_text, regs_text};
 use cl_debug::{DebugFault, Debugger};
@@ -29,6 +29,7 @@ fn tell_place(alloc: Global, debugger: &Debugger) -> Result<Vec<u8>, AllocError>
 /// Goes to a place.
 fn go(alloc: Global, debugger: &mut Debugger, n: u64) -> Result<Vec<u8>, DebugFault>
     ensures does { IfOk result (λ text. Does debugger.old (word.Go n) debugger.new text.items) }
+    ensures wanted { IfOk result (λ text. 0 < length text.items → WantsMemory debugger.old (word.Go n)) }
     ensures fault { IfErr result (λ fault. Refuses debugger.old fault (word.Go n)) }
 {
     debugger.go(n)?;
@@ -85,6 +86,8 @@ fn set_break(
     at: &Spot,
 ) -> Result<Vec<u8>, DebugFault>
     ensures does { IfOk result (λ text. AddsBreak debugger.old rank hart at.now debugger.new text.items) }
+    ensures wanted { IfOk result
+        (λ text. 0 < length text.items → WantsMemory debugger.old (word.Break rank hart at.now)) }
     ensures fault { IfErr result (λ fault. Refuses debugger.old fault (word.Break rank hart at.now)) }
 {
     let pc = address_of(debugger, at)?;
@@ -95,6 +98,7 @@ fn set_break(
 /// Shows a hart.
 fn regs(alloc: Global, debugger: &Debugger, rank: u8, hart: u8) -> Result<Vec<u8>, DebugFault>
     ensures does { IfOk result (λ text. TellsRegs debugger.now rank hart debugger.now text.items) }
+    ensures wanted { IfOk result (λ text. 0 < length text.items → WantsMemory debugger.now (word.Regs rank hart)) }
     ensures fault { IfErr result (λ fault. Refuses debugger.now fault (word.Regs rank hart)) }
 {
     let shown = debugger.regs(rank, hart)?;
@@ -110,16 +114,22 @@ fn bytes(
     count: u64,
 ) -> Result<Vec<u8>, DebugFault>
     ensures does { IfOk result (λ text. TellsBytes debugger.now rank at.now count debugger.now text.items) }
+    ensures wanted { IfOk result
+        (λ text. 0 < length text.items → WantsMemory debugger.now (word.Bytes rank at.now count)) }
     ensures fault { IfErr result (λ fault. Refuses debugger.now fault (word.Bytes rank at.now count)) }
 {
     let address = address_of(debugger, at)?;
     let shown = debugger.bytes(rank, address, count)?;
+    if count == 0 {
+        return Ok(Vec::new(alloc));
+    }
     Ok(bytes_text(alloc, &shown)?)
 }
 
 /// Does a word, and gives its text.
 fn tell(alloc: Global, debugger: &mut Debugger, word: &DebugWord) -> Result<Vec<u8>, DebugFault>
     ensures does { IfOk result (λ text. Does debugger.old word.now debugger.new text.items) }
+    ensures wanted { IfOk result (λ text. 0 < length text.items → WantsMemory debugger.old word.now) }
     ensures fault { IfErr result (λ fault. Refuses debugger.old fault word.now) }
 {
     match word {
