@@ -43,8 +43,8 @@ IsBytesFault DebugFault.Range = Unit {0}
 IsBytesFault DebugFault.Memory = Unit {0}
 IsBytesFault _ = ⊥
 
--- memory is taken for the step at the place: for a page that isn't there and that its turn may write, or for what a step
--- of its kind makes or carries
+-- memory is taken for the step at the place: for a page that isn't there and that its turn may write, or for what a
+-- step of its kind makes or carries
 pub record NextTakesMemory (debugging : Debugging) : Type 0 where
   pub step : Step
   pub next : slice_get debugging.steps debugging.place ≡ Some step

@@ -57,8 +57,8 @@ fn live_ranks(alloc: Global, kept: &[KeptRank]) -> Result<Vec<RankState>, AllocE
 }
 
 impl KeptCluster {
-    /// The same cluster in memory of its own, that goes on from here: this one stays as it is. The only error is want of
-    /// memory.
+    /// The same cluster in memory of its own, that goes on from here: this one stays as it is. The only error is want
+    /// of memory.
     pub fn live(&self, alloc: Global) -> Result<ClusterState, AllocError>
         ensures { IfOk result (λ state. snapshot state ≡ self.now) }
     {

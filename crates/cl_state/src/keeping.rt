@@ -66,8 +66,8 @@ impl KeptRank {
 impl RankState {
     ghost use Rattle.cl_state.specs.Room.{rank_of};
 
-    /// The rank as it is now, kept: its parts, output and clock, and no room for the next turn. A page that is as in the
-    /// earlier one stands once for both. The only error is want of memory.
+    /// The rank as it is now, kept: its parts, output and clock, and no room for the next turn. A page that is as in
+    /// the earlier one stands once for both. The only error is want of memory.
     pub fn keep(&self, alloc: Global, earlier: Option<&KeptRank>) -> Result<KeptRank, AllocError>
         ensures { IfOk result (λ kept. kept ≡ rank_of self.now) }
     {
