@@ -116,7 +116,7 @@ fn live_pages(kept: &[Option<KeptPage>], alloc: Global) -> Result<Vec<Option<Pag
 /// stand once for both.
 #[derive(Drop)]
 pub struct KeptMemory {
-    /// The text in one piece, shared with the memory that is kept.
+    /// Shared with the memory that was kept.
     text: Text,
     pages: Vec<Option<KeptPage>>,
 }
@@ -138,8 +138,8 @@ impl Model for KeptMemory {
 }
 
 impl KeptMemory {
-    /// The same bytes, text and pages, in memory of their own, to be read and written: this one stays as it is. The
-    /// only error is want of memory.
+    /// The same bytes, text and pages, to be read and written, in pages of its own: this one stays as it is. The only
+    /// error is want of memory.
     pub fn live(&self, alloc: Global) -> Result<RankMemory, AllocError>
         ensures { IfOk result (λ memory. memory ≡ self.now) }
     {
