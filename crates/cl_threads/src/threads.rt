@@ -55,7 +55,7 @@ fn gather(
     // whoever asks for the entries knows that they replay
     let _entries = hub.entries();
     let left = leave(channels, hub, done, lists);
-    compare(parts.ranks, left.traces.as_slice(), left.journal.as_slice())?;
+    compare(parts.ranks, left.traces.as_slice(), &left.journal)?;
     Ok(left)
 }
 

@@ -3,7 +3,7 @@
 //! `stdout` was written by hand: a stamp is the greater of the caller's clock and the stamp before, plus 1.
 #![tactic(auto)]
 
-use cl_journal::{Entry, Hub};
+use cl_journal::{Entered, Entries, Hub};
 use cl_rank::{Desk, LockedDesk};
 use mp_types::Request;
 use rv_image::{ImageFault, read_image};
@@ -18,7 +18,15 @@ const IMAGE: [u8; 32] = [
 ];
 
 /// The calls: rank, hart, and the rank's clock.
-const CALLS: [(u8, u8, u64); 5] = [(0, 3, 0), (2, 1, 1), (1, 2, 0), (1, 0, 3), (2, 3, 9)];
+const CALLS: [(u8, u8, u64); 7] = [
+    (0, 3, 0),
+    (2, 1, 1),
+    (1, 2, 0),
+    (1, 0, 3),
+    (2, 3, 9),
+    (0, 3, 1),
+    (2, 3, 11),
+];
 
 /// The hub of that image.
 fn hub(alloc: Global) -> Result<Hub, ImageFault> {
@@ -35,9 +43,12 @@ fn make_calls<R: Wait>(rt: &R, hub: &Mutex<Hub>) {
 }
 
 /// Prints the journal.
-fn print_journal(rt: &HostRuntime, entries: &[Entry]) -> io::Result<()> {
-    for entry in entries {
-        let (rank, hart, clock, stamp) = (entry.rank, entry.hart, entry.clock, entry.stamp);
+fn print_journal(rt: &HostRuntime, mut entries: Entries<'_>) -> io::Result<()> {
+    for _ in 0..entries.len() {
+        let Some(Entered { clock, stamp, like }) = entries.next() else {
+            break;
+        };
+        let (rank, hart) = (like.rank, like.hart);
         println!(rt; "rank {rank} hart {hart} clock {clock} stamp {stamp}")?;
     }
     Ok(())

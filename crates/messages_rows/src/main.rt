@@ -112,8 +112,14 @@ fn repeat<W: Write>(
 
 /// Prints how many calls were entered, and the hart of the last.
 fn print_entries<W: Write>(out: &mut W, hub: &Hub) -> io::Result<()> {
-    match hub.entries().last() {
-        Some(entry) => writeln!(out, "{} entries, hart {}", hub.entries().len(), entry.hart),
+    let mut entries = hub.entries();
+    let count = entries.len();
+    let mut last = None;
+    for _ in 0..count {
+        last = entries.next();
+    }
+    match last {
+        Some(entry) => writeln!(out, "{count} entries, hart {}", entry.like.hart),
         None => out.write_all(b"no entries\n"),
     }
 }
