@@ -1,7 +1,7 @@
 -- An image without links gives its ranks no sides.
 use Rattle.std.specs.Prelude.{ℕ, []}
 use Rattle.rv_image.specs.declared.images.ImageVersion.{ImageVersion}
-use Rattle.cl_rank.specs.Sides.{AreChannelsOf, AreNewSides}
+use Rattle.cl_rank.specs.RankSides.{AreChannelsOf, AreNewSides}
 
 pub no_sides : (rank : ℕ) → AreNewSides [] rank (record { sends = []; recvs = [] })
 no_sides rank = record {

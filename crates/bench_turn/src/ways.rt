@@ -1,7 +1,7 @@
 //! Ways to run a guest. Each says how many instructions it did.
 
 ghost use Rattle.std.specs.Prelude.{◌≡◌, [], vec_len};
-ghost use Rattle.cl_rank.specs.Sides.{AreChannelsOf};
+ghost use Rattle.cl_rank.specs.RankSides.{AreChannelsOf};
 ghost use Rattle.cl_rank.specs.Views.{view_of};
 
 use cl_journal::Hub;

@@ -2,7 +2,8 @@
 ghost use Rattle.std.specs.Prelude.{◌≡◌, ◌+◌, ◌*◌, ◌^◌, ◌<◌, [], ◌∷◌, ◌++◌, length, take, replicate, IfOk, IfSome};
 ghost use Rattle.std.specs.Prelude.{IsTrue, Some, None, true, false};
 ghost use Rattle.part_box.specs.declared.view.Made.{Made};
-ghost use Rattle.part_box.specs.Gate.{last_ready, last_take};
+ghost use Rattle.part_box.specs.Gate.{last_take};
+ghost use Rattle.part_box.specs.LastReady.{last_ready};
 
 use part_box::{PartBox, RecvKey, SendKey, Settled};
 use std::alloc::{AllocError, Global};

@@ -8,12 +8,12 @@ use Rattle.cl_calls.specs.declared.calls.Probing.{Probing}
 use Rattle.cl_calls.specs.declared.calls.Receiving.{Receiving}
 use Rattle.cl_calls.specs.declared.calls.Sending.{Sending}
 use Rattle.cl_calls.specs.declared.calls.Several.{Several}
-use Rattle.cl_calls.specs.Calls.{call_of}
+use Rattle.cl_calls.specs.Calls.{call_named}
 use Rattle.cl_state.specs.Rows.{calling}
 
 -- the call of this number whose arguments a0 to a5 are 1 to 6
 abbrev pub spelled : ℕ → Call
-spelled number = call_of (calling (1 ∷ 2 ∷ 3 ∷ 4 ∷ 5 ∷ 6 ∷ []) number)
+spelled number = call_named (calling (1 ∷ 2 ∷ 3 ∷ 4 ∷ 5 ∷ 6 ∷ []) number)
 
 abbrev pub sending : Sending
 sending = record { buffer = 1; count = 2; dest = 3; tag = 4; comm = 5 }

@@ -2,8 +2,10 @@
 
 ghost use Rattle.std.specs.Prelude.{◌≡◌, ◌<◌, [], Ok, vec_len, IsOk, OnOk, OnErr};
 ghost use Rattle.cl_state.specs.declared.asking.Doing.TheVariants.{Step};
-ghost use Rattle.cl_state.specs.Asked.{asked, carried, doing, part_of};
-ghost use Rattle.cl_state.specs.Room.{rank_of, writes_of};
+ghost use Rattle.cl_state.specs.Asked.{asked, doing, part_of};
+ghost use Rattle.cl_state.specs.TurnRoom.{carried};
+ghost use Rattle.cl_state.specs.Room.{rank_of};
+ghost use Rattle.cl_state.specs.TurnRoom.{writes_of};
 ghost use Rattle.cl_state.specs.Writes.{missing_for};
 ghost use Rattle.cl_state.specs.Told.{told};
 ghost use Rattle.calls_tests.specs.Turns.{AskedPlaces, BreakRow, ExitRow, IssendAmongSeveral, IssendRow, LoadedRow};

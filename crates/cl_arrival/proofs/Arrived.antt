@@ -12,7 +12,8 @@ use Rattle.part_phase.specs.Sending.{none_marked}
 use Rattle.part_phase.proofs.Arrivals.{below, begins, cut as knows_cut, ends, marked_back}
 use Rattle.part_phase.proofs.Lowest.{none_pass}
 use Rattle.cl_state.specs.Rank.{Rank, loaded}
-use Rattle.cl_rank.specs.Deeds.{Act, Deed, IsAlone}
+use Rattle.cl_rank.specs.Deeds.{Act, Deed}
+use Rattle.cl_rank.specs.Alone.{IsAlone}
 use Rattle.cl_machine.specs.Boxes.{box_number}
 use Rattle.cl_arrival.specs.Arrival.{ArrivedLaw, IsTakenTimes, is_receiving, phases_begun, taken_at}
 use Rattle.cl_arrival.proofs.Counting.{one_more_deed}

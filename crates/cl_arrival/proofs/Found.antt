@@ -10,7 +10,8 @@ use Rattle.std.proofs.lemmas.Option.{same_Some, slice_get-map}
 use Rattle.rv_image.specs.declared.images.ImageParts.{ImageParts}
 use Rattle.cl_state.specs.Asked.{asked}
 use Rattle.cl_state.specs.Rank.{Rank, loaded}
-use Rattle.cl_rank.specs.Deeds.{Act, Answers, Deed, IsAlone, RankMoves}
+use Rattle.cl_rank.specs.Deeds.{Act, Suits, Deed, RankMoves}
+use Rattle.cl_rank.specs.Alone.{IsAlone}
 use Rattle.cl_machine.specs.Boxes.{Thing, box_number}
 use Rattle.cl_machine.specs.Joined.{Got, got_for, got_of, made_for, made_of, thing_of}
 use Rattle.cl_machine.specs.Parts.{is_part, own}
@@ -149,7 +150,7 @@ module _ (image : ImageParts) (r : ℕ) (ds : List Deed) (end : Rank) (run : IsA
           (subst (λ xs. IsAlone (loaded image r) xs end) h.there run) in
           let act = take_act d.act d.stamp b g h.passes h.gives in
           let small =
-          (subst (MayAsk image.links r h.before) (subst (Answers (asked up.rank d.hart)) act.2 up.moves.2)
+          (subst (MayAsk image.links r h.before) (subst (Suits (asked up.rank d.hart)) act.2 up.moves.2)
           (questions image r h.before up.rank d.hart up.ran)).1 in
           let act_is : d.act ≡ Act.Take link box thing.stamp thing.bytes =
           act.2
@@ -193,7 +194,7 @@ module _ (image : ImageParts) (r : ℕ) (ds : List Deed) (end : Rank) (run : IsA
       (subst (λ xs. IsAlone (loaded image r) xs end) h.there run) in
       let act = ready_act d.act d.stamp b thing h.passes h.gives in
       let small =
-      (subst (MayAsk image.links r h.before) (subst (Answers (asked up.rank d.hart)) act.2 up.moves.2)
+      (subst (MayAsk image.links r h.before) (subst (Suits (asked up.rank d.hart)) act.2 up.moves.2)
       (questions image r h.before up.rank d.hart up.ran)).1 in
       let act_is : d.act ≡ Act.Ready link box thing.bytes =
       act.2

@@ -13,7 +13,8 @@ use Rattle.part_phase.specs.Sending.{all_freed, begun_sending, is_ready, none_ma
 use Rattle.part_phase.specs.Sending.{shaped_sending, unshaped_sending}
 use Rattle.cl_state.specs.Asked.{asked}
 use Rattle.cl_state.specs.Rank.{Rank, loaded}
-use Rattle.cl_rank.specs.Deeds.{Act, Answers, Deed, IsAlone, RankMoves}
+use Rattle.cl_rank.specs.Deeds.{Act, Suits, Deed, RankMoves}
+use Rattle.cl_rank.specs.Alone.{IsAlone}
 use Rattle.cl_machine.specs.Boxes.{box_number}
 use Rattle.cl_machine.specs.Parts.{is_part}
 use Rattle.cl_machine.specs.Product.{box_for}
@@ -334,7 +335,7 @@ module _ (image : ImageParts) (r link i : ℕ) (low : i < 16) where
     where
       few : (k part : ℕ) (bytes : List ℕ) → d.act ≡ Act.Ready k part bytes → part < 16
       few k part bytes is =
-          (subst (MayAsk image.links r h.0) (subst (Answers (asked old d.hart)) is move.2)
+          (subst (MayAsk image.links r h.0) (subst (Suits (asked old d.hart)) is move.2)
           (questions image r h.0 old d.hart h.1)).1
 
   pub counts : (ds : List Deed) (new : Rank) → IsAlone (loaded image r) ds new
@@ -351,7 +352,7 @@ made image r ds old new d link part bytes run move is =
   where
     low : part < 16
     low =
-        (subst (MayAsk image.links r ds) (subst (Answers (asked old d.hart)) is move.2)
+        (subst (MayAsk image.links r ds) (subst (Suits (asked old d.hart)) is move.2)
         (questions image r ds old d.hart run)).1
 
     go : ActDoes link (Act.Ready link part bytes) (sending_at old.phases link) (sending_at new.phases link)

@@ -30,7 +30,7 @@ use Rattle.cl_state.specs.Moves.{with_cut, with_receiving, with_sending}
 use Rattle.cl_state.specs.Rank.{Rank}
 use Rattle.cl_state.proofs.Known.{known as known_of}
 use Rattle.cl_state.proofs.Phases.{moved_by}
-use Rattle.cl_rank.specs.Deeds.{Act, Answers, Deed, RankMoves, answer_of}
+use Rattle.cl_rank.specs.Deeds.{Act, Suits, Deed, RankMoves, answer_of}
 use Rattle.cl_gates.proofs.Sides.{changed_other, changed_same}
 
 -- a transfer gets the side, which none had
@@ -209,7 +209,7 @@ module _ (site : Site) (k : ℕ) (old new : List Phase) where
   -- ---- each act
 
   module _ (memory : Memory) (starts : Option ℕ) where
-    by_act : (asks : Ask) (a : Act) → Answers asks a → new ≡ moved site starts asks (answer_of a) old
+    by_act : (asks : Ask) (a : Act) → Suits asks a → new ≡ moved site starts asks (answer_of a) old
         → Known site memory old asks → ActDoes site.version k a p (receiving_at new k)
     by_act asks Act.Plain e m known = same (subst (λ q. new ≡ moved site starts q answer.Alone old) e m)
     by_act asks Act.Local e m known = begins starts (subst (λ q. new ≡ moved site starts q answer.Alone old) e m)

@@ -25,7 +25,8 @@ use Rattle.part_phase.proofs.Lowest.{none_pass}
 use Rattle.cl_state.specs.Asked.{asked}
 use Rattle.cl_state.specs.Moves.{AsksLook}
 use Rattle.cl_state.specs.Rank.{Rank, loaded}
-use Rattle.cl_rank.specs.Deeds.{Act, Answers, Deed, IsAlone, RankMoves}
+use Rattle.cl_rank.specs.Deeds.{Act, Suits, Deed, RankMoves}
+use Rattle.cl_rank.specs.Alone.{IsAlone}
 use Rattle.cl_machine.specs.Boxes.{box_number}
 use Rattle.cl_machine.specs.Parts.{is_part}
 use Rattle.cl_machine.specs.Product.{box_for}
@@ -363,7 +364,7 @@ module _ (image : ImageParts) (r link i : ℕ) (low : i < 16) where
     where
       few : (k box gate : ℕ) (bytes : List ℕ) → d.act ≡ Act.Take k box gate bytes → box < 16
       few k box gate bytes is =
-          (subst (MayAsk image.links r h.0) (subst (Answers (asked old d.hart)) is move.2)
+          (subst (MayAsk image.links r h.0) (subst (Suits (asked old d.hart)) is move.2)
           (questions image r h.0 old d.hart h.1)).1
 
   pub counts : (ds : List Deed) (new : Rank) → IsAlone (loaded image r) ds new
@@ -380,7 +381,7 @@ taken image r ds old new d link box gate bytes run move is =
   where
     low : box < 16
     low =
-        (subst (MayAsk image.links r ds) (subst (Answers (asked old d.hart)) is move.2)
+        (subst (MayAsk image.links r ds) (subst (Suits (asked old d.hart)) is move.2)
         (questions image r ds old d.hart run)).1
 
     go : ActDoes old.site.version link (Act.Take link box gate bytes) (receiving_at old.phases link)

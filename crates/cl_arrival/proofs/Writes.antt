@@ -52,7 +52,7 @@ use Rattle.cl_state.specs.Told.{with_status}
 use Rattle.cl_state.specs.Transfers.{asked_transfer, receive_of, send_of, source_of, tag_of}
 use Rattle.cl_state.specs.Written.{written}
 use Rattle.cl_state.proofs.Moved.{by_awaited, by_taking, row_by, row_is}
-use Rattle.cl_rank.specs.Deeds.{Answers, answer_of}
+use Rattle.cl_rank.specs.Deeds.{Suits, answer_of}
 use Rattle.cl_arrival.specs.Arrival.{WriteLaw}
 
 -- ---- which turns look at a box
@@ -309,7 +309,7 @@ module _ (site : Site) (old : Part) (link box : ℕ) (bytes : List ℕ) where
 pub writes : WriteLaw
 unfolding told asked
 writes old new d link box gate bytes move is =
-    let asks : asked old d.hart ≡ ask.Look link box = subst (Answers (asked old d.hart)) is move.2 in
+    let asks : asked old d.hart ≡ ask.Look link box = subst (Suits (asked old d.hart)) is move.2 in
     let w =
     writes_turn old.site (part_of old d.hart) link box bytes d.hart (doing old.site (part_of old d.hart)) asks in
     let told_is = move.4 ∙ ap (λ a. told old d.hart (answer_of a) d.stamp) is in

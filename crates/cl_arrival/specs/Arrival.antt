@@ -20,14 +20,16 @@ use Rattle.cl_state.specs.Asked.{doing, part_of}
 use Rattle.cl_state.specs.Rank.{Rank, loaded}
 use Rattle.cl_state.specs.Told.{told, with_status}
 use Rattle.cl_state.specs.Written.{written}
-use Rattle.cl_rank.specs.Deeds.{Act, Deed, IsAlone, RankMoves, answer_of}
+use Rattle.cl_rank.specs.Deeds.{Act, Deed, RankMoves, answer_of}
+use Rattle.cl_rank.specs.Alone.{IsAlone}
 use Rattle.cl_machine.specs.Boxes.{Thing, box_number}
 use Rattle.cl_machine.specs.declared.steps.Step.{Step}
 use Rattle.cl_machine.specs.Cluster.{Cluster, IsRun, loaded_cluster}
 use Rattle.cl_machine.specs.Joined.{got_of, made_of, thing_of}
 use Rattle.cl_machine.specs.Order.{of_rank}
 use Rattle.cl_machine.specs.Parts.{own, PartRunAt}
-use Rattle.cl_machine.specs.Product.{box_at, step_of}
+use Rattle.cl_machine.specs.Product.{box_at}
+use Rattle.cl_machine.specs.ProductSteps.{step_of}
 
 -- ---- boxes
 

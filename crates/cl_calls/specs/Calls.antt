@@ -91,5 +91,5 @@ row_at number [] = call.Unknown
 row_at number (row ∷ rows) = if (number == row.0) then row.1 else row_at number rows
 
 -- the call that a hart's registers spell: its number stands in a7
-abbrev pub call_of : State → Call
-call_of hart = row_at (argument hart 7) (call_rows (argument hart))
+abbrev pub call_named : State → Call
+call_named hart = row_at (argument hart 7) (call_rows (argument hart))

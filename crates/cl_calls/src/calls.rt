@@ -1,7 +1,7 @@
 //! The calls of a guest, as its registers spell them.
 
 ghost use Rattle.std.specs.Prelude.{◌≡◌, ◌<◌};
-ghost use Rattle.cl_calls.specs.Calls.{argument as argument_of, call_of, claimed_by, completing_by, partitioning_by};
+ghost use Rattle.cl_calls.specs.Calls.{argument as argument_of, call_named, claimed_by, completing_by, partitioning_by};
 ghost use Rattle.cl_calls.specs.Calls.{probing_by, receiving_by, sending_by, several_by};
 
 use rv_decode::Reg;
@@ -247,7 +247,7 @@ impl Partitioning {
 impl Call {
     /// The call that a hart's registers spell.
     pub fn of(hart: &Hart) -> Call
-        ensures { result ≡ call_of hart.now }
+        ensures { result ≡ call_named hart.now }
     {
         let a0 = argument(hart, 0);
         match argument(hart, 7) {

@@ -8,7 +8,7 @@ use Rattle.cl_state.specs.Room.{rank_of}
 use Rattle.cl_state.specs.declared.state.RankState.{RankState}
 use Rattle.cl_machine.specs.declared.steps.Step.{Step}
 use Rattle.cl_replay.specs.declared.states.ClusterState.{ClusterState}
-use Rattle.cl_replay.specs.Replays.{IsReached}
+use Rattle.cl_replay.specs.Replaying.{IsReached}
 use Rattle.cl_debug.specs.Places.{IsBreakPlace}
 use Rattle.cl_debug.specs.declared.breaks.Break.{Break}
 use Rattle.cl_debug.proofs.Ranks.{run_sized}

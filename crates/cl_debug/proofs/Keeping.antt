@@ -9,7 +9,7 @@ use Rattle.rv_image.specs.declared.images.ImageParts.{ImageParts}
 use Rattle.cl_machine.specs.declared.steps.Step.{Step}
 use Rattle.cl_replay.specs.declared.states.ClusterState.{ClusterState}
 use Rattle.cl_replay.specs.Kept.{Snapshot, snapshot}
-use Rattle.cl_replay.specs.Replays.{IsReached}
+use Rattle.cl_replay.specs.Replaying.{IsReached}
 use Rattle.cl_debug.specs.Faults.{OpenFaultHolds}
 use Rattle.cl_debug.specs.Leads.{AreKept, IsKeptAt, LeadFaultHolds, LeadsTo}
 use Rattle.cl_debug.specs.Spacing.{IsSpacing, multiples}

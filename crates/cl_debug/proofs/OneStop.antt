@@ -3,7 +3,8 @@ use Rattle.std.specs.Prelude.{ℕ, zero, suc, ◌+◌, ◌*◌, ◌/◌, ◌^◌
 use Rattle.std.proofs.Common.{refl, arith, inl, inr}
 use Rattle.rv_image.specs.declared.images.ImageParts.{ImageParts}
 use Rattle.cl_machine.specs.declared.steps.Step.{Step}
-use Rattle.cl_debug.specs.Places.{IsStop, OneStopLaw}
+use Rattle.cl_debug.specs.Places.{IsStop}
+use Rattle.cl_debug.specs.Laws.{OneStopLaw}
 use Rattle.cl_debug.specs.Spacing.{SpacingRows}
 use Rattle.cl_debug.specs.declared.breaks.Break.{Break}
 use Rattle.cl_debug.proofs.Stopping.{stop_inside}

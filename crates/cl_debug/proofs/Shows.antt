@@ -13,7 +13,7 @@ use Rattle.cl_machine.specs.Cluster.{Cluster, loaded_cluster}
 use Rattle.cl_machine.specs.declared.steps.Step.{Step}
 use Rattle.cl_machine.proofs.Tables.{one_end}
 use Rattle.cl_replay.specs.declared.states.ClusterState.{ClusterState}
-use Rattle.cl_replay.specs.Replays.{IsReached}
+use Rattle.cl_replay.specs.Replaying.{IsReached}
 use Rattle.cl_debug.specs.Places.{IsAt, IsHartOf}
 use Rattle.cl_debug.proofs.Ranks.{run_sized}
 

@@ -3,6 +3,7 @@ pub mod Faults
 pub mod Leads
 pub mod Moves
 pub mod Places
+pub mod Laws
 pub mod Shown
 pub mod Spacing
 pub mod Stops

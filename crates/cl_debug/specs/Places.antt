@@ -33,9 +33,3 @@ IsStop image steps breaks from to =
     ((from < to) × IsBreakPlace image steps breaks to
     × ((n : ℕ) → from < n → n < to → ¬ IsBreakPlace image steps breaks n))
     ⊎ ((to ≡ length steps) × ((n : ℕ) → from < n → ¬ IsBreakPlace image steps breaks n))
-
--- a run from a place leads to one place alone
-abbrev pub OneStopLaw : Type 0
-OneStopLaw =
-    (image : ImageParts) (steps : List Step) (breaks : List Break) (from one other : ℕ)
-    → IsStop image steps breaks from one → IsStop image steps breaks from other → one ≡ other

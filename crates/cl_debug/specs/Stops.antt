@@ -3,7 +3,7 @@ use Rattle.std.specs.Prelude.{ℕ, List}
 use Rattle.rv_image.specs.declared.images.ImageParts.{ImageParts}
 use Rattle.cl_machine.specs.declared.steps.Step.{Step}
 use Rattle.cl_replay.specs.declared.states.ClusterState.{ClusterState}
-use Rattle.cl_replay.specs.Replays.{IsReached}
+use Rattle.cl_replay.specs.Replaying.{IsReached}
 use Rattle.cl_debug.specs.Places.{IsBreakPlace, IsStop}
 use Rattle.cl_debug.specs.declared.breaks.Break.{Break}
 

@@ -1,7 +1,8 @@
 //! The debugger, and what it tells of itself.
 
 ghost use Rattle.std.specs.Prelude.{◌≡◌, ◌≤◌, [], length, IfErr, IfNone, IfOk, IfSome, OnOk};
-ghost use Rattle.cl_replay.specs.Replays.{IsReached, IsRunUpTo};
+ghost use Rattle.cl_replay.specs.Replays.{IsRunUpTo};
+ghost use Rattle.cl_replay.specs.Replaying.{IsReached};
 ghost use Rattle.cl_debug.specs.Faults.{OpenFaultHolds};
 ghost use Rattle.cl_debug.specs.Leads.{IsKeptAt};
 ghost use Rattle.cl_debug.specs.Shown.{HasNoSymbol, IsSymbolOf};

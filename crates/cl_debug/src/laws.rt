@@ -1,6 +1,6 @@
 //! What holds of the definitions alone.
 
-ghost use Rattle.cl_debug.specs.Places.{OneStopLaw};
+ghost use Rattle.cl_debug.specs.Laws.{OneStopLaw};
 ghost use Rattle.cl_debug.specs.Spacing.{SpacingRows};
 
 /// A run from a place stops at one place alone: so what `run` promises leaves no choice.

@@ -17,7 +17,8 @@ use Rattle.cl_state.proofs.Moves.{told_at}
 use Rattle.cl_trace.specs.declared.events.Kind.{Kind}
 use Rattle.cl_machine.specs.Boxes.{Box}
 use Rattle.cl_machine.specs.Cluster.{CaseOf, Cluster, IsStep, loaded_cluster, ranks_told}
-use Rattle.cl_machine.specs.Journal.{Journal, call_of, calls_of, reply_in, with_entry}
+use Rattle.cl_machine.specs.Journal.{Journal, reply_in, with_entry}
+use Rattle.cl_journal.specs.Journal.{call_of, calls_of}
 use Rattle.cl_machine.specs.declared.steps.Step.{Step}
 use Rattle.cl_text.specs.Limits.{FitsKind, FitsReply, FitsStep}
 use Rattle.cl_fits.proofs.Hub.{AreRight, reply_fits}

@@ -29,7 +29,7 @@ use Rattle.cl_state.specs.Moves.{with_cut, with_receiving, with_sending}
 use Rattle.cl_state.specs.Rank.{Rank}
 use Rattle.cl_state.proofs.Known.{known as known_of}
 use Rattle.cl_state.proofs.Phases.{moved_by}
-use Rattle.cl_rank.specs.Deeds.{Act, Answers, Deed, RankMoves, answer_of}
+use Rattle.cl_rank.specs.Deeds.{Act, Suits, Deed, RankMoves, answer_of}
 
 -- a phase begins
 abbrev pub Begins : List Phase → List Phase → Type 0
@@ -181,7 +181,7 @@ module _ (site : Site) (old new : List Phase) where
   -- ---- each act
 
   module _ (memory : Memory) (begins : Option ℕ) where
-    by_act : (asks : Ask) (a : Act) → Answers asks a → new ≡ moved site begins asks (answer_of a) old
+    by_act : (asks : Ask) (a : Act) → Suits asks a → new ≡ moved site begins asks (answer_of a) old
         → Known site memory old asks → ActMoves site.version a old new
     by_act asks Act.Plain e m known = subst (λ q. new ≡ moved site begins q answer.Alone old) e m
     by_act asks Act.Local e m known =

@@ -12,8 +12,9 @@ use Rattle.cl_machine.specs.Journal.{Enters, Journal}
 use Rattle.cl_rank.specs.Deeds.{Deed, PartRun, RankMoves}
 use Rattle.cl_machine.specs.Cluster.{Cluster, IsRun}
 use Rattle.cl_machine.specs.Order.{Before, InOrder}
-use Rattle.cl_machine.specs.Parts.{EachPartRuns}
-use Rattle.cl_machine.specs.Product.{BoxMoves, JournalMoves, box_at, entry_of, rank_at, step_of}
+use Rattle.cl_machine.specs.PartRuns.{EachPartRuns}
+use Rattle.cl_machine.specs.Product.{box_at, entry_of}
+use Rattle.cl_machine.specs.ProductSteps.{BoxMoves, JournalMoves, rank_at, step_of}
 
 hub_step : (o : Option Entry) (es : List Entry) (old new : Journal) → PartRun Enters old (cons_option o es) new
     → (mid : Journal) × JournalMoves old o mid × PartRun Enters mid es new

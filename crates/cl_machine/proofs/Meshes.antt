@@ -12,7 +12,7 @@ use Rattle.cl_rank.specs.Deeds.{Act, Deed, PartRun}
 use Rattle.cl_machine.specs.Boxes.{Box, Thing}
 use Rattle.cl_machine.specs.Joined.{Got, gate_stamp, got_for, got_of, made_for, made_of}
 use Rattle.cl_machine.specs.Order.{Before, InOrder, of_rank}
-use Rattle.cl_machine.specs.Product.{BoxActs, BoxMoves}
+use Rattle.cl_machine.specs.ProductSteps.{BoxActs, BoxMoves}
 
 -- the Take at stamp t takes m
 abbrev pub TakeOf : Thing → ℕ → Act → Type 0

@@ -8,7 +8,8 @@ use Rattle.std.proofs.lemmas.Bool.{eq-eqb}
 use Rattle.std.proofs.lemmas.Bool.Decides.{eqb_tells}
 use mathlib.Core.Logic.{inl, inr}
 use Rattle.cl_machine.proofs.Lists.{same_by_index, get-set_same, get-set_other}
-use Rattle.cl_machine.specs.Parts.{EachPartRuns, PartRunAt, PartsMove, PartsMoveAt, is_part, own}
+use Rattle.cl_machine.specs.Parts.{PartRunAt, is_part, own}
+use Rattle.cl_machine.specs.PartRuns.{EachPartRuns, PartsMove, PartsMoveAt}
 
 module _ {S D : Type 0} (Move : S → D → S → Type 0) (at : D → Option ℕ) where
   same_at : (o p : Option S) → PartRunAt Move o [] p → p ≡ o

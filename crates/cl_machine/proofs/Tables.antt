@@ -8,13 +8,14 @@ use Rattle.cl_trace.specs.declared.events.Kind.{Kind}
 use Rattle.cl_state.specs.Rank.{Rank}
 use Rattle.cl_state.specs.Asked.{asked}
 use Rattle.cl_state.specs.Told.{told}
-use Rattle.cl_rank.specs.Deeds.{Act, Answers, IsStamp, RankMoves, answer_of, kind_of}
+use Rattle.cl_rank.specs.Deeds.{Act, Suits, IsStamp, RankMoves, answer_of, kind_of}
 use Rattle.cl_machine.specs.declared.steps.Step.{Step}
 use Rattle.cl_machine.specs.Boxes.{Box, Thing, Holds, box_number, with_made, with_taken}
 use Rattle.cl_machine.specs.Cluster.{CaseOf, Cluster, IsRun, IsStep, ranks_told, with_box}
 use Rattle.cl_machine.specs.Laws.{TableLaw, OneEnd}
-use Rattle.cl_machine.specs.Parts.{PartsMove}
-use Rattle.cl_machine.specs.Product.{BoxMoves, Goes, JournalMoves, box_at, entry_of, rank_at}
+use Rattle.cl_machine.specs.PartRuns.{PartsMove}
+use Rattle.cl_machine.specs.Product.{box_at, entry_of}
+use Rattle.cl_machine.specs.ProductSteps.{BoxMoves, Goes, JournalMoves, rank_at}
 
 -- writing back what stands there changes nothing
 pub set-same : {X : Type 0} (xs : List X) (k : ℕ) (x : X) → slice_get xs k ≡ Some x → slice_set xs k x ≡ xs
@@ -45,7 +46,7 @@ case_of_deed old r h n a new g =
     s : Rank
     s = (g.0).0
 
-    by_act : (a : Act) → Answers (asked s h) a → IsStamp s.clock a n
+    by_act : (a : Act) → Suits (asked s h) a → IsStamp s.clock a n
         → new.ranks ≡ slice_set old.ranks r (told s h (answer_of a) n)
         → JournalMoves old.journal (entry_of (record { rank = r; hart = h; stamp = n; act = a })) new.journal
         → PartsMove BoxMoves box_at old.boxes (record { rank = r; hart = h; stamp = n; act = a }) new.boxes
@@ -108,13 +109,13 @@ deed_of_case old r h n k new g = by_kind k g.4
     s : Rank
     s = g.0
 
-    rank_part : (a : Act) → Answers (asked s h) a → IsStamp s.clock a n
+    rank_part : (a : Act) → Suits (asked s h) a → IsStamp s.clock a n
         → new.ranks ≡ slice_set old.ranks r (told s h (answer_of a) n)
         → PartsMove RankMoves rank_at old.ranks (record { rank = r; hart = h; stamp = n; act = a }) new.ranks
     rank_part a asks stamp ranks = (s, told s h (answer_of a) n, g.1, (g.2, g.3, asks, stamp, refl), ranks)
 
     -- an act that touches no hub and no box
-    alone : (a : Act) → Answers (asked s h) a → IsStamp s.clock a n → (b : Cluster) → new ≡ b
+    alone : (a : Act) → Suits (asked s h) a → IsStamp s.clock a n → (b : Cluster) → new ≡ b
         → b.ranks ≡ slice_set old.ranks r (told s h (answer_of a) n) → b.journal ≡ old.journal → b.boxes ≡ old.boxes
         → PartsMove RankMoves rank_at old.ranks (record { rank = r; hart = h; stamp = n; act = a }) new.ranks
         × (new.journal ≡ old.journal) × (new.boxes ≡ old.boxes)

@@ -1,20 +1,15 @@
--- What ranks that ran apart hand over, and the law of the order.
-use Rattle.std.specs.Prelude.{ℕ, suc, ◌+◌, ◌<◌, ◌/◌, List, [], ◌∷◌, ◌≡◌, ◌⊎◌, length, map, slice_get, Option, None}
-use Rattle.std.specs.Prelude.{Some, ⊤}
+-- What ranks that ran apart hand over.
+use Rattle.std.specs.Prelude.{ℕ, suc, ◌+◌, ◌<◌, ◌/◌, List, [], ◌∷◌, ◌≡◌, ◌⊎◌, length, slice_get, Option, None, Some, ⊤}
 use Rattle.std.specs.List.{filter_map, cons_option, AllByRecursion}
-use Rattle.rv_image.specs.declared.images.ImageParts.{ImageParts}
 use Rattle.rv_image.specs.declared.images.Link.{Link}
-use Rattle.rv_image.specs.Image.{IsImage}
 use Rattle.cl_journal.specs.declared.entries.Entry.{Entry}
 use Rattle.cl_machine.specs.Journal.{Enters}
 use Rattle.cl_rank.specs.Deeds.{Act, Deed, RankMoves, PartRun}
-use Rattle.cl_machine.specs.declared.steps.Step.{Step}
 use Rattle.cl_machine.specs.Boxes.{Thing, Box, empty_box}
-use Rattle.cl_machine.specs.Cluster.{Cluster, loaded_cluster, IsRun}
-use Rattle.cl_machine.specs.Merge.{IsMerge}
+use Rattle.cl_machine.specs.Cluster.{Cluster}
 use Rattle.cl_machine.specs.Order.{of_rank}
 use Rattle.cl_machine.specs.Parts.{own, PartRunAt}
-use Rattle.cl_machine.specs.Product.{step_of, entry_of, box_at}
+use Rattle.cl_machine.specs.Product.{entry_of, box_at}
 
 -- a thing that was taken: its ready stamp, its bytes, and the stamp of its Take
 pub record Got : Type 0 where
@@ -115,12 +110,3 @@ pub record Joined (links : List Link) (start final : Cluster) (deeds : ℕ
   pub calls : (r : ℕ) → of_rank (λ (e : Entry). e.rank) r entries ≡ filter_map entry_of (deeds r)
   -- the gate rule's facts of each box
   pub boxes : (b : ℕ) → BoxJoinedAt links b deeds (slice_get start.boxes b) (slice_get final.boxes b)
-
--- all ranks' deeds, put in order of their stamps, are one run from the loaded cluster, which ends where the parts ended
-abbrev pub OrderLaw : Type 0
-OrderLaw =
-    (image : ImageParts) (final : Cluster) (deeds : ℕ → List Deed) (entries : List Entry) (steps : List Step)
-    → IsImage image
-    → Joined image.links (loaded_cluster image) final deeds entries
-    → IsMerge (λ r. map step_of (deeds r)) steps
-    → IsRun (loaded_cluster image) steps final

@@ -1,12 +1,15 @@
 pub mod Steps
 pub mod Turns
+pub mod SameSteps
 pub mod Order
 pub mod Merge
 pub mod Journal
 pub mod Boxes
 pub mod Cluster
 pub mod Parts
+pub mod PartRuns
 pub mod Product
+pub mod ProductSteps
 pub mod Joined
 pub mod Laws
 pub mod Rows

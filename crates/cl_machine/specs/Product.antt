@@ -1,19 +1,8 @@
--- The same step as a product of parts: a deed moves its rank, and at most one other part, the hub or a box.
-use Rattle.std.specs.Prelude.{ℕ, ◌≡◌, Option, None, Some}
+-- What a deed moves beside its rank: the hub, by an entry of its journal, or a box.
+use Rattle.std.specs.Prelude.{ℕ, Option, None, Some}
 use Rattle.cl_journal.specs.declared.entries.Entry.{Entry}
-use Rattle.cl_machine.specs.Journal.{Journal, Enters}
-use Rattle.cl_rank.specs.Deeds.{Act, Deed, kind_of, RankMoves}
-use Rattle.cl_machine.specs.declared.steps.Step.{Step}
-use Rattle.cl_machine.specs.Boxes.{Box, box_number, IsEmpty, Holds, with_made, with_taken}
-use Rattle.cl_machine.specs.Cluster.{Cluster}
-use Rattle.cl_machine.specs.Parts.{PartsMove}
-
-abbrev pub step_of : Deed → Step
-step_of d = record { rank = d.rank; hart = d.hart; stamp = d.stamp; kind = kind_of d.act }
-
--- each deed moves its rank
-abbrev pub rank_at : Deed → Option ℕ
-rank_at d = Some d.rank
+use Rattle.cl_rank.specs.Deeds.{Act, Deed}
+use Rattle.cl_machine.specs.Boxes.{box_number}
 
 -- the journal's entry of a hub call
 abbrev pub entry_for : Deed → Act → Option Entry
@@ -24,22 +13,6 @@ entry_for d _ = None
 abbrev pub entry_of : Deed → Option Entry
 entry_of d = entry_for d d.act
 
--- the hub's part of a step
-abbrev pub JournalMoves : Journal → Option Entry → Journal → Type 0
-JournalMoves old None new = new ≡ old
-JournalMoves old (Some entry) new = Enters old entry new
-
--- a box's part of a step
-abbrev pub BoxActs : Box → ℕ → Act → Box → Type 0
-BoxActs old stamp (Act.Ready link part bytes) new = IsEmpty old × (new ≡ with_made old stamp bytes)
-BoxActs old stamp (Act.Take link part gate bytes) new = Holds old bytes × (gate ≡ old.stamp)
-    × (new ≡ with_taken old stamp)
-BoxActs old stamp (Act.Freed link part gate) new = IsEmpty old × (gate ≡ old.stamp) × (new ≡ old)
-BoxActs old stamp _ new = ⊥
-
-abbrev pub BoxMoves : Box → Deed → Box → Type 0
-BoxMoves old d new = BoxActs old d.stamp d.act new
-
 -- the box that a deed moves. A Miss changes nothing and is always allowed
 abbrev pub box_for : Act → Option ℕ
 box_for (Act.Ready link part bytes) = Some (box_number link part)
@@ -49,13 +22,3 @@ box_for _ = None
 
 abbrev pub box_at : Deed → Option ℕ
 box_at d = box_for d.act
-
-abbrev pub Goes : Cluster → Deed → Cluster → Type 0
-Goes old d new =
-    PartsMove RankMoves rank_at old.ranks d new.ranks
-    × JournalMoves old.journal (entry_of d) new.journal
-    × PartsMove BoxMoves box_at old.boxes d new.boxes
-
--- a step by a deed that looks like it
-abbrev pub PartsStep : Cluster → Step → Cluster → Type 0
-PartsStep old e new = (d : Deed) × (step_of d ≡ e) × Goes old d new

@@ -1,8 +1,8 @@
 //! Laws of the cluster, over the definitions alone: functions with empty bodies, whose contracts are the laws.
 
-ghost use Rattle.cl_machine.specs.Joined.{OrderLaw};
+ghost use Rattle.cl_machine.specs.Laws.{OrderLaw};
 ghost use Rattle.cl_machine.specs.Laws.{OneEnd, StepByStep, TableLaw};
-ghost use Rattle.cl_machine.specs.Merge.{OneMerge};
+ghost use Rattle.cl_machine.specs.Laws.{OneMerge};
 
 /// The table of steps and the product of parts are the same step.
 pub fn table_law()

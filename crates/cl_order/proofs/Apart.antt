@@ -11,8 +11,10 @@ use Rattle.cl_rank.specs.Deeds.{Deed, PartRun, RankMoves}
 use Rattle.cl_machine.specs.declared.steps.Step.{Step}
 use Rattle.cl_machine.specs.Cluster.{Cluster, IsRun}
 use Rattle.cl_machine.specs.Journal.{Enters, Journal}
-use Rattle.cl_machine.specs.Parts.{EachPartRuns, PartRunAt, PartsMove, PartsMoveAt, is_part, own}
-use Rattle.cl_machine.specs.Product.{BoxMoves, JournalMoves, box_at, entry_of, rank_at, step_of}
+use Rattle.cl_machine.specs.Parts.{PartRunAt, is_part, own}
+use Rattle.cl_machine.specs.PartRuns.{EachPartRuns, PartsMove, PartsMoveAt}
+use Rattle.cl_machine.specs.Product.{box_at, entry_of}
+use Rattle.cl_machine.specs.ProductSteps.{BoxMoves, JournalMoves, rank_at, step_of}
 use Rattle.cl_machine.proofs.Lists.{get-set_same, get-set_other}
 use Rattle.cl_machine.proofs.Tables.{table_law}
 

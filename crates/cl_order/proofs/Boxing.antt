@@ -9,7 +9,7 @@ use mathlib.Core.Logic.{inl, inr}
 use Rattle.cl_rank.specs.Deeds.{Act, Deed, PartRun}
 use Rattle.cl_machine.specs.Boxes.{Box, Thing}
 use Rattle.cl_machine.specs.Joined.{Got, ShowsTake, gate_stamp, got_of, made_of, shown, thing_of}
-use Rattle.cl_machine.specs.Product.{BoxMoves}
+use Rattle.cl_machine.specs.ProductSteps.{BoxMoves}
 use Rattle.cl_machine.proofs.Meshes.{ended}
 use Rattle.cl_machine.proofs.Views.{IsSending}
 use Rattle.cl_gates.specs.Gates.{Gate, KeepsGate}

@@ -23,7 +23,8 @@ use Rattle.cl_machine.specs.Joined.{BoxJoined, BoxJoinedAt, OnItsSide, gate_stam
 use Rattle.cl_machine.specs.Joined.{made_of, shown}
 use Rattle.cl_machine.specs.Order.{of_rank}
 use Rattle.cl_machine.specs.Parts.{PartRunAt, is_part, own}
-use Rattle.cl_machine.specs.Product.{BoxMoves, box_at, box_for, entry_for, entry_of, step_of}
+use Rattle.cl_machine.specs.Product.{box_at, box_for, entry_for, entry_of}
+use Rattle.cl_machine.specs.ProductSteps.{BoxMoves, step_of}
 use Rattle.cl_machine.proofs.Lists.{filter-keeps, All-filter}
 use Rattle.cl_machine.proofs.Picks.{filter-filter, picked_of_rank}
 use Rattle.cl_machine.proofs.Views.{IsSending, IsTaking, Rises}

@@ -11,7 +11,7 @@ use Rattle.cl_machine.specs.Cluster.{Cluster, IsStep, IsRun, loaded_cluster}
 use Rattle.cl_machine.specs.Joined.{Joined}
 use Rattle.cl_machine.specs.Merge.{IsMerge}
 use Rattle.cl_machine.specs.Order.{InOrder, of_rank}
-use Rattle.cl_machine.specs.Product.{BoxMoves, step_of}
+use Rattle.cl_machine.specs.ProductSteps.{BoxMoves, step_of}
 
 -- a run of a list and one step more is a run of the list, and then the step
 abbrev pub AppendLaw : Type 0

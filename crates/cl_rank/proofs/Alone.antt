@@ -2,7 +2,8 @@
 use Rattle.std.proofs.Common.{◌≡◌, ℕ, ◌<◌, [], ◌∷◌, sym, ap, ◌∙◌, subst, arith}
 use Rattle.cl_state.specs.Rank.{Rank}
 use Rattle.cl_state.proofs.Moves.{told_at}
-use Rattle.cl_rank.specs.Deeds.{Act, Deed, answer_of, IsStamp, RankMoves, IsAlone}
+use Rattle.cl_rank.specs.Deeds.{Act, Deed, answer_of, IsStamp, RankMoves}
+use Rattle.cl_rank.specs.Alone.{IsAlone}
 use Rattle.cl_rank.specs.Laws.{RisesFrom, RisingLaw, OneRankLaw}
 
 -- an event's stamp is above its rank's clock

@@ -18,8 +18,9 @@ use Rattle.cl_trace.specs.declared.events.Kind.TheVariants as kind
 use Rattle.cl_state.specs.Rank.{Rank}
 use Rattle.cl_rank.specs.declared.ranks.Rank.{Rank as Running}
 use Rattle.cl_rank.specs.declared.turning.Turn.{Turn}
-use Rattle.cl_rank.specs.Deeds.{Act, Answers, IsStamp, answer_of, event_of, kind_of, request_of}
-use Rattle.cl_rank.specs.Sides.{AreChannelsOf, place_of, sides_in}
+use Rattle.cl_rank.specs.Deeds.{Act, Suits, IsStamp, answer_of, event_of, kind_of, request_of}
+use Rattle.cl_rank.specs.Sides.{place_of}
+use Rattle.cl_rank.specs.RankSides.{AreChannelsOf, sides_in}
 use Rattle.cl_rank.specs.Steps.{IsTested}
 use Rattle.cl_rank.specs.Views.{AsksNobody}
 use Rattle.cl_rank.proofs.Looked.{freed_moved, missed_moved, never_all, never_unready}
@@ -33,7 +34,7 @@ Tidings = Answer × Kind × ℕ
 pub record BoxTurn (r : Running) (t : Turn) (link part : ℕ) (new : RankState) (sends : List (ℕ × SendView))
     (recvs : List (ℕ × RecvView)) (x : Tidings) : Type 0 where
   pub act : Act
-  pub answers : Answers (asked (rank_of r.state) t.hart) act
+  pub answers : Suits (asked (rank_of r.state) t.hart) act
   pub stamp : IsStamp r.state.clock act x.2
   pub tells : x.0 ≡ answer_of act
   pub kinds : x.1 ≡ kind_of act

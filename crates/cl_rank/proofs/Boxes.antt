@@ -10,7 +10,8 @@ use Rattle.part_box.specs.Keys.{Sender}
 use Rattle.part_channel.specs.Channels.{ChannelView, receiver_box, sender_box}
 use Rattle.part_channel.specs.Receiving.{RecvView}
 use Rattle.part_channel.specs.Sending.{IsPast, IsSendSide, SendView, made_of, ready_refusal, readied}
-use Rattle.part_channel.specs.Words.{bytes_of, words_of}
+use Rattle.part_channel.specs.Words.{bytes_of}
+use Rattle.part_channel.specs.BoxWords.{words_of}
 use Rattle.part_channel.proofs.Words.{length-words_of}
 use Rattle.part_phase.specs.declared.phases.Phase.{Phase}
 use Rattle.part_phase.specs.declared.phases.Phase.TheVariants.{Apart, Sending, Receiving}
@@ -27,8 +28,9 @@ use Rattle.cl_state.specs.Rank.{Rank}
 use Rattle.cl_state.specs.Told.{told, told_row}
 use Rattle.cl_rank.specs.Deeds.{Act}
 use Rattle.cl_rank.specs.Fitting.{RequestsFit}
-use Rattle.cl_rank.specs.Sides.{AreChannelsOf, AreSides, HasSender, KeyMoves, PhaseFits, ReceiverActs, SenderActs, is_place}
-use Rattle.cl_rank.specs.Sides.{phase_of_sender, sender_key, sender_view, side_of, sides_in}
+use Rattle.cl_rank.specs.Sides.{ReceiverActs, SenderActs, is_place}
+use Rattle.cl_rank.specs.RankSides.{AreChannelsOf, AreSides, HasSender, KeyMoves, PhaseFits}
+use Rattle.cl_rank.specs.RankSides.{phase_of_sender, sender_key, sender_view, side_of, sides_in}
 use Rattle.cl_rank.specs.Steps.{IsReadied, MayReady, SenderAt, changed_side}
 use Rattle.cl_rank.proofs.Answered.{ready_becomes}
 use Rattle.cl_rank.proofs.Kept.{kept, owned, sender_fits}

@@ -9,8 +9,10 @@ use Rattle.part_channel.specs.Receiving.{RecvView}
 use Rattle.part_channel.specs.Sending.{SendView, modified}
 use Rattle.rv_image.specs.declared.images.ImageVersion.{ImageVersion}
 use Rattle.cl_rank.specs.Deeds.{Act}
-use Rattle.cl_rank.specs.Sides.{HasKey, KeyMoves, KeysMove, ReceiverActs, SenderActs, Sides, is_place, place_of}
-use Rattle.cl_rank.specs.Sides.{receiver_key, receiver_of, receiver_view, sender_key, sender_of, sender_view, side_of}
+use Rattle.cl_rank.specs.Sides.{ReceiverActs, SenderActs, is_place, place_of}
+use Rattle.cl_rank.specs.RankSides.{HasKey, KeyMoves, KeysMove, Sides}
+use Rattle.cl_rank.specs.RankSides.{receiver_key, receiver_of, receiver_view, sender_key, sender_of, sender_view}
+use Rattle.cl_rank.specs.RankSides.{side_of}
 use Rattle.cl_rank.specs.Steps.{changed_side}
 use Rattle.cl_rank.proofs.Kept.{each_link}
 use Rattle.cl_rank.proofs.Lists.{at_changed, at_modified, beside, beside_modified, differs, is_equal, itself}

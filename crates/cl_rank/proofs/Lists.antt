@@ -6,7 +6,7 @@ use Rattle.std.specs.Prelude.{◌≤◌, get_or, slice_get, IfSome, option_map, 
 use Rattle.part_channel.specs.Sending.{modified}
 use Rattle.part_phase.specs.declared.phases.Phase.{Phase}
 use Rattle.part_phase.specs.Phases.{changed_at}
-use Rattle.cl_rank.specs.Sides.{side_of}
+use Rattle.cl_rank.specs.RankSides.{side_of}
 use Rattle.cl_rank.specs.Steps.{changed_side, IsPlace}
 
 pub itself : (n : ℕ) → (n == n) ≡ true

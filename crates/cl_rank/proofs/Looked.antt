@@ -28,8 +28,10 @@ use Rattle.cl_state.specs.Rank.{Rank}
 use Rattle.cl_state.specs.Told.{told}
 use Rattle.cl_rank.specs.Deeds.{Act}
 use Rattle.cl_rank.specs.Fitting.{RequestsFit}
-use Rattle.cl_rank.specs.Sides.{AreChannelsOf, AreSides, HasKey, HasSender, KeyMoves, ReceiverActs, SenderActs, is_place}
-use Rattle.cl_rank.specs.Sides.{phase_of_sender, place_of, receiver_key, sender_key, sender_of, sender_view, side_of, sides_in}
+use Rattle.cl_rank.specs.Sides.{ReceiverActs, SenderActs, is_place, place_of}
+use Rattle.cl_rank.specs.RankSides.{AreChannelsOf, AreSides, HasKey, HasSender, KeyMoves}
+use Rattle.cl_rank.specs.RankSides.{phase_of_sender, receiver_key, sender_key, sender_of, sender_view, side_of}
+use Rattle.cl_rank.specs.RankSides.{sides_in}
 use Rattle.cl_rank.specs.Steps.{IsTested, MayTest, changed_side}
 use Rattle.cl_rank.proofs.Answered.{freed_becomes, unfreed_stays}
 use Rattle.cl_rank.proofs.Boxes.{key_at, sender_at, sender_there}

@@ -12,9 +12,9 @@ use Rattle.cl_state.specs.Told.{told}
 use Rattle.cl_rank.specs.declared.ranks.Rank.{Rank as Running}
 use Rattle.cl_trace.specs.declared.events.Event.{Event}
 use Rattle.cl_rank.specs.Deeds.{Act, event_of}
-use Rattle.cl_rank.specs.Sides.{KeysMove, sides_in}
+use Rattle.cl_rank.specs.RankSides.{KeysMove, sides_in}
 use Rattle.cl_rank.specs.Steps.{begun_at, begun_receiver, begun_sender}
-use Rattle.cl_rank.specs.Turns.{Gives, IsTurn, RankView}
+use Rattle.cl_rank.specs.Turning.{DeskRule, IsTurn, RankView}
 use Rattle.cl_rank.proofs.Moves.{Moved, alone_moved, fits_at, row_at, started_at}
 use Rattle.cl_rank.proofs.Rows.{RowFits}
 use Rattle.cl_rank.proofs.Went.{deed_of}
@@ -37,7 +37,7 @@ went_plain r hart stamp new asks next is =
     (omega (arith, next)) is)
 
 -- and the turn that it is
-pub plain_turn : {D : Type 0} (gives : Gives D) (desk : D) (old new : RankView) (before : List Event) (hart : ℕ)
+pub plain_turn : {D : Type 0} (gives : DeskRule D) (desk : D) (old new : RankView) (before : List Event) (hart : ℕ)
     → hart < length old.rank.harts → old.rank.clock + 1 < 2 ^ 62 → asked old.rank hart ≡ ask.Plain
     → new.rank ≡ told old.rank hart answer.Alone (old.rank.clock + 1) → before ≡ old.events
     → new.events ≡ before ++ event_of (deed_of old hart (old.rank.clock + 1) Act.Plain) ∷ []

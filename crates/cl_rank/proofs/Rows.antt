@@ -26,7 +26,7 @@ use Rattle.part_phase.specs.Limits.{are_parts, box_bytes, is_size, padded}
 use Rattle.part_phase.specs.Phases.{sending_at, receiving_at}
 use Rattle.part_phase.specs.Receiving.{next_box, next_box_of}
 use Rattle.part_phase.specs.Sending.{all_freed, is_ready, next_to_free}
-use Rattle.cl_calls.specs.Calls.{call_of, no_rank, no_message}
+use Rattle.cl_calls.specs.Calls.{call_named, no_rank, no_message}
 use Rattle.cl_calls.specs.Checks.{checks, first_fault, holds_of_sender, receiving_side, sending_side, sends_in}
 use Rattle.cl_calls.specs.Needs.{needs_of}
 use Rattle.cl_calls.specs.declared.calls.Call.{Call}
@@ -358,7 +358,7 @@ module _ (site : Site) (part : Part) where
   refused_or_passed c (Some code) e = tt
 
   checked_passed : PassedIn (checked site part)
-  checked_passed = refused_or_passed (call_of part.hart) _ refl
+  checked_passed = refused_or_passed (call_named part.hart) _ refl
 
   step_or_passed : (b : Bool) → PassedIn (if b then checked site part else Step)
   step_or_passed true = checked_passed

@@ -8,8 +8,8 @@ use Rattle.part_channel.specs.declared.progress.Progress.{Progress}
 use Rattle.part_channel.specs.declared.progress.Take.{Take}
 use Rattle.part_channel.specs.Receiving.{RecvView, shown_take, take_refusal, take_stamp, took}
 use Rattle.part_channel.specs.Sending.{IsPast, IsTold, SendView, ready_refusal, readied, test_progress, tested}
-use Rattle.part_channel.specs.Words.{words_of}
-use Rattle.cl_rank.specs.Sides.{side_of}
+use Rattle.part_channel.specs.BoxWords.{words_of}
+use Rattle.cl_rank.specs.RankSides.{side_of}
 use Rattle.cl_rank.specs.Steps.{IsPlace, IsReadied, IsTaken, IsTested, MayReady, MayTake, MayTest, ReceiverAt, SenderAt}
 use Rattle.cl_rank.specs.Steps.{changed_side, keeps_receiving, keeps_sending}
 use Rattle.part_channel.proofs.Words.{bytes_back}

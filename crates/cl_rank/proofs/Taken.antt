@@ -41,9 +41,10 @@ use Rattle.cl_rank.specs.declared.ranks.Rank.{Rank as Running}
 use Rattle.cl_rank.specs.declared.turning.Turn.{Turn}
 use Rattle.cl_rank.specs.Deeds.{Act}
 use Rattle.cl_rank.specs.Fitting.{RequestsFit}
-use Rattle.cl_rank.specs.Sides.{AreChannelsOf, AreSides, HasKey, HasReceiver, KeyMoves, PhaseFits, ReceiverActs}
-use Rattle.cl_rank.specs.Sides.{SenderActs, is_place, phase_of_receiver, place_of, receiver_key, receiver_of}
-use Rattle.cl_rank.specs.Sides.{receiver_view, sender_key, side_of, sides_in}
+use Rattle.cl_rank.specs.Sides.{ReceiverActs, SenderActs, is_place, place_of}
+use Rattle.cl_rank.specs.RankSides.{AreChannelsOf, AreSides, HasKey, HasReceiver, KeyMoves, PhaseFits}
+use Rattle.cl_rank.specs.RankSides.{phase_of_receiver, receiver_key, receiver_of}
+use Rattle.cl_rank.specs.RankSides.{receiver_view, sender_key, side_of, sides_in}
 use Rattle.cl_rank.specs.Steps.{IsTaken, MayTake, ReceiverAt, changed_side}
 use Rattle.cl_rank.proofs.Answered.{taken_becomes, untaken_stays}
 use Rattle.cl_rank.proofs.Asks.{BoxTurn, Tidings}

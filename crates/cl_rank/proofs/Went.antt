@@ -18,11 +18,12 @@ use Rattle.cl_state.specs.Room.{rank_of}
 use Rattle.cl_state.specs.Told.{told}
 use Rattle.cl_rank.specs.declared.ranks.Rank.{Rank as Running}
 use Rattle.cl_rank.specs.declared.turning.Turn.{Turn}
-use Rattle.cl_rank.specs.Deeds.{Act, Answers, Deed, IsStamp, answer_of, event_of, kind_of, request_of}
+use Rattle.cl_rank.specs.Deeds.{Act, Suits, Deed, IsStamp, answer_of, event_of, kind_of, request_of}
 use Rattle.cl_rank.specs.Follows.{started_link}
-use Rattle.cl_rank.specs.Sides.{AreChannelsOf, KeysMove, place_of, sides_in}
+use Rattle.cl_rank.specs.Sides.{place_of}
+use Rattle.cl_rank.specs.RankSides.{AreChannelsOf, KeysMove, sides_in}
 use Rattle.cl_rank.specs.Steps.{IsReadied, MayReady, begun_at, begun_receiver, begun_sender}
-use Rattle.cl_rank.specs.Turns.{RankView}
+use Rattle.cl_rank.specs.Turning.{RankView}
 use Rattle.cl_rank.specs.Views.{AsksNobody, IsQuietTurn, MayTurn, view_of}
 use Rattle.cl_rank.proofs.Boxes.{long_enough, may_ready, ready_moved}
 use Rattle.cl_rank.proofs.Keys.{somewhere}
@@ -46,7 +47,7 @@ abbrev pub deed_of : RankView → ℕ → ℕ → Act → Deed
 deed_of old hart stamp act = record { rank = old.rank.site.number; hart = hart; stamp = stamp; act = act }
 
 pub quiet_turn : (old new : RankView) (hart stamp : ℕ) (act : Act) → hart < length old.rank.harts → stamp < 2 ^ 62
-    → Answers (asked old.rank hart) act → IsStamp old.rank.clock act stamp
+    → Suits (asked old.rank hart) act → IsStamp old.rank.clock act stamp
     → new.rank ≡ told old.rank hart (answer_of act) stamp → request_of act ≡ None
     → new.events ≡ old.events ++ event_of (deed_of old hart stamp act) ∷ []
     → KeysMove old.rank.site.version stamp act old.sides new.sides → new.asked_box ≡ place_of act

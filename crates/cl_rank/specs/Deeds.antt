@@ -60,16 +60,16 @@ abbrev pub event_of : Deed → Event
 event_of d = record { hart = d.hart; stamp = d.stamp; kind = kind_of d.act; request = request_of d.act }
 
 -- the act is one that answers what was asked
-abbrev pub Answers : Ask → Act → Type 0
-Answers asks Act.Plain = asks ≡ Ask.Plain
-Answers asks Act.Local = asks ≡ Ask.Local
-Answers asks (Act.Hub clock request reply) = asks ≡ Ask.Hub request
-Answers asks (Act.Ready link part bytes) = asks ≡ Ask.Ready link part bytes
-Answers asks (Act.Take link part gate bytes) = asks ≡ Ask.Look link part
-Answers asks (Act.Miss link part) = (asks ≡ Ask.Look link part) ⊎ (asks ≡ Ask.Freed link part)
-Answers asks (Act.Freed link part gate) = asks ≡ Ask.Freed link part
-Answers asks Act.Held = asks ≡ Ask.Held
-Answers asks Act.Idle = asks ≡ Ask.Idle
+abbrev pub Suits : Ask → Act → Type 0
+Suits asks Act.Plain = asks ≡ Ask.Plain
+Suits asks Act.Local = asks ≡ Ask.Local
+Suits asks (Act.Hub clock request reply) = asks ≡ Ask.Hub request
+Suits asks (Act.Ready link part bytes) = asks ≡ Ask.Ready link part bytes
+Suits asks (Act.Take link part gate bytes) = asks ≡ Ask.Look link part
+Suits asks (Act.Miss link part) = (asks ≡ Ask.Look link part) ⊎ (asks ≡ Ask.Freed link part)
+Suits asks (Act.Freed link part gate) = asks ≡ Ask.Freed link part
+Suits asks Act.Held = asks ≡ Ask.Held
+Suits asks Act.Idle = asks ≡ Ask.Idle
 
 -- the stamp of an act at a rank's clock. A gate's stamp is
 -- passed; the hub's clock too, which the rank alone doesn't see
@@ -84,7 +84,7 @@ abbrev pub RankMoves : Rank → Deed → Rank → Type 0
 RankMoves old d new =
     (d.hart < length old.harts)
     × (d.stamp < 2 ^ 62)
-    × Answers (asked old d.hart) d.act
+    × Suits (asked old d.hart) d.act
     × IsStamp old.clock d.act d.stamp
     × (new ≡ told old d.hart (answer_of d.act) d.stamp)
 
@@ -92,7 +92,3 @@ RankMoves old d new =
 abbrev pub PartRun : {S D : Type 0} → (S → D → S → Type 0) → S → List D → S → Type 0
 PartRun Move old [] new = new ≡ old
 PartRun {S} Move old (d ∷ ds) new = (mid : S) × Move old d mid × PartRun Move mid ds new
-
--- the rank alone: what it met outside is handed in
-abbrev pub IsAlone : Rank → List Deed → Rank → Type 0
-IsAlone old ds new = PartRun RankMoves old ds new

@@ -1,9 +1,12 @@
 pub mod Deeds
+pub mod Alone
 pub mod Sides
+pub mod RankSides
 pub mod Facts
 pub mod Steps
 pub mod Fitting
 pub mod Follows
 pub mod Laws
 pub mod Turns
+pub mod Turning
 pub mod Views

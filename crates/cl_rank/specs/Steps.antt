@@ -10,10 +10,11 @@ use Rattle.part_channel.specs.Receiving.{RecvView, IsRecvSide, awaited, shown_ta
 use Rattle.part_channel.specs.Sending.{SendView, IsSendSide, IsPast, begun, shaped, looks_at, ready_refusal, readied}
 use Rattle.part_channel.specs.Sending.{IsTold}
 use Rattle.part_channel.specs.Sending.{test_progress, tested}
-use Rattle.part_channel.specs.Words.{bytes_of, words_of}
+use Rattle.part_channel.specs.Words.{bytes_of}
+use Rattle.part_channel.specs.BoxWords.{words_of}
 use Rattle.part_phase.specs.declared.receiving.RecvPhase.{RecvPhase}
 use Rattle.part_phase.specs.declared.sending.SendPhase.{SendPhase}
-use Rattle.cl_rank.specs.Sides.{side_of}
+use Rattle.cl_rank.specs.RankSides.{side_of}
 
 -- the first side of this link is changed
 abbrev pub changed_side : {S : Type 0} → ℕ → (S → S) → List (ℕ × S) → List (ℕ × S)

@@ -5,7 +5,8 @@ use Rattle.mp_request.specs.Table.{Table, request_at}
 use Rattle.mp_types.specs.declared.replies.Reply.{Reply}
 use Rattle.mp_types.specs.declared.requests.Request.{Request}
 use Rattle.cl_calls.specs.Checks.{sending_side}
-use Rattle.cl_state.specs.Room.{HasRoom, IsNext, rank_of}
+use Rattle.cl_state.specs.Room.{rank_of}
+use Rattle.cl_state.specs.TurnRoom.{HasRoom, IsNext}
 use Rattle.cl_state.specs.Asked.{asked}
 use Rattle.cl_state.specs.declared.asking.Ask.{Ask}
 use Rattle.cl_state.specs.declared.asking.Answer.TheVariants.{Alone}
@@ -18,9 +19,10 @@ use Rattle.part_phase.specs.Phases.{sending_at}
 use Rattle.cl_rank.specs.declared.ranks.Rank.{Rank}
 use Rattle.cl_rank.specs.declared.sides.BoxPlace.{BoxPlace}
 use Rattle.cl_rank.specs.declared.turning.Turn.{Turn}
-use Rattle.cl_rank.specs.Deeds.{Act, Deed, event_of, RankMoves, Answers, answer_of, kind_of, request_of}
-use Rattle.cl_rank.specs.Sides.{KeysMove, place_of, sides_in}
-use Rattle.cl_rank.specs.Turns.{RankView}
+use Rattle.cl_rank.specs.Deeds.{Act, Deed, event_of, RankMoves, Suits, answer_of, kind_of, request_of}
+use Rattle.cl_rank.specs.Sides.{place_of}
+use Rattle.cl_rank.specs.RankSides.{KeysMove, sides_in}
+use Rattle.cl_rank.specs.Turning.{RankView}
 
 -- a box as the pair of its link and its number there
 abbrev pub place_in : Option BoxPlace → Option (ℕ × ℕ)
@@ -47,7 +49,7 @@ pub record MayTurn (r : Rank) (t : Turn) : Type 0 where
 -- a turn that asks nobody is an act of this kind
 pub record AsksNobody (asks : Ask) (told : Kind) : Type 0 where
   pub act : Act
-  pub answers : Answers asks act
+  pub answers : Suits asks act
   pub alone : answer_of act ≡ Alone
   pub quiet : request_of act ≡ None
   pub nowhere : place_of act ≡ None

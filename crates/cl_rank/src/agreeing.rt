@@ -5,7 +5,7 @@ ghost use Rattle.part_box.specs.Rule.{GateRule};
 ghost use Rattle.part_box.specs.declared.view.Receiving.{Receiving};
 ghost use Rattle.part_box.specs.declared.view.Sending.{Sending};
 ghost use Rattle.part_phase.specs.Limits.{box_words};
-ghost use Rattle.cl_rank.specs.Sides.{AreChannelsOf, receiver_of, sender_of};
+ghost use Rattle.cl_rank.specs.RankSides.{AreChannelsOf, receiver_of, sender_of};
 ghost use Rattle.cl_rank.specs.Views.{view_of};
 
 use crate::ranks::Rank;

@@ -1,7 +1,7 @@
 //! Where a rank makes its calls of the hub.
 
 ghost use Rattle.std.specs.Prelude.{◌≡◌, ◌<◌, ◌^◌, IfOk, IfErr};
-ghost use Rattle.cl_rank.specs.Turns.{Answered, IsFault};
+ghost use Rattle.cl_rank.specs.Turning.{Answered, IsFault};
 
 use cl_journal::{Hub, HubFault};
 use mp_types::{Reply, Request, Stamp};
@@ -13,7 +13,7 @@ pub trait Desk<R> {
     ghost use Rattle.mp_types.specs.declared.requests.Request.{Request};
     ghost use Rattle.mp_types.specs.declared.replies.Reply.{Reply};
     ghost use Rattle.cl_journal.specs.declared.journal.HubFault.{HubFault};
-    ghost use Rattle.cl_rank.specs.Turns.{IsFault};
+    ghost use Rattle.cl_rank.specs.Turning.{IsFault};
 
     // the desk before, the rank, the hart, the rank's clock, the
     // request, what was answered with its stamp, the desk after
@@ -41,12 +41,12 @@ pub struct LockedDesk<'a> {
 }
 
 impl<'a, R: Wait> Desk<R> for LockedDesk<'a> {
-    ghost use Rattle.cl_journal.specs.Journal.{Journal};
-    ghost use Rattle.cl_rank.specs.Turns.{Answered};
+    ghost use Rattle.cl_journal.specs.Replaying.{HubHistory};
+    ghost use Rattle.cl_rank.specs.Turning.{Answered};
 
     // some journal before and one after answered just this call of just this rank and hart
-    ghost gives = { λ before rank hart clock request told after. (j : Journal) ×
-        (k : Journal) × Answered j rank hart clock request told k };
+    ghost gives = { λ before rank hart clock request told after. (j : HubHistory) ×
+        (k : HubHistory) × Answered j rank hart clock request told k };
 
     fn call(
         &mut self,
@@ -68,7 +68,7 @@ pub struct PlainDesk<'a> {
 }
 
 impl<'a, R> Desk<R> for PlainDesk<'a> {
-    ghost use Rattle.cl_rank.specs.Turns.{Answered};
+    ghost use Rattle.cl_rank.specs.Turning.{Answered};
 
     // the desk keeps its reference to the hub, so that its owner learns what the hub became
     ghost gives = { λ before rank hart clock request told after. (after.hub.ghost_name

@@ -6,8 +6,9 @@ ghost use Rattle.cl_state.specs.Room.{rank_of};
 ghost use Rattle.cl_trace.specs.Rising.{last_stamp};
 ghost use Rattle.cl_rank.specs.Facts.{are_sides_fact};
 ghost use Rattle.cl_rank.specs.Fitting.{RequestsFit};
-ghost use Rattle.cl_rank.specs.Sides.{AreChannelsOf, AreNewSides, AreSides, sides_in};
-ghost use Rattle.cl_rank.specs.Turns.{Answered, IsActive, IsCause, IsTurn, StopHolds};
+ghost use Rattle.cl_rank.specs.RankSides.{AreChannelsOf, AreNewSides, AreSides, sides_in};
+ghost use Rattle.cl_rank.specs.Turns.{IsActive};
+ghost use Rattle.cl_rank.specs.Turning.{Answered, IsCause, IsTurn, StopHolds};
 
 use crate::desks::{Desk, PlainDesk};
 use crate::sides::BoxPlace;

@@ -2,7 +2,7 @@
 
 ghost use Rattle.std.specs.Prelude.{◌≡◌, ◌<◌, ◌+◌, ◌-◌, ◌^◌, IfSome};
 ghost use Rattle.cl_rank.specs.Steps.{IsPlace, IsReadied, IsTaken, IsTested, MayReady, MayTake, MayTest, changed_side};
-ghost use Rattle.cl_rank.specs.Sides.{side_of};
+ghost use Rattle.cl_rank.specs.RankSides.{side_of};
 ghost use Rattle.cl_rank.specs.Steps.{ReceivingMay, SendingMay, begun_at, begun_receiver, begun_sender};
 ghost use Rattle.cl_rank.specs.Steps.{followed_receiver};
 ghost use Rattle.cl_rank.specs.Steps.{followed_sender};

@@ -1,7 +1,7 @@
 //! Why a rank stops.
 
 ghost use Rattle.std.specs.Prelude.{◌≡◌};
-ghost use Rattle.cl_rank.specs.Turns.{stop_of as stop_of_fault};
+ghost use Rattle.cl_rank.specs.Turning.{stop_of as stop_of_fault};
 
 use cl_journal::HubFault;
 

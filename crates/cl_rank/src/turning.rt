@@ -14,8 +14,9 @@ ghost use Rattle.cl_state.specs.Asked.{asked, is_ecall as is_ecall_of};
 ghost use Rattle.cl_state.specs.Room.{rank_of};
 ghost use Rattle.cl_state.specs.Told.{told};
 ghost use Rattle.cl_rank.specs.Follows.{named_link as named_link_in, started_link};
-ghost use Rattle.cl_rank.specs.Sides.{AreChannelsOf};
-ghost use Rattle.cl_rank.specs.Turns.{AllStopped, IsActive, IsTurn, StopHolds};
+ghost use Rattle.cl_rank.specs.RankSides.{AreChannelsOf};
+ghost use Rattle.cl_rank.specs.Turns.{AllStopped, IsActive};
+ghost use Rattle.cl_rank.specs.Turning.{IsTurn, StopHolds};
 ghost use Rattle.cl_rank.specs.Turns.{all_stopped as all_stopped_of, is_stopped as is_stopped_of};
 ghost use Rattle.cl_rank.specs.Views.{AsksNobody, IsHubTurn, IsQuietTurn, MayTurn, view_of};
 

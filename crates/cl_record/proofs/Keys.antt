@@ -10,14 +10,16 @@ use Rattle.part_box.specs.declared.view.Got.{Got}
 use Rattle.part_box.specs.declared.view.Made.{Made}
 use Rattle.part_box.specs.declared.view.Receiving.{Receiving}
 use Rattle.part_box.specs.declared.view.Sending.{Sending}
-use Rattle.part_box.specs.Gate.{last_ready, last_take, ready_stamp, taken_stamp}
+use Rattle.part_box.specs.Gate.{last_take, ready_stamp, taken_stamp}
+use Rattle.part_box.specs.LastReady.{last_ready}
 use Rattle.part_box.specs.Steps.{with_freed, with_got, with_look}
 use Rattle.part_box.specs.Steps as key
 use Rattle.part_box.proofs.Agreed.{freed_now, got_is_made, made_is, open_is_empty}
 use Rattle.part_box.proofs.Lists.{last_take-push}
 use Rattle.part_phase.specs.Limits.{box_words}
 use Rattle.cl_machine.specs.Boxes.{Holds, IsEmpty, with_made, with_taken}
-use Rattle.cl_record.specs.Keys.{AgreeOn, box_of, bytes_in, last_stamp, thing_of}
+use Rattle.cl_record.specs.Keys.{bytes_in}
+use Rattle.cl_record.specs.BoxKeys.{AgreeOn, box_of, last_stamp, thing_of}
 
 pub last_ready-push : (made : List Made) (m : Made) → last_ready (made ++ m ∷ []) ≡ m.stamp
 last_ready-push [] m = refl

@@ -15,14 +15,16 @@ use Rattle.part_box.specs.declared.settled.Settled.{Settled}
 use Rattle.part_box.specs.declared.view.Made.{Made}
 use Rattle.part_box.specs.declared.view.Receiving.{Receiving}
 use Rattle.part_box.specs.declared.view.Sending.{Sending}
-use Rattle.part_box.specs.Gate.{last_ready, last_take, things_of}
+use Rattle.part_box.specs.Gate.{last_take, things_of}
+use Rattle.part_box.specs.LastReady.{last_ready}
 use Rattle.part_box.specs.Gate as gate
 use Rattle.part_box.specs.Settling.{IsSettled}
 use Rattle.part_channel.specs.Words.{bytes_of_word}
 use Rattle.part_channel.proofs.Words.{length-bytes}
 use Rattle.part_phase.specs.Limits.{box_words}
 use Rattle.cl_machine.specs.Boxes.{Holds}
-use Rattle.cl_record.specs.Keys.{Shows, box_of, bytes_in, last_stamp, thing_of}
+use Rattle.cl_record.specs.Keys.{Shows, bytes_in}
+use Rattle.cl_record.specs.BoxKeys.{box_of, last_stamp, thing_of}
 use Rattle.cl_record.proofs.Keys.{last_ready-push, stamp_of_empty, stamp_of_full}
 
 take-all : {X : Type 0} (n : ℕ) (xs : List X) → length xs ≤ n → take n xs ≡ xs

@@ -8,7 +8,7 @@ use Rattle.std.proofs.lemmas.Bool.Decides.{eqb_tells}
 use Rattle.std.proofs.lemmas.Option.{get_or_from_slice_get, same_Some}
 use Rattle.rv_image.specs.declared.images.Link.{Link}
 use Rattle.part_channel.specs.Channels.{ChannelView}
-use Rattle.cl_rank.specs.Sides.{side_of}
+use Rattle.cl_rank.specs.RankSides.{side_of}
 use Rattle.cl_machine.proofs.Lists.{get-set_other, get-set_same}
 use Rattle.part_box.specs.declared.settled.Settled.{Settled}
 use Rattle.part_channel.specs.Settling.{IsLeft}

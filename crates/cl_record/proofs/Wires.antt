@@ -17,10 +17,9 @@ use Rattle.part_channel.specs.Receiving.{RecvView, new_recv_side}
 use Rattle.part_channel.specs.Sending.{SendView, new_send_side}
 use Rattle.part_phase.specs.Limits.{box_words}
 use Rattle.part_phase.specs.Phases.{first_phase}
-use Rattle.cl_rank.specs.Sides.{AreChannelsOf, AreNewSides, HasReceiver, HasSender, PhaseFits, Sides, receiver_key}
-use Rattle.cl_rank.specs.Sides.{receiver_of}
-use Rattle.cl_rank.specs.Sides.{sender_key, sender_of, side_of}
-use Rattle.cl_record.specs.Keys.{HasKeysOf}
+use Rattle.cl_rank.specs.RankSides.{AreChannelsOf, AreNewSides, HasReceiver, HasSender, PhaseFits, Sides, receiver_key}
+use Rattle.cl_rank.specs.RankSides.{receiver_of, sender_key, sender_of, side_of}
+use Rattle.cl_record.specs.BoxKeys.{HasKeysOf}
 use Rattle.cl_record.specs.Wiring.{AreNewEnds, IsNewEnd}
 
 -- what one end is: of a rank at neither side, at the sender's, or at the receiver's

@@ -1,5 +1,6 @@
 pub mod Plans
 pub mod Keys
+pub mod BoxKeys
 pub mod Records
 pub mod Room
 pub mod Wiring

@@ -7,7 +7,7 @@ use Rattle.part_channel.specs.Channels.{ChannelView}
 use Rattle.part_channel.specs.Receiving.{RecvView, new_recv_side}
 use Rattle.part_channel.specs.Sending.{SendView, new_send_side}
 use Rattle.part_phase.specs.Limits.{box_words}
-use Rattle.cl_rank.specs.Sides.{Sides, side_of}
+use Rattle.cl_rank.specs.RankSides.{Sides, side_of}
 use Rattle.cl_record.specs.declared.wiring.Ends.{Ends}
 use Rattle.cl_record.specs.declared.wiring.Wiring.{Wiring}
 

@@ -1,7 +1,7 @@
 //! What the boxes of all links are left with.
 
 ghost use Rattle.std.specs.Prelude.{◌≡◌, ◌≢◌, ◌≤◌, ℕ, [], Some, length, vec_capacity};
-ghost use Rattle.cl_rank.specs.Sides.{side_of};
+ghost use Rattle.cl_rank.specs.RankSides.{side_of};
 ghost use Rattle.cl_record.specs.Settling.{IsAllSettled, IsFirstOf, MaySettle};
 
 use crate::wiring::Ends;

@@ -6,7 +6,7 @@ use Rattle.std.proofs.Common.{refl, sym, ap, ◌∙◌, subst, arith, get_or, in
 use Rattle.std.proofs.lemmas.Option.{slice_get-get_or}
 use Rattle.rv_hart.specs.State.{State}
 use Rattle.cl_state.specs.declared.state.RankState.{RankState}
-use Rattle.cl_state.specs.Asked.{no_hart}
+use Rattle.cl_state.specs.Asked.{no_hart, asked, asked_by, asked_completing, asked_in, asked_poll, asked_start, doing}
 use Rattle.cl_state.specs.Room.{rank_of}
 use Rattle.rv_memory.specs.Access.{word_at}
 use Rattle.rv_memory.specs.Memory.{Memory}
@@ -42,7 +42,7 @@ use Rattle.cl_state.specs.declared.pending.Manner.{Manner}
 use Rattle.cl_state.specs.declared.pending.Manner.TheVariants.{Immediate, Blocking, Polling, Posting}
 use Rattle.cl_state.specs.declared.pending.Pending.{Pending}
 use Rattle.cl_state.specs.declared.pending.Pending.TheVariants as pending
-use Rattle.cl_state.specs.Asked.{asked, asked_by, asked_completing, asked_in, asked_poll, asked_start, carried, doing}
+use Rattle.cl_state.specs.TurnRoom.{carried}
 use Rattle.cl_state.specs.Asked.{part_of}
 use Rattle.cl_state.specs.Asked.{checked, doing_in, go_or_refuse, is_ecall}
 use Rattle.cl_state.specs.Partitions.{asked_arrived, asked_awaited, asked_ready, awaited, awaited_of_part}

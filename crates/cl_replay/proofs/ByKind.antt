@@ -25,7 +25,8 @@ use Rattle.cl_trace.specs.declared.events.Kind.{Kind}
 use Rattle.cl_record.specs.Keys.{bytes_in}
 use Rattle.cl_machine.specs.Boxes.{box_number, with_made, with_taken}
 use Rattle.cl_machine.specs.Cluster.{CaseOf, Cluster, only_told}
-use Rattle.cl_machine.specs.Journal.{calls_of, reply_in}
+use Rattle.cl_machine.specs.Journal.{reply_in}
+use Rattle.cl_journal.specs.Journal.{calls_of}
 use Rattle.cl_machine.specs.declared.steps.Step.{Step}
 use Rattle.cl_replay.specs.declared.faults.StepFault.{StepFault}
 use Rattle.cl_replay.specs.declared.states.ClusterState.{ClusterState}

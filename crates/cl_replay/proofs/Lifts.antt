@@ -6,7 +6,8 @@ use Rattle.std.proofs.lemmas.List.{map-append, map-set}
 use Rattle.std.proofs.lemmas.Option.{same_Some, slice_get-map}
 use Rattle.rv_image.specs.declared.images.ImageParts.{ImageParts}
 use Rattle.part_box.specs.declared.settled.Settled.{Settled}
-use Rattle.mp_hub.specs.Hub.{Call, StandsFor as HubStandsFor}
+use Rattle.mp_hub.specs.Hub.{Call}
+use Rattle.mp_hub.specs.Outcomes.{StandsFor as HubStandsFor}
 use Rattle.cl_journal.specs.declared.entries.Entry.{Entry}
 use Rattle.cl_state.specs.declared.asking.Answer.{Answer}
 use Rattle.cl_state.specs.declared.state.RankState.{RankState}
@@ -17,7 +18,8 @@ use Rattle.cl_trace.specs.declared.events.Kind.{Kind}
 use Rattle.cl_record.specs.Keys.{Shows, ShowsAll}
 use Rattle.cl_machine.specs.Boxes.{Box}
 use Rattle.cl_machine.specs.Cluster.{CaseOf, Cluster, IsStep, only_told, ranks_told, with_box}
-use Rattle.cl_machine.specs.Journal.{call_of, calls_of, with_entry}
+use Rattle.cl_machine.specs.Journal.{with_entry}
+use Rattle.cl_journal.specs.Journal.{call_of, calls_of}
 use Rattle.cl_machine.specs.declared.steps.Step.{Step}
 use Rattle.cl_replay.specs.declared.states.ClusterState.{ClusterState}
 use Rattle.cl_replay.specs.Boxes.{ChangesBox, settled_at}

@@ -5,11 +5,12 @@ use Rattle.std.proofs.Math.Seq.{take-length}
 use Rattle.std.proofs.lemmas.Option.{slice_get_within}
 use Rattle.rv_image.specs.declared.images.ImageParts.{ImageParts}
 use Rattle.rv_image.specs.declared.images.ImageVersion.{ImageVersion}
-use Rattle.mp_hub.specs.Hub.{StandsFor as HubStandsFor}
+use Rattle.mp_hub.specs.Outcomes.{StandsFor as HubStandsFor}
 use Rattle.part_box.specs.declared.settled.Settled.{Settled}
 use Rattle.cl_machine.specs.Boxes.{Box}
 use Rattle.cl_machine.specs.Cluster.{Cluster, IsRun, loaded_cluster}
-use Rattle.cl_machine.specs.Journal.{Journal, calls_of}
+use Rattle.cl_machine.specs.Journal.{Journal}
+use Rattle.cl_journal.specs.Journal.{calls_of}
 use Rattle.cl_machine.proofs.Tables.{one_end}
 use Rattle.cl_machine.proofs.Verdicts.{one_merge}
 use Rattle.cl_record.specs.Keys.{Shows, bytes_in}

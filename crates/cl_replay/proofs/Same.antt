@@ -7,12 +7,12 @@ use Rattle.part_box.specs.declared.settled.Settled.{Settled}
 use Rattle.std.proofs.Common.{ap, get_or, subst, sym, ◌∙◌}
 use Rattle.std.proofs.Math.Seq.{map-set_same}
 use Rattle.rv_image.specs.declared.images.ImageParts.{ImageParts}
-use Rattle.mp_hub.specs.Hub.{StandsFor as HubStandsFor}
+use Rattle.mp_hub.specs.Outcomes.{StandsFor as HubStandsFor}
 use Rattle.cl_record.specs.Keys.{ShowsAll}
 use Rattle.cl_state.specs.Room.{rank_of}
 use Rattle.cl_state.specs.declared.state.RankState.{RankState}
 use Rattle.cl_machine.specs.Cluster.{Cluster}
-use Rattle.cl_machine.specs.Journal.{calls_of}
+use Rattle.cl_journal.specs.Journal.{calls_of}
 use Rattle.cl_replay.specs.Kept.{Snapshot, snapshot}
 use Rattle.cl_replay.specs.States.{AreSame, StandsAlike, StandsFor}
 use Rattle.cl_replay.specs.declared.states.ClusterState.{ClusterState}

@@ -5,7 +5,8 @@ use Rattle.std.proofs.Common.{zero, suc, refl, sym, ap, ◌∙◌, subst, add-on
 use Rattle.std.proofs.lemmas.List.{length-take-le, take_all}
 use Rattle.rv_image.specs.declared.images.ImageVersion.{ImageVersion}
 use Rattle.rv_image.specs.declared.images.ImageVersion.TheVariants.{One, Two}
-use Rattle.part_channel.specs.Words.{bytes_of, bytes_of_word, words_of}
+use Rattle.part_channel.specs.Words.{bytes_of, bytes_of_word}
+use Rattle.part_channel.specs.BoxWords.{words_of}
 use Rattle.part_channel.proofs.Words.{more_bytes}
 use Rattle.part_phase.specs.Limits.{box_bytes}
 use Rattle.cl_state.specs.declared.asking.Ask.TheVariants as ask

@@ -15,8 +15,9 @@ use Rattle.cl_machine.proofs.Verdicts.{one_merge, step_by_step}
 use Rattle.cl_record.specs.Records.{steps_in}
 use Rattle.cl_replay.specs.declared.checking.Verdict.{Verdict}
 use Rattle.cl_replay.specs.declared.states.ClusterState.{ClusterState}
-use Rattle.cl_replay.specs.Checks.{IsOrderedRun, MergedIsGoodLaw, OneVerdictLaw}
-use Rattle.cl_replay.specs.Replays.{IsReached}
+use Rattle.cl_replay.specs.Checks.{IsOrderedRun}
+use Rattle.cl_replay.specs.Laws.{MergedIsGoodLaw, OneVerdictLaw}
+use Rattle.cl_replay.specs.Replaying.{IsReached}
 use Rattle.cl_replay.specs.Steps.{Leads, LeadsNowhere}
 use Rattle.cl_replay.proofs.Runs.{take_next}
 

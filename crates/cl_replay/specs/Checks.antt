@@ -1,12 +1,9 @@
 -- What a check of a list of steps finds.
-use Rattle.std.specs.Prelude.{◌≡◌, ◌<◌, ◌+◌, List, length, take}
+use Rattle.std.specs.Prelude.{◌<◌, ◌+◌, List, length, take}
 use Rattle.rv_image.specs.declared.images.ImageParts.{ImageParts}
 use Rattle.cl_machine.specs.Cluster.{Cluster, IsRun, loaded_cluster}
-use Rattle.cl_machine.specs.Merge.{IsMerge}
 use Rattle.cl_machine.specs.Order.{InOrder}
 use Rattle.cl_machine.specs.declared.steps.Step.{Step}
-use Rattle.cl_record.specs.Records.{IsMergedRun, steps_in}
-use Rattle.cl_record.specs.declared.records.Record.{Record}
 use Rattle.cl_replay.specs.declared.checking.Verdict.{Verdict}
 
 -- the steps are a run of the image, in order of their stamps, and where stamps are equal of their ranks
@@ -21,16 +18,3 @@ abbrev pub IsVerdict : ImageParts → List Step → Verdict → Type 0
 IsVerdict image steps Verdict.Good = IsOrderedRun image steps
 IsVerdict image steps (Verdict.BadAt n) =
     (n < length steps) × IsOrderedRun image (take n steps) × ¬ IsOrderedRun image (take (n + 1) steps)
-
--- there is one verdict at most
-abbrev pub OneVerdictLaw : Type 0
-OneVerdictLaw =
-    (image : ImageParts) (steps : List Step) (one other : Verdict) → IsVerdict image steps one
-    → IsVerdict image steps other → one ≡ other
-
--- where a record's events, in order of their stamps, are a run that ends in the record, they are good, whoever put them
--- in order
-abbrev pub MergedIsGoodLaw : Type 0
-MergedIsGoodLaw =
-    (image : ImageParts) (left : Record) (steps : List Step) (verdict : Verdict) → IsMergedRun image left
-    → IsMerge (steps_in left) steps → IsVerdict image steps verdict → verdict ≡ Verdict.Good

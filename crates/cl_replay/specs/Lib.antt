@@ -4,5 +4,7 @@ pub mod Kept
 pub mod Turns
 pub mod Steps
 pub mod Replays
+pub mod Replaying
 pub mod Records
 pub mod Checks
+pub mod Laws

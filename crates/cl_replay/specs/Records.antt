@@ -2,12 +2,11 @@
 use Rattle.std.specs.Prelude.{ℕ, ◌≡◌, List, length, map, Some}
 use Rattle.rv_image.specs.declared.images.ImageParts.{ImageParts}
 use Rattle.rv_image.specs.declared.images.ImageVersion.{ImageVersion}
-use Rattle.mp_hub.specs.Hub.{StandsFor as HubStandsFor}
+use Rattle.mp_hub.specs.Outcomes.{StandsFor as HubStandsFor}
 use Rattle.part_box.specs.declared.settled.Settled.{Settled}
-use Rattle.cl_journal.specs.Journal.{stamp_after}
+use Rattle.cl_journal.specs.Journal.{stamp_after, calls_of}
 use Rattle.cl_state.specs.Room.{rank_of}
 use Rattle.cl_machine.specs.Cluster.{Cluster, IsRun, loaded_cluster}
-use Rattle.cl_machine.specs.Journal.{calls_of}
 use Rattle.cl_machine.specs.Merge.{IsMerge}
 use Rattle.cl_machine.specs.declared.steps.Step.{Step}
 use Rattle.cl_record.specs.Keys.{bytes_in}
@@ -15,7 +14,7 @@ use Rattle.cl_record.specs.Records.{IsEndOf, IsMergedRun, steps_in}
 use Rattle.cl_record.specs.declared.records.Record.{Record}
 use Rattle.cl_replay.specs.declared.states.ClusterState.{ClusterState}
 use Rattle.cl_replay.specs.Boxes.{settled_at}
-use Rattle.cl_replay.specs.Replays.{BreaksAt, IsReached}
+use Rattle.cl_replay.specs.Replaying.{BreaksAt, IsReached}
 
 -- both boxes are full, or both are empty, since the same stamp, and with the same bytes
 abbrev pub AreAlike : ImageVersion → Settled → Settled → Type 0

@@ -1,13 +1,13 @@
 -- Which cluster a state stands for.
 use Rattle.std.specs.Prelude.{ℕ, ◌≡◌, ◌≤◌, ◌+◌, ◌*◌, length, map, slice_get, Some}
 use Rattle.rv_image.specs.declared.images.ImageParts.{ImageParts}
-use Rattle.mp_hub.specs.Hub.{StandsFor as HubStandsFor}
+use Rattle.mp_hub.specs.Outcomes.{StandsFor as HubStandsFor}
 use Rattle.cl_state.specs.Rank.{Rank}
 use Rattle.cl_state.specs.Room.{rank_of}
 use Rattle.cl_record.specs.Keys.{ShowsAll}
 use Rattle.cl_machine.specs.Boxes.{Box}
 use Rattle.cl_machine.specs.Cluster.{Cluster}
-use Rattle.cl_machine.specs.Journal.{calls_of}
+use Rattle.cl_journal.specs.Journal.{calls_of}
 use Rattle.cl_replay.specs.declared.states.ClusterState.{ClusterState}
 
 -- a cluster of the image, wherever a run of it has come: its ranks know the image's version, its hub the image's links,

@@ -6,7 +6,8 @@ use Rattle.mp_types.specs.Carried.{carried_by_request}
 use Rattle.mp_types.specs.declared.requests.Request.{Request}
 use Rattle.mp_types.specs.declared.replies.Reply.{Reply}
 use Rattle.mp_hub.specs.Made.{makes}
-use Rattle.mp_hub.specs.Hub.{Call, HubView, StandsFor, reply_of}
+use Rattle.mp_hub.specs.Hub.{Call, HubView, reply_of}
+use Rattle.mp_hub.specs.Outcomes.{StandsFor}
 use Rattle.part_box.specs.declared.settled.Settled.{Settled}
 use Rattle.cl_state.specs.declared.asking.Answer.{Answer}
 use Rattle.cl_state.specs.declared.asking.Ask.{Ask}

@@ -1,8 +1,8 @@
 //! What holds of the definitions alone.
 
-ghost use Rattle.cl_replay.specs.Checks.{MergedIsGoodLaw, OneVerdictLaw};
+ghost use Rattle.cl_replay.specs.Laws.{MergedIsGoodLaw, OneVerdictLaw};
 ghost use Rattle.cl_replay.specs.Records.{MergedReplaysLaw};
-ghost use Rattle.cl_replay.specs.Replays.{RunLaw};
+ghost use Rattle.cl_replay.specs.Laws.{RunLaw};
 
 /// Steps that are a run of the image, up to the first n of them, don't break before: so no replay
 /// of them is refused at a step.

@@ -1,7 +1,7 @@
 //! A list of steps, replayed.
 
 ghost use Rattle.std.specs.Prelude.{◌≡◌, ◌↔◌, ◌<◌, ◌≤◌, length, Err, IfErr, IfOk, OnOk};
-ghost use Rattle.cl_replay.specs.Replays.{IsReached, ReplayFaultHolds};
+ghost use Rattle.cl_replay.specs.Replaying.{IsReached, ReplayFaultHolds};
 
 use crate::faults::StepFault;
 use crate::states::ClusterState;

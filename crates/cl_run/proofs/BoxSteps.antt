@@ -11,14 +11,15 @@ use Rattle.rv_image.specs.declared.images.Link.{Link}
 use Rattle.part_box.specs.declared.view.Receiving.{Receiving}
 use Rattle.part_box.specs.declared.view.Sending.{Sending}
 use Rattle.cl_rank.specs.Deeds.{Act}
-use Rattle.cl_rank.specs.Sides.{HasKey, KeyMoves, KeysMove, ReceiverActs, SenderActs, Sides, is_place, place_of}
-use Rattle.cl_rank.specs.Sides.{receiver_of, sender_of}
+use Rattle.cl_rank.specs.Sides.{ReceiverActs, SenderActs, is_place, place_of}
+use Rattle.cl_rank.specs.RankSides.{HasKey, KeyMoves, KeysMove, Sides, receiver_of, sender_of}
 use Rattle.cl_machine.specs.Boxes.{Box, Holds, box_number, with_made}
-use Rattle.cl_machine.specs.Parts.{PartsMove, PartsMoveAt}
-use Rattle.cl_machine.specs.Product.{BoxMoves, box_at, box_for}
+use Rattle.cl_machine.specs.PartRuns.{PartsMove, PartsMoveAt}
+use Rattle.cl_machine.specs.Product.{box_at, box_for}
+use Rattle.cl_machine.specs.ProductSteps.{BoxMoves}
 use Rattle.cl_machine.proofs.Lists.{get-set_other, get-set_same}
 use Rattle.cl_run.specs.Driver.{Agree, Station}
-use Rattle.cl_record.specs.Keys.{AgreeOn, HasKeysOf, IsBoxOf, box_of}
+use Rattle.cl_record.specs.BoxKeys.{AgreeOn, HasKeysOf, IsBoxOf, box_of}
 use Rattle.cl_run.specs.UnderWay.{AreBoxes}
 use Rattle.cl_record.proofs.Keys.{freed_empty, freed_stamp, ready_box, ready_empty, take_box, take_holds, take_stamp}
 

@@ -24,8 +24,8 @@ use Rattle.part_channel.specs.Sending.{SendView}
 use Rattle.part_channel.specs.Settling.{got_from, joined, made_in}
 use Rattle.part_phase.specs.Limits.{box_words}
 use Rattle.cl_calls.specs.declared.sites.Site.{Site}
-use Rattle.cl_rank.specs.Sides.{AreChannelsOf, Sides, receiver_key, receiver_of, receiver_view, sender_key, sender_of}
-use Rattle.cl_rank.specs.Sides.{sender_view}
+use Rattle.cl_rank.specs.RankSides.{AreChannelsOf, Sides, receiver_key, receiver_of, receiver_view, sender_key}
+use Rattle.cl_rank.specs.RankSides.{sender_of, sender_view}
 use Rattle.cl_machine.specs.Boxes.{Box, box_number, empty_box}
 use Rattle.cl_journal.specs.Journal.{stamp_after}
 use Rattle.cl_journal.specs.declared.entries.Entry.{Entry}
@@ -43,7 +43,8 @@ use Rattle.cl_machine.specs.declared.steps.Step.{Step}
 use Rattle.cl_machine.specs.Cluster.{loaded_cluster}
 use Rattle.cl_run.specs.Driver.{AreSeated, IsDriver, IsFresh, IsJoined, IsRecordOf, IsStoppedAt, Station, station}
 use Rattle.cl_run.specs.Driver.{stations}
-use Rattle.cl_record.specs.Keys.{HasKeysOf, Shows, box_of}
+use Rattle.cl_record.specs.Keys.{Shows}
+use Rattle.cl_record.specs.BoxKeys.{HasKeysOf, box_of}
 use Rattle.cl_record.specs.Plans.{ArePlans, IsPlan}
 use Rattle.cl_record.specs.Records.{IsEndOf, is_hub}
 use Rattle.cl_run.specs.Runs.{HasCause, IsOneRun, IsRankOf}

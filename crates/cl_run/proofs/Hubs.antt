@@ -10,18 +10,20 @@ use mathlib.Core.Logic.{inl, inr}
 use Rattle.mp_types.specs.declared.requests.Request.{Request}
 use Rattle.mp_types.specs.declared.replies.Reply.{Reply}
 use Rattle.cl_journal.specs.Calls.{Calls, entry}
-use Rattle.cl_journal.specs.Journal.{Journal, clock_of, entries_by, is_by, stamp_after}
+use Rattle.cl_journal.specs.Journal.{entries_by, is_by, stamp_after}
+use Rattle.cl_journal.specs.Replaying.{HubHistory, clock_of}
 use Rattle.cl_journal.specs.declared.entries.Entry.{Entry}
 use Rattle.cl_journal.proofs.History.{stamp_after-snoc}
 use Rattle.cl_rank.specs.Deeds.{Act, Deed, event_of, kind_of, request_of}
-use Rattle.cl_rank.specs.Turns.{Answered, Tells, TellsAct}
+use Rattle.cl_rank.specs.Turning.{Answered, Tells, TellsAct}
 use Rattle.cl_machine.specs.Journal.{Enters, reply_in}
-use Rattle.cl_machine.specs.Product.{JournalMoves, entry_of}
+use Rattle.cl_machine.specs.Product.{entry_of}
+use Rattle.cl_machine.specs.ProductSteps.{JournalMoves}
 use Rattle.cl_record.specs.Records.{is_hub}
 use Rattle.cl_run.specs.UnderWay.{shown}
 
 -- a call of the hub enters one entry of the cluster's journal
-pub enters : (before after : Journal) (rank hart clock : ℕ) (request : Request) (told : Reply × ℕ)
+pub enters : (before after : HubHistory) (rank hart clock : ℕ) (request : Request) (told : Reply × ℕ)
     → Calls before after rank hart clock request told
     → Enters (shown before) (entry rank hart clock request told) (shown after)
 unfolding reply_in
@@ -40,7 +42,7 @@ abbrev pub listed : {X : Type 0} → Option X → List X
 listed o = cons_option o []
 
 -- what the hub's part of a deed comes to: the entry of a call, or nothing
-pub record HubPart (before after : Journal) (d : Deed) : Type 0 where
+pub record HubPart (before after : HubHistory) (d : Deed) : Type 0 where
   pub journal_moves : JournalMoves (shown before) (entry_of d) (shown after)
   pub links_stay : after.links ≡ before.links
   pub entries_are : after.entries ≡ before.entries ++ listed (entry_of d)
@@ -54,13 +56,13 @@ pub record HubPart (before after : Journal) (d : Deed) : Type 0 where
   -- the clock rises where a call was made
   pub rises : (after ≡ before) ⊎ (clock_of before < clock_of after)
 
-quiet : (before after : Journal) (d : Deed) → after ≡ before → entry_of d ≡ None → request_of d.act ≡ None
+quiet : (before after : HubHistory) (d : Deed) → after ≡ before → entry_of d ≡ None → request_of d.act ≡ None
     → is_hub (kind_of d.act) ≡ false
     → HubPart before after d
 quiet before after d same none nothing no_hub = record {
   journal_moves = subst (λ o. JournalMoves (shown before) o (shown after)) (sym none) (ap shown same);
-  links_stay = ap (λ (j : Journal). j.links) same;
-  entries_are = ap (λ (j : Journal). j.entries) same ∙ sym (append-nil before.entries)
+  links_stay = ap (λ (j : HubHistory). j.links) same;
+  entries_are = ap (λ (j : HubHistory). j.entries) same ∙ sym (append-nil before.entries)
       ∙ ap (λ (o : Option Entry). before.entries ++ listed o) (sym none);
   own = ap (λ (o : Option Entry). entries_by d.rank (listed o)) none ∙ ap (λ (o : Option Entry). listed o) (sym none);
   of_others = λ r _. ap (λ (o : Option Entry). entries_by r (listed o)) none;
@@ -73,7 +75,7 @@ quiet before after d same none nothing no_hub = record {
   rises = inl same;
 }
 
-called : (before after : Journal) (rank hart stamp clock : ℕ) (request : Request) (reply : Reply)
+called : (before after : HubHistory) (rank hart stamp clock : ℕ) (request : Request) (reply : Reply)
     → Calls before after rank hart clock request (reply, stamp)
     → HubPart before after (record { rank = rank; hart = hart; stamp = stamp; act = Act.Hub clock request reply })
 called before after rank hart stamp clock request reply c =
@@ -92,7 +94,7 @@ called before after rank hart stamp clock request reply c =
       rises = inr (omega (arith, c.stamp, last));
     }
 
-pub hub_part : (before after : Journal) (d : Deed) → Tells Answered before after d → HubPart before after d
+pub hub_part : (before after : HubHistory) (d : Deed) → Tells Answered before after d → HubPart before after d
 hub_part before after d h = by_act d.act h
   where
     by_act : (a : Act) → TellsAct Answered d.rank d.hart d.stamp before after a

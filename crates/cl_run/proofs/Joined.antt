@@ -9,13 +9,14 @@ use Rattle.part_box.specs.declared.view.Receiving.{Receiving}
 use Rattle.part_box.specs.declared.view.Sending.{Sending}
 use Rattle.part_channel.specs.Channels.{ChannelView}
 use Rattle.cl_calls.specs.declared.sites.Site.{Site}
-use Rattle.cl_journal.specs.Journal.{Journal}
+use Rattle.cl_journal.specs.Replaying.{HubHistory}
 use Rattle.cl_state.proofs.Moves.{told_at}
 use Rattle.cl_state.specs.Rank.{Rank}
 use Rattle.cl_rank.specs.Deeds.{Act, answer_of}
-use Rattle.cl_rank.specs.Sides.{AreChannelsOf, HasKey, KeyMoves, KeysMove, Sides, place_of, receiver_of, sender_of}
+use Rattle.cl_rank.specs.Sides.{place_of}
+use Rattle.cl_rank.specs.RankSides.{AreChannelsOf, HasKey, KeyMoves, KeysMove, Sides, receiver_of, sender_of}
 use Rattle.cl_run.specs.Driver.{GoesOn, IsJoined, Station, Stops, TakesTurn}
-use Rattle.cl_record.specs.Keys.{HasKeysOf}
+use Rattle.cl_record.specs.BoxKeys.{HasKeysOf}
 use Rattle.cl_record.specs.declared.plans.Plan.{Plan}
 use Rattle.cl_run.proofs.Hubs.{hub_part}
 
@@ -84,16 +85,16 @@ link_at n links link l all at =
     subst (IsLink n) (get_or_from_slice_get links link l l at) (all link l (slice_get_within links link l at))
 
 -- the hub's links stay
-pub links_stay : (plan : Plan) (s t : Station) (before after : Journal) → GoesOn plan s before t after
+pub links_stay : (plan : Plan) (s t : Station) (before after : HubHistory) → GoesOn plan s before t after
     → after.links ≡ before.links
 links_stay plan s t before after h = elim h [
   | inl turn ↦ (hub_part before after turn.deed turn.tells).links_stay
-  | inr stops ↦ ap (λ (j : Journal). j.links) stops.hub_stays
+  | inr stops ↦ ap (λ (j : HubHistory). j.links) stops.hub_stays
 ]
 
 -- a rank that goes on has the keys of its links
 module _ (links : List Link) (channels : List ChannelView) (r : ℕ) (plan : Plan) (s t : Station)
-    (before after : Journal) (j : IsJoined links channels r s)
+    (before after : HubHistory) (j : IsJoined links channels r s)
     (over : AreChannelsOf t.rank.site.version channels t.sides) where
   taken : TakesTurn plan s before t after → IsJoined links channels r t
   taken turn =

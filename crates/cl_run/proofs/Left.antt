@@ -11,7 +11,7 @@ use Rattle.part_box.specs.declared.view.Sending.{Sending}
 use Rattle.part_channel.specs.Receiving.{RecvView}
 use Rattle.part_channel.specs.Sending.{SendView}
 use Rattle.part_channel.specs.Settling.{IsLeft}
-use Rattle.cl_rank.specs.Sides.{HasReceiver, HasSender, receiver_key, sender_key, side_of}
+use Rattle.cl_rank.specs.RankSides.{HasReceiver, HasSender, receiver_key, sender_key, side_of}
 use Rattle.cl_run.specs.declared.driver.Driver.{Driver}
 use Rattle.cl_run.specs.declared.driver.Seat.{Seat}
 use Rattle.cl_run.specs.Driver.{AreJoined, IsLinkLeft, ends_of, station, stations}

@@ -7,7 +7,7 @@ use Rattle.rv_image.specs.declared.images.ImageParts.{ImageParts}
 use Rattle.rv_image.specs.Image.{IsImage}
 use Rattle.cl_machine.specs.Cluster.{loaded_cluster}
 use Rattle.cl_machine.specs.Order.{of_rank}
-use Rattle.cl_machine.specs.Product.{step_of}
+use Rattle.cl_machine.specs.ProductSteps.{step_of}
 use Rattle.cl_machine.specs.declared.steps.Step.{Step}
 use Rattle.cl_order.proofs.Joinings.{joined}
 use Rattle.cl_order.proofs.Reorders.{absent, no_deeds, reorder}

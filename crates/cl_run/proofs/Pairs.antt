@@ -8,12 +8,12 @@ use Rattle.part_box.specs.declared.view.Receiving.{Receiving}
 use Rattle.part_box.specs.declared.view.Sending.{Sending}
 use Rattle.part_channel.specs.Channels.{ChannelView}
 use Rattle.cl_rank.specs.declared.sides.BoxPlace.{BoxPlace}
-use Rattle.cl_rank.specs.Sides.{AreChannelsOf, receiver_of, sender_of}
+use Rattle.cl_rank.specs.RankSides.{AreChannelsOf, receiver_of, sender_of}
 use Rattle.cl_rank.specs.Views.{place_in}
 use Rattle.cl_run.specs.declared.driver.Driver.{Driver}
 use Rattle.cl_record.proofs.Elements.{at_below}
 use Rattle.cl_run.specs.Driver.{Agree, AreJoined, HaveKeys, KeysAgree, Station, station, stations}
-use Rattle.cl_record.specs.Keys.{AgreeOn}
+use Rattle.cl_record.specs.BoxKeys.{AgreeOn}
 use Rattle.cl_run.specs.declared.driver.Seat.{Seat}
 use Rattle.cl_run.proofs.Joined.{link_at}
 use Rattle.cl_run.proofs.Seats.{station_at}

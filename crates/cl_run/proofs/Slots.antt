@@ -13,17 +13,17 @@ use Rattle.rv_image.specs.declared.images.ImageParts.{ImageParts}
 use Rattle.rv_image.specs.declared.images.Link.{Link}
 use Rattle.rv_image.specs.Image.{IsLink}
 use Rattle.part_channel.specs.Channels.{ChannelView}
-use Rattle.cl_journal.specs.Journal.{Journal}
+use Rattle.cl_journal.specs.Replaying.{HubHistory}
 use Rattle.cl_trace.specs.declared.events.Event.{Event}
 use Rattle.cl_rank.specs.Deeds.{event_of}
-use Rattle.cl_rank.specs.Sides.{AreChannelsOf}
+use Rattle.cl_rank.specs.RankSides.{AreChannelsOf}
 use Rattle.cl_rank.specs.declared.stops.Stop.{Stop}
 use Rattle.cl_run.specs.declared.driver.Driver.{Driver}
 use Rattle.cl_run.specs.declared.driver.Seat.{Seat}
 use Rattle.cl_record.specs.declared.plans.Plan.{Plan}
 use Rattle.cl_run.specs.Driver.{Agree, AreJoined, AreSeated, GoesOn, IsJoined, IsSeated, IsStoppedAt, OneGoes, SlotGoes}
 use Rattle.cl_run.specs.Driver.{Station, left, left_of, station, stations}
-use Rattle.cl_record.specs.Keys.{HasKeysOf}
+use Rattle.cl_record.specs.BoxKeys.{HasKeysOf}
 use Rattle.cl_record.specs.Plans.{in_slot}
 use Rattle.cl_run.specs.UnderWay.{IsUnderWay}
 use Rattle.cl_machine.proofs.Lists.{get-set_same, get-set_other}
@@ -131,7 +131,7 @@ module _ (plan : Plan) (r : ℕ) (old new : Driver) where
   }
 
   -- a slot in which something was done leaves less
-  less_of : (s t : Station) (before after : Journal) → s.stop ≡ None → GoesOn plan s before t after
+  less_of : (s t : Station) (before after : HubHistory) → s.stop ≡ None → GoesOn plan s before t after
       → left_of t + 1 ≤ left_of s
   less_of s t before after runs h = elim h [
     | inl turn ↦

@@ -9,7 +9,8 @@ use Rattle.std.proofs.lemmas.List.{append-nil, length-append, map-append}
 use Rattle.std.proofs.lemmas.List.Elements.{filter-append, filter_map-append, All-append, All-cons, All-nil}
 use mathlib.Core.Logic.{inl, inr}
 use Rattle.cl_journal.specs.Calls.{IsRefusal}
-use Rattle.cl_journal.specs.Journal.{Journal, clock_of, entries_by, is_by}
+use Rattle.cl_journal.specs.Journal.{entries_by, is_by}
+use Rattle.cl_journal.specs.Replaying.{HubHistory, clock_of}
 use Rattle.cl_journal.specs.declared.entries.Entry.{Entry}
 use Rattle.cl_journal.specs.declared.journal.HubFault.{HubFault}
 use Rattle.cl_journal.specs.declared.journal.HubFault.TheVariants as fault
@@ -19,14 +20,16 @@ use Rattle.cl_state.proofs.Moves.{told_at}
 use Rattle.cl_rank.proofs.Alone.{clock_moved}
 use Rattle.cl_rank.specs.Deeds.{Deed, answer_of, event_of, kind_of, Act, request_of}
 use Rattle.cl_state.specs.Asked.{asked}
-use Rattle.cl_rank.specs.Turns.{Answered, IsActive, IsCause, Refuses, StopHolds, stop_of}
+use Rattle.cl_rank.specs.Turns.{IsActive}
+use Rattle.cl_rank.specs.Turning.{Answered, IsCause, Refuses, StopHolds, stop_of}
 use Rattle.cl_rank.specs.declared.stops.Stop.{Stop}
 use Rattle.cl_record.specs.declared.plans.Plan.{Plan}
 use Rattle.cl_machine.specs.declared.steps.Step.{Step}
 use Rattle.cl_run.specs.Driver.{Station, Stops, TakesTurn}
 use Rattle.cl_machine.specs.Order.{of_rank}
 use Rattle.cl_record.specs.Plans.{in_slot}
-use Rattle.cl_machine.specs.Product.{entry_of, step_of}
+use Rattle.cl_machine.specs.Product.{entry_of}
+use Rattle.cl_machine.specs.ProductSteps.{step_of}
 use Rattle.cl_record.specs.Records.{AsksHub, HasTurn, hub_calls, is_hub, step_by}
 use Rattle.cl_run.specs.Runs.{HasCause}
 use Rattle.cl_record.proofs.Elements.{last_or_before}
@@ -60,7 +63,7 @@ request_stands Act.Held = refl
 request_stands Act.Idle = refl
 
 -- the rank took a turn
-module _ (steps : List Step) (before after : Journal) (r : ℕ) (plan : Plan) (s t : Station) (turn : TakesTurn plan s before t after)
+module _ (steps : List Step) (before after : HubHistory) (r : ℕ) (plan : Plan) (s t : Station) (turn : TakesTurn plan s before t after)
     (so : IsSoFar steps before.entries r plan s) where
   d : Deed
   d = turn.deed
@@ -128,7 +131,7 @@ module _ (steps : List Step) (before after : Journal) (r : ℕ) (plan : Plan) (s
   }
 
 -- another rank took a turn
-module _ (steps : List Step) (before after : Journal) (r : ℕ) (plan : Plan) (s : Station) (d : Deed) (part : HubPart before after d)
+module _ (steps : List Step) (before after : HubHistory) (r : ℕ) (plan : Plan) (s : Station) (d : Deed) (part : HubPart before after d)
     (other : eqb d.rank r ≡ false) (below : clock_of before < 2 ^ 62) where
   same_entries : entries_by r after.entries ≡ entries_by r before.entries
   same_entries = entries_more r before.entries after.entries (listed (entry_of d)) part.entries_are
@@ -148,7 +151,7 @@ module _ (steps : List Step) (before after : Journal) (r : ℕ) (plan : Plan) (s
       | inl own ↦ inl own
       | inr hub ↦ inr (
         elim part.rises [
-          | inl same ↦ hub.0 ∙ ap (λ (j : Journal). clock_of j) (sym same)
+          | inl same ↦ hub.0 ∙ ap (λ (j : HubHistory). clock_of j) (sym same)
           | inr up ↦ absurd (omega (arith, part.low below, up, hub.0, h.0))
         ],
         hub.1,
@@ -183,14 +186,14 @@ module _ (steps : List Step) (before after : Journal) (r : ℕ) (plan : Plan) (s
   }
 
 -- the rank stops
-module _ (steps : List Step) (before : Journal) (r : ℕ) (plan : Plan) (s t : Station) (so : IsSoFar steps before.entries r plan s)
+module _ (steps : List Step) (before : HubHistory) (r : ℕ) (plan : Plan) (s t : Station) (so : IsSoFar steps before.entries r plan s)
     (below : clock_of before < 2 ^ 62) where
   -- the place in the plan is that of the turn that comes next
   next_hart : (hart : ℕ) → hart ≡ slice_index plan.order.items s.next
       → hart ≡ in_slot plan.order.items (length s.events)
   next_hart hart is = is ∙ ap (slice_index plan.order.items) so.next_is
 
-  asks : (hart : ℕ) (f : HubFault) (after : Journal) → hart ≡ slice_index plan.order.items s.next
+  asks : (hart : ℕ) (f : HubFault) (after : HubHistory) → hart ≡ slice_index plan.order.items s.next
       → Refuses Answered hart s.rank before after f → AsksHub plan s.rank s.events
   asks hart f after is refused = (refused.0, ap (asked s.rank) (sym (next_hart hart is)) ∙ refused.1)
 
@@ -214,7 +217,7 @@ module _ (steps : List Step) (before : Journal) (r : ℕ) (plan : Plan) (s t : S
       let many = subst (λ q. 1048576 ≤ length (entries_by q before.entries)) so.number_is h.1 in
       (h.0, omega (arith, h.0, many, so.calls_are, so.few_calls), turn, asks)
 
-  cause : (hart : ℕ) (stop : Stop) (after : Journal) → hart ≡ slice_index plan.order.items s.next
+  cause : (hart : ℕ) (stop : Stop) (after : HubHistory) → hart ≡ slice_index plan.order.items s.next
       → StopHolds Answered hart s.rank (length s.events) s.budget before after stop
       → HasCause plan s.rank s.events before.entries stop
   cause hart stop after is h = elim h [
@@ -225,7 +228,7 @@ module _ (steps : List Step) (before : Journal) (r : ℕ) (plan : Plan) (s t : S
         (refused_cause f (has_turn refused.0) (asks hart f after is refused.1.3) refused.1.3.2.0)
   ]
 
-  pub after_stop : (after : Journal) → Stops plan s before t after → IsSoFar steps before.entries r plan t
+  pub after_stop : (after : HubHistory) → Stops plan s before t after → IsSoFar steps before.entries r plan t
   after_stop after h =
       let is : record s { stop = Some h.stop } ≡ t =
       (λ i. record {

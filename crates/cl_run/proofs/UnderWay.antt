@@ -8,23 +8,25 @@ use Rattle.std.proofs.lemmas.Option.{same_Some, slice_get-map}
 use mathlib.Core.Logic.{inl, inr}
 use Rattle.rv_image.specs.declared.images.ImageParts.{ImageParts}
 use Rattle.rv_image.specs.declared.images.Link.{Link}
-use Rattle.cl_journal.specs.Journal.{Journal}
+use Rattle.cl_journal.specs.Replaying.{HubHistory}
 use Rattle.cl_rank.specs.Turns.{AllStopped}
 use Rattle.cl_calls.specs.declared.sites.Site.{Site}
 use Rattle.cl_state.specs.Rank.{Rank, site_of}
 use Rattle.cl_state.proofs.Moves.{told_at}
 use Rattle.cl_rank.specs.Deeds.{answer_of}
-use Rattle.cl_rank.specs.Sides.{KeysMove, place_of}
+use Rattle.cl_rank.specs.Sides.{place_of}
+use Rattle.cl_rank.specs.RankSides.{KeysMove}
 use Rattle.cl_machine.specs.Boxes.{Box}
-use Rattle.cl_machine.specs.Parts.{PartsMove}
+use Rattle.cl_machine.specs.PartRuns.{PartsMove}
 use Rattle.cl_run.specs.Runs.{NoneIdles}
 use Rattle.cl_record.specs.declared.plans.Plan.{Plan}
 use Rattle.cl_machine.specs.declared.steps.Step.{Step}
 use Rattle.cl_machine.specs.Cluster.{Cluster, IsRun, IsStep, loaded_cluster}
 use Rattle.cl_run.specs.Driver.{Agree, IsStoppedAt, Station, Stops, TakesTurn}
-use Rattle.cl_record.specs.Keys.{HasKeysOf}
+use Rattle.cl_record.specs.BoxKeys.{HasKeysOf}
 use Rattle.cl_record.specs.Plans.{in_slot}
-use Rattle.cl_machine.specs.Product.{BoxMoves, box_at, step_of}
+use Rattle.cl_machine.specs.Product.{box_at}
+use Rattle.cl_machine.specs.ProductSteps.{BoxMoves, step_of}
 use Rattle.cl_run.specs.UnderWay.{AreBoxes, IsSoFar, IsUnderWay, Round, cluster_of, shown}
 use Rattle.cl_run.proofs.BoxSteps.{boxes_go, boxes_same}
 use Rattle.cl_run.proofs.Hubs.{HubPart, hub_part}
@@ -42,7 +44,7 @@ none_idles_more (x ∷ es) old mid e h run runs =
 
 module _ (image : ImageParts) (plans : List Plan) (order : List ℕ) (ss : List Station) (slot : ℕ) where
   -- a rank that is stopped is passed over
-  pub slot_passed : (hub : Journal) → IsStoppedAt ss (in_slot order slot) → IsUnderWay image plans order ss hub slot
+  pub slot_passed : (hub : HubHistory) → IsStoppedAt ss (in_slot order slot) → IsUnderWay image plans order ss hub slot
       → IsUnderWay image plans order ss hub (slot + 1)
   slot_passed hub stopped w = record {
     links_are = w.links_are;
@@ -99,7 +101,7 @@ module _ (image : ImageParts) (plans : List Plan) (order : List ℕ) (ss : List 
     ]
 
     -- a rank that isn't stopped stops
-    pub slot_stopped : (before after : Journal) → Stops plan s before t after
+    pub slot_stopped : (before after : HubHistory) → Stops plan s before t after
         → IsUnderWay image plans order ss before slot
         → IsUnderWay image plans order (slice_set ss (in_slot order slot) t) after (slot + 1)
     slot_stopped before after h w = subst (λ hub. IsUnderWay image plans order (slice_set ss (in_slot order slot) t) hub (slot + 1)) (sym h.hub_stays) (record {
@@ -138,7 +140,7 @@ module _ (image : ImageParts) (plans : List Plan) (order : List ℕ) (ss : List 
         ]
 
     -- a rank that isn't stopped takes a turn; the keys of the box that it asked agree
-    pub slot_taken : (before after : Journal) → TakesTurn plan s before t after
+    pub slot_taken : (before after : HubHistory) → TakesTurn plan s before t after
         → ((link : ℕ) (l : Link) → slice_get before.links link ≡ Some l → l.to ≢ l.from)
         → HasKeysOf before.links (in_slot order slot) s.sides
         → Agree before.links (slice_set ss (in_slot order slot) t) t.asked

@@ -10,10 +10,12 @@ use Rattle.part_channel.specs.Receiving.{RecvView}
 use Rattle.part_channel.specs.Sending.{SendView}
 use Rattle.part_channel.specs.Settling.{IsLeft}
 use Rattle.part_phase.specs.Limits.{box_words}
-use Rattle.cl_journal.specs.Journal.{Journal}
+use Rattle.cl_journal.specs.Replaying.{HubHistory}
 use Rattle.cl_rank.specs.Deeds.{Deed, RankMoves, event_of}
-use Rattle.cl_rank.specs.Sides.{AreChannelsOf, KeysMove, Sides, place_of, receiver_of, sender_of, side_of}
-use Rattle.cl_rank.specs.Turns.{AllStopped, Answered, StopHolds, Tells}
+use Rattle.cl_rank.specs.Sides.{place_of}
+use Rattle.cl_rank.specs.RankSides.{AreChannelsOf, KeysMove, Sides, receiver_of, sender_of, side_of}
+use Rattle.cl_rank.specs.Turns.{AllStopped}
+use Rattle.cl_rank.specs.Turning.{Answered, StopHolds, Tells}
 use Rattle.cl_rank.specs.declared.stops.Stop.{Stop}
 use Rattle.cl_rank.specs.Views.{view_of}
 use Rattle.cl_state.specs.Rank.{Rank, below, loaded}
@@ -22,7 +24,7 @@ use Rattle.rv_image.specs.declared.images.Link.{Link}
 use Rattle.rv_image.specs.Image.{IsLink}
 use Rattle.cl_trace.specs.declared.events.Event.{Event}
 use Rattle.cl_state.specs.Room.{rank_of}
-use Rattle.cl_record.specs.Keys.{AgreeOn, HasKeysOf}
+use Rattle.cl_record.specs.BoxKeys.{AgreeOn, HasKeysOf}
 use Rattle.cl_record.specs.Wiring.{AreNewEnds}
 use Rattle.cl_record.specs.Room.{HaveRoom}
 use Rattle.cl_record.specs.declared.wiring.Ends.{Ends}
@@ -58,7 +60,7 @@ abbrev pub stations : Driver → List Station
 stations driver = map station driver.seats.items
 
 -- a running rank took a turn, of the hart that its plan names
-pub record TakesTurn (plan : Plan) (old : Station) (before : Journal) (new : Station) (after : Journal) : Type 0 where
+pub record TakesTurn (plan : Plan) (old : Station) (before : HubHistory) (new : Station) (after : HubHistory) : Type 0 where
   pub deed : Deed
   pub rank_is : deed.rank ≡ old.rank.site.number
   pub hart_is : deed.hart ≡ slice_index plan.order.items old.next
@@ -74,7 +76,7 @@ pub record TakesTurn (plan : Plan) (old : Station) (before : Journal) (new : Sta
   pub goes_on : new.stop ≡ None
 
 -- a running rank takes no turn from now on, for a cause that held before a turn of the hart that its plan names
-pub record Stops (plan : Plan) (old : Station) (before : Journal) (new : Station) (after : Journal) : Type 0 where
+pub record Stops (plan : Plan) (old : Station) (before : HubHistory) (new : Station) (after : HubHistory) : Type 0 where
   pub hart : ℕ
   pub hart_is : hart ≡ slice_index plan.order.items old.next
   pub stop : Stop
@@ -143,7 +145,7 @@ abbrev pub IsStoppedAt : List Station → ℕ → Type 0
 IsStoppedAt all r = (s : Station) × (stop : Stop) × (slice_get all r ≡ Some s) × (s.stop ≡ Some stop)
 
 -- a running rank takes a turn or stops
-abbrev pub GoesOn : Plan → Station → Journal → Station → Journal → Type 0
+abbrev pub GoesOn : Plan → Station → HubHistory → Station → HubHistory → Type 0
 GoesOn plan old before new after = TakesTurn plan old before new after ⊎ Stops plan old before new after
 
 -- rank number r goes on, and no other; the keys of the box that it asked agree

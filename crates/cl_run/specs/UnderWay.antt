@@ -3,7 +3,8 @@ use Rattle.std.specs.Prelude.{ℕ, ◌≡◌, ◌≢◌, ◌<◌, ◌≤◌, ◌
 use Rattle.std.specs.Prelude.{IfSome, All, is_some}
 use Rattle.std.specs.List.{filter_map}
 use Rattle.rv_image.specs.declared.images.ImageParts.{ImageParts}
-use Rattle.cl_journal.specs.Journal.{Journal, clock_of, entries_by}
+use Rattle.cl_journal.specs.Journal.{entries_by}
+use Rattle.cl_journal.specs.Replaying.{HubHistory, clock_of}
 use Rattle.cl_journal.specs.declared.entries.Entry.{Entry}
 use Rattle.cl_trace.specs.declared.events.Event.{Event}
 use Rattle.rv_image.specs.declared.images.Link.{Link}
@@ -14,7 +15,7 @@ use Rattle.cl_run.specs.Driver.{IsStoppedAt, Station}
 use Rattle.cl_machine.specs.Journal.{journal_of}
 use Rattle.cl_machine.specs.Journal as cluster
 use Rattle.cl_machine.specs.Order.{of_rank}
-use Rattle.cl_record.specs.Keys.{IsBoxOf}
+use Rattle.cl_record.specs.BoxKeys.{IsBoxOf}
 use Rattle.cl_record.specs.Plans.{in_slot}
 use Rattle.cl_record.specs.Records.{FollowsPlan, hub_calls, is_hub, step_by}
 use Rattle.cl_run.specs.Runs.{HasCause, NoneIdles}
@@ -49,11 +50,11 @@ pub record IsSoFar (steps : List Step) (entries : List Entry) (r : ℕ) (plan : 
   pub has_cause : IfSome s.stop (HasCause plan s.rank s.events entries)
 
 -- what a hub's entries show of the cluster's journal
-abbrev pub shown : Journal → cluster.Journal
+abbrev pub shown : HubHistory → cluster.Journal
 shown hub = journal_of hub.links hub.entries
 
 -- the cluster that a driver stands for, with these boxes
-abbrev pub cluster_of : List Station → Journal → List Box → Cluster
+abbrev pub cluster_of : List Station → HubHistory → List Box → Cluster
 cluster_of ss hub boxes = record { ranks = map (λ (s : Station). s.rank) ss; journal = shown hub; boxes = boxes }
 
 -- the boxes of all links, of ranks that have these sides
@@ -64,7 +65,7 @@ AreBoxes image ss boxes =
     × IsBoxOf image.version from.sides to.sides link part (slice_get boxes (box_number link part))
 
 -- the steps so far, with all slots below this one gone through
-pub record IsUnderWay (image : ImageParts) (plans : List Plan) (order : List ℕ) (ss : List Station) (hub : Journal)
+pub record IsUnderWay (image : ImageParts) (plans : List Plan) (order : List ℕ) (ss : List Station) (hub : HubHistory)
     (slot : ℕ) : Type 0 where
   pub links_are : hub.links ≡ image.links
   pub low : clock_of hub < 2 ^ 62

@@ -8,7 +8,7 @@ ghost use Rattle.rv_image.specs.Image.{IsLink};
 ghost use Rattle.part_channel.specs.Channels.{ChannelView};
 ghost use Rattle.cl_state.specs.Rank.{below, loaded};
 ghost use Rattle.cl_state.specs.Room.{rank_of};
-ghost use Rattle.cl_rank.specs.Sides.{AreChannelsOf};
+ghost use Rattle.cl_rank.specs.RankSides.{AreChannelsOf};
 ghost use Rattle.cl_run.specs.Driver.{Agree, AreFresh, AreJoined, AreSeated, GoesOn, HaveKeys};
 ghost use Rattle.cl_record.specs.Wiring.{AreAllNew};
 ghost use Rattle.cl_record.specs.Room.{HaveRoom};

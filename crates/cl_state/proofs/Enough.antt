@@ -10,7 +10,7 @@ use Rattle.cl_state.specs.declared.writes.Range.{Range as Bytes}
 use Rattle.cl_state.specs.Several.{Given, dealt, given, given_one, got_of, left_of, post_of, status_of, statuses_of}
 use Rattle.cl_state.specs.Pending.{pending_of}
 use Rattle.std.specs.Prelude.{max}
-use Rattle.cl_state.specs.Room.{HasRoom, HasRoomBehind, writes_of}
+use Rattle.cl_state.specs.TurnRoom.{HasRoom, HasRoomBehind, writes_of}
 use Rattle.cl_state.specs.declared.state.RankState.{RankState}
 use Rattle.cl_state.specs.Writes.{missing_for}
 use Rattle.cl_state.specs.Writes.{IsEnough, box_into, buffer_of, bytes_from, how_many, messages_then, statuses_from}

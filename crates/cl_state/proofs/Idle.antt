@@ -5,8 +5,10 @@ use Rattle.std.specs.Prelude.{is_some}
 use Rattle.mp_request.specs.declared.entries.OpenRequest.{OpenRequest}
 use Rattle.mp_request.specs.declared.entries.State.{State}
 use Rattle.mp_request.specs.declared.entries.State.TheVariants.{Ordinary, Inactive, Active}
-use Rattle.mp_request.specs.Entries.{is_persistent, is_active, is_inactive}
-use Rattle.mp_request.specs.Table.{Table, IsInactive, request_at}
+use Rattle.mp_request.specs.Entries.{is_persistent, is_active}
+use Rattle.mp_request.specs.Awaited.{is_inactive}
+use Rattle.mp_request.specs.Table.{Table, request_at}
+use Rattle.mp_request.specs.Handles.{IsInactive}
 use Rattle.cl_calls.specs.Checks.{is_named, is_idle}
 use Rattle.cl_calls.specs.declared.needs.Named.TheVariants.{Open, Persistent}
 

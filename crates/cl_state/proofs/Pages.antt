@@ -8,11 +8,13 @@ use Rattle.std.proofs.lemmas.Bool.{ne_eqb}
 use Rattle.rv_hart.specs.State.{State}
 use Rattle.rv_hart.specs.Stepped.{stepped}
 use Rattle.rv_hart.specs.Stores.{store_range}
-use Rattle.rv_memory.specs.Access.{IsWritable, is_writable}
+use Rattle.rv_memory.specs.Access.{is_writable}
+use Rattle.rv_memory.specs.Present.{IsWritable}
 use Rattle.rv_memory.specs.declared.fault.BytesFault.{BytesFault}
 use Rattle.rv_memory.specs.declared.fault.BytesFault.TheVariants.{Range, Memory as NoMemory}
 use Rattle.rv_memory.specs.Memory.{Memory, with_bytes}
-use Rattle.rv_memory.specs.Pages.{missing_from, missing_pages, touches, written_from, written_pages}
+use Rattle.rv_memory.specs.Pages.{touches, written_from, written_pages}
+use Rattle.rv_memory.specs.MorePages.{missing_from, missing_pages}
 use Rattle.cl_state.specs.declared.writes.Range.{Range as Bytes}
 use Rattle.cl_state.proofs.Stepped.{stepped_pages}
 use Rattle.cl_state.specs.Written.{written}

@@ -8,7 +8,7 @@ use Rattle.rv_hart.specs.declared.state.Wait.TheVariants.{Post, Again}
 use Rattle.mp_types.specs.declared.codes.Code.{Code}
 use Rattle.cl_calls.specs.declared.calls.Call.{Call}
 use Rattle.cl_calls.specs.declared.sites.Site.{Site}
-use Rattle.cl_calls.specs.Calls.{call_of}
+use Rattle.cl_calls.specs.Calls.{call_named}
 use Rattle.cl_calls.specs.Checks.{checks, first_fault}
 use Rattle.cl_calls.specs.Needs.{needs_of}
 use Rattle.cl_state.specs.declared.asking.Doing.{Doing}
@@ -43,8 +43,8 @@ passed_if_none site part (Some code) c held = tt
 
 passed_checked : (site : Site) (part : Part) → HasPassed site part (checked site part)
 passed_checked site part =
-    let cs = checks site part.memory part.requests part.phases (length part.out) (needs_of (call_of part.hart)) in
-    passed_if_none site part (first_fault cs) (call_of part.hart) (all_hold cs)
+    let cs = checks site part.memory part.requests part.phases (length part.out) (needs_of (call_named part.hart)) in
+    passed_if_none site part (first_fault cs) (call_named part.hart) (all_hold cs)
 
 passed_if : (site : Site) (part : Part) (b : Bool) (d : Doing) → HasPassed site part d
     → HasPassed site part (if b then d else Step)

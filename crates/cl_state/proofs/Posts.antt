@@ -2,7 +2,7 @@
 use Rattle.std.proofs.Common.{◌≡◌, ◌<◌, ◌++◌, ℕ, refl, subst, List, [], ◌∷◌, Option, Some, None, IsTrue, arith}
 use Rattle.std.specs.List.{cons_option}
 use Rattle.cl_state.specs.declared.pending.Pending.{Pending}
-use Rattle.cl_state.specs.Asked.{carried}
+use Rattle.cl_state.specs.TurnRoom.{carried}
 use Rattle.cl_state.specs.Several.{asked_all, has_posts, post_of, posts_of}
 
 with_post : (before : List ℕ) (o : Option ℕ) (post : ℕ) (after : List ℕ) → o ≡ Some post

@@ -5,7 +5,8 @@ use Rattle.mp_request.specs.declared.entries.Progress.{Progress}
 use Rattle.mp_request.specs.declared.entries.Progress.TheVariants.{Finished, OnPost, InPhase}
 use Rattle.mp_request.specs.declared.entries.Transfer.{Transfer}
 use Rattle.mp_request.specs.declared.entries.Transfer.TheVariants as transfer
-use Rattle.mp_request.specs.Table.{IsInactive, request_at}
+use Rattle.mp_request.specs.Table.{request_at}
+use Rattle.mp_request.specs.Handles.{IsInactive}
 use Rattle.cl_calls.specs.declared.calls.Call.{Call}
 use Rattle.cl_calls.specs.declared.calls.Call.TheVariants as call
 use Rattle.cl_calls.specs.declared.calls.Completing.{Completing}

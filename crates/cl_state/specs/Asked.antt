@@ -6,7 +6,6 @@ use Rattle.rv_hart.specs.State.{State}
 use Rattle.rv_hart.specs.declared.state.Mode.{Mode}
 use Rattle.rv_hart.specs.declared.state.Mode.TheVariants.{Running, Waiting, Ended, Trapped}
 use Rattle.rv_hart.specs.declared.state.Wait.TheVariants.{Post, Again}
-use Rattle.mp_types.specs.Carried.{carried_by_request}
 use Rattle.mp_types.specs.declared.codes.Code.{Code}
 use Rattle.mp_types.specs.declared.requests.Request.TheVariants as request
 use Rattle.mp_request.specs.declared.entries.OpenRequest.{OpenRequest}
@@ -17,7 +16,7 @@ use Rattle.cl_calls.specs.declared.calls.Call.TheVariants as call
 use Rattle.cl_calls.specs.declared.calls.Probing.{Probing}
 use Rattle.cl_calls.specs.declared.calls.Several.{Several}
 use Rattle.cl_calls.specs.declared.sites.Site.{Site}
-use Rattle.cl_calls.specs.Calls.{no_rank, call_of}
+use Rattle.cl_calls.specs.Calls.{no_rank, call_named}
 use Rattle.cl_calls.specs.Handles.{handles_in}
 use Rattle.cl_calls.specs.Needs.{array_at, needs_of}
 use Rattle.cl_calls.specs.Checks.{checks, first_fault, sending_side, receiving_side}
@@ -65,8 +64,8 @@ go_or_refuse (Some code) c = Refused code
 abbrev pub checked : Site → Part → Doing
 checked site part =
     go_or_refuse
-    (first_fault (checks site part.memory part.requests part.phases (length part.out) (needs_of (call_of part.hart))))
-    (call_of part.hart)
+    (first_fault (checks site part.memory part.requests part.phases (length part.out) (needs_of (call_named part.hart))))
+    (call_named part.hart)
 
 -- the word is ECALL's (RISC-V Unprivileged ISA, 2.8)
 abbrev pub is_ecall : Option ℕ → Bool
@@ -77,7 +76,7 @@ is_ecall (Some word) = word == 0x73
 -- a post polls it; one that waits otherwise makes its call anew
 abbrev pub doing_in : Mode → Site → Part → Doing
 doing_in Running site part = if is_ecall (word_at part.memory part.hart.pc) then checked site part else Step
-doing_in (Waiting (Post post)) site part = Poll (call_of part.hart) post
+doing_in (Waiting (Post post)) site part = Poll (call_named part.hart) post
 doing_in (Waiting Again) site part = checked site part
 doing_in (Ended code) site part = Stopped
 doing_in (Trapped cause pc) site part = Stopped
@@ -158,11 +157,6 @@ asked_in site memory table phases (Refused code) = ask.Local
 asked_in site memory table phases (Go c) = asked_by site memory table phases c
 asked_in site memory table phases (Poll c post) = asked_poll c post
 asked_in site memory table phases Stopped = ask.Idle
-
--- how many elements the list has that a question carries. The list takes memory for them, and for nothing else
-abbrev pub carried : Ask → ℕ
-carried (ask.Hub r) = carried_by_request r
-carried _ = 0
 
 -- what the hart's registers, mode and memory spell for its next turn
 unfoldable pub asked : Rank → ℕ → Ask

@@ -1,10 +1,12 @@
 pub mod Rank
 pub mod Transfers
 pub mod Pending
+pub mod Blocking
 pub mod Partitions
 pub mod Written
 pub mod Several
 pub mod Asked
+pub mod TurnRoom
 pub mod Deals
 pub mod Right
 pub mod Standing

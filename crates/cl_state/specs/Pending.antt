@@ -1,5 +1,5 @@
 -- What a request still needs to complete (MPI 4.1, 3.7.3).
-use Rattle.std.specs.Prelude.{ℕ, Option, Some, None, Bool, true, false}
+use Rattle.std.specs.Prelude.{ℕ, Option, Some, None}
 use Rattle.mp_types.specs.declared.requests.Request.TheVariants as request
 use Rattle.mp_request.specs.declared.entries.OpenRequest.{OpenRequest}
 use Rattle.mp_request.specs.declared.entries.Progress.{Progress}
@@ -12,7 +12,7 @@ use Rattle.mp_request.specs.declared.entries.Transfer.TheVariants.{ReceiveClaime
 use Rattle.cl_state.specs.declared.asking.Ask.{Ask}
 use Rattle.cl_state.specs.declared.asking.Ask.TheVariants as ask
 use Rattle.cl_state.specs.declared.pending.Manner.{Manner}
-use Rattle.cl_state.specs.declared.pending.Manner.TheVariants.{Immediate, Blocking}
+use Rattle.cl_state.specs.declared.pending.Manner.TheVariants.{Immediate}
 use Rattle.cl_state.specs.declared.pending.Pending.{Pending}
 use Rattle.cl_state.specs.declared.pending.Pending.TheVariants.{Nothing, FromNull, Message, Word}
 
@@ -20,11 +20,6 @@ use Rattle.cl_state.specs.declared.pending.Pending.TheVariants.{Nothing, FromNul
 abbrev pub flag : Manner → ℕ
 flag Immediate = 1
 flag _ = 0
-
--- a blocking receive wants its message with the reply
-abbrev pub is_blocking : Manner → Bool
-is_blocking Blocking = true
-is_blocking _ = false
 
 -- a receive needs its message, and a send word that it is complete
 abbrev pub pending_on : ℕ → Transfer → Pending

@@ -3,8 +3,8 @@ use Rattle.std.specs.Prelude.{◌≡◌, ◌≤◌, ℕ, ◌+◌, List, length, 
 use Rattle.rv_memory.specs.Memory.{Memory, bytes_at}
 use Rattle.rv_hart.specs.State.{State}
 use Rattle.rv_hart.specs.declared.state.Mode.TheVariants.{Running}
-use Rattle.mp_request.specs.Entries.{is_new}
-use Rattle.mp_request.specs.Table.{IsInactive}
+use Rattle.mp_request.specs.Awaited.{is_new}
+use Rattle.mp_request.specs.Handles.{IsInactive}
 use Rattle.cl_calls.specs.declared.calls.Several.{Several}
 use Rattle.cl_calls.specs.Checks.{is_few, is_array}
 use Rattle.cl_calls.specs.Handles.{handles_in}

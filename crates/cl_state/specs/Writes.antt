@@ -2,7 +2,8 @@
 use Rattle.std.specs.Prelude.{◌≤◌, ℕ, ◌+◌, ◌-◌, ◌*◌, ◌^◌, ◌==◌, if◌then◌else◌, min, List, [], ◌∷◌, ◌++◌, length, map}
 use Rattle.std.specs.Prelude.{Bool, true, false}
 use Rattle.rv_memory.specs.Memory.{Memory}
-use Rattle.rv_memory.specs.Pages.{missing_pages, written_pages}
+use Rattle.rv_memory.specs.Pages.{written_pages}
+use Rattle.rv_memory.specs.MorePages.{missing_pages}
 use Rattle.rv_hart.specs.Stores.{store_range}
 use Rattle.mp_request.specs.declared.entries.Partitions.{Partitions}
 use Rattle.mp_request.specs.Table.{Table}

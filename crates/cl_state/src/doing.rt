@@ -3,7 +3,8 @@
 ghost use Rattle.std.specs.Prelude.{◌≡◌, ◌<◌, ℕ, List, length, MatchResult, false};
 ghost use Rattle.mp_request.specs.Table.{request_at};
 ghost use Rattle.cl_calls.specs.Needs.{needs_of_probing};
-ghost use Rattle.cl_state.specs.Asked.{asked_claim, asked_completing, asked_poll, asked_probe, asked_start, carried};
+ghost use Rattle.cl_state.specs.Asked.{asked_claim, asked_completing, asked_poll, asked_probe, asked_start};
+ghost use Rattle.cl_state.specs.TurnRoom.{carried};
 ghost use Rattle.cl_state.specs.Asked.{checked as checked_of, doing as doing_of, is_ecall as is_ecall_of};
 ghost use Rattle.cl_state.specs.Partitions.{awaited as awaited_of};
 ghost use Rattle.cl_state.specs.Pending.{pending_of};

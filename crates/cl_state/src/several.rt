@@ -4,7 +4,8 @@ ghost use Rattle.std.specs.Prelude.{◌≡◌, ◌<◌, ◌≤◌, ◌+◌, ◌�
 ghost use Rattle.std.specs.List.{list_any};
 ghost use Rattle.cl_calls.specs.Checks.{is_array, is_few};
 ghost use Rattle.cl_calls.specs.Needs.{array_at};
-ghost use Rattle.cl_state.specs.Asked.{asked_several, carried};
+ghost use Rattle.cl_state.specs.Asked.{asked_several};
+ghost use Rattle.cl_state.specs.TurnRoom.{carried};
 ghost use Rattle.cl_state.specs.Deals.{given_by, given_in};
 ghost use Rattle.cl_state.specs.Pending.{pending_of};
 ghost use Rattle.cl_state.specs.Several.{Given, are_fit, completed_each, fits_one, given_message, given_nothing};

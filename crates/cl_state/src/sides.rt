@@ -1,7 +1,7 @@
 //! What answers do to partitioned transfers and their phases.
 
 ghost use Rattle.std.specs.Prelude.{◌≡◌, ◌∷◌, List, [], IsTrue, not};
-ghost use Rattle.mp_request.specs.Table.{IsInactive};
+ghost use Rattle.mp_request.specs.Handles.{IsInactive};
 ghost use Rattle.part_phase.specs.Phases.{sending_at};
 ghost use Rattle.part_phase.specs.Sending.{all_freed};
 ghost use Rattle.cl_calls.specs.Needs.{needs_of};

@@ -2,7 +2,8 @@
 
 ghost use Rattle.std.specs.Prelude.{◌≡◌, ◌<◌, vec_len, IfOk, IsOk, IsOkAnd, MatchResult, OnOk};
 ghost use Rattle.rv_memory.specs.Memory.{bytes_at};
-ghost use Rattle.cl_state.specs.Asked.{asked, carried, doing as doing_of, part_of};
+ghost use Rattle.cl_state.specs.Asked.{asked, doing as doing_of, part_of};
+ghost use Rattle.cl_state.specs.TurnRoom.{carried};
 ghost use Rattle.cl_state.specs.Moves.{started_by};
 ghost use Rattle.cl_state.specs.Right.{growth_of};
 ghost use Rattle.cl_state.specs.Told.{told};
@@ -48,7 +49,8 @@ pub struct RankState {
 
 impl RankState {
     ghost use Rattle.std.specs.Prelude.{[]};
-    ghost use Rattle.cl_state.specs.Room.{HasRoom, HasRoomBehind, IsNext, IsStanding, rank_of, writes_of};
+    ghost use Rattle.cl_state.specs.Room.{rank_of};
+    ghost use Rattle.cl_state.specs.TurnRoom.{HasRoom, HasRoomBehind, IsNext, IsStanding, writes_of};
     ghost use Rattle.cl_state.specs.Writes.{missing_for};
 
     /// A rank with these parts, with no output, at clock 0.

@@ -3,8 +3,8 @@
 ghost use Rattle.std.specs.Prelude.{◌≡◌, ◌≤◌, ◌+◌, ◌++◌, ◌∷◌, [], IsTrue, length, nat_lt, take, vec_capacity, vec_len};
 ghost use Rattle.rv_hart.specs.declared.state.Mode.TheVariants.{Running};
 ghost use Rattle.rv_memory.specs.Memory.{bytes_of};
-ghost use Rattle.mp_request.specs.Entries.{is_new};
-ghost use Rattle.mp_request.specs.Table.{IsInactive};
+ghost use Rattle.mp_request.specs.Awaited.{is_new};
+ghost use Rattle.mp_request.specs.Handles.{IsInactive};
 ghost use Rattle.cl_state.specs.declared.row.Outcome.TheVariants as outcome;
 ghost use Rattle.cl_state.specs.Told.{again, done, ended, found as found_by, found_nothing, freed};
 ghost use Rattle.cl_state.specs.Told.{not_yet as not_yet_of};

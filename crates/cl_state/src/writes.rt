@@ -4,7 +4,7 @@ ghost use Rattle.std.specs.Prelude.{◌≡◌, ◌≤◌, ◌*◌, ◌∷◌, []
 ghost use Rattle.cl_state.specs.Turn.{HasArray, IsAble, IsReady, IsRow, IsWantable, part_in};
 ghost use Rattle.cl_state.specs.Writes.{box_into, buffer_of, message_into, missing_for, several_into, statuses_from};
 ghost use Rattle.cl_state.specs.Writes.{writes_at_once, writes_by, writes_in, writes_on_box, writes_on_reply};
-ghost use Rattle.rv_memory.specs.Pages.{missing_pages};
+ghost use Rattle.rv_memory.specs.MorePages.{missing_pages};
 
 use crate::asking::Doing;
 use crate::partitions::place_at;

@@ -17,7 +17,7 @@ use Rattle.cl_calls.specs.declared.calls.Call.{Call}
 use Rattle.cl_calls.specs.declared.calls.Call.TheVariants as call
 use Rattle.cl_calls.specs.declared.calls.Completing.{Completing}
 use Rattle.cl_calls.specs.declared.sites.Site.{Site}
-use Rattle.cl_calls.specs.Calls.{call_of, no_rank}
+use Rattle.cl_calls.specs.Calls.{call_named, no_rank}
 use Rattle.cl_calls.specs.Checks.{checks, first_fault}
 use Rattle.cl_calls.specs.Handles.{handles_in}
 use Rattle.cl_calls.specs.Needs.{array_at, needs_of}
@@ -158,11 +158,11 @@ by_doing P site part waits on poll goes =
 
     by_wait : (wait : Wait) → part.hart.mode ≡ Waiting wait
         → waits_on (doing_in (Waiting wait) site part) ≡ true → P (doing_in (Waiting wait) site part)
-    by_wait (Post post) mode on = poll (call_of part.hart) post
+    by_wait (Post post) mode on = poll (call_named part.hart) post
     by_wait Again mode on =
         by_check
-        (first_fault (checks site part.memory part.requests part.phases _ (needs_of (call_of part.hart))))
-        (call_of part.hart) mode on
+        (first_fault (checks site part.memory part.requests part.phases _ (needs_of (call_named part.hart))))
+        (call_named part.hart) mode on
 
 -- ---- the rank
 

@@ -12,12 +12,14 @@ use Rattle.cl_state.specs.declared.asking.Ask.{Ask}
 use Rattle.cl_state.specs.declared.asking.Ask.TheVariants as ask
 use Rattle.cl_state.specs.Asked.{asked}
 use Rattle.cl_state.specs.Rank.{Rank, loaded}
-use Rattle.cl_rank.specs.Deeds.{Act, Answers, Deed, IsAlone}
+use Rattle.cl_rank.specs.Deeds.{Act, Suits, Deed}
+use Rattle.cl_rank.specs.Alone.{IsAlone}
 use Rattle.cl_gates.specs.Gates.{MayAsk}
 use Rattle.cl_gates.proofs.Kept.{questions}
 use Rattle.cl_machine.specs.Boxes.{Box, Holds, IsEmpty, box_number}
-use Rattle.cl_machine.specs.Parts.{PartsMove, PartsMoveAt}
-use Rattle.cl_machine.specs.Product.{BoxActs, BoxMoves, box_at, box_for}
+use Rattle.cl_machine.specs.PartRuns.{PartsMove, PartsMoveAt}
+use Rattle.cl_machine.specs.Product.{box_at, box_for}
+use Rattle.cl_machine.specs.ProductSteps.{BoxActs, BoxMoves}
 use Rattle.cl_machine.proofs.Lists.{get-set_other, get-set_same}
 use Rattle.cl_stuck.specs.Stuck.{IsEmptyAt, IsFullAt}
 
@@ -119,7 +121,7 @@ module _ (image : ImageParts) (r : ℕ) (ds : List Deed) (rank : Rank) (run : Is
     | inr other ↦ elsewhere number c is other
   ]
 
-  pub stays_empty : (act : Act) → Answers (asked rank d.hart) act → BoxesMove old d act new
+  pub stays_empty : (act : Act) → Suits (asked rank d.hart) act → BoxesMove old d act new
       → OnlyOf among (sends_over image.links link) → IsEmptyAt old (box_number link part)
       → slice_get new (box_number link part) ≡ slice_get old (box_number link part)
   stays_empty (Act.Ready link2 part2 bytes) asks moves only empty =
@@ -138,7 +140,7 @@ module _ (image : ImageParts) (r : ℕ) (ds : List Deed) (rank : Rank) (run : Is
   stays_empty Act.Held asks moves only empty = ap (λ bs. slice_get bs (box_number link part)) moves
   stays_empty Act.Idle asks moves only empty = ap (λ bs. slice_get bs (box_number link part)) moves
 
-  pub stays_full : (act : Act) → Answers (asked rank d.hart) act → BoxesMove old d act new
+  pub stays_full : (act : Act) → Suits (asked rank d.hart) act → BoxesMove old d act new
       → OnlyOf among (λ k. is_receiver image.links k link) → IsFullAt old (box_number link part)
       → slice_get new (box_number link part) ≡ slice_get old (box_number link part)
   stays_full (Act.Ready link2 part2 bytes) asks moves only full =

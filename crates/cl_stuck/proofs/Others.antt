@@ -18,10 +18,13 @@ use Rattle.cl_state_laws.specs.Members.{AreInside}
 use Rattle.cl_state_laws.proofs.Members.{members_law}
 use Rattle.cl_state.specs.Told.{told}
 use Rattle.cl_state.proofs.Moves.{told_at}
-use Rattle.cl_rank.specs.Deeds.{Act, Answers, Deed, IsAlone, answer_of}
+use Rattle.cl_rank.specs.Deeds.{Act, Suits, Deed, answer_of}
+use Rattle.cl_rank.specs.Alone.{IsAlone}
 use Rattle.cl_machine.specs.Cluster.{Cluster}
-use Rattle.cl_machine.specs.Journal.{Journal, calls_of}
-use Rattle.cl_machine.specs.Product.{JournalMoves, entry_for}
+use Rattle.cl_machine.specs.Journal.{Journal}
+use Rattle.cl_journal.specs.Journal.{calls_of}
+use Rattle.cl_machine.specs.Product.{entry_for}
+use Rattle.cl_machine.specs.ProductSteps.{JournalMoves}
 use Rattle.cl_stuck.specs.Stuck.{AsksInVain, is_among, is_member}
 use Rattle.cl_stuck.proofs.Boxes.{BoxesMove, freed_low, look_low, stays_empty, stays_full}
 use Rattle.cl_stuck.proofs.Own.{calls-snoc}
@@ -73,14 +76,14 @@ module _ (ranks : List ℕ) (image : ImageParts) (old new : Cluster) (d : Deed) 
   Waits journal q = WaitsFor (is_member x.site) (is_among ranks) journal.links (calls_of journal.entries) r q
 
   -- at the hub
-  waits_still : (q : Request) (act : Act) → Answers (asked s d.hart) act
+  waits_still : (q : Request) (act : Act) → Suits (asked s d.hart) act
       → JournalMoves old.journal (entry_for d act) new.journal → Waits old.journal q → Waits new.journal q
   waits_still q act answers moves waits = go act answers moves
     where
       same : new.journal ≡ old.journal → Waits new.journal q
       same is = subst (λ (j : Journal). Waits j q) (sym is) waits
 
-      go : (act : Act) → Answers (asked s d.hart) act → JournalMoves old.journal (entry_for d act) new.journal
+      go : (act : Act) → Suits (asked s d.hart) act → JournalMoves old.journal (entry_for d act) new.journal
           → Waits new.journal q
       go (Act.Hub clock call answer) asks moves =
           subst (λ (j : Journal). Waits j q) (sym moves.2)
@@ -97,7 +100,7 @@ module _ (ranks : List ℕ) (image : ImageParts) (old new : Cluster) (d : Deed) 
       go Act.Held asks moves = same moves
       go Act.Idle asks moves = same moves
 
-  pub in_vain_still : (hart : ℕ) (a : Ask) → asked x hart ≡ a → (act : Act) → Answers (asked s d.hart) act
+  pub in_vain_still : (hart : ℕ) (a : Ask) → asked x hart ≡ a → (act : Act) → Suits (asked s d.hart) act
       → JournalMoves old.journal (entry_for d act) new.journal → BoxesMove old.boxes d act new.boxes
       → new.journal.links ≡ old.journal.links
       → AsksInVain ranks old r x.site a → AsksInVain ranks new r x.site a

@@ -17,11 +17,13 @@ use Rattle.cl_state.specs.Told.{told}
 use Rattle.cl_state_laws.specs.Laws.{IsLook}
 use Rattle.cl_state_laws.specs.Vain.{IsPatient, IsStopped, at_clock, mode_of}
 use Rattle.cl_state_laws.proofs.Vain.{vain_law}
-use Rattle.cl_rank.specs.Deeds.{Act, Answers, Deed, answer_of}
+use Rattle.cl_rank.specs.Deeds.{Act, Suits, Deed, answer_of}
 use Rattle.cl_machine.specs.Boxes.{box_number}
 use Rattle.cl_machine.specs.Cluster.{Cluster}
-use Rattle.cl_machine.specs.Journal.{Journal, calls_of, call_of, reply_in}
-use Rattle.cl_machine.specs.Product.{JournalMoves, entry_for}
+use Rattle.cl_machine.specs.Journal.{Journal, reply_in}
+use Rattle.cl_journal.specs.Journal.{calls_of, call_of}
+use Rattle.cl_machine.specs.Product.{entry_for}
+use Rattle.cl_machine.specs.ProductSteps.{JournalMoves}
 use Rattle.cl_stuck.specs.Stuck.{AsksInVain, IsEmptyAt, IsFullAt, IsHeld, is_among, is_member}
 use Rattle.cl_stuck.proofs.Boxes.{BoxesMove, not_held}
 
@@ -59,7 +61,7 @@ module _ (ranks : List ℕ) (old new : Cluster) (d : Deed) (s t : Rank) where
     boxes = boxes;
   }
 
-  stopped : IsStopped (mode_of s d.hart) → (act : Act) → Answers ask.Idle act → Does act → Passed old new d.stamp s t
+  stopped : IsStopped (mode_of s d.hart) → (act : Act) → Suits ask.Idle act → Does act → Passed old new d.stamp s t
   stopped is Act.Idle answers does = alone (does.0 ∙ ((vain_law.stopped) s d.hart d.stamp _ is).1) does.1 does.2
   stopped is Act.Plain answers does = absurd (cc)
   stopped is Act.Local answers does = absurd (cc)
@@ -95,7 +97,7 @@ module _ (ranks : List ℕ) (old new : Cluster) (d : Deed) (s t : Rank) where
 
   hub_held : (q : Request) → asked s d.hart ≡ ask.Hub q → IsPatient s d.hart
       → WaitsFor (is_member s.site) (is_among ranks) old.journal.links (calls_of old.journal.entries) d.rank q
-      → (act : Act) → Answers (ask.Hub q) act → Does act → Passed old new d.stamp s t
+      → (act : Act) → Suits (ask.Hub q) act → Does act → Passed old new d.stamp s t
   hub_held q asks patient waits (Act.Hub clock request reply) answers does =
       let same : request ≡ q = (cc) in
       called q clock reply patient asks waits (subst (λ x. Does (Act.Hub clock x reply)) same does)
@@ -111,7 +113,7 @@ module _ (ranks : List ℕ) (old new : Cluster) (d : Deed) (s t : Rank) where
 
   look_held : (link part : ℕ) → asked s d.hart ≡ ask.Look link part → IsPatient s d.hart
       → IsEmptyAt old.boxes (box_number link part)
-      → (act : Act) → Answers (ask.Look link part) act → Does act → Passed old new d.stamp s t
+      → (act : Act) → Suits (ask.Look link part) act → Does act → Passed old new d.stamp s t
   look_held link part asks patient empty (Act.Miss link2 part2) answers does =
       looked (ask.Look link part) asks tt patient link2 part2 does
   look_held link part asks patient empty (Act.Take link2 part2 gate bytes) answers does =
@@ -129,7 +131,7 @@ module _ (ranks : List ℕ) (old new : Cluster) (d : Deed) (s t : Rank) where
 
   freed_held : (link part : ℕ) → asked s d.hart ≡ ask.Freed link part → IsPatient s d.hart
       → IsFullAt old.boxes (box_number link part)
-      → (act : Act) → Answers (ask.Freed link part) act → Does act → Passed old new d.stamp s t
+      → (act : Act) → Suits (ask.Freed link part) act → Does act → Passed old new d.stamp s t
   freed_held link part asks patient full (Act.Miss link2 part2) answers does =
       looked (ask.Freed link part) asks tt patient link2 part2 does
   freed_held link part asks patient full (Act.Freed link2 part2 gate) answers does =
@@ -144,7 +146,7 @@ module _ (ranks : List ℕ) (old new : Cluster) (d : Deed) (s t : Rank) where
   freed_held link part asks patient full Act.Held answers does = absurd (cc)
   freed_held link part asks patient full Act.Idle answers does = absurd (cc)
 
-  held_held : asked s d.hart ≡ ask.Held → IsPatient s d.hart → (act : Act) → Answers ask.Held act → Does act
+  held_held : asked s d.hart ≡ ask.Held → IsPatient s d.hart → (act : Act) → Suits ask.Held act → Does act
       → Passed old new d.stamp s t
   held_held asks patient Act.Held answers does =
       alone (does.0 ∙ (vain_law.held) s d.hart d.stamp patient asks) does.1 does.2
@@ -157,11 +159,11 @@ module _ (ranks : List ℕ) (old new : Cluster) (d : Deed) (s t : Rank) where
   held_held asks patient (Act.Freed link part gate) answers does = absurd (cc)
   held_held asks patient Act.Idle answers does = absurd (cc)
 
-  held : IsHeld ranks old d.rank s d.hart → (act : Act) → Answers (asked s d.hart) act → Does act
+  held : IsHeld ranks old d.rank s d.hart → (act : Act) → Suits (asked s d.hart) act → Does act
       → Passed old new d.stamp s t
   held is act answers does = go (asked s d.hart) refl is.in_vain answers
     where
-      go : (a : Ask) → asked s d.hart ≡ a → AsksInVain ranks old d.rank s.site a → Answers a act
+      go : (a : Ask) → asked s d.hart ≡ a → AsksInVain ranks old d.rank s.site a → Suits a act
           → Passed old new d.stamp s t
       go (ask.Hub q) asks vain answers = hub_held q asks is.patient vain act answers does
       go (ask.Look link part) asks vain answers = look_held link part asks is.patient vain.0 act answers does
@@ -170,8 +172,8 @@ module _ (ranks : List ℕ) (old new : Cluster) (d : Deed) (s t : Rank) where
       go _ asks vain answers = absurd vain
 
   pub passed : (IsStopped (mode_of s d.hart) ⊎ IsHeld ranks old d.rank s d.hart) → (act : Act)
-      → Answers (asked s d.hart) act → Does act → Passed old new d.stamp s t
+      → Suits (asked s d.hart) act → Does act → Passed old new d.stamp s t
   passed (inl is) act answers does =
       stopped is act
-      (subst (λ (a : Ask). Answers a act) ((vain_law.stopped) s d.hart d.stamp answer.Alone is).0 answers) does
+      (subst (λ (a : Ask). Suits a act) ((vain_law.stopped) s d.hart d.stamp answer.Alone is).0 answers) does
   passed (inr is) act answers does = held is act answers does

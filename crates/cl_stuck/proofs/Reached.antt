@@ -6,13 +6,15 @@ use Rattle.std.proofs.lemmas.Bool.{cases_eq}
 use Rattle.std.proofs.lemmas.Option.{same_Some}
 use Rattle.rv_image.specs.declared.images.ImageParts.{ImageParts}
 use Rattle.cl_journal.specs.declared.entries.Entry.{Entry}
-use Rattle.cl_rank.specs.Deeds.{Deed, IsAlone, RankMoves}
+use Rattle.cl_rank.specs.Deeds.{Deed, RankMoves}
+use Rattle.cl_rank.specs.Alone.{IsAlone}
 use Rattle.cl_state.specs.Rank.{Rank, below, loaded}
 use Rattle.cl_state.proofs.Moves.{told_at}
 use Rattle.cl_machine.specs.declared.steps.Step.{Step}
 use Rattle.cl_machine.specs.Cluster.{Cluster, IsRun, IsStep, loaded_cluster}
 use Rattle.cl_machine.specs.Journal.{Journal}
-use Rattle.cl_machine.specs.Product.{Goes, JournalMoves, PartsStep, entry_of}
+use Rattle.cl_machine.specs.Product.{entry_of}
+use Rattle.cl_machine.specs.ProductSteps.{Goes, JournalMoves, PartsStep}
 use Rattle.cl_machine.proofs.Lists.{get-set_other, get-set_same}
 use Rattle.cl_machine.proofs.Tables.{table_law}
 

@@ -19,7 +19,8 @@ use Rattle.cl_rank.specs.Deeds.{Deed}
 use Rattle.cl_machine.specs.declared.steps.Step.{Step}
 use Rattle.cl_machine.specs.Boxes.{box_number}
 use Rattle.cl_machine.specs.Cluster.{Cluster, IsRun, IsStep}
-use Rattle.cl_machine.specs.Product.{Goes, entry_of}
+use Rattle.cl_machine.specs.Product.{entry_of}
+use Rattle.cl_machine.specs.ProductSteps.{Goes}
 use Rattle.cl_machine.proofs.Lists.{get-set_same, get-set_other}
 use Rattle.cl_stuck.specs.Stuck.{AreAsTheyWere, AreStuck, AsksInVain, DeadlockLaw, IsAsItWas, IsHeld, is_among, is_member}
 use Rattle.cl_stuck.proofs.Boxes.{boxes_move}

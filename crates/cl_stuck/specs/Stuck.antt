@@ -14,7 +14,7 @@ use Rattle.cl_state_laws.specs.Vain.{IsPatient, IsStopped, IsWaiting, mode_of}
 use Rattle.cl_machine.specs.declared.steps.Step.{Step}
 use Rattle.cl_machine.specs.Boxes.{Box, IsEmpty, box_number}
 use Rattle.cl_machine.specs.Cluster.{Cluster, IsRun, loaded_cluster}
-use Rattle.cl_machine.specs.Journal.{calls_of}
+use Rattle.cl_journal.specs.Journal.{calls_of}
 
 -- ---- a deadlock
 

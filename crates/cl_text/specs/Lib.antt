@@ -1,7 +1,11 @@
 pub mod Limits
+pub mod Writing
 pub mod Text
 pub mod Replies
+pub mod RepliesAnswers
 pub mod Reading
+pub mod ReadingAnswers
 pub mod Order
 pub mod Whole
+pub mod Laws
 pub mod Worked

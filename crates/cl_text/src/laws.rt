@@ -1,7 +1,7 @@
 //! Laws of the record's text. The functions do nothing; their contracts are the laws.
 
 ghost use Rattle.cl_text.specs.Order.{FirstFaultLaw};
-ghost use Rattle.cl_text.specs.Whole.{OneSpellingLaw};
+ghost use Rattle.cl_text.specs.Laws.{OneSpellingLaw};
 
 /// Reading answers the fault of the first test that doesn't hold, of all tests of all parts in one table.
 pub fn first_fault_law()

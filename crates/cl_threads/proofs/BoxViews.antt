@@ -21,7 +21,8 @@ use Rattle.cl_machine.specs.Boxes.{box_number}
 use Rattle.cl_machine.specs.Joined.{Got, OnItsSide, got_of, made_of, shown}
 use Rattle.cl_machine.specs.Parts.{is_part, own}
 use Rattle.cl_machine.specs.Product.{box_at, box_for}
-use Rattle.cl_record.specs.Keys.{bytes_in, thing_of}
+use Rattle.cl_record.specs.Keys.{bytes_in}
+use Rattle.cl_record.specs.BoxKeys.{thing_of}
 use Rattle.cl_threads.specs.Runs.{OnBox}
 use Rattle.cl_threads.proofs.KeyRuns.{ReceiverGoes, SenderGoes}
 use Rattle.cl_threads.proofs.Numbers.{at_front, at_seam}

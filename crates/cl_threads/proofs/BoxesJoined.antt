@@ -24,7 +24,7 @@ use Rattle.cl_machine.specs.Joined.{BoxJoined, Got, OnItsSide, ShowsTake, gate_s
 use Rattle.cl_machine.specs.Joined as law
 use Rattle.cl_machine.specs.Parts.{own}
 use Rattle.cl_machine.specs.Product.{box_at}
-use Rattle.cl_record.specs.Keys.{box_of, thing_of}
+use Rattle.cl_record.specs.BoxKeys.{box_of, thing_of}
 use Rattle.cl_record.proofs.Leaves.{shows}
 use Rattle.cl_threads.specs.Runs.{ReceiverWent, SenderWent}
 use Rattle.cl_threads.proofs.BoxViews.{IsLoaded, receiver_tells, sender_tells, taken_as}

@@ -17,7 +17,7 @@ use Rattle.part_channel.specs.Receiving.{RecvView}
 use Rattle.part_channel.specs.Sending.{SendView}
 use Rattle.part_channel.specs.Settling.{got_from, joined, made_in}
 use Rattle.part_phase.specs.Limits.{box_words}
-use Rattle.cl_rank.specs.Sides.{Sides, receiver_key, receiver_view, sender_key, sender_view, side_of}
+use Rattle.cl_rank.specs.RankSides.{Sides, receiver_key, receiver_view, sender_key, sender_view, side_of}
 use Rattle.cl_rank.specs.Views.{view_of}
 use Rattle.cl_record.specs.Settling.{IsAllSettled}
 use Rattle.cl_record.specs.Wiring.{AreNewEnds, IsNewEnd}

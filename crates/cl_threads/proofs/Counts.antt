@@ -4,7 +4,7 @@ use Rattle.std.proofs.Common.{refl, ap, suc}
 use Rattle.part_channel.specs.Channels.{ChannelView}
 use Rattle.cl_rank.specs.declared.ranks.Rank.{Rank}
 use Rattle.cl_record.specs.declared.plans.Plan.{Plan}
-use Rattle.cl_threads.specs.Alone.{AreDone}
+use Rattle.cl_threads.specs.OnThreads.{AreDone}
 use Rattle.cl_threads.specs.declared.turns.Done.{Done}
 
 -- as many are done as there are plans

@@ -2,7 +2,7 @@
 use Rattle.std.specs.Prelude.{List, ◌≡◌, IfOk, OnOk, Result, Ok, Err}
 use Rattle.rv_image.specs.declared.images.ImageParts.{ImageParts}
 use Rattle.rv_image.specs.Image.{IsImage}
-use Rattle.cl_journal.specs.Journal.{Journal, Replays}
+use Rattle.cl_journal.specs.Replaying.{HubHistory, Replays}
 use Rattle.cl_record.specs.Plans.{HasPlans}
 use Rattle.cl_record.specs.Records.{IsMergedRun}
 use Rattle.cl_record.specs.declared.plans.Plan.{Plan}
@@ -10,7 +10,7 @@ use Rattle.cl_record.specs.declared.records.Record.{Record}
 use Rattle.cl_record.specs.declared.records.RunFault.{RunFault}
 use Rattle.cl_threads.proofs.Merged.{merged_run}
 use Rattle.cl_threads.proofs.Together.{thread_run}
-use Rattle.cl_threads.specs.Alone.{AreDone}
+use Rattle.cl_threads.specs.OnThreads.{AreDone}
 use Rattle.cl_threads.specs.Leaving.{IsRecordOf}
 use Rattle.cl_threads.specs.Loading.{IsCluster}
 use Rattle.cl_threads.specs.Runs.{IsThreadRun}
@@ -18,7 +18,7 @@ use Rattle.cl_threads.specs.Ties.{AreOf, AreTied}
 use Rattle.cl_threads.specs.declared.loading.Cluster.{Cluster}
 use Rattle.cl_threads.specs.declared.turns.Done.{Done}
 
-pub gathered : (image : ImageParts) (plans : List Plan) (cluster : Cluster) (all : List Done) (hub : Journal)
+pub gathered : (image : ImageParts) (plans : List Plan) (cluster : Cluster) (all : List Done) (hub : HubHistory)
     (r : Result Record RunFault) → HasPlans image plans → IsCluster image plans cluster
     → AreDone cluster.channels.items plans cluster.ranks.items all
     → OnOk r (hub.links ≡ image.links) → OnOk r (Replays hub)

@@ -8,10 +8,10 @@ use Rattle.rv_image.specs.declared.images.Link.{Link}
 use Rattle.part_box.specs.declared.view.Receiving.{Receiving}
 use Rattle.part_box.specs.declared.view.Sending.{Sending}
 use Rattle.cl_rank.specs.Deeds.{Act, Deed, PartRun}
-use Rattle.cl_rank.specs.Sides.{HasKey, KeyMoves, KeysMove, ReceiverActs, SenderActs, Sides, is_place, place_of}
-use Rattle.cl_rank.specs.Sides.{receiver_of, sender_of}
+use Rattle.cl_rank.specs.Sides.{ReceiverActs, SenderActs, is_place, place_of}
+use Rattle.cl_rank.specs.RankSides.{HasKey, KeyMoves, KeysMove, Sides, receiver_of, sender_of}
 use Rattle.cl_machine.specs.Joined.{OnItsSide}
-use Rattle.cl_threads.specs.Alone.{KeysGo}
+use Rattle.cl_threads.specs.OnThreads.{KeysGo}
 use Rattle.cl_threads.specs.Runs.{OnBox}
 
 -- what a deed makes of one key, where the rank has it

@@ -6,15 +6,16 @@ use Rattle.std.proofs.lemmas.Option.{same_Some}
 use Rattle.rv_image.specs.declared.images.ImageParts.{ImageParts}
 use Rattle.part_channel.specs.Channels.{ChannelView}
 use Rattle.cl_state.specs.Rank.{Rank, loaded}
-use Rattle.cl_rank.specs.Deeds.{Deed, IsAlone}
-use Rattle.cl_rank.specs.Sides.{Sides}
+use Rattle.cl_rank.specs.Deeds.{Deed}
+use Rattle.cl_rank.specs.Alone.{IsAlone}
+use Rattle.cl_rank.specs.RankSides.{Sides}
 use Rattle.cl_rank.specs.Views.{view_of}
 use Rattle.cl_rank.specs.declared.ranks.Rank.{Rank as RankOfTurns}
 use Rattle.cl_machine.specs.Joined.{OnItsSide}
 use Rattle.cl_record.specs.Wiring.{AreNewEnds}
 use Rattle.cl_record.specs.declared.plans.Plan.{Plan}
 use Rattle.cl_record.proofs.Wires.{new_keys}
-use Rattle.cl_threads.specs.Alone.{AreDone, KeysGo, WentBy}
+use Rattle.cl_threads.specs.OnThreads.{AreDone, KeysGo, WentBy}
 use Rattle.cl_threads.specs.Loading.{AreLoaded}
 use Rattle.cl_threads.specs.Runs.{IsRankOf}
 use Rattle.cl_threads.specs.declared.turns.Done.{Done}

@@ -8,8 +8,8 @@ use Rattle.rv_image.specs.declared.images.Link.{Link}
 use Rattle.rv_image.specs.Image.{IsLink}
 use Rattle.part_channel.specs.Channels.{ChannelView}
 use Rattle.cl_state.specs.Rank.{loaded}
-use Rattle.cl_rank.specs.Sides.{AreChannelsOf, AreNewSides, Sides}
-use Rattle.cl_rank.specs.Turns.{RankView}
+use Rattle.cl_rank.specs.RankSides.{AreChannelsOf, AreNewSides, Sides}
+use Rattle.cl_rank.specs.Turning.{RankView}
 use Rattle.cl_rank.specs.Views.{view_of}
 use Rattle.cl_rank.specs.declared.ranks.Rank.{Rank}
 use Rattle.cl_record.proofs.Elements.{last_or_before}
@@ -17,7 +17,7 @@ use Rattle.cl_record.proofs.Wires.{new_sides, over_channels}
 use Rattle.cl_record.specs.Plans.{HasPlans, IsPlan}
 use Rattle.cl_record.specs.Wiring.{AreNewEnds}
 use Rattle.cl_record.specs.declared.plans.Plan.{Plan}
-use Rattle.cl_threads.specs.Alone.{AreReady, IsReady}
+use Rattle.cl_threads.specs.OnThreads.{AreReady, IsReady}
 use Rattle.cl_threads.specs.Loading.{AreLoaded, IsLoaded}
 
 link_at : (n : ℕ) (links : List Link) (link : ℕ) (l : Link) → All (IsLink n) links → slice_get links link ≡ Some l

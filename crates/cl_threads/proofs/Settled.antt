@@ -10,7 +10,7 @@ use Rattle.part_box.specs.declared.view.Sending.{Sending}
 use Rattle.part_channel.specs.Channels.{ChannelView}
 use Rattle.part_channel.specs.Receiving.{RecvView}
 use Rattle.part_channel.specs.Sending.{SendView}
-use Rattle.cl_rank.specs.Sides.{AreChannelsOf, HasReceiver, HasSender, receiver_key, sender_key, side_of}
+use Rattle.cl_rank.specs.RankSides.{AreChannelsOf, HasReceiver, HasSender, receiver_key, sender_key, side_of}
 use Rattle.cl_rank.specs.Views.{view_of}
 use Rattle.cl_rank.specs.declared.ranks.Rank.{Rank}
 use Rattle.cl_record.proofs.Elements.{at_below}
@@ -20,7 +20,7 @@ use Rattle.cl_record.specs.declared.plans.Plan.{Plan}
 use Rattle.cl_threads.proofs.KeyRuns.{receiver_goes, sender_goes}
 use Rattle.cl_threads.proofs.Numbers.{to_map}
 use Rattle.cl_threads.proofs.RanksJoined.{AllWent, all_went}
-use Rattle.cl_threads.specs.Alone.{AreDone}
+use Rattle.cl_threads.specs.OnThreads.{AreDone}
 use Rattle.cl_threads.specs.Leaving.{ends_of}
 use Rattle.cl_threads.specs.Loading.{IsCluster}
 use Rattle.cl_threads.specs.declared.loading.Cluster.{Cluster}

@@ -10,7 +10,7 @@ use Rattle.rv_image.specs.declared.images.ImageParts.{ImageParts}
 use Rattle.rv_image.specs.declared.images.Link.{Link}
 use Rattle.part_box.specs.declared.settled.Settled.{Settled}
 use Rattle.part_channel.specs.Channels.{ChannelView}
-use Rattle.cl_journal.specs.Journal.{Follows, Journal, Replays}
+use Rattle.cl_journal.specs.Replaying.{Follows, HubHistory, Replays}
 use Rattle.cl_journal.specs.declared.entries.Entry.{Entry}
 use Rattle.cl_trace.specs.Traces.{TraceView}
 use Rattle.cl_state.specs.Rank.{below, loaded}
@@ -26,14 +26,15 @@ use Rattle.cl_machine.specs.Journal.{journal_of}
 use Rattle.cl_machine.specs.Order.{of_rank}
 use Rattle.cl_machine.specs.Parts.{PartRunAt}
 use Rattle.cl_machine.specs.Product.{entry_of}
-use Rattle.cl_record.specs.Keys.{Shows, ShowsAll, box_of}
+use Rattle.cl_record.specs.Keys.{Shows, ShowsAll}
+use Rattle.cl_record.specs.BoxKeys.{box_of}
 use Rattle.cl_record.specs.Plans.{HasPlans}
 use Rattle.cl_record.specs.declared.plans.Plan.{Plan}
 use Rattle.cl_record.specs.declared.records.Record.{Record}
 use Rattle.cl_order.proofs.Ranks.{starts}
 use Rattle.cl_record.proofs.Elements.{at_below}
 use Rattle.cl_record.proofs.Leaves.{shows}
-use Rattle.cl_threads.specs.Alone.{AreDone}
+use Rattle.cl_threads.specs.OnThreads.{AreDone}
 use Rattle.cl_threads.specs.Leaving.{IsRecordOf}
 use Rattle.cl_threads.specs.Loading.{IsCluster}
 use Rattle.cl_threads.specs.Runs.{IsBoxOf, IsRankOf, IsThreadRun}
@@ -268,7 +269,7 @@ module _ (image : ImageParts) (channels : List ChannelView) (plans : List Plan) 
       boxes = box_by_keys;
     }
 
-pub thread_run : (image : ImageParts) (plans : List Plan) (cluster : Cluster) (all : List Done) (hub : Journal)
+pub thread_run : (image : ImageParts) (plans : List Plan) (cluster : Cluster) (all : List Done) (hub : HubHistory)
     (left : Record) → HasPlans image plans → IsCluster image plans cluster
     → AreDone cluster.channels.items plans cluster.ranks.items all
     → hub.links ≡ image.links → Replays hub

@@ -13,15 +13,18 @@ use Rattle.cl_state.specs.Asked.{asked}
 use Rattle.cl_state.specs.declared.asking.Ask.{Ask}
 use Rattle.cl_state.specs.Rank.{Rank}
 use Rattle.cl_state.proofs.Moves.{told_at}
-use Rattle.cl_rank.specs.Deeds.{Deed, IsAlone, PartRun, RankMoves, answer_of, event_of}
-use Rattle.cl_rank.specs.Sides.{KeysMove, Sides}
-use Rattle.cl_rank.specs.Turns.{Gives, IsActive, IsCause, IsFault, IsTurn, RankView, stop_of}
+use Rattle.cl_rank.specs.Deeds.{Deed, PartRun, RankMoves, answer_of, event_of}
+use Rattle.cl_rank.specs.Alone.{IsAlone}
+use Rattle.cl_rank.specs.RankSides.{KeysMove, Sides}
+use Rattle.cl_rank.specs.Turns.{IsActive}
+use Rattle.cl_rank.specs.Turning.{DeskRule, IsCause, IsFault, IsTurn, RankView, stop_of}
 use Rattle.cl_rank.specs.declared.stops.Stop.{Stop}
 use Rattle.cl_record.proofs.Elements.{last_or_before}
 use Rattle.cl_record.specs.Plans.{in_slot}
 use Rattle.cl_record.specs.Records.{AsksHub, FollowsPlan, HasTurn}
 use Rattle.cl_record.specs.declared.plans.Plan.{Plan}
-use Rattle.cl_threads.specs.Alone.{KeysGo, StopsFor, WentBy}
+use Rattle.cl_threads.specs.Alone.{StopsFor}
+use Rattle.cl_threads.specs.OnThreads.{KeysGo, WentBy}
 
 -- a run, and one step more
 part_run_more : {S D : Type 0} (Move : S → D → S → Type 0) (old mid new : S) (ds : List D) (d : D) → PartRun Move old ds mid
@@ -64,7 +67,7 @@ no_turns_yet plan old none = record {
 }
 
 -- one turn more, of the hart that the plan names
-module _ {D : Type 0} (gives : Gives D) (plan : Plan) (old now new : RankView) (desk left : D) (deeds : List Deed) (hart budget : ℕ)
+module _ {D : Type 0} (gives : DeskRule D) (plan : Plan) (old now new : RankView) (desk left : D) (deeds : List Deed) (hart budget : ℕ)
     (so : WentSoFar plan old now deeds) (turn : IsTurn gives hart now new desk left) (is : hart ≡ in_slot plan.order.items (length now.events))
     (active : IsActive now.rank (length now.events) budget) (budget_is : budget ≡ plan.budget) where
   pub longer : length new.events ≡ length now.events + 1

@@ -1,4 +1,5 @@
 pub mod Alone
+pub mod OnThreads
 pub mod Loading
 pub mod Leaving
 pub mod Ties

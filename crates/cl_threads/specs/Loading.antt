@@ -10,7 +10,7 @@ use Rattle.cl_rank.specs.declared.ranks.Rank.{Rank}
 use Rattle.cl_record.specs.Room.{HaveRoom}
 use Rattle.cl_record.specs.Wiring.{AreNewEnds}
 use Rattle.cl_record.specs.declared.plans.Plan.{Plan}
-use Rattle.cl_threads.specs.Alone.{AreReady}
+use Rattle.cl_threads.specs.OnThreads.{AreReady}
 use Rattle.cl_threads.specs.declared.loading.Cluster.{Cluster}
 
 -- rank number r as it is loaded, with its ends of the image's links, over these channels

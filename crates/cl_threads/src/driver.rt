@@ -2,7 +2,7 @@
 
 ghost use Rattle.std.specs.Prelude.{◌≡◌, ◌≤◌, [], IfOk, length};
 ghost use Rattle.std.specs.VecDeque.{deque_capacity};
-ghost use Rattle.cl_threads.specs.Alone.{AreDone, AreReady, IsDone, IsReady};
+ghost use Rattle.cl_threads.specs.OnThreads.{AreDone, AreReady, IsDone, IsReady};
 
 use crate::gates::{Gate, Passage};
 use crate::turns::{Done, run_rank};
@@ -30,7 +30,7 @@ struct GoesAlone<'a> {
 }
 
 impl<'a> Promise<Done> for GoesAlone<'a> {
-    ghost use Rattle.cl_threads.specs.Alone.{IsDone};
+    ghost use Rattle.cl_threads.specs.OnThreads.{IsDone};
 
     ghost kept_by = { λ p done. IsDone p.channels.now p.plan.now p.rank.value done };
 }

@@ -5,7 +5,7 @@ ghost use Rattle.rv_image.specs.Image.{IsLink};
 ghost use Rattle.part_channel.specs.Channels.{ChannelView};
 ghost use Rattle.cl_record.specs.Plans.{HasPlans};
 ghost use Rattle.cl_record.specs.Wiring.{AreAllNew};
-ghost use Rattle.cl_threads.specs.Alone.{AreReady};
+ghost use Rattle.cl_threads.specs.OnThreads.{AreReady};
 ghost use Rattle.cl_threads.specs.Loading.{AreLoaded, IsCluster};
 
 use crate::turns::Done;

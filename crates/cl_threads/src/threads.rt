@@ -1,7 +1,7 @@
 //! All ranks, each on a thread of its own.
 
 ghost use Rattle.std.specs.Prelude.{◌≡◌, ◌↔◌, ◌≤◌, ◌⊎◌, Err, IfErr, IfOk, OnOk, length, map};
-ghost use Rattle.cl_journal.specs.Journal.{Replays};
+ghost use Rattle.cl_journal.specs.Replaying.{Replays};
 ghost use Rattle.cl_record.specs.Plans.{HasPlans};
 ghost use Rattle.cl_record.specs.Records.{IsMergedRun};
 ghost use Rattle.cl_record.specs.Room.{HaveRoom};

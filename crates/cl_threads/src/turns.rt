@@ -2,9 +2,9 @@
 
 ghost use Rattle.std.specs.Prelude.{List};
 ghost use Rattle.cl_rank.specs.Deeds.{Deed};
-ghost use Rattle.cl_rank.specs.Sides.{AreChannelsOf};
+ghost use Rattle.cl_rank.specs.RankSides.{AreChannelsOf};
 ghost use Rattle.cl_rank.specs.Views.{view_of};
-ghost use Rattle.cl_threads.specs.Alone.{IsDone, IsReady, WentBy};
+ghost use Rattle.cl_threads.specs.OnThreads.{IsDone, IsReady, WentBy};
 
 use crate::gates::{Gate, Passage};
 use cl_journal::Hub;

@@ -6,14 +6,14 @@ use mathlib.Core.Logic.{inl, inr}
 use Rattle.rv_image.specs.declared.images.ImageVersion.{ImageVersion}
 use Rattle.part_box.specs.declared.view.Receiving.{Receiving}
 use Rattle.part_box.specs.declared.view.Sending.{Sending}
-use Rattle.cl_journal.specs.Journal.{Journal}
+use Rattle.cl_journal.specs.Replaying.{HubHistory}
 use Rattle.cl_trace.specs.declared.events.Event.{Event}
 use Rattle.cl_trace.specs.declared.events.Kind.{Kind}
 use Rattle.cl_rank.proofs.Lists.{itself}
 use Rattle.cl_rank.specs.Deeds.{Act, IsStamp, event_of, kind_of}
-use Rattle.cl_rank.specs.Sides.{KeyMoves, KeysMove, ReceiverActs, SenderActs, Sides, is_place, place_of}
-use Rattle.cl_rank.specs.Sides.{receiver_of, sender_of}
-use Rattle.cl_rank.specs.Turns.{Answered, IsTurn, RankView}
+use Rattle.cl_rank.specs.Sides.{ReceiverActs, SenderActs, is_place, place_of}
+use Rattle.cl_rank.specs.RankSides.{KeyMoves, KeysMove, Sides, receiver_of, sender_of}
+use Rattle.cl_rank.specs.Turning.{Answered, IsTurn, RankView}
 use Rattle.cluster_tests.specs.Boxes.{KeepsKeys, KeepsOthers, LooksInVain, MakesOne, ReceiverMisses, SenderMisses}
 use Rattle.cluster_tests.specs.Turns.{EndsWith}
 
@@ -135,7 +135,7 @@ kind_behind kind before after last behind ends =
     let same : last ≡ ends.event = cc in
     ap (λ (e : Event). e.kind) same ∙ ends.kind_is
 
-module _ (hart : ℕ) (old new : RankView) (hub left : Journal) (turn : IsTurn Answered hart old new hub left) where
+module _ (hart : ℕ) (old new : RankView) (hub left : HubHistory) (turn : IsTurn Answered hart old new hub left) where
   pub keeps_others : KeepsOthers old new
   keeps_others = record {
     sends = λ link part away. stays (is_place link part (place_of turn.deed.act))

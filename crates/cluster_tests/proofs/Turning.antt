@@ -7,7 +7,7 @@ use mathlib.Core.Logic.{inl, inr}
 use Rattle.rv_hart.specs.State.{State}
 use Rattle.mp_types.specs.declared.requests.Request.{Request}
 use Rattle.mp_types.specs.declared.replies.Reply.{Reply}
-use Rattle.cl_journal.specs.Journal.{Journal}
+use Rattle.cl_journal.specs.Replaying.{HubHistory}
 use Rattle.cl_journal.specs.declared.journal.HubFault.{HubFault}
 use Rattle.cl_trace.specs.declared.events.Event.{Event}
 use Rattle.cl_trace.specs.declared.events.Kind.{Kind}
@@ -15,8 +15,9 @@ use Rattle.cl_state.specs.declared.asking.Ask.{Ask}
 use Rattle.cl_state.specs.Asked.{asked}
 use Rattle.cl_state.specs.Rank.{Rank}
 use Rattle.cl_rank.specs.declared.stops.Stop.{Stop}
-use Rattle.cl_rank.specs.Deeds.{Act, Answers, IsStamp, kind_of, request_of}
-use Rattle.cl_rank.specs.Turns.{AllStopped, Answered, Gives, IsActive, IsTurn, RankView, StopHolds, TellsAct}
+use Rattle.cl_rank.specs.Deeds.{Act, Suits, IsStamp, kind_of, request_of}
+use Rattle.cl_rank.specs.Turns.{AllStopped, IsActive}
+use Rattle.cl_rank.specs.Turning.{Answered, DeskRule, IsTurn, RankView, StopHolds, TellsAct}
 use Rattle.cl_rank.specs.Turns.{is_stopped}
 use Rattle.cl_rank.specs.Turns.{all_stopped as all_stopped_of}
 use Rattle.cl_rank.proofs.Alone.{clock_moved, stamp_above}
@@ -27,7 +28,7 @@ pub on_ok : {X E P Q : Type 0} (r : Result X E) → (P → Q) → OnOk r P → O
 on_ok (Ok x) f p = f p
 on_ok (Err e) f p = tt
 
-module _ {D : Type 0} (gives : Gives D) (hart : ℕ) (rank : Rank) (turns budget : ℕ) (before after : D) where
+module _ {D : Type 0} (gives : DeskRule D) (hart : ℕ) (rank : Rank) (turns budget : ℕ) (before after : D) where
   -- the causes exclude one another
   budget_told : (s : Stop) → ¬ (AllStopped rank) → turns ≡ budget
       → StopHolds gives hart rank turns budget before after s → s ≡ Stop.Budget
@@ -76,7 +77,7 @@ abbrev event : ℕ → ℕ → Act → Event
 event hart stamp act = record { hart = hart; stamp = stamp; kind = kind_of act; request = request_of act }
 
 -- a hart that idles leaves an idle event, and tells nobody
-by_idle : (rank hart stamp : ℕ) (hub left : Journal) (act : Act) → Answers Ask.Idle act
+by_idle : (rank hart stamp : ℕ) (hub left : HubHistory) (act : Act) → Suits Ask.Idle act
     → TellsAct Answered rank hart stamp hub left act
     → (kind_of act ≡ Kind.Idle) × (left ≡ hub)
 by_idle rank hart stamp hub left Act.Plain h t = absurd (cc)
@@ -91,8 +92,8 @@ by_idle rank hart stamp hub left Act.Held h t = absurd (cc)
 by_idle rank hart stamp hub left Act.Idle h t = (refl, t)
 
 -- a hart that asks the hub has its call entered
-by_call : (request : Request) (hart : ℕ) (old : Rank) (before after : List Event) (hub left : Journal) (stamp : ℕ)
-    (act : Act) → Answers (Ask.Hub request) act → IsStamp old.clock act stamp
+by_call : (request : Request) (hart : ℕ) (old : Rank) (before after : List Event) (hub left : HubHistory) (stamp : ℕ)
+    (act : Act) → Suits (Ask.Hub request) act → IsStamp old.clock act stamp
     → TellsAct Answered old.site.number hart stamp hub left act
     → after ≡ before ++ event hart stamp act ∷ [] → Enters request hart old before after hub left
 by_call request hart old before after hub left stamp Act.Plain h s t e = absurd (cc)
@@ -123,11 +124,11 @@ by_call request hart old before after hub left stamp (Act.Freed link part gate) 
 by_call request hart old before after hub left stamp Act.Held h s t e = absurd (cc)
 by_call request hart old before after hub left stamp Act.Idle h s t e = absurd (cc)
 
-module _ (hart : ℕ) (old new : RankView) (hub left : Journal) (turn : IsTurn Answered hart old new hub left) where
+module _ (hart : ℕ) (old new : RankView) (hub left : HubHistory) (turn : IsTurn Answered hart old new hub left) where
   -- the deed's hart and rank are those of the turn
-  answers : (asks : Ask) → asked old.rank hart ≡ asks → Answers asks turn.deed.act
-  answers asks e = subst (λ a. Answers a turn.deed.act) e
-      (subst (λ h. Answers (asked old.rank h) turn.deed.act) turn.by turn.moves.2)
+  answers : (asks : Ask) → asked old.rank hart ≡ asks → Suits asks turn.deed.act
+  answers asks e = subst (λ a. Suits a turn.deed.act) e
+      (subst (λ h. Suits (asked old.rank h) turn.deed.act) turn.by turn.moves.2)
 
   tells : TellsAct Answered old.rank.site.number hart turn.deed.stamp hub left turn.deed.act
   tells = subst (λ r. TellsAct Answered r hart turn.deed.stamp hub left turn.deed.act) turn.rank
@@ -159,7 +160,7 @@ module _ (hart : ℕ) (old new : RankView) (hub left : Journal) (turn : IsTurn A
 
 -- what a locked hub answered
 pub replied : (rank hart clock : ℕ) (request : Request) (r : Result (Reply × ℕ) HubFault)
-    → ((j : Journal) × (k : Journal) × Answered j rank hart clock request r k) → IfOk r (IsReplied rank clock request)
+    → ((j : HubHistory) × (k : HubHistory) × Answered j rank hart clock request r k) → IfOk r (IsReplied rank clock request)
 replied rank hart clock request (Ok told) h = record { hub = h.0; reply_is = h.2.reply; stamp_is = h.2.stamp }
 replied rank hart clock request (Err fault) h = tt
 

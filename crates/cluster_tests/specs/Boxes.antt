@@ -4,8 +4,9 @@ use Rattle.part_box.specs.declared.view.Receiving.{Receiving}
 use Rattle.part_box.specs.declared.view.Sending.{Sending}
 use Rattle.part_box.specs.Gate.{ready_stamp, taken_stamp}
 use Rattle.part_phase.specs.Limits.{box_words}
-use Rattle.cl_rank.specs.Sides.{Sides, is_place, receiver_of, sender_of}
-use Rattle.cl_rank.specs.Turns.{RankView}
+use Rattle.cl_rank.specs.Sides.{is_place}
+use Rattle.cl_rank.specs.RankSides.{Sides, receiver_of, sender_of}
+use Rattle.cl_rank.specs.Turning.{RankView}
 
 -- each key knows what it knew
 pub record KeepsKeys (old new : Sides) : Type 0 where

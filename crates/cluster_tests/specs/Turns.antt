@@ -4,7 +4,8 @@ use Rattle.rv_hart.specs.declared.state.Mode.TheVariants.{Running, Waiting, Ende
 use Rattle.mp_types.specs.declared.requests.Request.{Request}
 use Rattle.mp_types.specs.declared.replies.Reply.{Reply}
 use Rattle.mp_hub.specs.Hub.{reply_of}
-use Rattle.cl_journal.specs.Journal.{Journal, calls_of, clock_of}
+use Rattle.cl_journal.specs.Journal.{calls_of}
+use Rattle.cl_journal.specs.Replaying.{HubHistory, clock_of}
 use Rattle.cl_journal.specs.declared.entries.Entry.{Entry}
 use Rattle.cl_trace.specs.declared.events.Event.{Event}
 use Rattle.cl_trace.specs.declared.events.Kind.{Kind}
@@ -30,7 +31,7 @@ pub record EndsWith (kind : Kind) (before after : List Event) : Type 0 where
 
 -- one entry more, of the rank and the hart at the rank's clock, and one event with its request, reply and stamp
 pub record Enters (request : Request) (hart : ℕ) (rank : Rank) (before after : List Event)
-    (hub left : Journal) : Type 0 where
+    (hub left : HubHistory) : Type 0 where
   pub entry : Entry
   pub entered : left.entries ≡ hub.entries ++ entry ∷ []
   pub rank_is : entry.rank ≡ rank.site.number
@@ -42,7 +43,7 @@ pub record Enters (request : Request) (hart : ℕ) (rank : Rank) (before after :
 
 -- the reply of a hub after some calls, at the stamp above both clocks
 pub record IsReplied (rank clock : ℕ) (request : Request) (told : Reply × ℕ) : Type 0 where
-  pub hub : Journal
+  pub hub : HubHistory
   pub reply_is : told.0 ≡ reply_of hub.links (calls_of hub.entries) rank request
   pub stamp_is : told.1 ≡ max clock (clock_of hub) + 1
 

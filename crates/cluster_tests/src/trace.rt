@@ -5,7 +5,8 @@ ghost use Rattle.std.specs.Prelude.{true, false};
 ghost use Rattle.cl_trace.specs.declared.events.Bare.TheVariants.{Plain};
 ghost use Rattle.cl_trace.specs.declared.events.Event.{Event};
 ghost use Rattle.cl_trace.specs.Rising.{last_stamp};
-ghost use Rattle.cl_trace.specs.Traces.{bare_event, carried_by_kind};
+ghost use Rattle.cl_trace.specs.Traces.{bare_event};
+ghost use Rattle.cl_trace.specs.Carried.{carried_by_kind};
 ghost use Rattle.cluster_tests.specs.Reads.{Reads};
 
 use cl_trace::{Bare, Cursor, Event, Kind, Seen, Trace};

@@ -1,7 +1,8 @@
 //! Calls of `cl_journal`.
 
 ghost use Rattle.std.specs.Prelude.{◌≡◌, ◌≢◌, ◌<◌, ◌^◌, ◌-◌, ℕ, length, IfOk};
-ghost use Rattle.cl_journal.specs.Journal.{clock_of, entries_by};
+ghost use Rattle.cl_journal.specs.Journal.{entries_by};
+ghost use Rattle.cl_journal.specs.Replaying.{clock_of};
 
 use cl_journal::{Hub, HubFault};
 use mp_types::{Reply, Request, Stamp};

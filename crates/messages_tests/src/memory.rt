@@ -2,7 +2,8 @@
 
 ghost use Rattle.std.specs.Prelude.{◌≡◌, ◌≢◌, ◌+◌, ◌-◌, ◌<◌, ◌^◌, ◌∷◌, [], length, max};
 ghost use Rattle.mp_hub.specs.Hub.{reply_of, started};
-ghost use Rattle.cl_journal.specs.Journal.{calls_of, clock_of, entries_by};
+ghost use Rattle.cl_journal.specs.Journal.{calls_of, entries_by};
+ghost use Rattle.cl_journal.specs.Replaying.{clock_of};
 
 use cl_journal::{Hub, HubFault};
 use mp_hub::{CallFault, HubState};

@@ -7,7 +7,8 @@ use Rattle.mp_types.specs.declared.requests.Request.{Request}
 use Rattle.mp_match.specs.declared.posts.Post.{Post}
 use Rattle.mp_match.specs.declared.posts.Post.TheVariants as post
 use Rattle.mp_match.specs.declared.posts.Line.{Line}
-use Rattle.mp_match.specs.Pairs.{add, pairs, posts_of}
+use Rattle.mp_match.specs.Pairs.{add}
+use Rattle.mp_match.specs.PostPairs.{pairs, posts_of}
 use Rattle.mp_match.specs.Board.{Board, collect, collect_from, partner_of, is_send_of, line_of}
 use Rattle.mp_match.proofs.Lines.{add_length}
 use Rattle.mp_match.proofs.OrderKept.{posts_add, pairs_more}

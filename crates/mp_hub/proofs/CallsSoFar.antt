@@ -8,7 +8,8 @@ use Rattle.mp_hub.specs.Made.{TakesNothing}
 use Rattle.mp_types.specs.declared.requests.Request.TheVariants.{Recv}
 use Rattle.mp_match.specs.declared.posts.Selection.{Selection}
 use Rattle.std.proofs.Common.{Bool, true, Option}
-use Rattle.mp_hub.specs.Hub.{HubView, Call, outcome, recv_outcome, selecting, Gives, GivesTwice, hub_on, started, reply_of, StandsFor}
+use Rattle.mp_hub.specs.Hub.{HubView, Call, outcome, recv_outcome, selecting, hub_on, started, reply_of}
+use Rattle.mp_hub.specs.Outcomes.{IsOutcome, IsOutcomeTwice, StandsFor}
 
 pub hub_on-snoc : (cs : List Call) (h : HubView) (c : Call)
     → hub_on h (cs ++ c ∷ []) ≡ (outcome (hub_on h cs) c.0 c.1).1
@@ -16,14 +17,14 @@ hub_on-snoc [] h c = refl
 hub_on-snoc (x ∷ cs) h c = hub_on-snoc cs (outcome h x.0 x.1).1 c
 
 pub replied : (old new : HubView) (rank : ℕ) (q : Request) (r : Result Reply CallFault)
-    → IfOk r (λ x. Gives (outcome old rank q) x new)
+    → IfOk r (λ x. IsOutcome (outcome old rank q) x new)
     → (links : List Link) (calls : List Call) → StandsFor old links calls
     → IfOk r (λ x. x ≡ reply_of links calls rank q)
 replied old new rank q (Err f) g links calls s = tt
 replied old new rank q (Ok x) g links calls s = g.0 ∙ ap (λ (k : HubView). (outcome k rank q).0) s
 
 pub stands : (old new : HubView) (rank : ℕ) (q : Request) (r : Result Reply CallFault)
-    → IfOk r (λ x. Gives (outcome old rank q) x new)
+    → IfOk r (λ x. IsOutcome (outcome old rank q) x new)
     → (links : List Link) (calls : List Call) → StandsFor old links calls
     → OnOk r (StandsFor new links (calls ++ (rank, q) ∷ []))
 stands old new rank q (Err f) g links calls s = tt
@@ -31,7 +32,7 @@ stands old new rank q (Ok x) g links calls s =
     g.1 ∙ ap (λ (k : HubView). (outcome k rank q).1) s ∙ sym (hub_on-snoc calls (started links) (rank, q))
 
 pub replied_twice : (old new : HubView) (rank : ℕ) (q : Request) (r : Result (Reply × Reply) CallFault)
-    → IfOk r (λ x. GivesTwice (outcome old rank q) x new)
+    → IfOk r (λ x. IsOutcomeTwice (outcome old rank q) x new)
     → (links : List Link) (calls : List Call) → StandsFor old links calls
     → IfOk r (λ x. x ≡ (reply_of links calls rank q, reply_of links calls rank q))
 replied_twice old new rank q (Err f) g links calls s = tt
@@ -39,7 +40,7 @@ replied_twice old new rank q (Ok x) g links calls s =
     g.0 ∙ ap (λ (k : HubView). ((outcome k rank q).0, (outcome k rank q).0)) s
 
 pub stands_twice : (old new : HubView) (rank : ℕ) (q : Request) (r : Result (Reply × Reply) CallFault)
-    → IfOk r (λ x. GivesTwice (outcome old rank q) x new)
+    → IfOk r (λ x. IsOutcomeTwice (outcome old rank q) x new)
     → (links : List Link) (calls : List Call) → StandsFor old links calls
     → OnOk r (StandsFor new links (calls ++ (rank, q) ∷ []))
 stands_twice old new rank q (Err f) g links calls s = tt
@@ -57,17 +58,17 @@ spared_twice old rank q r free links calls s nothing =
 pub received : (old new : HubView) (rank : ℕ) (q : Request) (now : Bool)
     (comm : ℕ) (source tag : Option ℕ) (a : Selection)
     (r : Result Reply CallFault) → q ≡ Recv now comm source tag → now ≡ true → a ≡ selecting rank comm source tag
-    → IfOk r (λ x. Gives (recv_outcome old true a) x new) → IfOk r (λ x. Gives (outcome old rank q) x new)
+    → IfOk r (λ x. IsOutcome (recv_outcome old true a) x new) → IfOk r (λ x. IsOutcome (outcome old rank q) x new)
 received old new rank q now comm source tag a r asked is_now is g =
-    subst (λ (p : Request). IfOk r (λ x. Gives (outcome old rank p) x new))
+    subst (λ (p : Request). IfOk r (λ x. IsOutcome (outcome old rank p) x new))
     (sym (asked ∙ ap (λ b. Recv b comm source tag) is_now))
-    (subst (λ (b : Selection). IfOk r (λ x. Gives (recv_outcome old true b) x new)) is g)
+    (subst (λ (b : Selection). IfOk r (λ x. IsOutcome (recv_outcome old true b) x new)) is g)
 
 pub received_twice : (old new : HubView) (rank : ℕ) (q : Request) (now : Bool)
     (comm : ℕ) (source tag : Option ℕ) (a : Selection) (r : Result (Reply × Reply) CallFault)
     → q ≡ Recv now comm source tag → now ≡ true → a ≡ selecting rank comm source tag
-    → IfOk r (λ x. GivesTwice (recv_outcome old true a) x new) → IfOk r (λ x. GivesTwice (outcome old rank q) x new)
+    → IfOk r (λ x. IsOutcomeTwice (recv_outcome old true a) x new) → IfOk r (λ x. IsOutcomeTwice (outcome old rank q) x new)
 received_twice old new rank q now comm source tag a r asked is_now is g =
-    subst (λ (p : Request). IfOk r (λ x. GivesTwice (outcome old rank p) x new))
+    subst (λ (p : Request). IfOk r (λ x. IsOutcomeTwice (outcome old rank p) x new))
     (sym (asked ∙ ap (λ b. Recv b comm source tag) is_now))
-    (subst (λ (b : Selection). IfOk r (λ x. GivesTwice (recv_outcome old true b) x new)) is g)
+    (subst (λ (b : Selection). IfOk r (λ x. IsOutcomeTwice (recv_outcome old true b) x new)) is g)

@@ -17,7 +17,8 @@ use Rattle.mp_match.specs.declared.posts.Selection.{Selection}
 use Rattle.mp_match.specs.declared.posts.Post.{Post}
 use Rattle.mp_match.specs.declared.posts.Post.TheVariants as post
 use Rattle.mp_match.specs.declared.posts.Line.{Line}
-use Rattle.mp_match.specs.Pairs.{add, partner_at, partner_of_line, partner_for, posts_of}
+use Rattle.mp_match.specs.Pairs.{add, partner_at, partner_of_line, partner_for}
+use Rattle.mp_match.specs.PostPairs.{posts_of}
 use Rattle.mp_match.specs.Board.{Board, collect, receive_posted, send_posted, held_count, is_send_of, is_receive_of, is_collected, line_of, envelope_at}
 use Rattle.mp_match.proofs.Places.{get_front, get_snoc, get_last, get_within}
 use Rattle.mp_match.proofs.Lines.{add_new}

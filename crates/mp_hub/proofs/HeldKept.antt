@@ -14,8 +14,9 @@ use Rattle.mp_match.specs.declared.posts.Sent.{Sent}
 use Rattle.mp_match.specs.declared.posts.Post.{Post}
 use Rattle.mp_match.specs.declared.posts.Post.TheVariants as post
 use Rattle.mp_match.specs.declared.posts.Line.{Line}
-use Rattle.mp_match.specs.Pairs.{add, partner_at, posts_of}
-use Rattle.mp_match.specs.Board.{Board, no_posts, posted, send_posted, is_send_of, line_of, envelope_at, envelope_in, message_in, message_at, without, collect, collect_from}
+use Rattle.mp_match.specs.Pairs.{add, partner_at}
+use Rattle.mp_match.specs.PostPairs.{posts_of}
+use Rattle.mp_match.specs.Board.{Board, no_posts, board_with, send_posted, is_send_of, line_of, envelope_at, envelope_in, message_in, message_at, without, collect, collect_from}
 use Rattle.mp_match.proofs.Places.{get_last, get_front, get_snoc, get_within}
 use Rattle.mp_match.proofs.Lines.{add_length}
 use Rattle.mp_match.proofs.OrderKept.{posts_add, stays_add}
@@ -157,7 +158,7 @@ stock_empty b got j stock none = record {
 
 -- one more post; a send's message is held
 stock_posted : (b : Board) (got : List ℕ) (p : Post) (body : Option (List ℕ)) → Stock b got
-    → ((s : Sent) → p ≡ post.Send s → (x : List ℕ) × (body ≡ Some x)) → Stock (posted b p body) got
+    → ((s : Sent) → p ≡ post.Send s → (x : List ℕ) × (body ≡ Some x)) → Stock (board_with b p body) got
 stock_posted b got p body stock has = record {
   even = (let l = add_length b.lines p in let h = stock.even in
       omega (arith, l, h, length-append b.bodies (body ∷ [])));
@@ -300,7 +301,7 @@ stock_call h rank q r b got stock (is_sent sync comm dest tag bytes done asked f
     (nothing_got (next_number h.board) q r
     (λ m g. (let no = sym f ∙ g in cc)) (λ gots g. (let no = sym f ∙ g in cc))))
 stock_call h rank q r b got stock (is_posted p none f e) =
-    moved (posted h.board p None) b _ e (same_got (posted h.board p None) got _
+    moved (board_with h.board p None) b _ e (same_got (board_with h.board p None) got _
     (stock_posted h.board got p None stock (λ s is. absurd (no_send p s none is)))
     (plain_none (next_number h.board) q r f))
 stock_call h rank q r b got stock (is_got c n other ready asked one p f e) =

@@ -12,7 +12,7 @@ use Rattle.mp_types.specs.declared.requests.Request.{Request}
 use Rattle.mp_types.specs.declared.requests.Request.TheVariants.{Send, Recv, Collect, Finished, Probe, Claim, Claimed, All, Init, Cut}
 use Rattle.mp_match.specs.declared.posts.Post.TheVariants as post
 use Rattle.mp_match.specs.declared.posts.Line.{Line}
-use Rattle.mp_match.specs.Pairs.{pairs, pairs_on, posts_of}
+use Rattle.mp_match.specs.PostPairs.{pairs, pairs_on, posts_of}
 use Rattle.mp_match.specs.Board.{collect, receive_posted, send_posted, held_count, probed, is_send_of, line_of}
 use Rattle.mp_match.proofs.OrderKept.{posts_pairs, pairs_more}
 use Rattle.mp_probe.specs.Claims.{next_number, may_receive, received}

@@ -17,7 +17,8 @@ use Rattle.mp_match.specs.declared.posts.Selection.{Selection}
 use Rattle.mp_match.specs.declared.posts.Post.{Post}
 use Rattle.mp_match.specs.declared.posts.Post.TheVariants as post
 use Rattle.mp_match.specs.declared.posts.Line.{Line}
-use Rattle.mp_match.specs.Pairs.{accepts, may_pair, is_free, fits, partner_for, partner_at, partner_of_line, posts_of}
+use Rattle.mp_match.specs.Pairs.{accepts, may_pair, is_free, fits, partner_for, partner_at, partner_of_line}
+use Rattle.mp_match.specs.PostPairs.{posts_of}
 use Rattle.mp_match.specs.Order.{SendsAt, TakesAt}
 use Rattle.mp_match.specs.Board.{Board, collect, collect_from, receive_posted, partner_of, line_of, is_send_of, is_receive_of, is_gone, is_held, is_collected, envelope_at, envelope_in, message_at, without}
 use Rattle.mp_match.proofs.Places.{found_none, get_front}
@@ -191,7 +192,7 @@ module _ (links : List Link) (calls : List Call) where
   -- ---- messages that are there
 
   -- a receive or a claim finds a send that no post has, where there is one that it matches
-  record Finds (p : Post) : Type 0 where
+  record FoundSend (p : Post) : Type 0 where
     place : ℕ
     sent : Sent
     found : partner_for (hub).board.lines p ≡ Some place
@@ -206,10 +207,10 @@ module _ (links : List Link) (calls : List Call) where
   finds : (p : Post) (rank comm : ℕ) (source tag : Option ℕ)
       → ((s : Sent) → accepts (selecting rank comm source tag) s ≡ true → may_pair p (post.Send s) ≡ true)
       → ((q : Post) → may_pair p q ≡ true → (s : Sent) × (q ≡ post.Send s))
-      → IsThere links calls rank comm source tag → Finds p
+      → IsThere links calls rank comm source tag → FoundSend p
   finds p rank comm source tag takes only there = go (partner_for (hub).board.lines p) refl
     where
-      go : (o : Option ℕ) → partner_for (hub).board.lines p ≡ o → Finds p
+      go : (o : Option ℕ) → partner_for (hub).board.lines p ≡ o → FoundSend p
       go None e =
           let s = there.1 in
           let l = line_at (hub).board.lines there.0 (post.Send s) (post_at there.0 (post.Send s) there.2) in
@@ -241,7 +242,7 @@ module _ (links : List Link) (calls : List Call) where
   claim_only a (post.Receive b) e = absurd (cc)
   claim_only a (post.Claim b) e = absurd (cc)
 
-  envelope_is : (p : Post) (f : Finds p) → envelope_at (hub).board (Some f.place) ≡ Some (f.sent).envelope
+  envelope_is : (p : Post) (f : FoundSend p) → envelope_at (hub).board (Some f.place) ≡ Some (f.sent).envelope
   envelope_is p f =
       let l = line_at (hub).board.lines f.place (post.Send f.sent) (post_at f.place (post.Send f.sent) f.sends) in
       ap envelope_in l.1 ∙ ap (λ (x : Post). envelope_in (Some (record { post = x; partner = (l.0).partner }))) l.2

@@ -13,7 +13,7 @@ use Rattle.mp_types.specs.declared.requests.Request.TheVariants.{Send, Recv, Col
 use Rattle.mp_match.specs.declared.posts.Selection.{Selection}
 use Rattle.mp_match.specs.declared.posts.Post.{Post}
 use Rattle.mp_match.specs.declared.posts.Post.TheVariants as post
-use Rattle.mp_match.specs.Board.{Board, collect, posted, receive_posted, send_posted, held_count, probed, is_send_of, line_of, envelope_in}
+use Rattle.mp_match.specs.Board.{Board, collect, board_with, receive_posted, send_posted, held_count, probed, is_send_of, line_of, envelope_in}
 use Rattle.mp_probe.specs.Claims.{next_number, may_receive, received}
 use Rattle.mp_transfers.specs.declared.sides.Setup.{Setup}
 use Rattle.mp_transfers.specs.declared.sides.Side.{Side}
@@ -44,7 +44,7 @@ pub data Comes (h : HubView) (rank : ℕ) (q : Request) (r : Reply) (b : Board) 
   is_sent : (sync : Bool) (comm dest tag : ℕ) (bytes : List ℕ) (done : Bool) → q ≡ Send sync comm dest tag bytes
       → r ≡ reply.Posted (next_number h.board) done
       → b ≡ send_posted h.board (sending rank sync comm dest tag bytes) bytes → Comes h rank q r b
-  is_posted : (p : Post) → post_envelope p ≡ None → is_plain r ≡ true → b ≡ posted h.board p None → Comes h rank q r b
+  is_posted : (p : Post) → post_envelope p ≡ None → is_plain r ≡ true → b ≡ board_with h.board p None → Comes h rank q r b
   is_got : (c : Board) (number : ℕ) (other : Reply) → IsReady h.board c
       → collecting h q ≡ Some number → most_messages q ≡ 1
       → is_plain other ≡ true → r ≡ message_or other (collect c number).0 → b ≡ (collect c number).1

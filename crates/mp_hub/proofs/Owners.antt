@@ -15,7 +15,7 @@ use Rattle.mp_types.specs.declared.requests.Request.TheVariants.{Send, Recv, Col
 use Rattle.mp_match.specs.declared.posts.Post.{Post}
 use Rattle.mp_match.specs.declared.posts.Post.TheVariants as post
 use Rattle.mp_match.specs.declared.posts.Line.{Line}
-use Rattle.mp_match.specs.Pairs.{posts_of}
+use Rattle.mp_match.specs.PostPairs.{posts_of}
 use Rattle.mp_match.specs.Board.{collect, receive_posted, send_posted, held_count, probed, partner_of, line_of, is_send_of, is_receive_of, is_gone, is_held, is_collected}
 use Rattle.mp_probe.specs.Claims.{next_number, may_receive, is_waiting, received}
 use Rattle.mp_transfers.specs.declared.sides.Setup.{Setup}

@@ -10,7 +10,8 @@ use Rattle.mp_types.specs.declared.requests.Request.{Request}
 use Rattle.mp_types.specs.declared.requests.Request.TheVariants.{Send}
 use Rattle.mp_match.specs.Board.{Board, collect, held_count}
 use Rattle.mp_hub.specs.declared.state.CallFault.{CallFault}
-use Rattle.mp_hub.specs.Hub.{HubView, Call, StandsFor, Gives, outcome, reply_of, message_or, all_got}
+use Rattle.mp_hub.specs.Hub.{HubView, Call, outcome, reply_of, message_or, all_got}
+use Rattle.mp_hub.specs.Outcomes.{StandsFor, IsOutcome}
 use Rattle.mp_hub.specs.Made.{brings, makes, IsFullFor}
 use Rattle.mp_hub.proofs.Outcomes.{is_plain, Comes, is_nothing, is_full, is_sent, is_posted, is_got, is_gathered, comes}
 
@@ -51,7 +52,7 @@ spared_full (Send sync comm dest tag bytes) h full = refl
 spared_full _ h full = absurd full
 
 pub full : (old new : HubView) (rank : ℕ) (q : Request) (r : Result Reply CallFault)
-    → IfOk r (λ x. Gives (outcome old rank q) x new)
+    → IfOk r (λ x. IsOutcome (outcome old rank q) x new)
     → (makes q (outcome old rank q).0 ≡ false → IsOk r) → (r ≡ Ok (reply.Code Full)) ↔ IsFullFor old q
 full old new rank q (Ok x) gives free = (
   λ e. full_only old rank q _ _ (comes old rank q) (sym gives.0 ∙ (cc)),

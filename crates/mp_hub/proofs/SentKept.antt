@@ -17,7 +17,7 @@ use Rattle.mp_match.specs.declared.posts.Post.{Post}
 use Rattle.mp_match.specs.declared.posts.Post.TheVariants as post
 use Rattle.mp_match.specs.declared.posts.Line.{Line}
 use Rattle.mp_match.specs.Pairs.{add, partner_for, partner_at, partner_of_line}
-use Rattle.mp_match.specs.Board.{Board, posted, send_posted, claim_posted, line_of, is_send_of, partner_of, envelope_in, envelope_at, message_in, message_at, without, collect_from, collect, no_posts}
+use Rattle.mp_match.specs.Board.{Board, board_with, send_posted, claim_posted, line_of, is_send_of, partner_of, envelope_in, envelope_at, message_in, message_at, without, collect_from, collect, no_posts}
 use Rattle.mp_match.proofs.Places.{get_snoc, get_within}
 use Rattle.mp_match.proofs.Lines.{Look, is_new, is_old, is_given, look, add_new, add_length}
 use Rattle.mp_probe.specs.Claims.{next_number}
@@ -112,18 +112,18 @@ keeps_collect b number = go (partner_of b number)
     go (Some s) = keeps_without b s
 
 -- a post that is no send brings no message
-keeps_posted : (b : Board) (p : Post) → post_envelope p ≡ None → Keeps b (posted b p None)
+keeps_posted : (b : Board) (p : Post) → post_envelope p ≡ None → Keeps b (board_with b p None)
 keeps_posted b p none = record {
   envelopes = old;
   messages = λ place m h.
-      (let q = message_parts (envelope_at (posted b p None) (Some place))
-      (slice_get (posted b p None).bodies place) m h in
+      (let q = message_parts (envelope_at (board_with b p None) (Some place))
+      (slice_get (board_with b p None).bodies place) m h in
       message_from b place m (old place m.envelope q.0)
       (body place m.bytes (get_snoc b.bodies None place (Some m.bytes) q.1)));
   even = λ h. (let l = add_length b.lines p in omega (arith, l, h, length-append b.bodies (None ∷ [])));
 }
   where
-    old : (place : ℕ) (e : Envelope) → envelope_at (posted b p None) (Some place) ≡ Some e
+    old : (place : ℕ) (e : Envelope) → envelope_at (board_with b p None) (Some place) ≡ Some e
         → envelope_at b (Some place) ≡ Some e
     old place e h = elim (envelope_more b.lines p place e h) [ inl n ↦ (let f = n.1 in absurd (cc)) | inr o ↦ o ]
 
@@ -269,7 +269,7 @@ mail_call links calls h rank q b is mail (is_sent sync comm dest tag bytes done 
       count = refl;
     }))
 mail_call links calls h rank q b is mail (is_posted p none f e) =
-    kept_mail links calls (rank, q) h.board b (posted h.board p None) mail (keeps_posted h.board p none) e
+    kept_mail links calls (rank, q) h.board b (board_with h.board p None) mail (keeps_posted h.board p none) e
 mail_call links calls h rank q b is mail (is_got c n other ready asked one p f e) =
     kept_mail links calls (rank, q) h.board b (collect c n).1 mail
     (keeps_trans h.board c (collect c n).1 (keeps_ready h.board c ready) (keeps_collect c n)) e

@@ -53,9 +53,9 @@ find_passes p (y ∷ ys) x h = go (p y) refl (λ g. find_passes p ys x g) h
     go false e rec g = rec g
 
 -- the lowest link of a transfer is one that no side has
-lowest_free : (links : List Link) (sides : List Side) (s : Setup) (link : ℕ) → lowest_link links sides s ≡ Some link
+lowest_link_is_free : (links : List Link) (sides : List Side) (s : Setup) (link : ℕ) → lowest_link links sides s ≡ Some link
     → is_reserved sides link ≡ false
-lowest_free links sides s link h = go (find (is_for sides s) (enumerate_from 0 links)) refl h
+lowest_link_is_free links sides s link h = go (find (is_for sides s) (enumerate_from 0 links)) refl h
   where
     go : (o : Option (ℕ × Link)) → find (is_for sides s) (enumerate_from 0 links) ≡ o
         → option_map (λ (l : ℕ × Link). l.0) o ≡ Some link → is_reserved sides link ≡ false
@@ -115,7 +115,7 @@ steps h rank (Init sends comm peer tag parts size) =
     first s is None e none = is_none refl refl refl
     first s is (Some k) e none =
         is_one (numbered s k) (ap (λ x. numbered x k ∷ []) is) refl refl
-        (is_first none (lowest_free h.links h.sides s k e))
+        (is_first none (lowest_link_is_free h.links h.sides s k e))
 
     second : (s : Setup) → setup_of rank sends comm peer tag parts size ≡ s → (p : Side) (b : Bool)
         → same_total s p.setup ≡ b

@@ -8,7 +8,8 @@ use Rattle.mp_types.specs.declared.replies.Reply.{Reply}
 use Rattle.mp_types.specs.declared.replies.Reply.TheVariants.{Code, Posted, Got, Held, AllGot}
 use Rattle.mp_match.specs.declared.posts.Post.{Post}
 use Rattle.mp_match.specs.declared.posts.Post.TheVariants.{Send, Receive, Claim}
-use Rattle.mp_match.specs.Pairs.{pairs, partner_at}
+use Rattle.mp_match.specs.Pairs.{partner_at}
+use Rattle.mp_match.specs.PostPairs.{pairs}
 use Rattle.mp_hub.specs.Hub.{Call, reply_of}
 
 -- what each call adds after the calls before it, all of it in order

@@ -1,6 +1,6 @@
 -- What the hub answers: for each request, the reply and what the hub is afterwards.
-use Rattle.std.specs.Prelude.{ℕ, ◌≡◌, ◌==◌, ◌&&◌, ◌||◌, not, nat_lt, Bool, true, false, cond, List, [], ◌∷◌, ◌++◌}
-use Rattle.std.specs.Prelude.{length, Option, Some, None}
+use Rattle.std.specs.Prelude.{ℕ, ◌==◌, ◌&&◌, ◌||◌, not, nat_lt, Bool, true, false, cond, List, [], ◌∷◌, ◌++◌, length}
+use Rattle.std.specs.Prelude.{Option, Some, None}
 use Rattle.std.specs.List.{list_any, list_all}
 use Rattle.std.specs.Option.{is_some}
 use Rattle.rv_image.specs.declared.images.Link.{Link}
@@ -236,15 +236,3 @@ hub_after links calls = hub_on (started links) calls
 -- the reply to a call, as a function of the links and the calls before
 abbrev pub reply_of : List Link → List Call → ℕ → Request → Reply
 reply_of links calls rank q = (outcome (hub_after links calls) rank q).0
-
--- a hub's state stands for links and a list of calls
-abbrev pub StandsFor : HubView → List Link → List Call → Type 0
-StandsFor h links calls = h ≡ hub_after links calls
-
--- the outcome is this reply and this hub
-abbrev pub Gives : Reply × HubView → Reply → HubView → Type 0
-Gives o r h = (r ≡ o.0) × (h ≡ o.1)
-
--- the outcome is this reply, given twice, and this hub
-abbrev pub GivesTwice : Reply × HubView → Reply × Reply → HubView → Type 0
-GivesTwice o told h = (told ≡ (o.0, o.0)) × (h ≡ o.1)

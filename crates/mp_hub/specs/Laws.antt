@@ -7,7 +7,8 @@ use Rattle.mp_types.specs.declared.requests.Request.{Request}
 use Rattle.mp_types.specs.declared.requests.Request.TheVariants as request
 use Rattle.mp_types.specs.declared.replies.Reply.{Reply}
 use Rattle.mp_types.specs.declared.replies.Reply.TheVariants.{Posted, Got, Seen, Held, AllGot}
-use Rattle.mp_match.specs.Pairs.{pairs, posts_of, partner_for}
+use Rattle.mp_match.specs.Pairs.{partner_for}
+use Rattle.mp_match.specs.PostPairs.{pairs, posts_of}
 use Rattle.mp_match.specs.declared.posts.Post.TheVariants as post
 use Rattle.mp_match.specs.Board.{Board, partner_of}
 use Rattle.mp_probe.specs.Claims.{next_number}

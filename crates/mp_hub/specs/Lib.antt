@@ -1,4 +1,5 @@
 pub mod Hub
+pub mod Outcomes
 pub mod Laws
 pub mod Made
 pub mod Twice

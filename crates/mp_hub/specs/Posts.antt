@@ -4,7 +4,7 @@ use Rattle.rv_image.specs.declared.images.Link.{Link}
 use Rattle.mp_types.specs.declared.messages.Envelope.{Envelope}
 use Rattle.mp_types.specs.declared.requests.Request.TheVariants as request
 use Rattle.mp_types.specs.declared.replies.Reply.TheVariants.{Posted, Held}
-use Rattle.mp_match.specs.Pairs.{pairs}
+use Rattle.mp_match.specs.PostPairs.{pairs}
 use Rattle.mp_hub.specs.Hub.{Call, hub_after, reply_of}
 use Rattle.mp_hub.specs.Histories.{posts_after, number_after}
 

@@ -12,7 +12,8 @@ use Rattle.mp_match.specs.declared.live.Live.{Live}
 use Rattle.mp_match.specs.declared.live.Owner.{Owner}
 use Rattle.mp_match.specs.Free.{free_in, free_post}
 use Rattle.mp_match.specs.Pairs.{is_free, partner_for, partner_of_line}
-use Rattle.mp_match.specs.Board.{Board, bytes_in, collect, collect_from, envelope_at, envelope_in, is_finished, is_held}
+use Rattle.mp_match.specs.Board.{Board, collect, collect_from, envelope_at, envelope_in, is_finished, is_held}
+use Rattle.mp_match.specs.Bodies.{bytes_in}
 use Rattle.mp_match.specs.Board.{is_receive_at, is_standard, line_of, message_at, message_in, partner_of}
 use Rattle.mp_match.specs.Live.{IsOver, IsPast, StandFor, body_in, kept_post, line_in, message_of, owner_in, owner_of}
 use Rattle.mp_match.specs.Live.{post_at, post_in}

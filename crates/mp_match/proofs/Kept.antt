@@ -14,7 +14,7 @@ use Rattle.mp_match.specs.declared.posts.Line.{Line}
 use Rattle.mp_match.specs.declared.live.Live.{Live}
 use Rattle.mp_match.specs.declared.live.Owner.{Owner}
 use Rattle.mp_match.specs.Pairs.{add, partner_for, partner_set, partners_told}
-use Rattle.mp_match.specs.Board.{Board, posted, without}
+use Rattle.mp_match.specs.Board.{Board, board_with, without}
 use Rattle.mp_match.specs.Live.{owner_of, owners_of, set_at, paired, entered, emptied, are_exchanged}
 use Rattle.mp_match.specs.Live.{IsKept, IsOver, StandFor, is_partner, spent_by, has_received, has_claimed}
 use Rattle.mp_match.proofs.Lines.{given, look, is_new, is_old, is_given, add_new, add_old, add_given, add_length}
@@ -180,7 +180,7 @@ same_post ms p r other h =
     (λ n. record { line = other; here = add_old ms p r other h n; post = refl })
 
 over_more : (b : Board) (p : Post) (body : Option (List ℕ)) (k : ℕ) (line : Line) → IsOver b k line
-    → IsOver (posted b p body) k line
+    → IsOver (board_with b p body) k line
 over_more b p body k line o =
     let m = same_post b.lines p o.partner o.other o.there in record {
       partner = o.partner;
@@ -213,7 +213,7 @@ module _ (os qs : List Owner) (f g : Table) (b : Board) (new : Live) (s : StandF
   n = length b.lines
 
   abbrev after : Board
-  after = posted b new.line.post new.body
+  after = board_with b new.line.post new.body
 
   is_at : (k : ℕ) (o : Option ℕ) → new.line.partner ≡ o → g k ≡ entered f (length b.lines) new o k
   is_at k o e = is k ∙ ap (λ (x : Option ℕ). entered f (length b.lines) new x k) e
@@ -252,11 +252,11 @@ module _ (os qs : List Owner) (f g : Table) (b : Board) (new : Live) (s : StandF
           (λ same. apart_from (sym found ∙ e ∙ ap (λ (z : ℕ). Some z) same))
           ∙ set_there f (length b.lines) (Some new) k last
 
-  live_new : (e : Live) → g (length b.lines) ≡ Some e → IsKept (posted b new.line.post new.body) (length b.lines) e
+  live_new : (e : Live) → g (length b.lines) ≡ Some e → IsKept (board_with b new.line.post new.body) (length b.lines) e
   live_new e h =
       let both : Some new ≡ Some e = sym at_new ∙ h in
       let same : new ≡ e = (cc) in
-      subst (λ (z : Live). IsKept (posted b new.line.post new.body) (length b.lines) z) same (record {
+      subst (λ (z : Live). IsKept (board_with b new.line.post new.body) (length b.lines) z) same (record {
         line = add_new b.lines new.line.post
             ∙ ap (λ (o : Option ℕ). (let x : Option Line = Some (record { post = new.line.post; partner = o }) in x))
             (sym found);
@@ -265,7 +265,7 @@ module _ (os qs : List Owner) (f g : Table) (b : Board) (new : Live) (s : StandF
       })
 
   live_old : (k : ℕ) (e : Live) → (length b.lines ≡ k → ⊥) → g k ≡ Some e
-      → IsKept (posted b new.line.post new.body) k e
+      → IsKept (board_with b new.line.post new.body) k e
   live_old k e last h =
       is_place (partner_for b.lines new.line.post) k
       (
@@ -289,7 +289,7 @@ module _ (os qs : List Owner) (f g : Table) (b : Board) (new : Live) (s : StandF
       (λ e. paired_none (f k) (length b.lines) (sym (at_partner k e) ∙ h)) (λ other. sym (at_other k last other) ∙ h)
 
   past : (k : ℕ) (line : Line) → g k ≡ None → slice_get (add b.lines new.line.post) k ≡ Some line
-      → IsOver (posted b new.line.post new.body) k line
+      → IsOver (board_with b new.line.post new.body) k line
   past k line h l = elim (look b.lines new.line.post k line l) [
     | is_new last e ↦
         (let bad : Some new ≡ None = sym at_new ∙ ap g (sym last) ∙ h in absurd (cc))
@@ -306,13 +306,13 @@ module _ (os qs : List Owner) (f g : Table) (b : Board) (new : Live) (s : StandF
         let bad : None ≡ Some o.partner = sym c.free ∙ ap (λ (z : Line). z.partner) same ∙ o.paired in absurd (cc)
   ]
 
-  pub stand_add : StandFor qs g (posted b new.line.post new.body)
+  pub stand_add : StandFor qs g (board_with b new.line.post new.body)
   stand_add = record {
     owners = more ∙ ap (λ (l : List Owner). l ++ owner_of new.line.post ∷ []) s.owners
         ∙ sym (owners_add b.lines new.line.post);
     bodies = length-append b.bodies (new.body ∷ []) ∙ ap (λ m. m + 1) s.bodies ∙ sym (add_length b.lines new.line.post);
     live = λ k e h. elim (cases_eq (length b.lines) k) [
-      | inl same ↦ subst (λ z. g z ≡ Some e → IsKept (posted b new.line.post new.body) z e) same (live_new e) h
+      | inl same ↦ subst (λ z. g z ≡ Some e → IsKept (board_with b new.line.post new.body) z e) same (live_new e) h
       | inr last ↦ live_old k e last h
     ];
     over = past;

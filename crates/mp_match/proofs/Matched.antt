@@ -10,7 +10,8 @@ use Rattle.mp_match.specs.declared.posts.Selection.{Selection}
 use Rattle.mp_match.specs.declared.posts.Post.{Post}
 use Rattle.mp_match.specs.declared.posts.Post.TheVariants.{Send, Receive, Claim}
 use Rattle.mp_match.specs.declared.posts.Line.{Line}
-use Rattle.mp_match.specs.Pairs.{admits, accepts, may_pair, add, pairs_on, pairs, partner_at, partner_of_line, posts_of}
+use Rattle.mp_match.specs.Pairs.{admits, accepts, may_pair, add, partner_at, partner_of_line}
+use Rattle.mp_match.specs.PostPairs.{pairs_on, pairs, posts_of}
 use Rattle.mp_match.specs.Matches.{IsAskedFor, Matches, PairsMatch, NothingIdles, ClaimsTakeWhatIsThere, PairingLaws}
 use Rattle.mp_match.proofs.Places.{get_within}
 use Rattle.mp_match.proofs.Lines.{Look, is_new, is_old, is_given, look}

@@ -10,7 +10,9 @@ use Rattle.mp_match.specs.declared.posts.Selection.{Selection}
 use Rattle.mp_match.specs.declared.posts.Post.{Post}
 use Rattle.mp_match.specs.declared.posts.Post.TheVariants.{Send, Receive, Claim}
 use Rattle.mp_match.specs.declared.posts.Line.{Line}
-use Rattle.mp_match.specs.Pairs.{posts_of, partner_set, partners_told, accepts, may_pair, is_free, fits, partner_for, add, pairs_on, pairs, partner_at, partner_of_line}
+use Rattle.mp_match.specs.Pairs.{partner_set, partners_told, accepts, may_pair, is_free, fits, partner_for, add}
+use Rattle.mp_match.specs.Pairs.{partner_at, partner_of_line}
+use Rattle.mp_match.specs.PostPairs.{posts_of, pairs_on, pairs}
 use Rattle.mp_match.specs.Order.{TakesAt, IsPairing, NoSendOvertakes, NoReceiveOvertakes, OrderLaws}
 use Rattle.mp_match.proofs.Places.{found_first, found_none, get_within}
 use Rattle.mp_match.proofs.Lines.{given, Look, is_new, is_old, is_given, look, add_new, add_old, add_given}

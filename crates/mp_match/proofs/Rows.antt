@@ -1,7 +1,8 @@
 -- What is held, after a message more and after one is taken.
 use Rattle.std.proofs.Common.{◌≡◌, ℕ, zero, suc, ◌+◌, ◌≤◌, List, [], ◌∷◌, ◌++◌, length, slice_set, slice_get, Some}
 use Rattle.std.proofs.Common.{None, Option, refl, ap, arith}
-use Rattle.mp_match.specs.Board.{held_count, bytes_in}
+use Rattle.mp_match.specs.Board.{held_count}
+use Rattle.mp_match.specs.Bodies.{bytes_in}
 
 pub held_snoc : (bs : List (Option (List ℕ))) (b : Option (List ℕ))
     → held_count (bs ++ b ∷ []) ≡ held_count bs + held_count (b ∷ [])

@@ -34,18 +34,18 @@ compared_after b (Send s) = compared_for b.lines s
 compared_after b (Receive a) = b.compared
 compared_after b (Claim a) = b.compared
 
-abbrev pub posted : Board → Post → Option (List ℕ) → Board
-posted b p body =
+abbrev pub board_with : Board → Post → Option (List ℕ) → Board
+board_with b p body =
     record { lines = add b.lines p; bodies = b.bodies ++ body ∷ []; compared = compared_after b p }
 
 abbrev pub send_posted : Board → Sent → List ℕ → Board
-send_posted b s bytes = posted b (Send s) (Some bytes)
+send_posted b s bytes = board_with b (Send s) (Some bytes)
 
 abbrev pub receive_posted : Board → Selection → Board
-receive_posted b a = posted b (Receive a) None
+receive_posted b a = board_with b (Receive a) None
 
 abbrev pub claim_posted : Board → Selection → Board
-claim_posted b a = posted b (Claim a) None
+claim_posted b a = board_with b (Claim a) None
 
 -- a claim is a post where there is a message for it
 abbrev pub claimed_if : Board → Selection → Option Envelope → Board
@@ -137,10 +137,6 @@ collect_from b (Some place) = (message_at b place, without b place)
 -- collecting a receive or a claim: its message, if it has one that is still held
 abbrev pub collect : Board → ℕ → Option Message × Board
 collect b number = collect_from b (partner_of b number)
-
-abbrev pub bytes_in : Option (Option (List ℕ)) → Option (List ℕ)
-bytes_in None = None
-bytes_in (Some body) = body
 
 abbrev pub is_held : Option (Option (List ℕ)) → Bool
 is_held (Some (Some bytes)) = true

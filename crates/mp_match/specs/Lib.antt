@@ -1,8 +1,11 @@
 pub mod Pairs
+pub mod PostPairs
 pub mod Order
 pub mod Waiting
+pub mod Queues
 pub mod Queued
 pub mod Matches
 pub mod Board
+pub mod Bodies
 pub mod Free
 pub mod Live

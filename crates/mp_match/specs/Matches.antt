@@ -5,7 +5,8 @@ use Rattle.mp_match.specs.declared.posts.Sent.{Sent}
 use Rattle.mp_match.specs.declared.posts.Selection.{Selection}
 use Rattle.mp_match.specs.declared.posts.Post.{Post}
 use Rattle.mp_match.specs.declared.posts.Post.TheVariants.{Claim}
-use Rattle.mp_match.specs.Pairs.{pairs, partner_at, posts_of}
+use Rattle.mp_match.specs.Pairs.{partner_at}
+use Rattle.mp_match.specs.PostPairs.{pairs, posts_of}
 use Rattle.mp_match.specs.Order.{SendsAt, ReceivesAt, TakesAt}
 
 -- any value is asked for, or just this one

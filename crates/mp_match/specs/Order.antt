@@ -5,7 +5,8 @@ use Rattle.mp_match.specs.declared.posts.Sent.{Sent}
 use Rattle.mp_match.specs.declared.posts.Selection.{Selection}
 use Rattle.mp_match.specs.declared.posts.Post.{Post}
 use Rattle.mp_match.specs.declared.posts.Post.TheVariants.{Send, Receive, Claim}
-use Rattle.mp_match.specs.Pairs.{accepts, pairs, partner_at}
+use Rattle.mp_match.specs.Pairs.{accepts, partner_at}
+use Rattle.mp_match.specs.PostPairs.{pairs}
 
 abbrev pub SendsAt : List Post → ℕ → Sent → Type 0
 SendsAt ps i s = slice_get ps i ≡ Some (Send s)

@@ -1,6 +1,6 @@
 -- Posts and their pairs (MPI 4.1, chapters 3.2.4 and 3.5). A post's place is its number less 1.
 use Rattle.std.specs.Prelude.{ℕ, zero, suc, ◌==◌, ◌&&◌, Bool, true, false, List, [], ◌∷◌, ◌++◌, length, Option, Some}
-use Rattle.std.specs.Prelude.{None, map}
+use Rattle.std.specs.Prelude.{None}
 use Rattle.std.specs.List.{position_from, slice_get}
 use Rattle.mp_match.specs.declared.posts.Sent.{Sent}
 use Rattle.mp_match.specs.declared.posts.Selection.{Selection}
@@ -57,14 +57,6 @@ abbrev pub add : List Line → Post → List Line
 add lines new =
     partners_told lines (partner_for lines new) ++ record { post = new; partner = partner_for lines new } ∷ []
 
-abbrev pub pairs_on : List Line → List Post → List Line
-pairs_on lines [] = lines
-pairs_on lines (p ∷ ps) = pairs_on (add lines p) ps
-
--- the posts, each with the place of its partner
-abbrev pub pairs : List Post → List Line
-pairs ps = pairs_on [] ps
-
 abbrev pub partner_of_line : Option Line → Option ℕ
 partner_of_line None = None
 partner_of_line (Some line) = line.partner
@@ -72,7 +64,3 @@ partner_of_line (Some line) = line.partner
 -- the pairs as a map over places
 abbrev pub partner_at : List Line → ℕ → Option ℕ
 partner_at lines i = partner_of_line (slice_get lines i)
-
--- the posts of the lines
-abbrev pub posts_of : List Line → List Post
-posts_of lines = map (λ (line : Line). line.post) lines

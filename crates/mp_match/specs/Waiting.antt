@@ -1,6 +1,5 @@
 -- Posts that wait for a partner, in queues by key.
-use Rattle.std.specs.Prelude.{◌≡◌, ℕ, ◌+◌, ◌==◌, ◌&&◌, Bool, true, false, cond, List, [], ◌∷◌, ◌++◌, Option, Some, None}
-use Rattle.std.specs.Prelude.{drop}
+use Rattle.std.specs.Prelude.{ℕ, ◌+◌, ◌==◌, ◌&&◌, Bool, true, false, List, Option, Some, None}
 use Rattle.std.specs.List.{position_from}
 use Rattle.mp_match.specs.declared.posts.Sent.{Sent}
 use Rattle.mp_match.specs.declared.posts.Selection.{Selection}
@@ -34,12 +33,6 @@ key_with s source tag = record { rank = s.dest; comm = s.envelope.comm; source =
 abbrev pub key_of : Sent → Selection
 key_of s = key_with s (Some s.envelope.source) (Some s.envelope.tag)
 
--- a message stands under its own source and tag
-abbrev pub message_key : Post → Option Selection
-message_key (Send s) = Some (key_of s)
-message_key (Receive a) = None
-message_key (Claim a) = None
-
 -- a receive stands under what it asks for
 abbrev pub receive_key : Post → Option Selection
 receive_key (Send s) = None
@@ -51,25 +44,6 @@ receive_key (Claim a) = None
 -- a post of the key that has no partner
 abbrev pub is_open_at : (Post → Option Selection) → Selection → Line → Bool
 is_open_at key k line = is_free line.partner && is_key k (key line.post)
-
--- the places, from i on, of the lines that pass
-abbrev pub places : (Line → Bool) → ℕ → List Line → List ℕ
-places t i [] = []
-places t i (line ∷ lines) = cond (t line) (i ∷ places t (i + 1) lines) (places t (i + 1) lines)
-
--- each queue has the posts of its key that have no partner, in the order of posts
-abbrev pub AreQueued : (Post → Option Selection) → (Selection → List ℕ) → List Line → Type 0
-AreQueued key f lines = (k : Selection) → f k ≡ places (is_open_at key k) 0 lines
-
--- the place behind the others of its queue
-abbrev pub pushed : (Selection → List ℕ) → Option Selection → ℕ → Selection → List ℕ
-pushed f None place k = f k
-pushed f (Some q) place k = cond (same_key k q) (f q ++ place ∷ []) (f k)
-
--- without the first of a queue
-abbrev pub popped : (Selection → List ℕ) → Option Selection → Selection → List ℕ
-popped f None k = f k
-popped f (Some q) k = cond (same_key k q) (drop 1 (f q)) (f k)
 
 -- ---- comparing
 

@@ -4,7 +4,8 @@ ghost use Rattle.std.specs.Prelude.{◌≡◌, ℕ, length, None, OnErr, OnOk};
 ghost use Rattle.mp_match.specs.Live.{entered, kept, kept_post, post_at};
 ghost use Rattle.mp_match.specs.Pairs.{add, partner_for};
 ghost use Rattle.mp_match.specs.Queued.{queue};
-ghost use Rattle.mp_match.specs.Waiting.{AreQueued, message_key, receive_key};
+ghost use Rattle.mp_match.specs.Waiting.{receive_key};
+ghost use Rattle.mp_match.specs.Queues.{AreQueued, message_key};
 
 use crate::history::History;
 use crate::live::Live;

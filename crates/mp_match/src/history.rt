@@ -3,7 +3,7 @@
 
 ghost use Rattle.std.specs.Prelude.{◌≡◌};
 ghost use Rattle.std.specs.Borrow.{ftrue};
-ghost use Rattle.mp_match.specs.Board.{Board, no_posts, posted, without};
+ghost use Rattle.mp_match.specs.Board.{Board, no_posts, board_with, without};
 
 use crate::posts::Post;
 use mp_types::Bytes;
@@ -32,7 +32,7 @@ impl History {
 
     /// One post more, and its message if any.
     pub fn with_post(&self, _new: &Post, _body: &Option<Bytes>) -> History
-        ensures { result.board ≡ posted self.now.board _new.now _body.now }
+        ensures { result.board ≡ board_with self.now.board _new.now _body.now }
     {
         History {}
     }

@@ -6,7 +6,7 @@ ghost use Rattle.mp_match.specs.declared.posts.Selection.{Selection};
 ghost use Rattle.mp_match.specs.Queued.{accepts_key, admits_key, first_key, least, least_accepted, next_key};
 ghost use Rattle.mp_match.specs.Queued.{queue};
 ghost use Rattle.mp_match.specs.Queued.{selection_cmp};
-ghost use Rattle.mp_match.specs.Waiting.{popped, pushed};
+ghost use Rattle.mp_match.specs.Queues.{popped, pushed};
 
 use crate::posts::Selection;
 use std::alloc::{AllocError, Global};

@@ -3,10 +3,11 @@
 ghost use Rattle.std.specs.Prelude.{◌≡◌, ◌+◌, ◌<◌, ◌≤◌, ◌^◌, ◌∷◌, ◌↔◌, [], length, not, ◌||◌, is_some, IfOk, IfSome};
 ghost use Rattle.std.specs.Prelude.{IsNone, IsOk, OnErr, OnOk, Err, None, Some, ◌-◌, slice_get, slice_set};
 ghost use Rattle.mp_match.specs.Pairs.{partner_for};
-ghost use Rattle.mp_match.specs.Board.{bytes_in, claim_of, claimed_if, collect, collect_from, compared_after};
+ghost use Rattle.mp_match.specs.Board.{claim_of, claimed_if, collect, collect_from, compared_after};
+ghost use Rattle.mp_match.specs.Bodies.{bytes_in};
 ghost use Rattle.mp_match.specs.Board.{envelope_at, held_count, is_collected, is_finished, is_held, is_receive_at};
 ghost use Rattle.mp_match.specs.Board.{is_receive_of, is_send_of, line_of, message_at, message_in, no_posts};
-ghost use Rattle.mp_match.specs.Board.{partner_of, posted};
+ghost use Rattle.mp_match.specs.Board.{partner_of, board_with};
 ghost use Rattle.mp_match.specs.Board.{probed, receive_posted, send_posted, without};
 ghost use Rattle.mp_match.specs.Live.{IsPast, owner_in};
 ghost use Rattle.mp_match.specs.Free.{free_post};
@@ -59,7 +60,8 @@ impl Model for Queues {
     ghost use Rattle.mp_match.specs.Board.{Board, held_count};
     ghost use Rattle.mp_match.specs.Live.{StandFor, kept};
     ghost use Rattle.mp_match.specs.Queued.{queue};
-    ghost use Rattle.mp_match.specs.Waiting.{AreQueued, message_key, receive_key};
+    ghost use Rattle.mp_match.specs.Waiting.{receive_key};
+    ghost use Rattle.mp_match.specs.Queues.{AreQueued, message_key};
 
     ghost Value = { Board };
 
@@ -151,7 +153,7 @@ impl Queues {
     fn add(&mut self, new: Post, body: Option<Bytes>) -> Result<Option<u64>, AllocError>
         requires { length self.old.lines < 2 ^ 64 - 1 }
         ensures ok { IfOk result (λ partner.
-            (partner ≡ partner_for self.old.lines new) × (self.new ≡ posted self.old new body)) }
+            (partner ≡ partner_for self.old.lines new) × (self.new ≡ board_with self.old new body)) }
         ensures err { OnErr result (self.new ≡ self.old) }
     {
         let found = self.find(new);
@@ -182,7 +184,7 @@ impl Queues {
         requires few { length self.old.lines < 2 ^ 64 - 1 }
         requires partner { found.partner ≡ partner_for self.old.lines new }
         requires compared { found.compared ≡ compared_after self.old new }
-        ensures ok { OnOk result (self.new ≡ posted self.old new body) }
+        ensures ok { OnOk result (self.new ≡ board_with self.old new body) }
         ensures err { OnErr result (self.new ≡ self.old) }
     {
         let place = self.owners.len() as u64;

@@ -7,7 +7,8 @@ use Rattle.std.proofs.lemmas.List.Quantifiers.{position-Some}
 use Rattle.std.proofs.lemmas.List.Sums.{fails_before_first}
 use Rattle.std.specs.List.{position_or_len}
 use Rattle.mp_request.specs.declared.entries.OpenRequest.{OpenRequest}
-use Rattle.mp_request.specs.Table.{Table, IsFree, IsFull, IsHandle, IsLowestFree, IsOpen, request_at, with_request}
+use Rattle.mp_request.specs.Table.{Table, request_at, with_request}
+use Rattle.mp_request.specs.Handles.{IsFree, IsFull, IsHandle, IsLowestFree, IsOpen}
 
 pub is_none-IsNone : {A : Type 0} (o : Option A) → is_none o ≡ true → IsNone o
 is_none-IsNone None e = refl

@@ -2,7 +2,6 @@
 use Rattle.std.specs.Prelude.{Bool, true, false, Option, Some, None, if◌then◌else◌}
 use Rattle.mp_request.specs.declared.entries.OpenRequest.{OpenRequest}
 use Rattle.mp_request.specs.declared.entries.Progress.{Progress}
-use Rattle.mp_request.specs.declared.entries.Progress.TheVariants.{Finished, OnPost, InPhase}
 use Rattle.mp_request.specs.declared.entries.State.{State}
 use Rattle.mp_request.specs.declared.entries.State.TheVariants.{Ordinary, Inactive, Active}
 use Rattle.mp_request.specs.declared.entries.Transfer.{Transfer}
@@ -19,29 +18,6 @@ abbrev pub is_active : State → Bool
 is_active (Ordinary progress) = true
 is_active Inactive = false
 is_active (Active progress) = true
-
--- a persistent request is inactive until it is started, and again once it is completed (3.9)
-abbrev pub is_inactive : State → Bool
-is_inactive (Ordinary progress) = false
-is_inactive Inactive = true
-is_inactive (Active progress) = false
-
--- a persistent request is inactive when it is made
-abbrev pub is_new : State → Bool
-is_new (Ordinary progress) = true
-is_new Inactive = true
-is_new (Active progress) = false
-
-abbrev pub is_finished : Progress → Bool
-is_finished Finished = true
-is_finished (OnPost post) = false
-is_finished InPhase = false
-
--- nothing is to be awaited before it completes; an inactive request counts as complete (3.7.3)
-abbrev pub is_done : State → Bool
-is_done (Ordinary progress) = is_finished progress
-is_done Inactive = true
-is_done (Active progress) = is_finished progress
 
 abbrev pub is_partitioned : Transfer → Bool
 is_partitioned (transfer.SendPartitions side) = true

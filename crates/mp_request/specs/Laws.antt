@@ -3,7 +3,8 @@ use Rattle.std.specs.Prelude.{◌≡◌, ◌≢◌, ℕ, Option, Some, length, t
 use Rattle.mp_request.specs.declared.entries.OpenRequest.{OpenRequest}
 use Rattle.mp_request.specs.declared.entries.State.TheVariants.{Inactive}
 use Rattle.mp_request.specs.Entries.{is_persistent}
-use Rattle.mp_request.specs.Table.{Table, IsFree, IsHandle, completed, request_at, with_request}
+use Rattle.mp_request.specs.Table.{Table, completed, request_at, with_request}
+use Rattle.mp_request.specs.Handles.{IsFree, IsHandle}
 
 -- one handle names the request that was given, and every other number what it did
 pub record ChangesOne (old new : Table) (handle : ℕ) (request : Option OpenRequest) : Type 0 where

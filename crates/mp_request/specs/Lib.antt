@@ -1,5 +1,7 @@
 pub mod Entries
+pub mod Awaited
 pub mod Laws
 pub mod Refusals
 pub mod Rows
 pub mod Table
+pub mod Handles

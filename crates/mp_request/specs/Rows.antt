@@ -11,7 +11,7 @@ use Rattle.mp_request.specs.declared.entries.Transfer.TheVariants.{Send, Receive
 use Rattle.mp_request.specs.declared.refusals.Refusal.TheVariants as refusal
 use Rattle.mp_request.specs.Refusals.{code_of}
 use Rattle.mp_request.specs.Table.{Table, no_requests, request_at, lowest_free, started, completed, may_be_tested}
-use Rattle.mp_request.specs.Table.{is_done_at}
+use Rattle.mp_request.specs.Handles.{is_done_at}
 
 -- 8 bytes from any source with any tag, at 64
 abbrev pub receive : Transfer

@@ -1,14 +1,12 @@
 -- The open requests of a rank: a map from the handles 1 to 255 (MPI 4.1, chapters 3.7 and 3.9).
-use Rattle.std.specs.Prelude.{ℕ, zero, suc, ◌≤◌, ◌==◌, Bool, true, false, not, ◌&&◌, ◌||◌, List, [], ◌∷◌, get_or, set}
-use Rattle.std.specs.Prelude.{replicate, filter, position, Option, None, is_none, option_map, option_and_then, IsSome}
-use Rattle.std.specs.Prelude.{IsNone, IsTrue}
+use Rattle.std.specs.Prelude.{ℕ, zero, suc, ◌==◌, Bool, true, false, not, ◌&&◌, ◌||◌, List, [], ◌∷◌, get_or, set}
+use Rattle.std.specs.Prelude.{replicate, filter, position, Option, None, is_none, option_map, option_and_then}
 use Rattle.std.specs.List.{list_all, list_any}
 use Rattle.std.specs.Option.{option_map_or}
 use Rattle.mp_request.specs.declared.entries.OpenRequest.{OpenRequest}
 use Rattle.mp_request.specs.declared.entries.Progress.{Progress}
 use Rattle.mp_request.specs.declared.entries.State.{State}
-use Rattle.mp_request.specs.Entries.{is_persistent, is_active, is_inactive, is_done, is_partitioned, active_with}
-use Rattle.mp_request.specs.Entries.{remainder}
+use Rattle.mp_request.specs.Entries.{is_active, is_partitioned, active_with, remainder}
 
 -- what each handle names, from handle 1 on; a free handle names None
 abbrev pub Table : Type 0
@@ -28,23 +26,6 @@ abbrev pub with_request : Table → ℕ → Option OpenRequest → Table
 with_request table zero request = table
 with_request table (suc place) request = set table place request
 
-abbrev pub IsHandle : ℕ → Type 0
-IsHandle handle = (1 ≤ handle) × (handle ≤ 255)
-
-abbrev pub IsOpen : Table → ℕ → Type 0
-IsOpen table handle = IsSome (request_at table handle)
-
-abbrev pub IsFree : Table → ℕ → Type 0
-IsFree table handle = IsHandle handle × IsNone (request_at table handle)
-
--- the least handle that isn't in the map
-pub record IsLowestFree (table : Table) (handle : ℕ) : Type 0 where
-  pub free : IsFree table handle
-  pub lowest : (other : ℕ) → IsFree table other → handle ≤ other
-
-abbrev pub IsFull : Table → Type 0
-IsFull table = (handle : ℕ) → IsHandle handle → IsOpen table handle
-
 -- that handle, where there is one: the first that names nothing
 abbrev pub lowest_free : Table → Option ℕ
 lowest_free table = option_map suc (position is_none table)
@@ -52,15 +33,6 @@ lowest_free table = option_map suc (position is_none table)
 -- a handle is open, and its request is in such a state
 abbrev pub has : (State → Bool) → Table → ℕ → Bool
 has test table handle = option_map_or (λ request. test request.state) (request_at table handle) false
-
-abbrev pub IsPersistent : Table → ℕ → Type 0
-IsPersistent table handle = IsTrue (has is_persistent table handle)
-
-abbrev pub IsActive : Table → ℕ → Type 0
-IsActive table handle = IsTrue (has is_active table handle)
-
-abbrev pub IsInactive : Table → ℕ → Type 0
-IsInactive table handle = IsTrue (has is_inactive table handle)
 
 -- the request of a handle is started (3.9)
 abbrev pub started : Table → ℕ → Progress → Table
@@ -84,7 +56,3 @@ is_distinct (x ∷ xs) = not (list_any (λ y. y == x) xs) && is_distinct xs
 abbrev pub may_be_tested : Table → List ℕ → Bool
 may_be_tested table handles =
     list_all (is_testable table) handles && is_distinct (filter (has is_active table) handles)
-
--- the null request counts as complete (3.7.3)
-abbrev pub is_done_at : Table → ℕ → Bool
-is_done_at table handle = (handle == 0) || has is_done table handle

@@ -3,6 +3,7 @@
 
 ghost use Rattle.std.specs.Prelude.{◌≡◌};
 ghost use Rattle.mp_request.specs.Entries as entry;
+ghost use Rattle.mp_request.specs.Awaited as awaited;
 
 /// What a request moves, with the arguments of the call that made it.
 #[derive(Clone, Copy, Drop)]
@@ -118,7 +119,7 @@ impl State {
 
     /// Whether the request may complete without awaiting anything. An inactive one counts as complete.
     pub fn is_done(self) -> bool
-        ensures { result ≡ entry.is_done self }
+        ensures { result ≡ awaited.is_done self }
     {
         matches!(
             self,

@@ -4,9 +4,11 @@ ghost use Rattle.std.specs.Prelude.{◌≡◌, ◌+◌, ◌↔◌, filter, IsSom
 ghost use Rattle.std.specs.Prelude.{slice_index, ◌<◌, ◌==◌, IfSome, IsOk, IsErr, IsNone, Some, None, IsTrue, OnOk};
 ghost use Rattle.std.specs.Prelude.{OnErr};
 ghost use Rattle.std.specs.List.{list_all, list_any};
-ghost use Rattle.mp_request.specs.Entries.{is_active, is_new};
-ghost use Rattle.mp_request.specs.Table.{IsActive, IsFull, IsHandle, IsInactive, IsLowestFree, IsOpen, IsPersistent};
-ghost use Rattle.mp_request.specs.Table.{completed, has, is_done_at, is_distinct, is_testable, lowest_free};
+ghost use Rattle.mp_request.specs.Entries.{is_active};
+ghost use Rattle.mp_request.specs.Awaited.{is_new};
+ghost use Rattle.mp_request.specs.Handles.{IsActive, IsFull, IsHandle, IsInactive, IsLowestFree, IsOpen, IsPersistent};
+ghost use Rattle.mp_request.specs.Table.{completed, has, is_distinct, is_testable, lowest_free};
+ghost use Rattle.mp_request.specs.Handles.{is_done_at};
 ghost use Rattle.mp_request.specs.Table.{may_be_tested, no_requests, request_at, started, with_request};
 
 use crate::entries::{OpenRequest, Progress, State};

@@ -17,7 +17,7 @@ use Rattle.mp_match.specs.declared.posts.Post.{Post}
 use Rattle.mp_match.specs.declared.posts.Post.TheVariants as post
 use Rattle.mp_match.specs.declared.posts.Line.{Line}
 use Rattle.mp_match.specs.Pairs.{may_pair, partner_for, partner_of_line}
-use Rattle.mp_match.specs.Board.{Board, collect, collect_from, held_count, is_held, is_receive_of, is_send_of, line_of, partner_of, posted, probed, receive_posted, send_posted}
+use Rattle.mp_match.specs.Board.{Board, collect, collect_from, held_count, is_held, is_receive_of, is_send_of, line_of, partner_of, board_with, probed, receive_posted, send_posted}
 use Rattle.mp_match.proofs.Lines.{add_given, add_new, add_old, given}
 use Rattle.mp_match.proofs.OrderKept.{Good, Takes, chosen, good_more}
 use Rattle.mp_match.proofs.Places.{get_front, get_last}
@@ -57,7 +57,7 @@ abbrev pub CarriesIts : Post → Option (List ℕ) → Type 0
 CarriesIts p body = (s : Sent) → p ≡ post.Send s → (bytes : List ℕ) × (body ≡ Some bytes)
 
 held_front : (b : Board) (p : Post) (body : Option (List ℕ)) (j : ℕ) → is_held (slice_get b.bodies j) ≡ true
-    → is_held (slice_get (posted b p body).bodies j) ≡ true
+    → is_held (slice_get (board_with b p body).bodies j) ≡ true
 held_front b p body j h =
     (let x = some_body (slice_get b.bodies j) h in ap is_held (get_front b.bodies (body ∷ []) j (Some x.0) x.1))
 
@@ -78,10 +78,10 @@ send_only (post.Claim b) q a (inr e) pair =
     pair in absurd (cc))
 
 pub fresh_posted : (b : Board) (p : Post) (body : Option (List ℕ)) (r place : ℕ) → length b.bodies ≡ length b.lines
-    → CarriesIts p body → Fresh b r place → Fresh (posted b p body) r place
+    → CarriesIts p body → Fresh b r place → Fresh (board_with b p body) r place
 fresh_posted b p body r place even carries f = go (partner_for b.lines p) refl
   where
-    old : (partner_for b.lines p ≡ Some place → ⊥) → Fresh (posted b p body) r place
+    old : (partner_for b.lines p ≡ Some place → ⊥) → Fresh (board_with b p body) r place
     old other = record {
       line = f.line;
       here = add_old b.lines p place f.line f.here other;
@@ -91,7 +91,7 @@ fresh_posted b p body r place even carries f = go (partner_for b.lines p) refl
       body = λ j e. held_front b p body j (f.body j e);
     }
 
-    new : partner_for b.lines p ≡ Some place → Fresh (posted b p body) r place
+    new : partner_for b.lines p ≡ Some place → Fresh (board_with b p body) r place
     new found =
         let c = chosen b.lines p place found in
         let same : c.line ≡ f.line = at_place b.lines place c.line f.line c.here f.here in
@@ -105,11 +105,11 @@ fresh_posted b p body r place even carries f = go (partner_for b.lines p) refl
           mine = f.mine;
           body = λ j e.
               let end : length b.lines ≡ j = same_Some (length b.lines) j e in
-              subst (λ k. is_held (slice_get (posted b p body).bodies k) ≡ true) (even ∙ end)
+              subst (λ k. is_held (slice_get (board_with b p body).bodies k) ≡ true) (even ∙ end)
               (ap is_held (get_last b.bodies body) ∙ ap (λ (o : Option (List ℕ)). is_held (Some o)) x.1);
         }
 
-    go : (o : Option ℕ) → partner_for b.lines p ≡ o → Fresh (posted b p body) r place
+    go : (o : Option ℕ) → partner_for b.lines p ≡ o → Fresh (board_with b p body) r place
     go None e = old (λ found. absurd (cc))
     go (Some q) e = elim (cases_eq q place) [
       | inl same ↦ new (e ∙ ap (λ k. Some k) same)

@@ -8,7 +8,8 @@ use Rattle.mp_match.specs.declared.posts.Sent.{Sent}
 use Rattle.mp_match.specs.declared.posts.Selection.{Selection}
 use Rattle.mp_match.specs.declared.posts.Post.{Post}
 use Rattle.mp_match.specs.declared.posts.Line.{Line}
-use Rattle.mp_match.specs.Pairs.{accepts, admits, add, may_pair, partner_for, pairs, posts_of}
+use Rattle.mp_match.specs.Pairs.{accepts, admits, add, may_pair, partner_for}
+use Rattle.mp_match.specs.PostPairs.{pairs, posts_of}
 use Rattle.mp_waits.specs.Waits.{could_send}
 use Rattle.mp_match.proofs.Lines.{add_given, add_old, given}
 use Rattle.mp_match.proofs.OrderKept.{Good, good_on, good_none, chosen}

@@ -13,7 +13,8 @@ use Rattle.part_box.specs.declared.view.Loaded.{Loaded}
 use Rattle.part_box.specs.declared.view.Sending.{Sending}
 use Rattle.part_box.specs.declared.view.Receiving.{Receiving}
 use Rattle.part_box.specs.Gate.{stamp_of, IsEmptyGate, IsFullGate, ready_stamp, taken_stamp, thing_of, things_of}
-use Rattle.part_box.specs.Gate.{last_ready, last_take, ShowsTake, ShowsMade}
+use Rattle.part_box.specs.Gate.{last_take, ShowsTake, ShowsMade}
+use Rattle.part_box.specs.LastReady.{last_ready}
 use Rattle.part_box.specs.Steps.{with_made, with_freed, with_look, with_got}
 use Rattle.part_box.specs.Rule.{gate_of, thing_in, contents_of, GateRule}
 use Rattle.part_box.proofs.Lists.{get_front, get_last, last_take-at}

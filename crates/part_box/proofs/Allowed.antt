@@ -11,9 +11,9 @@ use Rattle.part_box.specs.declared.view.Sending.{Sending}
 use Rattle.part_box.specs.declared.view.Receiving.{Receiving}
 use Rattle.part_box.specs.declared.view.View.{View}
 use Rattle.part_box.specs.Gate.{stamp_of}
-use Rattle.part_box.specs.Steps.{nothing_sent, nothing_received, with_word, with_made, with_freed, with_look, with_copy}
-use Rattle.part_box.specs.Steps.{with_got, first_view, sender_part, receiver_part, joined_view, spent_view}
-use Rattle.part_box.specs.Steps.{with_sending, with_receiving}
+use Rattle.part_box.specs.Steps.{nothing_sent, nothing_received, with_made, with_freed, with_look, with_got}
+use Rattle.part_box.specs.Seats.{with_word, with_copy, first_view, sender_part, receiver_part, joined_view, spent_view}
+use Rattle.part_box.specs.Seats.{with_sending, with_receiving}
 use Rattle.part_box.specs.Rule.{gate_of, GateRule, IsSeated, IsGated}
 use Rattle.part_box.proofs.GateKept as kept
 

@@ -12,7 +12,8 @@ use Rattle.part_box.specs.declared.view.Sending.{Sending}
 use Rattle.part_box.specs.declared.view.Receiving.{Receiving}
 use Rattle.part_box.specs.Gate.{stamp_of, IsEmptyGate, IsFullGate, greatest_stamp, ready_stamp, taken_stamp, thing_of}
 use Rattle.part_box.specs.Gate.{things_of, last_take, ShowsTake, ShowsMade}
-use Rattle.part_box.specs.Steps.{nothing_sent, nothing_received, with_word, with_made, with_freed, with_look, with_copy}
+use Rattle.part_box.specs.Steps.{nothing_sent, nothing_received, with_made, with_freed, with_look}
+use Rattle.part_box.specs.Seats.{with_word, with_copy}
 use Rattle.part_box.specs.Steps.{with_got}
 use Rattle.part_box.specs.Rule.{gate_of, DataStartsWith, thing_in, contents_of, GateRule}
 use Rattle.part_box.proofs.Lists.{get_front, get_last, get_snoc, get_within, last_take-push, last_take-at, last_there}

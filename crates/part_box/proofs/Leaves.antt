@@ -10,7 +10,8 @@ use Rattle.part_box.specs.declared.view.Sending.{Sending}
 use Rattle.part_box.specs.declared.view.Receiving.{Receiving}
 use Rattle.part_box.specs.Gate.{IsEmptyGate, IsFullGate, things_of}
 use Rattle.part_box.specs.Rule.{gate_of, thing_in, contents_of, GateRule}
-use Rattle.part_box.specs.Settling.{IsDataOf, Spells, leftover, IsSettled}
+use Rattle.part_box.specs.Settling.{leftover, IsSettled}
+use Rattle.part_box.specs.Spelled.{IsDataOf, Spells}
 use Rattle.part_box.proofs.Lists.{same_lists, behind, length-behind}
 use Rattle.part_box.proofs.GateKept.{parity, contents_empty, contents_full}
 

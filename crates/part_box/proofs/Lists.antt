@@ -10,7 +10,7 @@ use lib.ListN.{get_elem?}
 use Rattle.part_box.specs.declared.view.Got.{Got}
 use Rattle.part_box.specs.Gate.{last_take}
 use Rattle.part_box.specs.Rule.{data_word, DataStartsWith}
-use Rattle.part_box.specs.Settling.{IsDataOf}
+use Rattle.part_box.specs.Spelled.{IsDataOf}
 
 module _ {A : Type 0} where
   pub get_front : (xs ys : List A) (k : ℕ) (x : A) → slice_get xs k ≡ Some x → slice_get (xs ++ ys) k ≡ Some x

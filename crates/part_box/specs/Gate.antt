@@ -34,12 +34,6 @@ thing_of g = record { stamp = g.stamp; words = g.words }
 abbrev pub things_of : List Got → List Made
 things_of got = map thing_of got
 
--- the stamp of the last thing that was made ready, 0 at first
-abbrev pub last_ready : List Made → ℕ
-last_ready [] = 0
-last_ready (m ∷ []) = m.stamp
-last_ready (m ∷ n ∷ made) = last_ready (n ∷ made)
-
 -- the stamp of the last take, 0 at first
 abbrev pub last_take : List Got → ℕ
 last_take [] = 0

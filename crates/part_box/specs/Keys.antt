@@ -3,7 +3,8 @@ use Rattle.std.specs.Prelude.{ℕ}
 use Rattle.atomic_table.specs.Seated.{TableId}
 use Rattle.part_box.specs.declared.view.Sending.{Sending}
 use Rattle.part_box.specs.declared.view.Receiving.{Receiving}
-use Rattle.part_box.specs.Steps.{nothing_sent, nothing_received, with_word, with_made, with_freed, with_look, with_copy}
+use Rattle.part_box.specs.Steps.{nothing_sent, nothing_received, with_made, with_freed, with_look}
+use Rattle.part_box.specs.Seats.{with_word, with_copy}
 use Rattle.part_box.specs.Steps.{with_got}
 
 abbrev pub BoxId : Type 0

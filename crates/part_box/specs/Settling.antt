@@ -1,25 +1,11 @@
--- What a settled box tells of all that its keys made and got.
-use Rattle.std.specs.Prelude.{◌≡◌, ℕ, ◌^◌, ◌<◌, ◌≤◌, ◌%◌, ◌==◌, List, [], ◌∷◌, ◌++◌, length, replicate, All, take}
-use Rattle.std.specs.Prelude.{slice_index, true, false, if◌then◌else◌}
+-- What is left in a box of all that its keys made and got.
+use Rattle.std.specs.Prelude.{◌≡◌, ℕ, ◌^◌, ◌<◌, ◌≤◌, List, [], ◌∷◌, ◌++◌, replicate, All, take, slice_index, false}
+use Rattle.std.specs.Prelude.{if◌then◌else◌}
 use Rattle.part_box.specs.declared.view.Made.{Made}
 use Rattle.part_box.specs.declared.view.Sending.{Sending}
 use Rattle.part_box.specs.declared.view.Receiving.{Receiving}
 use Rattle.part_box.specs.declared.settled.Settled.{Settled}
-use Rattle.part_box.specs.Gate.{stamp_of, things_of, last_take, IsInTurn, IsLimited, ShowsTake, ShowsMade}
-use Rattle.part_box.specs.Rule.{gate_of, data_word}
-
--- these are the data words of a box of this width, and 0 past them
-pub record IsDataOf (width : ℕ) (words read : List ℕ) : Type 0 where
-  pub long : length read ≡ 16
-  pub same : (i : ℕ) → i < width → slice_index read i ≡ data_word words i
-  pub past : (i : ℕ) → width ≤ i → slice_index read i ≡ 0
-
--- what the words of a box of this width spell: a thing where the gate is odd
-pub record Spells (width : ℕ) (words : List ℕ) (b : Settled) : Type 0 where
-  pub full : b.full ≡ (gate_of words % 2 == 1)
-  pub stamp : b.stamp ≡ stamp_of (gate_of words)
-  pub there : b.full ≡ true → IsDataOf width words b.words
-  pub nothing : b.full ≡ false → b.words ≡ replicate 16 0
+use Rattle.part_box.specs.Gate.{things_of, last_take, IsInTurn, IsLimited, ShowsTake, ShowsMade}
 
 -- what is left in a box of this width: one thing where it is full
 abbrev pub leftover : ℕ → Settled → List Made

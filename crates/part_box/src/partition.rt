@@ -7,7 +7,8 @@ ghost use Rattle.part_box.specs.Gate.{ready_stamp, taken_stamp};
 ghost use Rattle.part_box.specs.Keys.{Place, new_sender, new_receiver, after_fill, after_ready, after_freed};
 ghost use Rattle.part_box.specs.Keys.{after_look, after_copy, after_empty};
 ghost use Rattle.part_box.specs.Rule.{GateRule};
-ghost use Rattle.part_box.specs.Settling.{IsSettled, IsDataOf, Spells};
+ghost use Rattle.part_box.specs.Settling.{IsSettled};
+ghost use Rattle.part_box.specs.Spelled.{IsDataOf, Spells};
 
 use crate::gate::{ready_in, taken_in};
 use crate::keys::{RecvKey, SendKey};

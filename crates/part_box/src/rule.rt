@@ -2,9 +2,11 @@
 ghost use Rattle.std.specs.Prelude.{◌≡◌, ℕ, List};
 ghost use Rattle.part_box.specs.Gate.{stamp_of};
 ghost use Rattle.part_box.specs.Rule.{GateRule, IsGated};
-ghost use Rattle.part_box.specs.Steps.{first_view, sender_part, receiver_part, joined_view, spent_view};
-ghost use Rattle.part_box.specs.Steps.{with_sending, with_receiving, with_word, with_made, with_freed, with_look};
-ghost use Rattle.part_box.specs.Steps.{with_copy, with_got};
+ghost use Rattle.part_box.specs.Seats.{first_view, sender_part, receiver_part, joined_view, spent_view};
+ghost use Rattle.part_box.specs.Steps.{with_made, with_freed, with_look};
+ghost use Rattle.part_box.specs.Seats.{with_sending, with_receiving, with_word};
+ghost use Rattle.part_box.specs.Steps.{with_got};
+ghost use Rattle.part_box.specs.Seats.{with_copy};
 
 use crate::view::View;
 use atomic_table::{Join, Play, Split, TableRule};

@@ -10,7 +10,8 @@ use Rattle.std.proofs.lemmas.Grind.{flat_map-append}
 use Rattle.std.proofs.lemmas.List.{append-nil, drop-replicate, get_or-take, get_or-drop, get_or_past, length-take-le}
 use Rattle.std.proofs.lemmas.List.{length-drop, replicate-append-replicate, take_all}
 use Rattle.std.proofs.lemmas.Nat.{le_bytes_8}
-use Rattle.part_channel.specs.Words.{word_at, words_of, bytes_of_word, bytes_of}
+use Rattle.part_channel.specs.Words.{bytes_of_word, bytes_of}
+use Rattle.part_channel.specs.BoxWords.{word_at, words_of}
 
 pub length-words_of : (bytes : List ℕ) (n : ℕ) → length (words_of bytes n) ≡ n
 length-words_of bytes zero = refl

@@ -2,7 +2,8 @@
 use Rattle.std.specs.Prelude.{◌≡◌, [], ◌∷◌, set, Some, None, true, false, refl}
 use Rattle.part_channel.specs.declared.progress.Progress.TheVariants.{Missed, Freed}
 use Rattle.part_channel.specs.declared.progress.Take.TheVariants as take
-use Rattle.part_channel.specs.Words.{words_of, bytes_of}
+use Rattle.part_channel.specs.Words.{bytes_of}
+use Rattle.part_channel.specs.BoxWords.{words_of}
 use Rattle.part_channel.specs.Sending.{SendView, one_freed, shown_progress, next_to_free, none_marked}
 use Rattle.part_channel.specs.Receiving.{RecvView, one_taken, shown_take, next_box, next_box_of}
 

@@ -2,7 +2,8 @@
 ghost use Rattle.std.specs.Prelude.{◌≡◌, ℕ, ◌+◌, ◌*◌, ◌%◌, ◌^◌, ◌<◌, ◌≤◌, ◌++◌, [], length, take, drop, replicate};
 ghost use Rattle.std.specs.Prelude.{IsTrue, Some, None, List, max, ◌-◌};
 ghost use Rattle.std.specs.Int.{w64, to_le_bytes};
-ghost use Rattle.part_channel.specs.Words.{word_at, words_of, bytes_of};
+ghost use Rattle.part_channel.specs.Words.{bytes_of};
+ghost use Rattle.part_channel.specs.BoxWords.{word_at, words_of};
 ghost use Rattle.part_channel.specs.Sending.{made_of};
 ghost use Rattle.part_channel.specs.Receiving.{got_of, lane_took, shown_take};
 ghost use Rattle.part_box.specs.Gate.{ready_stamp};

@@ -1,6 +1,7 @@
 //! What holds of the definitions alone.
 ghost use Rattle.std.specs.Prelude.{◌≡◌, ◌-◌, ◌*◌, ◌%◌, ◌≤◌, ◌++◌, length, replicate};
-ghost use Rattle.part_channel.specs.Words.{words_of, bytes_of};
+ghost use Rattle.part_channel.specs.Words.{bytes_of};
+ghost use Rattle.part_channel.specs.BoxWords.{words_of};
 
 /// The bytes that went into a box come out of it, and 0 behind them: whatever the width, as long as they fit.
 pub fn bytes_law(bytes: &[u8], width: usize)

@@ -4,7 +4,7 @@ ghost use Rattle.std.specs.Prelude.{IfErr, Some, None, replicate, false, if◌th
 ghost use Rattle.mp_types.specs.declared.codes.Code.TheVariants.{Active};
 ghost use Rattle.part_box.specs.Keys.{BoxId, new_sender};
 ghost use Rattle.part_channel.specs.Channels.{sender_box};
-ghost use Rattle.part_channel.specs.Words.{words_of};
+ghost use Rattle.part_channel.specs.BoxWords.{words_of};
 ghost use Rattle.part_channel.specs.Sending.{new_send_side, shaped, begun, next_to_free, ready_refusal, readied};
 ghost use Rattle.part_channel.specs.Sending.{IsSendSide, HasMade, tested, test_progress, none_marked, IsPast, IsTold};
 

@@ -4,7 +4,8 @@ ghost use Rattle.std.specs.Prelude.{◌≡◌, ◌≢◌, ◌⊎◌, ℕ, [], �
 ghost use Rattle.cl_record.specs.declared.plans.Plan.{Plan as Held};
 ghost use Rattle.cl_text.specs.declared.faults.RecordFault.TheVariants.{Short};
 ghost use Rattle.rv_asm_tokens.specs.declared.fault.AsmFault.{AsmFault};
-ghost use Rattle.rvmc_answers.specs.Answers.{end_status, needs_threads};
+ghost use Rattle.rvmc_answers.specs.Answers.{end_status};
+ghost use Rattle.rvmc_answers.specs.Making.{needs_threads};
 ghost use Rattle.rvmc_report.specs.declared.faults.Fault.TheVariants as faults;
 
 use cl_run::Plan;

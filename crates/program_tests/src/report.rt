@@ -7,7 +7,8 @@ ghost use Rattle.cl_rank.specs.declared.stops.Stop.{Stop};
 ghost use Rattle.cl_rank.specs.declared.stops.Stop.TheVariants.{ClockFull};
 ghost use Rattle.cl_state.specs.declared.state.RankState.{RankState};
 ghost use Rattle.cl_trace.specs.Traces.{TraceView};
-ghost use Rattle.rvmc_report.specs.Report.{HasEachRank, ends_of, has_trapped, is_cut_short, wants_memory};
+ghost use Rattle.rvmc_report.specs.Report.{ends_of, has_trapped, is_cut_short, wants_memory};
+ghost use Rattle.rvmc_report.specs.WholeRecord.{HasEachRank};
 ghost use Rattle.rvmc_report.specs.declared.faults.Fault.TheVariants as faults;
 ghost use Rattle.rvmc_report.specs.declared.input.InputFault.TheVariants as input;
 

@@ -21,12 +21,14 @@ use Rattle.rv_asm_lines.specs.declared.layout.Item.{Item}
 use Rattle.rv_asm_lines.specs.declared.parts.Part.{Part}
 use Rattle.rv_asm_lines.specs.declared.parts.Part.TheVariants.{Text, Data}
 use Rattle.rv_asm_lines.specs.declared.parts.Place.{Place}
-use Rattle.rv_asm_lines.specs.Globals.{global_of, globals_in, is_global, most_globals, symbols_of}
+use Rattle.rv_asm_lines.specs.Globals.{global_of, is_global, most_globals, symbols_of}
+use Rattle.rv_asm_lines.specs.GlobalNames.{globals_in}
 use Rattle.rv_asm_lines.specs.Layout.{Labels, Layout, added, addresses, at_end, empty_layout, end_of, layout_of, most_bytes, next_place}
 use Rattle.rv_asm_lines.specs.Output.{Output, directive_step, empty_output, items_from, stated_step}
 use Rattle.rv_asm_lines.specs.Parts.{address, length_of}
 use Rattle.rv_asm_lines.specs.Resolved.{address_in}
-use Rattle.rv_asm.specs.Source.{AreGlobals, symbols_in}
+use Rattle.rv_asm.specs.Source.{symbols_in}
+use Rattle.rv_asm.specs.Made.{AreGlobals}
 use Rattle.rv_asm.proofs.Globals.{HasGlobals, globals_kept, nothing_named, same_name}
 use Rattle.rv_asm.proofs.Kept.{IsKept, lines_from-keeps}
 use Rattle.rv_asm.proofs.Right.{at_line_ok, ok}

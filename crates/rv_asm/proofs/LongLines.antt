@@ -3,7 +3,8 @@ use Rattle.std.proofs.Common.{◌≡◌, ℕ, ◌+◌, ◌*◌, ◌<◌, ◌≤�
 use Rattle.std.proofs.lemmas.Bool.{lt-ltb, ltb-true}
 use Rattle.rv_asm_tokens.specs.declared.fault.AsmFaultKind.{AsmFaultKind}
 use Rattle.rv_asm_tokens.specs.declared.fault.AsmFaultKind.TheVariants as kinds
-use Rattle.rv_asm_tokens.specs.Fault.{◌>>=◌, Fails}
+use Rattle.rv_asm_tokens.specs.Fault.{◌>>=◌}
+use Rattle.rv_asm_tokens.specs.Returned.{Fails}
 use Rattle.rv_asm_tokens.specs.Lexeme.{Lexeme}
 use Rattle.rv_asm_statements.specs.declared.directives.Directive.TheVariants as directive
 use Rattle.rv_asm_statements.specs.declared.directives.Width.{Width}
@@ -11,9 +12,11 @@ use Rattle.rv_asm_statements.specs.declared.directives.Width.TheVariants.{Byte, 
 use Rattle.rv_asm_statements.specs.declared.filled.Target.{Target}
 use Rattle.rv_asm_statements.specs.declared.statements.Statement.{Statement}
 use Rattle.rv_asm_statements.specs.declared.statements.Statement.TheVariants as statement
-use Rattle.rv_asm_statements.specs.Statements.{long_data, statement_of}
+use Rattle.rv_asm_statements.specs.Statements.{statement_of}
+use Rattle.rv_asm_statements.specs.LongData.{long_data}
 use Rattle.rv_asm_lines.specs.Fields.{fields_after}
-use Rattle.rv_asm_lines.specs.Layout.{Layout, at_end, placed, statement_step}
+use Rattle.rv_asm_lines.specs.Layout.{Layout, at_end, placed}
+use Rattle.rv_asm_lines.specs.StatementStep.{statement_step}
 use Rattle.rv_asm_lines.specs.Parts.{data_may_stand, width_bytes}
 
 abbrev some_width : Width → Option Width

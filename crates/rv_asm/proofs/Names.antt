@@ -11,7 +11,7 @@ use Rattle.rv_asm_tokens.specs.Escapes.{quoted_length}
 use Rattle.rv_asm_tokens.specs.Fault.{if_some}
 use Rattle.rv_asm_tokens.specs.Lexeme.{Lexeme, number, text, comma, colon, opens, closes, plus}
 use Rattle.rv_asm_tokens.specs.Scan.{Front, front_at, is_blank, is_name_byte, name_front, negative_front, number_front, piece, sign_front, text_front, tokens_from, with_token, word_length}
-use Rattle.rv_asm.specs.Source.{IsShortEnough, NamesFit}
+use Rattle.rv_asm.specs.Made.{IsShortEnough, NamesFit}
 use Rattle.rv_asm.proofs.Right.{bind_ok, ok, ok_is}
 
 -- ---- one name

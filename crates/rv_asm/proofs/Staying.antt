@@ -28,10 +28,10 @@ found_before w (l ∷ ls) others place h = go (bytes_eq w l.0) (found_before w l
     go false again h = again h
 
 -- what is found among the labels stays
-abbrev Finds : List ℕ → Place → Layout → Type 0
-Finds w place s = place_in w s.labels ≡ Some place
+abbrev HasPlace : List ℕ → Place → Layout → Type 0
+HasPlace w place s = place_in w s.labels ≡ Some place
 
-finds_kept : (w : List ℕ) (place : Place) → IsKept (Finds w place)
+finds_kept : (w : List ℕ) (place : Place) → IsKept (HasPlace w place)
 finds_kept w place = record {
   label = λ n s v p. found_before w s.labels ((v, next_place s) ∷ []) place p;
   statement = λ n s stated f names room is may behind named p. p;
@@ -40,4 +40,4 @@ finds_kept w place = record {
 pub labels_stay : LabelsStay
 labels_stay before after s t h all w place found =
     let rest = rest_of 1 empty_layout s t before after h all in
-    lines_from-keeps (Finds w place) (finds_kept w place) rest.0 s t after rest.1 found
+    lines_from-keeps (HasPlace w place) (finds_kept w place) rest.0 s t after rest.1 found

@@ -4,11 +4,11 @@ use Rattle.std.proofs.Math.Seq.{drop-cons}
 use Rattle.rv_asm_tokens.specs.declared.fault.AsmFaultKind.{AsmFaultKind}
 use Rattle.rv_asm_tokens.specs.declared.fault.AsmFaultKind.TheVariants as kinds
 use Rattle.rv_asm_tokens.specs.declared.fault.AsmFault.{AsmFault}
-use Rattle.rv_asm_tokens.specs.Fault.{Fails}
+use Rattle.rv_asm_tokens.specs.Returned.{Fails}
 use Rattle.rv_asm_lines.specs.declared.layout.Item.{Item}
 use Rattle.rv_asm_lines.specs.Layout.{Layout, line_step, lines_from, at_line}
 use Rattle.rv_asm_lines.specs.Output.{Output, item_step, items_from}
-use Rattle.rv_asm.specs.Source.{FailsAt}
+use Rattle.rv_asm.specs.Made.{FailsAt}
 
 abbrev fault_at : ℕ → AsmFaultKind → AsmFault
 fault_at n kind = record { line = n; kind = kind }

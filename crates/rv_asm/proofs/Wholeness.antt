@@ -14,7 +14,8 @@ use Rattle.rv_asm_lines.specs.Fields.{ranks_of}
 use Rattle.rv_asm_lines.specs.Layout.{Layout, addresses, empty_layout, layout_of}
 use Rattle.rv_asm_lines.specs.Output.{Output, empty_output, items_from}
 use Rattle.rv_asm_lines.specs.Places.{AreSound, HoldCode}
-use Rattle.rv_asm.specs.Source.{◌>>=◌, AreGlobals, EntryIn, IsWhole, at_line_0, finished, fits_memory, meaning, parts_of, symbols_in}
+use Rattle.rv_asm.specs.Source.{◌>>=◌, at_line_0, finished, fits_memory, meaning, parts_of, symbols_in}
+use Rattle.rv_asm.specs.Made.{AreGlobals, EntryIn, IsWhole}
 use Rattle.rv_asm.proofs.Counted.{IsCounted, counted_kept}
 use Rattle.rv_asm.proofs.Grown.{EntryAt, items_from-grows, longer_length}
 use Rattle.rv_asm.proofs.Kept.{lines_from-keeps}

@@ -1,3 +1,4 @@
 pub mod Source
+pub mod Made
 pub mod Said
 pub mod Directed

@@ -4,17 +4,18 @@ ghost use Rattle.std.specs.Prelude.{◌≡◌, ◌≤◌, ◌<◌, ◌+◌, ◌*
 ghost use Rattle.std.specs.Prelude.{IfOk, IfErr, OnOk, Ok, Err};
 ghost use Rattle.rv_image.specs.Image.{data_start};
 ghost use Rattle.rv_asm_tokens.specs.declared.fault.AsmFaultKind.TheVariants as kinds;
-ghost use Rattle.rv_asm_tokens.specs.Fault.{Fails};
+ghost use Rattle.rv_asm_tokens.specs.Returned.{Fails};
 ghost use Rattle.rv_asm_lines.specs.Refused.{NoFault};
 ghost use Rattle.rv_asm_lines.specs.Layout.{Layout as Laid, addresses, fitted, placed, line_step, layout_of};
-ghost use Rattle.rv_asm_lines.specs.Layout.{statement_step};
+ghost use Rattle.rv_asm_lines.specs.StatementStep.{statement_step};
 ghost use Rattle.rv_asm_lines.specs.Parts.{data_may_stand};
 ghost use Rattle.rv_asm_lines.specs.LayoutView.{addresses_view, layout_view};
 ghost use Rattle.rv_asm_lines.specs.Fields.{ranks_of as ranks_meant};
 ghost use Rattle.rv_asm_lines.specs.Output.{items_from, empty_output};
 ghost use Rattle.rv_asm_lines.specs.OutputView.{output_view};
 ghost use Rattle.rv_asm_lines.specs.Places.{AreSound, HoldCode};
-ghost use Rattle.rv_asm.specs.Source.{FailsAt, IsWhole, finished, meaning};
+ghost use Rattle.rv_asm.specs.Source.{finished, meaning};
+ghost use Rattle.rv_asm.specs.Made.{FailsAt, IsWhole};
 
 use crate::symbols::symbols_of;
 use indexmap::IndexMap;

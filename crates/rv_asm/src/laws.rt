@@ -8,7 +8,8 @@ ghost use Rattle.rv_asm_lines.specs.Layout.{Layout as Laid, layout_of};
 ghost use Rattle.rv_asm_lines.specs.Places.{IsPlaced, LabelsStay};
 ghost use Rattle.rv_asm.specs.Directed.{IsDirected, PartsAddUp};
 ghost use Rattle.rv_asm.specs.Said.{said_from, said_in};
-ghost use Rattle.rv_asm.specs.Source.{AreGlobals, NamesFit, meaning};
+ghost use Rattle.rv_asm.specs.Source.{meaning};
+ghost use Rattle.rv_asm.specs.Made.{AreGlobals, NamesFit};
 
 /// Where the first pass finds no fault, its items are what the lines say, in order, each with its line's number: of a
 /// line first its labels and then its statement.

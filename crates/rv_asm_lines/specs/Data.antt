@@ -43,10 +43,6 @@ directive_bytes labels at (directive.Zero n) = Ok (replicate n 0)
 directive_bytes labels at (directive.Align n) = Ok (replicate (padding (alignment_bytes n) at) 0)
 directive_bytes labels at _ = Ok []
 
--- bytes behind others, if they fit
-abbrev pub appended : List ℕ → Result (List ℕ) AsmFaultKind → Result (List ℕ) AsmFaultKind
-appended before more = more >>= λ bytes. Ok (before ++ bytes)
-
 -- ---- communicators and links
 
 -- a rank of the image that was not named before

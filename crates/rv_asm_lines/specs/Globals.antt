@@ -1,6 +1,5 @@
 -- The names of `.globl`: each once, in byte order; and the symbols that they make.
-use Rattle.std.specs.Prelude.{ℕ, List, Option, Some, None, Bool, false, not, Result, Ok, Err, nat_lt, length}
-use Rattle.std.specs.Prelude.{if◌then◌else◌}
+use Rattle.std.specs.Prelude.{ℕ, List, Option, Some, None, Bool, Result, Ok, Err, nat_lt, length, if◌then◌else◌}
 use Rattle.std.specs.BTreeSet.{insert_key}
 use Rattle.std.specs.Cmp.Lexicographic.{slice_cmp}
 use Rattle.std.specs.List.{filter_map, list_any}
@@ -15,7 +14,6 @@ use Rattle.rv_asm_statements.specs.declared.directives.Directive.{Directive}
 use Rattle.rv_asm_statements.specs.declared.directives.Directive.TheVariants as directive
 use Rattle.rv_asm_statements.specs.declared.statements.Statement.{Statement}
 use Rattle.rv_asm_statements.specs.declared.statements.Statement.TheVariants.{Directive as Directed}
-use Rattle.rv_asm_lines.specs.declared.layout.Item.{Item}
 use Rattle.rv_asm_lines.specs.Resolved.{address_in}
 
 -- the name that a statement gives, if it is a `.globl`
@@ -27,21 +25,12 @@ abbrev pub global_of : Statement → Option (List ℕ)
 global_of (Directed d) = directive_global d
 global_of _ = None
 
--- the names that items give, in the order of their lines
-abbrev pub globals_in : List Item → List (List ℕ)
-globals_in items = filter_map (λ i. global_of i.statement) items
-
 -- no source gives more names
 abbrev pub most_globals : ℕ
 most_globals = 1024
 
 abbrev pub is_global : List ℕ → List (List ℕ) → Bool
 is_global w names = list_any (bytes_eq w) names
-
--- whether a statement gives a name that isn't there, for which memory is taken
-abbrev pub gives_new : Option (List ℕ) → List (List ℕ) → Bool
-gives_new None names = false
-gives_new (Some w) names = not (is_global w names)
 
 -- a name at its place in the byte order, if it isn't there
 abbrev pub with_global : List ℕ → List (List ℕ) → Result (List (List ℕ)) AsmFaultKind

@@ -107,10 +107,6 @@ placed n s (Some stated) =
     if may_stand s.part stated then (fields_behind stated s.fields >>= λ f. fitted n s stated f)
     else Err kinds.Directive
 
--- the statement behind a line's labels
-abbrev pub statement_step : ℕ → Layout → List Lexeme → Result Layout AsmFaultKind
-statement_step n s ts = statement_of ts >>= λ stated. placed n s stated
-
 -- one more line: its tokens, then its labels, then its statement
 unfoldable pub line_step : ℕ → Layout → List ℕ → Result Layout AsmFaultKind
 line_step n s line = do

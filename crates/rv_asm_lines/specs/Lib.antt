@@ -2,10 +2,13 @@ pub mod Resolved
 pub mod Parts
 pub mod Fields
 pub mod Globals
+pub mod GlobalNames
 pub mod Layout
+pub mod StatementStep
 pub mod LayoutView
 pub mod WordsView
 pub mod Data
+pub mod Appending
 pub mod Output
 pub mod OutputView
 pub mod Places

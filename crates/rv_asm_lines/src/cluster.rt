@@ -1,7 +1,7 @@
 //! Communicators and links.
 
 ghost use Rattle.std.specs.Prelude.{◌≡◌, ◌≤◌};
-ghost use Rattle.rv_asm_tokens.specs.Fault.{Gives, Is};
+ghost use Rattle.rv_asm_tokens.specs.Returned.{Gives, Is};
 ghost use Rattle.rv_image.specs.Reading.{is_new_rank};
 ghost use Rattle.rv_asm_lines.specs.Data.{new_rank as rank_meant, members_from, members_of as members_meant};
 ghost use Rattle.rv_asm_lines.specs.Data.{link_of as link_meant};

@@ -2,9 +2,10 @@
 
 ghost use Rattle.std.specs.Prelude.{◌≡◌, ◌++◌, ◌^◌, ◌*◌, ◌-◌, pos, neg_ℤ, replicate, MatchResult, OnOk, Ok, Err};
 ghost use Rattle.rv_asm_tokens.specs.declared.fault.AsmFaultKind.TheVariants as kinds;
-ghost use Rattle.rv_asm_tokens.specs.Fault.{Fails, Is};
+ghost use Rattle.rv_asm_tokens.specs.Returned.{Fails, Is};
 ghost use Rattle.rv_asm_lines.specs.Refused.{NoFault};
-ghost use Rattle.rv_asm_lines.specs.Data.{appended, item_ranged, low_bytes, item_bytes, items_bytes, directive_bytes};
+ghost use Rattle.rv_asm_lines.specs.Data.{item_ranged, low_bytes, item_bytes, items_bytes, directive_bytes};
+ghost use Rattle.rv_asm_lines.specs.Appending.{appended};
 ghost use Rattle.rv_asm_lines.specs.LayoutView.{addresses_view};
 ghost use Rattle.rv_asm_lines.specs.Parts.{width_bytes};
 

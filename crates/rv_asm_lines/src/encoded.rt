@@ -4,7 +4,7 @@ ghost use Rattle.std.specs.Prelude.{◌≡◌, ◌++◌, OnOk, MatchResult, Ok, 
 ghost use Rattle.std.specs.List.{flat_map};
 ghost use Rattle.std.specs.Int.{w32, to_le_bytes};
 ghost use Rattle.rv_asm_tokens.specs.declared.fault.AsmFaultKind.TheVariants as kinds;
-ghost use Rattle.rv_asm_tokens.specs.Fault.{Fails};
+ghost use Rattle.rv_asm_tokens.specs.Returned.{Fails};
 ghost use Rattle.rv_asm_lines.specs.Refused.{NoFault};
 ghost use Rattle.rv_asm_lines.specs.LayoutView.{addresses_view};
 ghost use Rattle.rv_asm_lines.specs.WordsView.{words_list};

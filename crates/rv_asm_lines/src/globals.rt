@@ -2,9 +2,10 @@
 
 ghost use Rattle.std.specs.Prelude.{◌≡◌, Ok, Err, Some, true, MatchResult};
 ghost use Rattle.rv_asm_tokens.specs.declared.fault.AsmFaultKind.TheVariants as kinds;
-ghost use Rattle.rv_asm_tokens.specs.Fault.{Fails};
+ghost use Rattle.rv_asm_tokens.specs.Returned.{Fails};
 ghost use Rattle.rv_asm_lines.specs.Refused.{NoFault};
-ghost use Rattle.rv_asm_lines.specs.Globals.{gives_new, global_of, globals_behind, with_global};
+ghost use Rattle.rv_asm_lines.specs.Globals.{global_of, globals_behind, with_global};
+ghost use Rattle.rv_asm_lines.specs.GlobalNames.{gives_new};
 ghost use Rattle.rv_asm_lines.specs.LayoutView.{names_view};
 
 use rv_asm_statements::{Directive, Statement};

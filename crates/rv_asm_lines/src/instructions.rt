@@ -2,7 +2,7 @@
 
 ghost use Rattle.std.specs.Prelude.{◌≡◌, ◌≤ℤ◌, ◌-◌, ◌^◌, IfOk, OnOk, pos, negsuc};
 ghost use Rattle.rv_decode.specs.Table.{amount_bits};
-ghost use Rattle.rv_asm_tokens.specs.Fault.{Is};
+ghost use Rattle.rv_asm_tokens.specs.Returned.{Is};
 ghost use Rattle.rv_asm_lines.specs.Places.{AllWritten, IfRight};
 ghost use Rattle.rv_asm_lines.specs.WordsView.{words_list};
 ghost use Rattle.rv_asm_lines.specs.Resolved.{imm_12, upper_of, jal_of, jalr_of, branch_of, load_of, store_of, imm_of};

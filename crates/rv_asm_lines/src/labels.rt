@@ -1,7 +1,7 @@
 //! The labels of a source, in the order in which they stand.
 
 ghost use Rattle.std.specs.Prelude.{◌≡◌, ◌<◌, ◌^◌, IfSome, MatchOption, MatchResult, OnOk, None, Some, Ok, length};
-ghost use Rattle.rv_asm_tokens.specs.Fault.{Fails};
+ghost use Rattle.rv_asm_tokens.specs.Returned.{Fails};
 ghost use Rattle.rv_asm_lines.specs.Layout.{labels_at, place_in, with_label};
 ghost use Rattle.rv_asm_lines.specs.LayoutView.{addresses_view, labels_view, layout_view, front_label};
 ghost use Rattle.rv_asm_lines.specs.Resolved.{address_in};

@@ -1,7 +1,7 @@
 //! Numbers in the places where they stand.
 
 ghost use Rattle.std.specs.Prelude.{◌≡◌, ◌≤ℤ◌, ◌^◌, pos, neg_ℤ, IfOk, int_rem};
-ghost use Rattle.rv_asm_tokens.specs.Fault.{Is};
+ghost use Rattle.rv_asm_tokens.specs.Returned.{Is};
 ghost use Rattle.rv_asm_lines.specs.LayoutView.{addresses_view};
 ghost use Rattle.rv_asm_lines.specs.Resolved.{ranged, even_ranged, offset_of, upper_immediate as upper_meant};
 

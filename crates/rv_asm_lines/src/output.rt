@@ -1,7 +1,7 @@
 //! The second pass: the bytes of each statement, the entry, the communicators and the links.
 
 ghost use Rattle.std.specs.Prelude.{◌≡◌, ◌<◌, MatchResult, OnOk, Ok, Err};
-ghost use Rattle.rv_asm_tokens.specs.Fault.{Fails};
+ghost use Rattle.rv_asm_tokens.specs.Returned.{Fails};
 ghost use Rattle.rv_asm_lines.specs.Output.{is_text_address, with_entry, label_step, directive_step, stated_step};
 ghost use Rattle.rv_asm_lines.specs.LayoutView.{addresses_view, layout_view};
 ghost use Rattle.rv_asm_lines.specs.Places.{IsSound};

@@ -1,8 +1,9 @@
 //! The instructions of a mnemonic and its operands.
 
 ghost use Rattle.std.specs.Prelude.{◌≡◌, ◌≤◌, ◌^◌, map, OnOk, pos, negsuc, neg_ℤ, ◌≤ℤ◌, ◌+ℤ◌, ◌-ℤ◌, ◌*ℤ◌};
-ghost use Rattle.rv_decode.specs.Table.{Fits, written_word};
-ghost use Rattle.rv_asm_tokens.specs.Fault.{Is};
+ghost use Rattle.rv_decode.specs.Table.{written_word};
+ghost use Rattle.rv_decode.specs.WordOf.{Fits};
+ghost use Rattle.rv_asm_tokens.specs.Returned.{Is};
 ghost use Rattle.rv_asm_lines.specs.LayoutView.{addresses_view};
 ghost use Rattle.rv_asm_lines.specs.Places.{AllWritten, IfRight};
 ghost use Rattle.rv_asm_lines.specs.WordsView.{words_list};

@@ -1,7 +1,8 @@
 //! The words of instructions.
 
 ghost use Rattle.std.specs.Prelude.{◌≡◌, ◌∷◌, []};
-ghost use Rattle.rv_decode.specs.Table.{Fits, written_word};
+ghost use Rattle.rv_decode.specs.Table.{written_word};
+ghost use Rattle.rv_decode.specs.WordOf.{Fits};
 ghost use Rattle.rv_asm_lines.specs.Places.{IsWritten};
 ghost use Rattle.rv_asm_lines.specs.WordsView.{words_list};
 

@@ -13,7 +13,8 @@ use Rattle.rv_decode.specs.declared.instruction.ImmOp.{ImmOp}
 use Rattle.rv_decode.specs.declared.instruction.ArithOp.{ArithOp}
 use Rattle.rv_decode.specs.declared.instruction.ShiftOp.{ShiftOp}
 use Rattle.rv_decode.specs.declared.instruction.ShiftOp.TheVariants.{Slli, Srli, Srai, Slliw, Srliw, Sraiw}
-use Rattle.rv_decode.specs.Table.{IsSigned, Fits, amount_bits}
+use Rattle.rv_decode.specs.Table.{amount_bits}
+use Rattle.rv_decode.specs.WordOf.{IsSigned, Fits}
 use Rattle.rv_decode.specs.Text.{register_text, address_text, upper_text, operands_text, statement_text, instr_text, upper_name, branch_name, load_name, store_name, imm_name, shift_name, arith_name}
 use Rattle.rv_asm_tokens.specs.declared.fault.AsmFaultKind.{AsmFaultKind}
 use Rattle.rv_asm_tokens.specs.Fault.{◌>>=◌}

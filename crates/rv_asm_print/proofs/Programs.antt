@@ -5,7 +5,8 @@ use Rattle.std.specs.List.{flat_map}
 use Rattle.std.specs.Str.Lines.{lines}
 use Rattle.std.proofs.lemmas.List.Elements.{All-tail}
 use Rattle.rv_decode.specs.declared.instruction.Instr.{Instr}
-use Rattle.rv_decode.specs.Table.{Fits, written_word}
+use Rattle.rv_decode.specs.Table.{written_word}
+use Rattle.rv_decode.specs.WordOf.{Fits}
 use Rattle.rv_decode.specs.Text.{instr_text}
 use Rattle.rv_image.specs.declared.images.ImageParts.{ImageParts}
 use Rattle.rv_image.specs.Image.{data_start}
@@ -27,7 +28,7 @@ use Rattle.rv_asm_lines.specs.Layout.{Layout, addresses, empty_layout, most_byte
 use Rattle.rv_asm_lines.specs.Output.{Output, empty_output, stated_step, items_from}
 use Rattle.rv_asm.specs.Source.{parts_of, fits_memory, finished, meaning, at_line_0, symbols_in}
 use Rattle.rv_asm_print.specs.Range.{IsInRange}
-use Rattle.rv_asm_print.specs.Read.{StandsAnywhere, listing, image_of}
+use Rattle.rv_asm_print.specs.Read.{StandsAnywhere, printed_lines, image_of}
 use Rattle.rv_asm_print.proofs.Branches.{both_hold}
 use Rattle.rv_asm_print.proofs.Instructions.{IsLine, begin_statement, printed_line}
 use Rattle.rv_asm_print.proofs.Steps.{line_placed, line_written}
@@ -164,12 +165,12 @@ plain_lines : (is : List Instr) → AllLines is → AllPlain (map instr_text is)
 plain_lines [] all = tt
 plain_lines (i ∷ is) all = (all.0.plain, plain_lines is all.1)
 
-listing_lines : (is : List Instr) → listing is ≡ flat_map (λ x. x ++ 10 ∷ []) (map instr_text is)
+listing_lines : (is : List Instr) → printed_lines is ≡ flat_map (λ x. x ++ 10 ∷ []) (map instr_text is)
 listing_lines [] = refl
 listing_lines (i ∷ is) = ap (λ (xs : List ℕ). (instr_text i ++ 10 ∷ []) ++ xs) (listing_lines is)
 
-pub listing_read : (is : List Instr) → AllLines is → 0 < length is → length is ≤ 16384 → meaning (listing is) ≡ Ok (image_of is)
-listing_read is all any room = program_read (listing is) is (ap lines (listing_lines is) ∙ lines_of_lines (map instr_text is) (plain_lines is all)) all any room
+pub listing_read : (is : List Instr) → AllLines is → 0 < length is → length is ≤ 16384 → meaning (printed_lines is) ≡ Ok (image_of is)
+listing_read is all any room = program_read (printed_lines is) is (ap lines (listing_lines is) ∙ lines_of_lines (map instr_text is) (plain_lines is all)) all any room
 
 pub all_printed : (is : List Instr) → All IsInRange is → All Fits is → AllLines is
 all_printed [] ranges fits = tt

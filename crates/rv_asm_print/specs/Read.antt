@@ -36,8 +36,8 @@ pub record StandsAnywhere (text : List ℕ) (i : Instr) : Type 0 where
       ≡ Ok (record o { text = o.text ++ to_le_bytes w32 (written_word i) })
 
 -- a program as it is listed: each instruction a line
-abbrev pub listing : List Instr → List ℕ
-listing is = flat_map (λ i. instr_text i ++ 10 ∷ []) is
+abbrev pub printed_lines : List Instr → List ℕ
+printed_lines is = flat_map (λ i. instr_text i ++ 10 ∷ []) is
 
 -- an image of instructions alone, in one rank of one hart with 65,536 bytes, which begins with the first
 abbrev pub image_of : List Instr → ImageParts

@@ -1,10 +1,10 @@
 //! Laws of printed instructions. The functions do nothing; their contracts are the laws.
 
 ghost use Rattle.std.specs.Prelude.{◌≡◌, ◌≤◌, ◌<◌, ◌∷◌, [], All, Ok, length};
-ghost use Rattle.rv_decode.specs.Table.{Fits};
+ghost use Rattle.rv_decode.specs.WordOf.{Fits};
 ghost use Rattle.rv_decode.specs.Text.{instr_text};
 ghost use Rattle.rv_asm.specs.Source.{meaning};
-ghost use Rattle.rv_asm_print.specs.Read.{StandsAnywhere, listing, image_of};
+ghost use Rattle.rv_asm_print.specs.Read.{StandsAnywhere, printed_lines, image_of};
 
 use crate::range::{all_in_range, in_range};
 use rv_decode::Instr;
@@ -33,7 +33,7 @@ pub fn printed_listing_gives_back(instrs: &[Instr])
     requires fit { All Fits instrs.now }
     requires any { 0 < length instrs.now }
     requires room { length instrs.now ≤ 16384 }
-    ensures { meaning (listing instrs.now) ≡ Ok (image_of instrs.now) }
+    ensures { meaning (printed_lines instrs.now) ≡ Ok (image_of instrs.now) }
 {
     all_in_range(instrs);
 }

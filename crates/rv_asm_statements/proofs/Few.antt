@@ -6,7 +6,8 @@ use Rattle.rv_asm_statements.specs.declared.rows.Shape.TheVariants as shape
 use Rattle.rv_asm_statements.specs.declared.directive_rows.Form.{Form}
 use Rattle.rv_asm_statements.specs.declared.directive_rows.Form.TheVariants as form
 use Rattle.rv_asm_statements.specs.Arguments.{Argument, word, value, quoted, sum, place}
-use Rattle.rv_asm_statements.specs.Directives.{directive_by, only_name, only_number, only_text, takes_two}
+use Rattle.rv_asm_statements.specs.Directives.{directive_by, only_name, only_number, only_text}
+use Rattle.rv_asm_statements.specs.Kept.{takes_two}
 use Rattle.rv_asm_statements.specs.Mnemonics.{row_use, use_of}
 use Rattle.rv_asm_statements.specs.Rows.{Row, rows}
 use Rattle.rv_asm_statements.specs.Shapes.{filled_by}

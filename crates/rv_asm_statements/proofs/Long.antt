@@ -12,8 +12,9 @@ use Rattle.rv_asm_statements.specs.declared.directive_rows.Form.TheVariants as f
 use Rattle.rv_asm_statements.specs.declared.mnemonics.Use.{Use}
 use Rattle.rv_asm_statements.specs.declared.statements.Statement.TheVariants as statement
 use Rattle.rv_asm_statements.specs.Arguments.{Argument, word, value, quoted, sum, place}
-use Rattle.rv_asm_statements.specs.Directives.{directive_alone, directive_by, item_of, link_of, long_items, only_text, some_given, takes_two}
-use Rattle.rv_asm_statements.specs.Statements.{long_data}
+use Rattle.rv_asm_statements.specs.Directives.{directive_alone, directive_by, item_of, link_of, only_text, some_given}
+use Rattle.rv_asm_statements.specs.Kept.{long_items, takes_two}
+use Rattle.rv_asm_statements.specs.LongData.{long_data}
 use Rattle.rv_asm_statements.specs.Walk.{all_given}
 use Rattle.rv_asm_statements.proofs.Walks.{some_among}
 

@@ -6,7 +6,8 @@ use Rattle.std.specs.List.{onto_first, slice_split}
 use Rattle.rv_asm_tokens.specs.Fault.{if_some}
 use Rattle.rv_asm_tokens.specs.Lexeme.{Lexeme, name, number, text, comma, colon, opens, closes, plus}
 use Rattle.rv_asm_statements.specs.declared.operand_list.Piece.{Piece}
-use Rattle.rv_asm_statements.specs.Arguments.{Argument, quoted, sum, place, argument_of, argument_view, arguments_of, is_comma}
+use Rattle.rv_asm_statements.specs.Arguments.{Argument, quoted, sum, place, argument_of, arguments_of, is_comma}
+use Rattle.rv_asm_statements.specs.CodeViews.{argument_view}
 use Rattle.rv_asm_statements.specs.Pieces.{Front, ended, at_name, at_value, at_place, first_operand, piece_view, pieces_of, those}
 use Rattle.rv_asm_statements.specs.Walk.{all_given}
 

@@ -1,10 +1,8 @@
 -- What stands between the commas of a statement.
 use Rattle.std.specs.Prelude.{ℕ, ℤ, List, [], ◌∷◌, Bool, true, false, Option, Some, None}
 use Rattle.std.specs.List.{slice_split}
-use Rattle.rv_asm_tokens.specs.Lexeme.{Lexeme, name, number, text, comma, opens, closes, plus, number_value}
+use Rattle.rv_asm_tokens.specs.Lexeme.{Lexeme, name, number, text, comma, opens, closes, plus}
 use Rattle.rv_asm_statements.specs.Walk.{all_given}
-use Rattle.rv_asm_statements.specs.declared.operand_list.Operand.{Operand}
-use Rattle.rv_asm_statements.specs.declared.operand_list.Operand.TheVariants.{Name, Number, Text, Sum, Place}
 
 -- an operand, without where its bytes lie
 pub data Argument : Type 0 where
@@ -13,14 +11,6 @@ pub data Argument : Type 0 where
   quoted : List ℕ → Argument
   sum : List ℕ → ℤ → Argument
   place : ℤ → List ℕ → Argument
-
--- an operand of the code
-abbrev pub argument_view : Operand → Argument
-argument_view (Name w) = word w.now
-argument_view (Number n) = value (number_value n)
-argument_view (Text bs) = quoted bs.now
-argument_view (Sum w n) = sum w.now (number_value n)
-argument_view (Place n w) = place (number_value n) w.now
 
 -- `name`, `number`, `"text"`, `name+number` or `number(name)`
 abbrev pub argument_of : List Lexeme → Option Argument

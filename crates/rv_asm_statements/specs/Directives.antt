@@ -1,6 +1,6 @@
 -- The directives: their names, and what each makes of its operands.
-use Rattle.std.specs.Prelude.{ℕ, ℤ, pos, List, [], ◌∷◌, ◌++◌, codes, Bool, true, false, Option, Some, None, Result, Ok}
-use Rattle.std.specs.Prelude.{Err, nat_lt, length, if◌then◌else◌}
+use Rattle.std.specs.Prelude.{ℕ, ℤ, pos, List, [], ◌∷◌, ◌++◌, codes, Bool, true, false, Option, Some, None, Result}
+use Rattle.std.specs.Prelude.{if◌then◌else◌}
 use Rattle.std.specs.Option.{option_map}
 use Rattle.std.specs.Ordering.{int_eq}
 use Rattle.rv_image.specs.Names.{is_symbol_name}
@@ -106,12 +106,6 @@ abbrev pub link_of : List Argument → Option Directive
 link_of (value z ∷ value y ∷ []) = Some (directive.Link z y)
 link_of _ = None
 
--- whether a directive takes two operands at most: a communicator and data take any number
-abbrev pub takes_two : Form → Bool
-takes_two Comm = false
-takes_two (Items width) = false
-takes_two _ = true
-
 -- what a directive is with these operands, if it takes them
 unfoldable pub directive_by : Form → List Argument → Option Directive
 directive_by Ranks xs = option_map directive.Ranks (limited_number 1 8 1 xs)
@@ -129,30 +123,8 @@ directive_by (Items width) xs = option_map (directive.Items width) (some_given (
 directive_by String xs = option_map directive.Bytes (only_text xs)
 directive_by StringAndZero xs = option_map (λ bytes. directive.Bytes (bytes ++ 0 ∷ [])) (only_text xs)
 
--- the width of data with more items than so many
-abbrev pub long_items : ℕ → Option Directive → Option Width
-long_items most (Some (directive.Items width items)) = if nat_lt most (length items) then Some width else None
-long_items most _ = None
-
 -- the directive of a name and its operands, which may not be operands at all
 unfoldable pub directive_of : List ℕ → Option (List Argument) → Result Directive AsmFaultKind
 directive_of w operands =
     wanted (if_some (first_given (beside w) directives) None (λ form. if_some operands None (directive_by form)))
     kinds.Directive
-
--- a directive that keeps a name, numbers, items or bytes, which asks for memory: no other does
-abbrev pub holds : Directive → Bool
-holds (directive.Entry w) = true
-holds (directive.Global w) = true
-holds (directive.Comm ranks) = true
-holds (directive.Items width items) = true
-holds (directive.Bytes bytes) = true
-holds _ = false
-
-abbrev pub is_kept : Option Directive → Bool
-is_kept None = false
-is_kept (Some d) = holds d
-
-abbrev pub keeps : Result Directive AsmFaultKind → Bool
-keeps (Ok d) = holds d
-keeps (Err e) = false

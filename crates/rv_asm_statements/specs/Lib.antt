@@ -1,5 +1,6 @@
 pub mod Walk
 pub mod Arguments
+pub mod CodeViews
 pub mod Pieces
 pub mod Registers
 pub mod Shapes
@@ -9,6 +10,8 @@ pub mod Read
 pub mod Mnemonics
 pub mod Limits
 pub mod Directives
+pub mod Kept
 pub mod DirectiveRowView
 pub mod Statements
+pub mod LongData
 pub mod Filling

@@ -1,5 +1,5 @@
 -- An instruction by its mnemonic and operands.
-use Rattle.std.specs.Prelude.{ℕ, List, Option, Some, None, Result, Ok, Err, Bool, false, is_some, if◌then◌else◌}
+use Rattle.std.specs.Prelude.{ℕ, List, Option, Some, None, Result, Bool, is_some, if◌then◌else◌}
 use Rattle.std.specs.Option.{option_map}
 use Rattle.std.specs.Str.{bytes_eq}
 use Rattle.rv_asm_tokens.specs.declared.fault.AsmFaultKind.{AsmFaultKind}
@@ -33,8 +33,3 @@ is_mnemonic w = is_some (first_given (row_named w) rows)
 unfoldable pub instruction_of : List ℕ → Option (List Argument) → Result Use AsmFaultKind
 instruction_of w operands =
     wanted (if_some operands None (λ xs. use_of w xs)) (if is_mnemonic w then kinds.Operand else kinds.Mnemonic)
-
--- an instruction that names a label, whose copy asks for memory: nothing else of an instruction does
-abbrev pub has_label : Result Use AsmFaultKind → Bool
-has_label (Ok u) = is_some u.filled.target.label
-has_label (Err e) = false

@@ -3,7 +3,8 @@ use Rattle.std.specs.Prelude.{ℕ, ℤ, List, [], ◌∷◌, Option, Some, None,
 use Rattle.std.specs.List.{slice_split}
 use Rattle.rv_asm_tokens.specs.Lexeme.{Lexeme, name, number, text, comma, opens, closes, plus}
 use Rattle.rv_asm_statements.specs.declared.operand_list.Piece.{Piece}
-use Rattle.rv_asm_statements.specs.Arguments.{Argument, word, value, quoted, sum, place, argument_of, argument_view, is_comma}
+use Rattle.rv_asm_statements.specs.Arguments.{Argument, word, value, quoted, sum, place, argument_of, is_comma}
+use Rattle.rv_asm_statements.specs.CodeViews.{argument_view}
 use Rattle.rv_asm_statements.specs.Walk.{all_given}
 
 -- what stands between commas, if each is an operand

@@ -1,6 +1,5 @@
 -- The names of the integer registers (RISC-V ABIs specification, integer register convention).
 use Rattle.std.specs.Prelude.{ℕ, List, [], ◌∷◌, codes, Option}
-use Rattle.rv_asm_statements.specs.declared.registers.RegisterName.{RegisterName}
 use Rattle.rv_asm_statements.specs.Walk.{beside, first_given}
 
 -- each name and its number
@@ -75,7 +74,3 @@ registers =
 
 abbrev pub register_named : List ℕ → Option ℕ
 register_named name = first_given (beside name) registers
-
--- a row of the code's table
-abbrev pub register_view : RegisterName → List ℕ × ℕ
-register_view row = (row.name.now, row.number)

@@ -1,6 +1,5 @@
 -- A line's statement.
-use Rattle.std.specs.Prelude.{ℕ, List, [], ◌∷◌, Bool, true, false, ◌==◌, Option, Some, None, Result, Ok, Err}
-use Rattle.std.specs.Prelude.{if◌then◌else◌}
+use Rattle.std.specs.Prelude.{ℕ, List, [], ◌∷◌, Bool, false, ◌==◌, Option, Some, None, Result, Ok, Err, if◌then◌else◌}
 use Rattle.rv_asm_tokens.specs.declared.fault.AsmFaultKind.{AsmFaultKind}
 use Rattle.rv_asm_tokens.specs.declared.fault.AsmFaultKind.TheVariants as kinds
 use Rattle.rv_asm_tokens.specs.Fault.{◌>>=◌}
@@ -9,8 +8,7 @@ use Rattle.rv_asm_statements.specs.declared.statements.Statement.{Statement}
 use Rattle.rv_asm_statements.specs.declared.statements.Statement.TheVariants.{Instruction, Directive}
 use Rattle.rv_asm_statements.specs.Arguments.{arguments_of}
 use Rattle.rv_asm_statements.specs.Mnemonics.{instruction_of}
-use Rattle.rv_asm_statements.specs.declared.directives.Width.{Width}
-use Rattle.rv_asm_statements.specs.Directives.{directive_of, long_items}
+use Rattle.rv_asm_statements.specs.Directives.{directive_of}
 
 abbrev pub begins_with_dot : List ℕ → Bool
 begins_with_dot [] = false
@@ -29,13 +27,3 @@ unfoldable pub statement_of : List Lexeme → Result (Option Statement) AsmFault
 statement_of [] = Ok None
 statement_of (name w ∷ ts) = if begins_with_dot w then directive_at w ts else instruction_at w ts
 statement_of _ = Err kinds.Mnemonic
-
--- a mnemonic or the name of a directive stands first: only what stands behind it asks for memory
-abbrev pub begins_with_name : List Lexeme → Bool
-begins_with_name (name w ∷ ts) = true
-begins_with_name _ = false
-
--- the width of a statement's data, if it has more items than so many
-abbrev pub long_data : ℕ → Result (Option Statement) AsmFaultKind → Option Width
-long_data most (Ok (Some (Directive d))) = long_items most (Some d)
-long_data most _ = None

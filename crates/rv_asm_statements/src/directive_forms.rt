@@ -5,10 +5,10 @@ ghost use Rattle.std.specs.Option.{option_map};
 ghost use Rattle.std.specs.List.{filter_map};
 ghost use Rattle.rv_asm_tokens.specs.declared.fault.AsmFaultKind.TheVariants as kinds;
 ghost use Rattle.rv_asm_tokens.specs.Escapes.{text_of};
-ghost use Rattle.rv_asm_tokens.specs.Fault.{Gives};
+ghost use Rattle.rv_asm_tokens.specs.Returned.{Gives};
 ghost use Rattle.rv_asm_tokens.specs.Lexeme.{number_value};
 ghost use Rattle.rv_asm_statements.specs.declared.directive_rows.Form.TheVariants as forms;
-ghost use Rattle.rv_asm_statements.specs.Arguments.{argument_view};
+ghost use Rattle.rv_asm_statements.specs.CodeViews.{argument_view};
 ghost use Rattle.rv_asm_statements.specs.Read.{read_target};
 ghost use Rattle.rv_asm_statements.specs.Shapes.{number_of};
 ghost use Rattle.rv_asm_statements.specs.Walk.{all_given, beside, first_given};
@@ -17,9 +17,11 @@ ghost use Rattle.rv_asm_statements.specs.Directives.{only_number as number_alone
 ghost use Rattle.rv_asm_statements.specs.Directives.{only_symbol as symbol_alone, only_text as text_alone};
 ghost use Rattle.rv_asm_statements.specs.Directives.{takes_labels as width_takes_labels, item_of, some_given};
 ghost use Rattle.rv_asm_statements.specs.Directives.{limited_number, link_of, directive_alone, only_alignment};
-ghost use Rattle.rv_asm_statements.specs.Directives.{directive_by, is_kept, keeps, directive_of, takes_two};
-ghost use Rattle.rv_asm_statements.specs.Directives.{long_items};
-ghost use Rattle.rv_asm_statements.specs.Statements.{directive_at, long_data};
+ghost use Rattle.rv_asm_statements.specs.Directives.{directive_by, directive_of};
+ghost use Rattle.rv_asm_statements.specs.Kept.{is_kept, keeps, takes_two};
+ghost use Rattle.rv_asm_statements.specs.Kept.{long_items};
+ghost use Rattle.rv_asm_statements.specs.Statements.{directive_at};
+ghost use Rattle.rv_asm_statements.specs.LongData.{long_data};
 
 use crate::data_lists::{Bytes, Integers, Items};
 use crate::directive_rows::{DIRECTIVES, DirectiveRow, Form};

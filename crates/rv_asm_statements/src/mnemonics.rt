@@ -2,14 +2,15 @@
 
 ghost use Rattle.std.specs.Prelude.{◌≡◌, map, is_some, IsTrue, Err};
 ghost use Rattle.rv_asm_tokens.specs.declared.fault.AsmFaultKind.TheVariants as kinds;
-ghost use Rattle.rv_asm_tokens.specs.Fault.{Gives};
+ghost use Rattle.rv_asm_tokens.specs.Returned.{Gives};
 ghost use Rattle.std.specs.Option.{option_map};
-ghost use Rattle.rv_asm_statements.specs.Arguments.{argument_view};
+ghost use Rattle.rv_asm_statements.specs.CodeViews.{argument_view};
 ghost use Rattle.rv_asm_statements.specs.Walk.{first_given};
 ghost use Rattle.rv_asm_statements.specs.RowView.{row_view};
 ghost use Rattle.rv_asm_statements.specs.Rows.{rows};
 ghost use Rattle.rv_asm_statements.specs.Read.{read_use};
-ghost use Rattle.rv_asm_statements.specs.Mnemonics.{row_use, row_named, instruction_of, has_label, use_of as use_meant};
+ghost use Rattle.rv_asm_statements.specs.Mnemonics.{row_use, row_named, instruction_of, use_of as use_meant};
+ghost use Rattle.rv_asm_statements.specs.Kept.{has_label};
 ghost use Rattle.rv_asm_statements.specs.Mnemonics.{is_mnemonic as is_mnemonic_meant};
 
 use crate::filled::{Filled, FilledRef};

@@ -2,7 +2,8 @@
 
 ghost use Rattle.std.specs.Prelude.{◌≡◌, ◌<◌, ◌≤◌, [], IfSome, false, is_some, length};
 ghost use Rattle.rv_asm_tokens.specs.Lexeme.{number_value};
-ghost use Rattle.rv_asm_statements.specs.Arguments.{argument_view, arguments_of};
+ghost use Rattle.rv_asm_statements.specs.Arguments.{arguments_of};
+ghost use Rattle.rv_asm_statements.specs.CodeViews.{argument_view};
 ghost use Rattle.rv_asm_statements.specs.Pieces.{at_name as at_name_meant, at_value as at_value_meant};
 ghost use Rattle.rv_asm_statements.specs.Pieces.{at_place as at_place_meant, ended};
 ghost use Rattle.rv_asm_statements.specs.Pieces.{first_operand, piece_view, pieces_of};
@@ -170,7 +171,8 @@ impl<'a> Model for Operands<'a> {
 
 impl<'a> Operands<'a> {
     ghost use Rattle.std.specs.Prelude.{◌≡◌, ◌∷◌, [], MatchOption};
-    ghost use Rattle.rv_asm_statements.specs.Arguments.{argument_view, arguments_of};
+    ghost use Rattle.rv_asm_statements.specs.Arguments.{arguments_of};
+    ghost use Rattle.rv_asm_statements.specs.CodeViews.{argument_view};
 
     /// The operands of a statement, or none where what stands between two commas is no operand.
     #[tactic(auto, using(crate::proofs::Pieces::those_some, crate::proofs::Pieces::those_none))]

@@ -1,7 +1,8 @@
 //! The names of the integer registers.
 
 ghost use Rattle.std.specs.Prelude.{◌≡◌, map};
-ghost use Rattle.rv_asm_statements.specs.Registers.{register_view, register_named};
+ghost use Rattle.rv_asm_statements.specs.Registers.{register_named};
+ghost use Rattle.rv_asm_statements.specs.CodeViews.{register_view};
 ghost use Rattle.rv_asm_statements.specs.Walk.{beside, first_given};
 
 use rv_decode::Reg;

@@ -3,7 +3,7 @@
 ghost use Rattle.std.specs.Prelude.{◌≡◌, map, pos, Some};
 ghost use Rattle.std.specs.Option.{option_map};
 ghost use Rattle.rv_asm_tokens.specs.Lexeme.{number_value};
-ghost use Rattle.rv_asm_statements.specs.Arguments.{argument_view};
+ghost use Rattle.rv_asm_statements.specs.CodeViews.{argument_view};
 ghost use Rattle.rv_asm_statements.specs.Read.{read_filled, read_target};
 ghost use Rattle.rv_asm_statements.specs.Shapes.{at_number, at_label, register_of, number_of, value_of, offset_of};
 ghost use Rattle.rv_asm_statements.specs.Shapes.{base_of, label_of, is_all_orders, target_of, filled_if, filled_by};

@@ -2,10 +2,12 @@
 
 ghost use Rattle.std.specs.Prelude.{◌≡◌, ◌∷◌, Err, IsTrue, Some};
 ghost use Rattle.rv_asm_tokens.specs.declared.fault.AsmFaultKind.TheVariants as kinds;
-ghost use Rattle.rv_asm_tokens.specs.Fault.{Gives};
+ghost use Rattle.rv_asm_tokens.specs.Returned.{Gives};
 ghost use Rattle.rv_asm_tokens.specs.Lexeme.{name};
-ghost use Rattle.rv_asm_statements.specs.Statements.{begins_with_dot as is_directive_name, begins_with_name};
-ghost use Rattle.rv_asm_statements.specs.Statements.{long_data as long_data_meant, statement_of};
+ghost use Rattle.rv_asm_statements.specs.Statements.{begins_with_dot as is_directive_name};
+ghost use Rattle.rv_asm_statements.specs.LongData.{begins_with_name};
+ghost use Rattle.rv_asm_statements.specs.Statements.{statement_of};
+ghost use Rattle.rv_asm_statements.specs.LongData.{long_data as long_data_meant};
 
 use crate::directive_forms::{directive, long_directive};
 use crate::directives::{Directive, Width};

@@ -3,7 +3,8 @@ use Rattle.std.specs.Prelude.{◌≡◌, ℕ, List, [], ◌∷◌, Option, Some,
 use Rattle.rv_asm_tokens.specs.declared.fault.AsmFaultKind.{AsmFaultKind}
 use Rattle.rv_asm_tokens.specs.declared.scanning.First.{First}
 use Rattle.rv_asm_tokens.specs.Fault.{◌>>=◌}
-use Rattle.rv_asm_tokens.specs.Lexeme.{Lexeme, lexeme_of}
+use Rattle.rv_asm_tokens.specs.Lexeme.{Lexeme}
+use Rattle.rv_asm_tokens.specs.TokenView.{lexeme_of}
 use Rattle.rv_asm_tokens.specs.Scan.{tokens_of}
 
 -- the tokens of bytes that are nothing else

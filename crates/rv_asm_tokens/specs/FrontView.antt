@@ -2,7 +2,7 @@
 use Rattle.std.specs.Prelude.{ℕ, ◌≤◌, Some, None}
 use Rattle.rv_asm_tokens.specs.declared.scanning.Front.{Front as Found}
 use Rattle.rv_asm_tokens.specs.declared.scanning.Front.TheVariants.{Comment, Blank, Piece}
-use Rattle.rv_asm_tokens.specs.Lexeme.{lexeme_of}
+use Rattle.rv_asm_tokens.specs.TokenView.{lexeme_of}
 use Rattle.rv_asm_tokens.specs.Scan.{Front, piece}
 
 abbrev pub front_view : Found → Front

@@ -1,5 +1,7 @@
 pub mod Fault
+pub mod Returned
 pub mod Lexeme
+pub mod TokenView
 pub mod Digits
 pub mod Escapes
 pub mod Scan

@@ -3,8 +3,8 @@
 ghost use Rattle.std.specs.Prelude.{◌≡◌, ◌≤◌, ◌+◌, IfOk, IsOk, MatchResult, Err, drop, length};
 ghost use Rattle.std.specs.Option.{option_map};
 ghost use Rattle.rv_asm_tokens.specs.Cursor.{Begins};
-ghost use Rattle.rv_asm_tokens.specs.Fault.{Is};
-ghost use Rattle.rv_asm_tokens.specs.Lexeme.{lexeme_of};
+ghost use Rattle.rv_asm_tokens.specs.Returned.{Is};
+ghost use Rattle.rv_asm_tokens.specs.TokenView.{lexeme_of};
 ghost use Rattle.rv_asm_tokens.specs.Scan.{is_name_byte, word_length, sign, sign_front, number_front, negative_front};
 ghost use Rattle.rv_asm_tokens.specs.Scan.{name_front, text_front, front_at, tokens_of};
 ghost use Rattle.rv_asm_tokens.specs.FrontView.{front_view, LiesIn};

@@ -27,8 +27,8 @@ impl<'a> Model for Tokens<'a> {
 
 impl<'a> Tokens<'a> {
     ghost use Rattle.std.specs.Prelude.{◌≡◌, ◌==◌, ◌∷◌, [], MatchOption, length};
-    ghost use Rattle.rv_asm_tokens.specs.Fault.{Is};
-    ghost use Rattle.rv_asm_tokens.specs.Lexeme.{lexeme_of};
+    ghost use Rattle.rv_asm_tokens.specs.Returned.{Is};
+    ghost use Rattle.rv_asm_tokens.specs.TokenView.{lexeme_of};
     ghost use Rattle.rv_asm_tokens.specs.Scan.{tokens_of};
 
     /// The tokens of a line, whose newline is left out.

@@ -4,7 +4,8 @@ use Rattle.std.proofs.lemmas.Bool.{cond_both, eqb-true}
 use Rattle.std.proofs.lemmas.Int.{ints}
 use Rattle.std.specs.Prelude.{◌↔◌, IsNone, IfSome, find}
 use Rattle.rv_decode.specs.Fields.{bits, signed, rd, rs1, rs2, imm_i, imm_s, imm_b, imm_u, imm_j}
-use Rattle.rv_decode.specs.Table.{IsWordOf, Fits, IsSigned, shift_amount}
+use Rattle.rv_decode.specs.Table.{shift_amount}
+use Rattle.rv_decode.specs.WordOf.{IsWordOf, Fits, IsSigned}
 use Rattle.rv_decode.specs.Decoded.{decoded, has_row, readings, same_pair, same_triple, uppers, branches, loads, stores, imms, shifts, ariths}
 use Rattle.rv_decode.specs.declared.instruction.Instr.{Instr}
 use Rattle.rv_decode.specs.declared.instruction.Instr.TheVariants.{Upper, Jal, Jalr, Branch, Load, Store, Imm, Shift, Arith, Fence, Ecall, Ebreak}

@@ -2,7 +2,8 @@
 use Rattle.std.specs.Prelude.{◌≡◌, pos, negsuc, Some, None, codes, refl}
 use Rattle.std.specs.Fmt.{digits}
 use Rattle.rv_decode.specs.Fields.{bits, signed, imm_i, imm_s, imm_b, imm_u, imm_j}
-use Rattle.rv_decode.specs.Table.{IsWordOf, written_word}
+use Rattle.rv_decode.specs.Table.{written_word}
+use Rattle.rv_decode.specs.WordOf.{IsWordOf}
 use Rattle.rv_decode.specs.Decoded.{decoded}
 use Rattle.rv_decode.specs.Text.{instr_text}
 use Rattle.rv_decode.specs.declared.instruction.Instr.TheVariants.{Upper, Jal, Jalr, Branch, Store, Imm, Shift, Arith}

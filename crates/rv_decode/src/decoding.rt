@@ -4,7 +4,8 @@ ghost use Rattle.rv_decode.specs.Decoded.{decoded, same_pair, same_triple, branc
 ghost use Rattle.rv_decode.specs.Decoded.{ariths};
 ghost use Rattle.rv_decode.specs.Fields.{imm_i as imm_i_of, imm_s as imm_s_of, imm_b as imm_b_of, imm_u as imm_u_of};
 ghost use Rattle.rv_decode.specs.Fields.{imm_j as imm_j_of, bits};
-ghost use Rattle.rv_decode.specs.Table.{IsWordOf, Fits, branch_row, load_row, store_row, imm_row, shift_row, arith_row};
+ghost use Rattle.rv_decode.specs.Table.{branch_row, load_row, store_row, imm_row, shift_row, arith_row};
+ghost use Rattle.rv_decode.specs.WordOf.{IsWordOf, Fits};
 ghost use Rattle.rv_decode.specs.declared.instruction.Instr.{Instr};
 
 use crate::instruction::{ArithOp, BranchOp, ImmOp, Instr, LoadOp, ShiftOp, StoreOp, UpperOp};

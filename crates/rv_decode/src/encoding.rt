@@ -2,7 +2,8 @@
 ghost use Rattle.std.specs.Prelude.{◌≡◌, ℕ, ◌⊎◌, ◌<◌, ◌+◌, ◌*◌, ◌^◌, ◌↔◌, IsTrue, Some, pos, ◌≤ℤ◌, int_rem};
 ghost use Rattle.rv_decode.specs.Decoded.{decoded};
 ghost use Rattle.rv_decode.specs.Fields.{bits, imm_i, imm_s, imm_b, imm_u, imm_j};
-ghost use Rattle.rv_decode.specs.Table.{IsWordOf, HasFunct3, HasFunct7, Fits, IsSigned, amount_bits, written_word};
+ghost use Rattle.rv_decode.specs.Table.{amount_bits, written_word};
+ghost use Rattle.rv_decode.specs.WordOf.{IsWordOf, HasFunct3, HasFunct7, Fits, IsSigned};
 ghost use Rattle.rv_decode.specs.Table.{r_type as r_word, i_type as i_word, s_type as s_word, b_type as b_word};
 ghost use Rattle.rv_decode.specs.Table.{u_type as u_word, j_type as j_word, shift_type as shift_word};
 ghost use Rattle.rv_decode.specs.declared.instruction.Instr.TheVariants.{Shift, Fence};

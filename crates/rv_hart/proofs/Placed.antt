@@ -5,7 +5,8 @@ use Rattle.rv_decode.specs.Decoded.{decoded}
 use Rattle.rv_decode.specs.declared.instruction.Instr.{Instr}
 use Rattle.rv_decode.specs.declared.instruction.Instr.TheVariants.{Upper, Jal, Jalr, Branch, Load, Store, Imm, Shift}
 use Rattle.rv_decode.specs.declared.instruction.Instr.TheVariants.{Arith, Fence, Ecall, Ebreak}
-use Rattle.rv_memory.specs.Memory.{Memory, with_pages}
+use Rattle.rv_memory.specs.Memory.{Memory}
+use Rattle.rv_memory.specs.MorePages.{with_pages}
 use Rattle.rv_memory.specs.Access.{size_of, store_trap, stored, word_at, is_inside}
 use Rattle.rv_memory.specs.declared.fault.Cause.{Cause}
 use Rattle.rv_memory.proofs.Marked.{with_no_pages, stored-with_pages, missing_from-written}

@@ -1,16 +1,14 @@
--- What an instruction leaves of a hart and its memory, and one step
+-- What an instruction leaves of a hart and its memory
 -- (RISC-V Unprivileged ISA 20191213, chapters 2, 5 and 7; the traps are the emulator's).
-use Rattle.std.specs.Prelude.{◌≡◌, ℕ, ◌+◌, ◌-◌, ◌%◌, ◌==◌, if◌then◌else◌, ℤ, pos, ◌+ℤ◌, MatchOption, Option, Some, None}
-use Rattle.rv_decode.specs.Table.{IsWordOf}
+use Rattle.std.specs.Prelude.{ℕ, ◌+◌, ◌-◌, ◌%◌, ◌==◌, if◌then◌else◌, ℤ, pos, ◌+ℤ◌, Option, Some, None}
 use Rattle.rv_decode.specs.declared.instruction.Instr.{Instr}
 use Rattle.rv_decode.specs.declared.instruction.Instr.TheVariants.{Upper, Jal, Jalr, Branch, Load, Store, Imm, Shift}
 use Rattle.rv_decode.specs.declared.instruction.Instr.TheVariants.{Arith, Fence, Ecall, Ebreak}
 use Rattle.rv_decode.specs.declared.instruction.LoadOp.{LoadOp}
 use Rattle.rv_memory.specs.Memory.{Memory, value_at}
-use Rattle.rv_memory.specs.Access.{size_of, load_trap, store_trap, stored, word_at}
+use Rattle.rv_memory.specs.Access.{size_of, load_trap, store_trap, stored}
 use Rattle.rv_memory.specs.declared.fault.Cause.{Cause}
-use Rattle.rv_memory.specs.declared.fault.Cause.TheVariants.{InstructionMisaligned, InstructionAccess}
-use Rattle.rv_memory.specs.declared.fault.Cause.TheVariants.{IllegalInstruction, Breakpoint}
+use Rattle.rv_memory.specs.declared.fault.Cause.TheVariants.{InstructionMisaligned, Breakpoint}
 use Rattle.rv_hart.specs.Numbers.{in_64}
 use Rattle.rv_hart.specs.Results.{upper_result, arith_result, imm_result, shift_result, is_taken, load_width}
 use Rattle.rv_hart.specs.Results.{load_result, store_width}
@@ -89,11 +87,3 @@ after (Arith op d r t) s m = gives d (arith_result op (read s r) (read s t)) s m
 after Fence s m = plain (at_pc s (next s)) m
 after Ecall s m = record { did = Call; state = s; memory = m }
 after Ebreak s m = record { did = Break; state = in_mode s (Trapped Breakpoint s.pc); memory = m }
-
--- one step: the word at the pc, its instruction, and what that does
-abbrev pub IsStep : State → Memory → After → Type 0
-IsStep s m end =
-    MatchOption (word_at m s.pc)
-    (end ≡ trapped InstructionAccess s m)
-    (λ word. ((i : Instr) → IsWordOf word i → end ≡ after i s m)
-    × (((i : Instr) → ¬ (IsWordOf word i)) → end ≡ trapped IllegalInstruction s m))

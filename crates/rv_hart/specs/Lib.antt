@@ -3,6 +3,7 @@ pub mod Numbers
 pub mod Results
 pub mod State
 pub mod Effect
+pub mod Relation
 pub mod Stepped
 pub mod Stores
 pub mod Worked

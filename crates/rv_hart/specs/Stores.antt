@@ -5,7 +5,8 @@ use Rattle.rv_decode.specs.declared.instruction.Instr.{Instr}
 use Rattle.rv_decode.specs.declared.instruction.Instr.TheVariants.{Upper, Jal, Jalr, Branch, Load, Store, Imm, Shift}
 use Rattle.rv_decode.specs.declared.instruction.Instr.TheVariants.{Arith, Fence, Ecall, Ebreak}
 use Rattle.rv_memory.specs.Memory.{Memory}
-use Rattle.rv_memory.specs.Access.{size_of, store_trap, word_at, IsPresent}
+use Rattle.rv_memory.specs.Access.{size_of, store_trap, word_at}
+use Rattle.rv_memory.specs.Present.{IsPresent}
 use Rattle.rv_memory.specs.declared.fault.Cause.{Cause}
 use Rattle.rv_hart.specs.Results.{store_width}
 use Rattle.rv_hart.specs.State.{State, read}

@@ -1,15 +1,16 @@
 //! One step of a hart.
 ghost use Rattle.std.specs.Prelude.{◌≡◌, ◌+◌, ◌≤◌, IsOk, IfOk, OnOk, OnErr};
-ghost use Rattle.rv_decode.specs.Table.{Fits};
+ghost use Rattle.rv_decode.specs.WordOf.{Fits};
 ghost use Rattle.rv_decode.specs.declared.instruction.Instr.TheVariants.{Branch, Load, Store};
-ghost use Rattle.rv_hart.specs.Effect.{After, after, IsStep, gives, jumps, branches, next as next_of};
+ghost use Rattle.rv_hart.specs.Effect.{After, after, gives, jumps, branches, next as next_of};
+ghost use Rattle.rv_hart.specs.Relation.{IsStep};
 ghost use Rattle.rv_hart.specs.Effect.{offset as offset_of};
 ghost use Rattle.rv_hart.specs.State.{at_pc, in_mode};
 ghost use Rattle.rv_hart.specs.Stepped.{stepped};
 ghost use Rattle.rv_hart.specs.declared.state.Mode.TheVariants.{Running, Trapped};
 ghost use Rattle.rv_hart.specs.Stores.{IsThere, stored_by, store_range as store_range_of};
 ghost use Rattle.rv_memory.specs.Memory.{Memory};
-ghost use Rattle.rv_memory.specs.Pages.{missing_pages};
+ghost use Rattle.rv_memory.specs.MorePages.{missing_pages};
 
 use crate::results;
 use crate::state::{Did, Hart, Mode};

@@ -3,7 +3,8 @@ use Rattle.std.proofs.Common.{◌≡◌, ℕ, suc, ◌-◌, ◌+◌, ◌≤◌, 
 use Rattle.std.specs.Prelude.{IsOk}
 use Rattle.rv_image.specs.declared.faults.ImageFault.{ImageFault}
 use Rattle.rv_image.specs.declared.faults.ImageFault.TheVariants as faults
-use Rattle.rv_image.specs.Reading.{IsFaultOf, repeated}
+use Rattle.rv_image.specs.Reading.{repeated}
+use Rattle.rv_image.specs.ReadingAnswers.{IsFaultOf}
 
 -- a fault that is read is the one that may be told
 pub told : {A : Type 0} (fault : ImageFault) (read : Result A ImageFault) → read ≡ Err fault → IsFaultOf read fault

@@ -4,5 +4,6 @@ pub mod Names
 pub mod Image
 pub mod Text
 pub mod Reading
+pub mod ReadingAnswers
 pub mod Order
 pub mod Worked

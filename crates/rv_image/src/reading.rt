@@ -5,7 +5,8 @@ ghost use Rattle.rv_image.specs.declared.faults.ImageFault.{ImageFault};
 ghost use Rattle.rv_image.specs.declared.images.ImageParts.{ImageParts};
 ghost use Rattle.rv_image.specs.Image.{IsImage};
 ghost use Rattle.rv_image.specs.Text.{image_text};
-ghost use Rattle.rv_image.specs.Reading.{GivesBy, rest_of, AnswersBy, Answers, Accepts, next_byte, next_bytes};
+ghost use Rattle.rv_image.specs.Reading.{next_byte, next_bytes};
+ghost use Rattle.rv_image.specs.ReadingAnswers.{GivesBy, rest_of, AnswersBy, IsReadAs, Accepts};
 ghost use Rattle.rv_image.specs.Reading.{first_fault, number_tests, header_tests, repeated, is_new_rank, next_member};
 ghost use Rattle.rv_image.specs.Reading.{comm_at, next_comm, link_at, next_link, is_next_symbol, symbol_at};
 ghost use Rattle.rv_image.specs.Reading.{next_symbol, body_at, reading};
@@ -260,7 +261,7 @@ fn take_body(
     bytes: &[u8],
 ) -> Result<ImageParts, ImageFault>
     requires { IsOk (body_at total h.now bytes.now) }
-    ensures { Answers result (body_at total h.now bytes.now) }
+    ensures { IsReadAs result (body_at total h.now bytes.now) }
 {
     let (comms, rest) = take_comms(alloc, total, h.ranks, h.comms, bytes)?;
     let (links, rest) = take_links(alloc, total, h.ranks, h.links, rest)?;
@@ -283,7 +284,7 @@ fn take_body(
 
 /// The parts that the bytes spell.
 fn parts_of(alloc: Global, bytes: &[u8]) -> Result<ImageParts, ImageFault>
-    ensures exact { Answers result (reading bytes.now) }
+    ensures exact { IsReadAs result (reading bytes.now) }
     ensures fault { (fault : ImageFault) → reading bytes.now ≡ Err fault → result ≡ Err fault }
 {
     if let Some(fault) = header_fault(bytes) {
@@ -304,9 +305,9 @@ pub fn read_image(alloc: Global, bytes: &[u8]) -> Result<Image, ImageFault>
     // What is read is spelled so, byte for byte.
     ensures found { IfOk result (λ image. bytes.now ≡ image_text image) }
     // What is spelled so is read, unless memory runs out.
-    ensures only { (image : ImageParts) → IsImage image → bytes.now ≡ image_text image → Answers result (Ok image) }
+    ensures only { (image : ImageParts) → IsImage image → bytes.now ≡ image_text image → IsReadAs result (Ok image) }
     // Which fault it is.
-    ensures exact { Answers result (reading bytes.now) }
+    ensures exact { IsReadAs result (reading bytes.now) }
     // A fault of the bytes is told whatever memory there is.
     ensures fault { (fault : ImageFault) → reading bytes.now ≡ Err fault → result ≡ Err fault }
 {

@@ -5,11 +5,13 @@ use Rattle.std.proofs.lemmas.Grind.{common_steps}
 use Rattle.std.proofs.lemmas.Bool.Decides.{nat_tests}
 use Rattle.std.proofs.Math.ListN.{set}
 use Rattle.std.specs.Prelude.{Bool, true, false, not, ◌||◌, ◌&&◌, if◌then◌else◌}
-use Rattle.rv_memory.specs.Memory.{Memory, with_bytes, with_pages, overwritten, bytes_of}
-use Rattle.rv_memory.specs.Access.{stored, IsWritable, IsPresent, is_inside}
+use Rattle.rv_memory.specs.Memory.{Memory, with_bytes, overwritten, bytes_of}
+use Rattle.rv_memory.specs.MorePages.{with_pages, missing_from, missing_pages}
+use Rattle.rv_memory.specs.Access.{stored, is_inside}
+use Rattle.rv_memory.specs.Present.{IsWritable, IsPresent}
 use Rattle.std.specs.Prelude.{IsTrue, nat_le, ◌==◌}
 use Rattle.std.proofs.Common.{rules}
-use Rattle.rv_memory.specs.Pages.{touches, written_from, missing_from, missing_pages}
+use Rattle.rv_memory.specs.Pages.{touches, written_from}
 
 pub written_from-length : (page : ℕ) (pages : List Bool) (address count : ℕ) → length (written_from page pages address count) ≡ length pages
 written_from-length page [] address count = refl

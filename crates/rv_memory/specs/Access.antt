@@ -3,7 +3,6 @@
 use Rattle.std.specs.Prelude.{ℕ, ◌+◌, ◌%◌, ◌==◌, nat_le, nat_lt, if◌then◌else◌, length, Option, Some, None, Bool, not}
 use Rattle.std.specs.Prelude.{◌&&◌, ◌||◌, IsTrue}
 use Rattle.rv_memory.specs.Memory.{Memory, value_at, bytes_of, with_bytes}
-use Rattle.rv_memory.specs.Pages.{missing_pages}
 use Rattle.rv_memory.specs.declared.fault.Cause.{Cause}
 use Rattle.rv_memory.specs.declared.fault.Cause.TheVariants.{LoadMisaligned, LoadAccess, StoreMisaligned, StoreAccess}
 use Rattle.rv_memory.specs.declared.memory.Width.{Width}
@@ -53,17 +52,5 @@ is_readable memory address count = (count == 0) || is_inside memory address coun
 abbrev pub is_writable : Memory → ℕ → ℕ → Bool
 is_writable memory address count = (count == 0) || (is_inside memory address count && nat_le memory.text address)
 
--- a range that takes no page when it is written: it has no bytes, or all of them are in the memory, and no page that
--- they touch is missing
-abbrev pub is_present : Memory → ℕ → ℕ → Bool
-is_present memory address count =
-    (count == 0) || (is_inside memory address count && (missing_pages memory.pages address count == 0))
-
 abbrev pub IsReadable : Memory → ℕ → ℕ → Type 0
 IsReadable memory address count = IsTrue (is_readable memory address count)
-
-abbrev pub IsWritable : Memory → ℕ → ℕ → Type 0
-IsWritable memory address count = IsTrue (is_writable memory address count)
-
-abbrev pub IsPresent : Memory → ℕ → ℕ → Type 0
-IsPresent memory address count = IsTrue (is_present memory address count)

@@ -3,5 +3,7 @@ pub mod Fault
 pub mod Pages
 pub mod Held
 pub mod Memory
+pub mod MorePages
 pub mod Access
+pub mod Present
 pub mod Worked

@@ -2,8 +2,8 @@
 -- (RISC-V Unprivileged ISA 20191213, 1.4 Memory), and which of its pages are there.
 use Rattle.std.proofs.Common.{zero, suc}
 use Rattle.std.specs.Int.{bytes_low_first, next_multiple_of}
-use Rattle.std.specs.Prelude.{ℕ, ◌+◌, ◌-◌, ◌*◌, ◌/◌, ◌^◌, List, ◌++◌, length, replicate, slice_index, take, drop}
-use Rattle.std.specs.Prelude.{Bool, false}
+use Rattle.std.specs.Prelude.{ℕ, ◌+◌, ◌-◌, ◌*◌, ◌/◌, ◌^◌, List, ◌++◌, length, replicate, slice_index, take, drop, Bool}
+use Rattle.std.specs.Prelude.{false}
 use Rattle.rv_memory.specs.Pages.{written_pages}
 
 -- `pages` has for each 4,096 bytes whether their page is there
@@ -36,10 +36,6 @@ with_bytes memory address new = record memory {
   bytes = overwritten memory.bytes address new;
   pages = written_pages memory.pages address (length new);
 }
-
--- the memory with the pages that `count` bytes from an address on touch
-abbrev pub with_pages : Memory → ℕ → ℕ → Memory
-with_pages memory address count = record memory { pages = written_pages memory.pages address count }
 
 -- where the initial data stands: behind the text, at a multiple of 16
 abbrev pub init_start : List ℕ → ℕ

@@ -1,6 +1,6 @@
 -- Which of a memory's pages are there. Page p has the 4,096 bytes from address p * 4096 on.
 use Rattle.std.proofs.Common.{suc}
-use Rattle.std.specs.Prelude.{ℕ, ◌+◌, ◌*◌, ◌==◌, nat_lt, if◌then◌else◌, List, [], ◌∷◌, Bool, not, ◌&&◌, ◌||◌}
+use Rattle.std.specs.Prelude.{ℕ, ◌+◌, ◌*◌, nat_lt, List, [], ◌∷◌, Bool, ◌&&◌, ◌||◌}
 
 -- of `count` bytes from the address on, one at least is in the page
 abbrev pub touches : ℕ → ℕ → ℕ → Bool
@@ -16,13 +16,3 @@ written_from page (there ∷ pages) address count =
 
 abbrev pub written_pages : List Bool → ℕ → ℕ → List Bool
 written_pages pages address count = written_from 0 pages address count
-
--- how many of the pages that `count` bytes from the address on touch aren't there. The first page of the list has the
--- number `page`
-abbrev pub missing_from : ℕ → List Bool → ℕ → ℕ → ℕ
-missing_from page [] address count = 0
-missing_from page (there ∷ pages) address count =
-    (if (touches address count page && not there) then 1 else 0) + missing_from (suc page) pages address count
-
-abbrev pub missing_pages : List Bool → ℕ → ℕ → ℕ
-missing_pages pages address count = missing_from 0 pages address count

@@ -1,8 +1,10 @@
 -- Worked values: what the definitions give at the edges, computed.
 use Rattle.std.specs.Prelude.{◌≡◌, List, [], ◌∷◌, ◌++◌, replicate, Some, None, Bool, true, false, refl}
-use Rattle.rv_memory.specs.Access.{load_trap, store_trap, word_at, is_writable, is_present}
+use Rattle.rv_memory.specs.Access.{load_trap, store_trap, word_at, is_writable}
+use Rattle.rv_memory.specs.Present.{is_present}
 use Rattle.rv_memory.specs.Memory.{Memory, value_at, bytes_of, init_start, loaded_memory}
-use Rattle.rv_memory.specs.Pages.{written_pages, missing_pages}
+use Rattle.rv_memory.specs.Pages.{written_pages}
+use Rattle.rv_memory.specs.MorePages.{missing_pages}
 use Rattle.rv_memory.specs.declared.fault.Cause.TheVariants.{LoadMisaligned, LoadAccess, StoreAccess}
 
 -- the lowest byte stands first

@@ -4,9 +4,11 @@ ghost use Rattle.std.specs.Prelude.{IsTrue, nat_le, false, drop};
 ghost use Rattle.std.specs.Prelude.{IfOk, OnOk, OnErr, MatchOption};
 ghost use Rattle.std.specs.Arc.{arc_slice_items};
 ghost use Rattle.rv_memory.specs.Access.{size_of, load_trap, store_trap, stored, word_at, is_readable, is_writable};
-ghost use Rattle.rv_memory.specs.Access.{is_inside, is_present, IsReadable, IsWritable, IsPresent};
-ghost use Rattle.rv_memory.specs.Memory.{Memory, value_at, bytes_at, with_bytes, with_pages, init_start, loaded_memory};
-ghost use Rattle.rv_memory.specs.Pages.{missing_pages};
+ghost use Rattle.rv_memory.specs.Access.{is_inside, IsReadable};
+ghost use Rattle.rv_memory.specs.Present.{is_present, IsWritable, IsPresent};
+ghost use Rattle.rv_memory.specs.Memory.{Memory, value_at, bytes_at, with_bytes, init_start, loaded_memory};
+ghost use Rattle.rv_memory.specs.MorePages.{with_pages};
+ghost use Rattle.rv_memory.specs.MorePages.{missing_pages};
 
 use crate::fault::{BytesFault, Cause, StoreFault};
 use crate::page::{Page, read, store, value};

@@ -4,7 +4,8 @@ ghost use Rattle.std.specs.Prelude.{◌&&◌, ◌||◌, if◌then◌else◌, not
 ghost use Rattle.std.specs.Prelude.{IfOk, OnOk, OnErr, IsOk, None, Option};
 ghost use Rattle.rv_memory.specs.Held.{page_bytes, is_there, all_bytes, AreWhole};
 ghost use Rattle.rv_memory.specs.Memory.{overwritten};
-ghost use Rattle.rv_memory.specs.Pages.{touches as touches_page, written_pages, missing_pages};
+ghost use Rattle.rv_memory.specs.Pages.{touches as touches_page, written_pages};
+ghost use Rattle.rv_memory.specs.MorePages.{missing_pages};
 
 use crate::page::{Page, is_missing, put};
 use crate::spares::SparePages;

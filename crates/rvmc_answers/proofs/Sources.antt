@@ -5,12 +5,14 @@ use Rattle.std.proofs.lemmas.Str.{utf8_valid_len-IsUtf8}
 use Rattle.std.specs.Result.{result_map_both}
 use Rattle.std.specs.Str.{IsUtf8}
 use Rattle.std.specs.Str.Lossy.{utf8_valid_len}
-use Rattle.rv_asm.specs.Source.{FailsAt, Unless, meaning}
+use Rattle.rv_asm.specs.Source.{meaning}
+use Rattle.rv_asm.specs.Made.{FailsAt, Unless}
 use Rattle.rv_asm_tokens.specs.declared.fault.AsmFault.{AsmFault}
 use Rattle.rv_asm_tokens.specs.declared.fault.AsmFaultKind.{AsmFaultKind}
 use Rattle.rv_asm_tokens.specs.declared.fault.AsmFaultKind.TheVariants as kinds
 use Rattle.rv_image.specs.declared.images.ImageParts.{ImageParts}
-use Rattle.rvmc_answers.specs.Images.{IsFaultIn, source_image}
+use Rattle.rvmc_answers.specs.Images.{source_image}
+use Rattle.rvmc_answers.specs.Taking.{IsFaultIn}
 use Rattle.rvmc_report.specs.Faults.{fault_of_kind, fault_of_source}
 use Rattle.rvmc_report.specs.declared.faults.Fault.{Fault}
 

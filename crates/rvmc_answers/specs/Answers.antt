@@ -1,7 +1,6 @@
 -- What each command answers: the text on standard output, and the status.
-use Rattle.std.specs.Prelude.{◌≡◌, ◌⊎◌, ⊤, ℕ, Bool, true, false, List, [], length, MatchResult, Option, None, Some, Err}
+use Rattle.std.specs.Prelude.{◌≡◌, ◌⊎◌, ℕ, Bool, true, false, List, [], length, MatchResult, Option, None, Some}
 use Rattle.cl_debug.specs.declared.faults.DebugFault.{DebugFault}
-use Rattle.cl_debug.specs.declared.faults.DebugFault.TheVariants.{NotARun}
 use Rattle.cl_machine.specs.Merge.{IsMerge}
 use Rattle.cl_machine.specs.declared.steps.Step.{Step}
 use Rattle.cl_record.specs.Plans.{ArePlans, HasPlans}
@@ -9,14 +8,14 @@ use Rattle.cl_record.specs.Records.{IsMergedRun, steps_in}
 use Rattle.cl_record.specs.declared.plans.Plan.{Plan}
 use Rattle.cl_record.specs.declared.records.Record.{Record}
 use Rattle.cl_replay.specs.Checks.{IsVerdict}
-use Rattle.cl_replay.specs.Replays.{BreaksAt, IsRunUpTo}
+use Rattle.cl_replay.specs.Replays.{IsRunUpTo}
 use Rattle.cl_replay.specs.declared.checking.Verdict.{Verdict}
 use Rattle.cl_run.specs.Runs.{IsOneRun}
 use Rattle.cl_text.specs.Reading.{reading_record}
 use Rattle.cl_text.specs.Text.{record_text}
 use Rattle.cl_text.specs.Whole.{IsRecord}
 use Rattle.cl_threads.specs.Runs.{IsThreadRun}
-use Rattle.rv_image.specs.Image.{IsImage, in_version_two}
+use Rattle.rv_image.specs.Image.{in_version_two}
 use Rattle.rv_image.specs.Text.{image_text}
 use Rattle.rv_image.specs.declared.images.ImageParts.{ImageParts}
 use Rattle.rvmc_debug.specs.Words.{IsTold as HasTold}
@@ -25,11 +24,9 @@ use Rattle.rvmc_line.specs.declared.line.CommandLine.{CommandLine}
 use Rattle.rvmc_line.specs.declared.line.CommandLine.TheVariants.{Asm, Check, Debug, Dis, One, Run}
 use Rattle.rvmc_report.specs.Faults.{fault_of_debug, fault_status}
 use Rattle.rvmc_report.specs.Listing.{listing}
-use Rattle.rvmc_report.specs.Report.{HasEachRank, rank_ends, report, status_of}
+use Rattle.rvmc_report.specs.Report.{rank_ends, report, status_of}
 use Rattle.rvmc_report.specs.Verdicts.{verdict_status, verdict_text}
-use Rattle.rvmc_report.specs.declared.faults.Fault.{Fault}
-use Rattle.rvmc_report.specs.declared.faults.Fault.TheVariants as faults
-use Rattle.rvmc_answers.specs.Images.{IsFaultIn, image_in}
+use Rattle.rvmc_answers.specs.Images.{image_in}
 use Rattle.rvmc_answers.specs.Plans.{ArePlansOf, listed}
 use Rattle.rvmc_answers.specs.declared.answers.End.{End}
 use Rattle.rvmc_answers.specs.declared.answers.End.TheVariants.{Cut, Status}
@@ -40,11 +37,6 @@ use Rattle.rvmc_answers.specs.declared.answers.End.TheVariants.{Cut, Status}
 abbrev pub end_status : End → ℕ
 end_status (Status status) = status
 end_status (Cut fault) = fault_status fault
-
--- nothing cuts it short
-abbrev pub IsWhole : End → Type 0
-IsWhole (Status status) = ⊤
-IsWhole (Cut fault) = ⊥
 
 -- ---- the commands
 
@@ -152,11 +144,6 @@ pub record IsDebugged (image : ImageParts) (steps : List Step) (words : List Deb
   pub told : HasTold (record { image = image; steps = steps; place = 0; breaks = [] }) words text fault
   pub end_is : end ≡ end_of fault
 
--- and of the record that the bytes spell
-abbrev pub HasDebugged : List DebugWord → List ℕ → List ℕ → End → Type 0
-HasDebugged words bytes text end =
-    MatchResult (reading_record bytes) (λ read. IsDebugged read.0 read.1 words text end) (λ _. ⊥)
-
 -- steps that are no run of the image are a fault of the input: no word is done
 abbrev pub SaysOfSteps : ImageParts → List Step → List DebugWord → List ℕ → ℕ → Type 0
 SaysOfSteps image steps words text status =
@@ -175,77 +162,9 @@ Says Check bytes text status = SaysOfRecord bytes text status
 Says (Debug words) bytes text status = SaysOfWords words bytes text status
 Says line bytes text status = SaysOfImage line bytes text status
 
--- how it ends: the words of `debug` may be cut short
-abbrev pub EndsSo : CommandLine → List ℕ → List ℕ → End → Type 0
-EndsSo (Debug words) bytes text end = HasDebugged words bytes text end
-EndsSo line bytes text end = IsWhole end
-
 -- ---- which fault is told
-
--- whether a command needs threads
-abbrev pub needs_threads : CommandLine → Bool
-needs_threads (Run source budget plan lead recorded) = true
-needs_threads other = false
-
--- the plan is wrong, or the order of the ranks
-abbrev pub IsMisplanned : CommandLine → ImageParts → Type 0
-IsMisplanned (Run source budget plan lead recorded) image =
-    ByPlans image budget plan (λ plans. ¬ (HasPlans image plans))
-IsMisplanned (One source budget plan order recorded) image =
-    ByPlans image budget plan (λ plans. ¬ (ArePlans image plans (listed order image.ranks)))
-IsMisplanned other image = ⊥
 
 -- threads are started: the plan is right
 abbrev pub HasThreads : CommandLine → ImageParts → Type 0
 HasThreads (Run source budget plan lead recorded) image = ByPlans image budget plan (HasPlans image)
 HasThreads other image = ⊥
-
--- Plans where they are wrong; of threads that were started, that one was refused, or that what they left doesn't fit
--- together; and whatever it is, that memory was refused
-abbrev pub IsRunFault : (Misplanned Threads : Type 0) → Fault → Type 0
-IsRunFault Misplanned Threads faults.Plans = Misplanned
-IsRunFault Misplanned Threads (faults.Unlike rank place) = Threads
-IsRunFault Misplanned Threads faults.Spawn = Threads
-IsRunFault Misplanned Threads faults.Memory = ⊤
-IsRunFault Misplanned Threads other = ⊥
-
--- of an image
-abbrev pub Refuses : CommandLine → ImageParts → Fault → Type 0
-Refuses line image fault = IsRunFault (IsMisplanned line image) (HasThreads line image) fault
-
--- of the bytes that are read: their own fault, or else one of their image
-abbrev pub IsImageFault : CommandLine → List ℕ → Fault → Type 0
-IsImageFault line bytes fault =
-    MatchResult (image_in line bytes) (λ image. Refuses line image fault) (λ _. IsFaultIn (image_in line bytes) fault)
-
--- of bytes that are read as a record: their first fault, unless memory was refused
-abbrev pub IsRecordFault : List ℕ → Fault → Type 0
-IsRecordFault bytes faults.Memory = ⊤
-IsRecordFault bytes (faults.Record fault) = reading_record bytes ≡ Err fault
-IsRecordFault bytes other = ⊥
-
--- of steps that are no run: the first that isn't the machine's
-abbrev pub IsNoRun : ImageParts → List Step → DebugFault → Type 0
-IsNoRun image steps (NotARun n) = BreaksAt image steps n
-IsNoRun image steps other = ⊥
-
--- of bytes that are read as a record whose steps are to be walked through
-abbrev pub IsDebugFault : List ℕ → Fault → Type 0
-IsDebugFault bytes (faults.Debug fault) =
-    MatchResult (reading_record bytes) (λ read. IsNoRun read.0 read.1 fault) (λ _. ⊥)
-IsDebugFault bytes fault = IsRecordFault bytes fault
-
--- of what a command takes from the bytes
-abbrev pub IsFaultOf : CommandLine → List ℕ → Fault → Type 0
-IsFaultOf Check bytes fault = IsRecordFault bytes fault
-IsFaultOf (Debug words) bytes fault = IsDebugFault bytes fault
-IsFaultOf line bytes fault = IsImageFault line bytes fault
-
--- ---- the steps to an answer
-
--- a record of all ranks of an image, whose events, in order of their stamps, are a run of the written machine
-pub record IsLeft (image : ImageParts) (left : Record) : Type 0 where
-  pub limits : IsImage image
-  pub ranks : length left.traces.items ≡ image.ranks
-  pub each : HasEachRank left
-  pub merged : IsMergedRun image left

@@ -1,7 +1,5 @@
 -- The image that a command takes from its input, or the input's fault.
-use Rattle.std.specs.Prelude.{◌≡◌, ⊤, ℕ, ◌+◌, ◌==◌, if◌then◌else◌, Bool, true, false, List, length, not, take}
-use Rattle.std.specs.Prelude.{count_by}
-use Rattle.std.specs.Prelude.{Result, Ok, Err}
+use Rattle.std.specs.Prelude.{ℕ, ◌+◌, ◌==◌, if◌then◌else◌, Bool, false, List, length, not, take, count_by, Result, Err}
 use Rattle.std.specs.Result.{result_map_both}
 use Rattle.std.specs.Str.Lossy.{utf8_valid_len}
 use Rattle.rv_asm.specs.Source.{meaning}
@@ -41,24 +39,6 @@ takes_source (One source budget plan order recorded) = source
 takes_source Check = false
 takes_source (Debug words) = false
 
--- whether a command takes a record, and not an image
-abbrev pub takes_record : CommandLine → Bool
-takes_record Check = true
-takes_record (Debug words) = true
-takes_record other = false
-
 -- the image that a command takes from the bytes
 abbrev pub image_in : CommandLine → List ℕ → Result ImageParts Fault
 image_in line bytes = if takes_source line then source_image bytes else spelled_image bytes
-
--- the fault of the input, unless memory was refused
-abbrev pub IsFaultIn : Result ImageParts Fault → Fault → Type 0
-IsFaultIn meant faults.Memory = ⊤
-IsFaultIn meant (faults.Source fault) = meant ≡ Err (faults.Source fault)
-IsFaultIn meant (faults.Image fault) = meant ≡ Err (faults.Image fault)
-IsFaultIn meant other = ⊥
-
--- the image that is meant, or the fault
-abbrev pub Reads : Result ImageParts Fault → Result ImageParts Fault → Type 0
-Reads meant (Ok image) = meant ≡ Ok image
-Reads meant (Err fault) = IsFaultIn meant fault

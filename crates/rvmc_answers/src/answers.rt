@@ -2,9 +2,11 @@
 
 ghost use Rattle.std.specs.Prelude.{◌≡◌, IfErr, IfOk, false};
 ghost use Rattle.rv_image.specs.Text.{image_text};
-ghost use Rattle.rvmc_answers.specs.Answers.{EndsSo, IsDone, IsFaultOf, IsImageFault, IsWhole, Makes, Refuses, Says};
-ghost use Rattle.rvmc_answers.specs.Answers.{SaysOfImage, end_status, needs_threads};
-ghost use Rattle.rvmc_answers.specs.Images.{takes_record};
+ghost use Rattle.rvmc_answers.specs.Answers.{IsDone, Makes, Says};
+ghost use Rattle.rvmc_answers.specs.Making.{EndsSo, IsFaultOf, IsImageFault, IsWhole, Refuses};
+ghost use Rattle.rvmc_answers.specs.Answers.{SaysOfImage, end_status};
+ghost use Rattle.rvmc_answers.specs.Making.{needs_threads};
+ghost use Rattle.rvmc_answers.specs.Taking.{takes_record};
 ghost use Rattle.rvmc_answers.specs.Outputs.{output_bytes};
 ghost use Rattle.rvmc_report.specs.Listing.{listing};
 

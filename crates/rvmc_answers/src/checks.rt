@@ -1,7 +1,8 @@
 //! Records that others may have written, and what is told of them.
 
 ghost use Rattle.std.specs.Prelude.{IfErr, IfOk};
-ghost use Rattle.rvmc_answers.specs.Answers.{IsRecordFault, IsWhole, SaysOfRecord, end_status};
+ghost use Rattle.rvmc_answers.specs.Answers.{SaysOfRecord, end_status};
+ghost use Rattle.rvmc_answers.specs.Making.{IsRecordFault, IsWhole};
 ghost use Rattle.rvmc_answers.specs.Outputs.{output_bytes};
 
 use crate::answers::{Answer, End};

@@ -1,7 +1,8 @@
 //! Records that are walked through, word by word.
 
 ghost use Rattle.std.specs.Prelude.{◌≡◌, IfErr, IfOk};
-ghost use Rattle.rvmc_answers.specs.Answers.{HasDebugged, IsDebugFault, end_of};
+ghost use Rattle.rvmc_answers.specs.Answers.{end_of};
+ghost use Rattle.rvmc_answers.specs.Making.{HasDebugged, IsDebugFault};
 ghost use Rattle.rvmc_answers.specs.Outputs.{output_bytes};
 
 use crate::answers::{Answer, End};

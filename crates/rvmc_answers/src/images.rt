@@ -2,7 +2,8 @@
 
 ghost use Rattle.std.specs.Prelude.{◌≡◌, ◌+◌, ◌==◌, Err, count_by};
 ghost use Rattle.std.specs.Str.{IsUtf8};
-ghost use Rattle.rvmc_answers.specs.Images.{Reads, image_in, source_image, spelled_image, takes_source, wrong_bytes};
+ghost use Rattle.rvmc_answers.specs.Images.{image_in, source_image, spelled_image, takes_source, wrong_bytes};
+ghost use Rattle.rvmc_answers.specs.Taking.{Reads};
 
 use rv_asm::{AsmFault, AsmFaultKind, assemble};
 use rv_image::{Image, read_image};

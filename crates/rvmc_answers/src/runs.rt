@@ -3,8 +3,10 @@
 ghost use Rattle.std.specs.Prelude.{◌≡◌, IfErr, IfOk};
 ghost use Rattle.cl_record.specs.Plans.{ArePlans, HasPlans};
 ghost use Rattle.rv_image.specs.Image.{IsImage};
-ghost use Rattle.rvmc_answers.specs.Answers.{ByPlans, IsLeft, IsLeftByOne, IsLeftByThreads, IsOne, IsRecordOf};
-ghost use Rattle.rvmc_answers.specs.Answers.{IsRun, IsRunBy, IsRunFault, IsTextOf, IsWhole, end_status};
+ghost use Rattle.rvmc_answers.specs.Answers.{ByPlans, IsLeftByOne, IsLeftByThreads, IsOne, IsRecordOf};
+ghost use Rattle.rvmc_answers.specs.Making.{IsLeft};
+ghost use Rattle.rvmc_answers.specs.Answers.{IsRun, IsRunBy, IsTextOf, end_status};
+ghost use Rattle.rvmc_answers.specs.Making.{IsRunFault, IsWhole};
 ghost use Rattle.rvmc_answers.specs.Outputs.{output_bytes};
 ghost use Rattle.rvmc_answers.specs.Plans.{listed};
 ghost use Rattle.rvmc_report.specs.Report.{rank_ends, status_of};

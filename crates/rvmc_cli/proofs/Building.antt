@@ -8,7 +8,7 @@ use Rattle.clap.specs.declared.builder.command.Command.{Command}
 use Rattle.clap.specs.declared.builder.command.Command.TheOpen.{Command-F}
 use Rattle.clap.specs.declared.builder.command.Command.TheViews.{out-Command as fields_of}
 use Rattle.clap.specs.declared.builder.texts.Texts.TheVariants.{One}
-use Rattle.rvmc_cli.specs.App.{StandsFor}
+use Rattle.rvmc_cli.specs.Built.{StandsFor}
 
 -- `--name VALUE` with its help, of an argument of which only the name is known
 pub takes_value : (name value text : Bor (List ℕ)) (old long named shown : Arg) → long ≡ record old { long = Some name } → named ≡ record long { val_names = One value } → shown ≡ record named { help = Some text }

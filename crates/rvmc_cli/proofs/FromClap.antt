@@ -10,7 +10,9 @@ use Rattle.clap.specs.declared.error.kind.ErrorKind.{ErrorKind}
 use Rattle.clap.specs.declared.error.kind.ErrorKind.TheVariants as kind
 use Rattle.clap.proofs.OnLiterals.{clap_on_literals}
 use Rattle.rvmc_cli.specs.App.{rvmc_app}
-use Rattle.rvmc_cli.specs.Meaning.{Finds, IsRefusal, IsTold, Parses, Tells, command_in, faults_in, is_request, line_in, meaning_of, refusals_of}
+use Rattle.rvmc_cli.specs.Meaning.{IsRefusal, Parses, command_in, faults_in, is_request, line_in, meaning_of}
+use Rattle.rvmc_cli.specs.Meaning.{refusals_of}
+use Rattle.rvmc_cli.specs.Parsing.{Finds, IsTold, Tells}
 use Rattle.rvmc_line.specs.declared.line.ParseFault.{ParseFault}
 use Rattle.rvmc_line.specs.declared.line.ParseFault.TheVariants as parse
 use Rattle.rvmc_line.specs.declared.line.CommandLine.{CommandLine}

@@ -1,10 +1,7 @@
 -- The command line as data: what clap reads of each command, option and flag.
-use Rattle.std.specs.Prelude.{◌≡◌, List, [], ◌∷◌, Some, true, false, codes, if◌then◌else◌}
-use Rattle.std.specs.Str.{bytes_eq}
+use Rattle.std.specs.Prelude.{List, [], ◌∷◌, Some, true, codes}
 use Rattle.clap.specs.Lexer.{usize_max}
-use Rattle.clap.specs.Words.{App, Rule, Text, app_of, new_app, new_rule, with_rule, with_subcommand}
-use Rattle.clap.specs.declared.builder.command.Command.{Command}
-use Rattle.clap.specs.declared.builder.command.Command.TheViews.{out-Command}
+use Rattle.clap.specs.Words.{App, Rule, Text, new_app, new_rule, with_rule, with_subcommand}
 use Rattle.clap.specs.declared.builder.action.ArgAction.TheVariants.{SetTrue}
 
 -- `--name`
@@ -78,16 +75,3 @@ top_app =
 -- the whole command line, one row a command
 abbrev pub rvmc_app : App
 rvmc_app = with_commands top_app (asm_app ∷ dis_app ∷ run_app ∷ one_app ∷ check_app ∷ debug_app ∷ [])
-
--- the command of this name by itself; any other name stands for the whole command line
-abbrev pub app_named : Text → App
-app_named name =
-    if bytes_eq name (codes "run") then run_app
-    else (if bytes_eq name (codes "one") then one_app
-    else (if bytes_eq name (codes "debug") then debug_app
-    else rvmc_app))
-
--- clap's command is built from these rules, and none of its arguments is global
-pub record StandsFor (rules : App) (command : Command) : Type 0 where
-  pub app : app_of command ≡ rules
-  pub local : (out-Command command).has_globals ≡ false

@@ -2,7 +2,8 @@
 
 ghost use Rattle.std.specs.Prelude.{◌≡◌, IfOk, IsOkAnd, false};
 ghost use Rattle.clap.specs.Words.{AddsSubcommand, new_app, rule_of};
-ghost use Rattle.rvmc_cli.specs.App.{StandsFor, app_named, asm_app, check_app, debug_app, dis_app, flag, one_app};
+ghost use Rattle.rvmc_cli.specs.App.{asm_app, check_app, debug_app, dis_app, flag, one_app};
+ghost use Rattle.rvmc_cli.specs.Built.{StandsFor, app_named};
 ghost use Rattle.rvmc_cli.specs.App.{option, run_app, runner_app, rvmc_app, texts, top_app};
 
 use clap::{Arg, ArgAction, Command};

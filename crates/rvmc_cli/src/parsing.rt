@@ -4,7 +4,8 @@ ghost use Rattle.std.specs.Prelude.{◌≡◌, IfOk, None, Ok, [], false, map, o
 ghost use Rattle.std.specs.Prelude.{true};
 ghost use Rattle.clap.specs.Walk.{rows_of};
 ghost use Rattle.clap.specs.Words.{all_of, first_of, found_of, kind_of, subcommand_rows_of};
-ghost use Rattle.rvmc_cli.specs.Meaning.{Finds, IsRefusal, IsTold, Parses, Reads, Tells, budget_in, debug_in, flag_in};
+ghost use Rattle.rvmc_cli.specs.Meaning.{IsRefusal, Parses, budget_in, debug_in, flag_in};
+ghost use Rattle.rvmc_cli.specs.Parsing.{Finds, IsTold, Reads, Tells};
 ghost use Rattle.rvmc_cli.specs.Meaning.{lead_in, line_in, list_option, number_option, one_in, run_in};
 ghost use Rattle.rvmc_cli.specs.declared.parsing.Wrong.TheVariants as wrong;
 ghost use Rattle.rvmc_line.specs.declared.line.CommandLine.TheVariants.{One};

@@ -6,7 +6,8 @@ use Rattle.cl_record.specs.declared.records.Record.{Record}
 use Rattle.cl_state.specs.declared.state.RankState.{RankState}
 use Rattle.cl_trace.specs.Traces.{TraceView}
 use Rattle.rv_hart.specs.State.{State}
-use Rattle.rvmc_report.specs.Report.{HasEachRank, ends_of, has_trapped, is_cut_short, rank_ends, status_of, wants_memory}
+use Rattle.rvmc_report.specs.Report.{ends_of, has_trapped, is_cut_short, rank_ends, status_of, wants_memory}
+use Rattle.rvmc_report.specs.WholeRecord.{HasEachRank}
 
 -- the stops are those of the ends
 pub any_of_stops : (p : Stop → Bool) (states : List RankState) (traces : List TraceView) (stops : List Stop) → length traces ≡ length states → length stops ≡ length states

@@ -8,7 +8,8 @@ use Rattle.std.specs.declared.cmp.Ordering.TheVariants.{Less}
 use Rattle.rv_image.specs.declared.images.Symbol.{Symbol}
 use Rattle.rv_image.specs.Image.{symbol_names}
 use Rattle.rv_image.specs.Names.{RisingNames}
-use Rattle.rvmc_report.specs.Listing.{NamesRiseLaw, WordsAloneLaw, name_line, symbols_at, word_line}
+use Rattle.rvmc_report.specs.Listing.{name_line, symbols_at, word_line}
+use Rattle.rvmc_report.specs.Laws.{NamesRiseLaw, WordsAloneLaw}
 
 pub words_alone : WordsAloneLaw
 words_alone image none = ap (λ (symbols : List Symbol). flat_map (λ number. flat_map name_line (symbols_at symbols (4 * number)) ++ word_line image.text number) (range_with_len 0 (length image.text / 4))) none

@@ -2,18 +2,14 @@
 use Rattle.std.specs.Prelude.{ℕ}
 use Rattle.cl_debug.specs.declared.faults.DebugFault.{DebugFault}
 use Rattle.cl_debug.specs.declared.faults.DebugFault.TheVariants as debug
-use Rattle.cl_record.specs.declared.records.RunFault.{RunFault}
-use Rattle.cl_record.specs.declared.records.RunFault.TheVariants as run
-use Rattle.cl_text.specs.declared.faults.RecordFault.{RecordFault}
-use Rattle.cl_text.specs.declared.faults.RecordFault.TheVariants as recorded
 use Rattle.rv_asm_tokens.specs.declared.fault.AsmFault.{AsmFault}
 use Rattle.rv_asm_tokens.specs.declared.fault.AsmFaultKind.{AsmFaultKind}
 use Rattle.rv_asm_tokens.specs.declared.fault.AsmFaultKind.TheVariants as kinds
 use Rattle.rv_image.specs.declared.faults.ImageFault.{ImageFault}
 use Rattle.rv_image.specs.declared.faults.ImageFault.TheVariants as image
 use Rattle.rvmc_report.specs.declared.faults.Fault.{Fault}
-use Rattle.rvmc_report.specs.declared.faults.Fault.TheVariants.{Source, Image, Record, Plans, Unlike, Debug}
-use Rattle.rvmc_report.specs.declared.faults.Fault.TheVariants.{Memory, Spawn, Read, Write}
+use Rattle.rvmc_report.specs.declared.faults.Fault.TheVariants.{Source, Image, Record, Plans, Unlike, Debug, Memory}
+use Rattle.rvmc_report.specs.declared.faults.Fault.TheVariants.{Spawn, Read, Write}
 
 -- 1 for a fault of the input, 5 for memory or a thread, 6 for reads and writes
 abbrev pub fault_status : Fault → ℕ
@@ -39,16 +35,6 @@ fault_of_source fault = fault_of_kind fault.kind fault
 abbrev pub fault_of_image : ImageFault → Fault
 fault_of_image image.Memory = Memory
 fault_of_image fault = Image fault
-
-abbrev pub fault_of_record : RecordFault → Fault
-fault_of_record recorded.Memory = Memory
-fault_of_record fault = Record fault
-
-abbrev pub fault_of_run : RunFault → Fault
-fault_of_run run.Plans = Plans
-fault_of_run run.Memory = Memory
-fault_of_run run.Spawn = Spawn
-fault_of_run (run.Unlike rank place) = Unlike rank place
 
 abbrev pub fault_of_debug : DebugFault → Fault
 fault_of_debug debug.Memory = Memory

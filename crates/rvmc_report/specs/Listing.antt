@@ -1,6 +1,6 @@
 -- What the listing of an image tells: a line for each word of its text, behind the names of the word's address.
-use Rattle.std.specs.Prelude.{◌≡◌, ℕ, ◌-◌, ◌*◌, ◌/◌, ◌==◌, List, [], ◌∷◌, ◌++◌, length, replicate, codes, Option, Some}
-use Rattle.std.specs.Prelude.{None, false}
+use Rattle.std.specs.Prelude.{ℕ, ◌-◌, ◌*◌, ◌/◌, ◌==◌, List, [], ◌∷◌, ◌++◌, length, replicate, codes, Option, Some, None}
+use Rattle.std.specs.Prelude.{false}
 use Rattle.std.specs.Fmt.{digits}
 use Rattle.std.specs.List.{filter, flat_map, range_with_len}
 use Rattle.rv_decode.specs.Decoded.{decoded}
@@ -8,8 +8,6 @@ use Rattle.rv_decode.specs.Text.{instr_text}
 use Rattle.rv_decode.specs.declared.instruction.Instr.{Instr}
 use Rattle.rv_image.specs.declared.images.ImageParts.{ImageParts}
 use Rattle.rv_image.specs.declared.images.Symbol.{Symbol}
-use Rattle.rv_image.specs.Image.{IsImage, symbol_names}
-use Rattle.rv_image.specs.Names.{RisingNames}
 use Rattle.rv_memory.specs.Memory.{value_at}
 
 -- a number below 2^32 as eight hex digits in lower case
@@ -45,16 +43,3 @@ word_lines image number = flat_map name_line (symbols_at image.symbols (4 * numb
 -- all words in order, of four bytes each
 abbrev pub listing : ImageParts → List ℕ
 listing image = flat_map (word_lines image) (range_with_len 0 (length image.text / 4))
-
--- ---- laws
-
--- an image without symbols is listed word by word, a line each
-abbrev pub WordsAloneLaw : Type 0
-WordsAloneLaw =
-    (image : ImageParts) → image.symbols ≡ []
-    → listing image ≡ flat_map (word_line image.text) (range_with_len 0 (length image.text / 4))
-
--- the names that stand before a word rise in the order of their bytes
-abbrev pub NamesRiseLaw : Type 0
-NamesRiseLaw =
-    (image : ImageParts) (address : ℕ) → IsImage image → RisingNames (symbol_names (symbols_at image.symbols address))

@@ -1,5 +1,5 @@
 -- What the report of a run tells.
-use Rattle.std.specs.Prelude.{◌≡◌, ℕ, Bool, true, false, if◌then◌else◌, List, [], ◌∷◌, ◌++◌, length, codes}
+use Rattle.std.specs.Prelude.{ℕ, Bool, true, false, if◌then◌else◌, List, [], ◌∷◌, ◌++◌, length, codes}
 use Rattle.std.specs.Fmt.{decimal, digits}
 use Rattle.std.specs.List.{enumerate_from, flat_map, list_any}
 use Rattle.cl_rank.specs.declared.stops.Stop.{Stop}
@@ -34,11 +34,6 @@ ends_of states traces stops = []
 -- the end of each rank of a record
 abbrev pub rank_ends : Record → List RankEnd
 rank_ends left = ends_of left.ranks.items left.traces.items left.stops.items
-
--- there is a state, a trace and a stop of each rank
-pub record HasEachRank (left : Record) : Type 0 where
-  pub traces : length left.traces.items ≡ length left.ranks.items
-  pub stops : length left.stops.items ≡ length left.ranks.items
 
 -- ---- their text
 

@@ -1,7 +1,8 @@
 //! Why there is no answer.
 
 ghost use Rattle.std.specs.Prelude.{◌≡◌};
-ghost use Rattle.rvmc_report.specs.Faults.{fault_of_image, fault_of_record, fault_of_run, fault_of_source};
+ghost use Rattle.rvmc_report.specs.Faults.{fault_of_image, fault_of_source};
+ghost use Rattle.rvmc_report.specs.OtherFaults.{fault_of_record, fault_of_run};
 ghost use Rattle.rvmc_report.specs.Faults.{fault_of_debug, fault_status};
 ghost use Rattle.rvmc_report.specs.declared.faults.Fault.TheVariants as faults;
 

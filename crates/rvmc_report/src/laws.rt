@@ -1,6 +1,6 @@
 //! Laws of the listing. The functions do nothing; their contracts are the laws.
 
-ghost use Rattle.rvmc_report.specs.Listing.{NamesRiseLaw, WordsAloneLaw};
+ghost use Rattle.rvmc_report.specs.Laws.{NamesRiseLaw, WordsAloneLaw};
 
 /// An image without symbols is listed word by word, a line each.
 pub fn words_alone()

@@ -2,7 +2,8 @@
 
 ghost use Rattle.std.specs.Prelude.{◌≡◌, ◌++◌, IfOk, OnOk, string_bytes};
 ghost use Rattle.std.specs.List.{list_any};
-ghost use Rattle.rvmc_report.specs.Report.{HasEachRank, hart_text, harts_text, has_trapped, is_cut_short, is_trapped};
+ghost use Rattle.rvmc_report.specs.Report.{hart_text, harts_text, has_trapped, is_cut_short, is_trapped};
+ghost use Rattle.rvmc_report.specs.WholeRecord.{HasEachRank};
 ghost use Rattle.rvmc_report.specs.Report.{mode_text, output_head, output_text, rank_end, rank_ends, rank_text, report};
 ghost use Rattle.rvmc_report.specs.Report.{status_of, stop_line, stop_text, wants_memory};
 

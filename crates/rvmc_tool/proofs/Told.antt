@@ -10,11 +10,13 @@ use Rattle.cl_replay.proofs.Runs.{run_law}
 use Rattle.cl_text.specs.Reading.{reading_record}
 use Rattle.cl_text.specs.declared.faults.RecordFault.{RecordFault}
 use Rattle.rv_image.specs.declared.images.ImageParts.{ImageParts}
-use Rattle.rvmc_answers.specs.Answers.{HasThreads, IsChecked, IsFaultOf, IsFaulty, IsMisplanned, IsRecordFault, Makes}
-use Rattle.rvmc_answers.specs.Answers.{IsDebugFault, IsNoRun, Refuses, Says, SaysOfRecord, SaysOfSteps, SaysOfWords}
+use Rattle.rvmc_answers.specs.Answers.{HasThreads, IsChecked, IsFaulty, Makes}
+use Rattle.rvmc_answers.specs.Making.{IsFaultOf, IsMisplanned, IsRecordFault, IsDebugFault, IsNoRun, Refuses}
+use Rattle.rvmc_answers.specs.Answers.{Says, SaysOfRecord, SaysOfSteps, SaysOfWords}
 use Rattle.rvmc_answers.specs.Answers.{end_status}
 use Rattle.rvmc_line.specs.declared.debug.DebugWord.{DebugWord}
-use Rattle.rvmc_answers.specs.Images.{IsFaultIn, image_in}
+use Rattle.rvmc_answers.specs.Images.{image_in}
+use Rattle.rvmc_answers.specs.Taking.{IsFaultIn}
 use Rattle.rvmc_answers.specs.Outputs.{output_bytes}
 use Rattle.rvmc_answers.specs.declared.answers.Answer.{Answer}
 use Rattle.rvmc_line.specs.declared.line.CommandLine.{CommandLine}
@@ -22,7 +24,8 @@ use Rattle.rvmc_line.specs.declared.line.CommandLine.TheVariants.{Asm, Check, De
 use Rattle.rvmc_report.specs.Faults.{fault_status}
 use Rattle.rvmc_report.specs.declared.faults.Fault.{Fault}
 use Rattle.rvmc_report.specs.declared.faults.Fault.TheVariants as faults
-use Rattle.rvmc_tool.specs.Tool.{Answers, IsRefused, IsSaid, IsUnlike, Tells}
+use Rattle.rvmc_tool.specs.Tool.{Answers, IsRefused, IsSaid, IsUnlike}
+use Rattle.rvmc_tool.specs.Plain.{Tells}
 
 -- wrong plans are a fault of the input
 misplanned : (line : CommandLine) (image : ImageParts) → IsMisplanned line image → Makes line image [] 1

@@ -1,1 +1,2 @@
 pub mod Tool
+pub mod Plain

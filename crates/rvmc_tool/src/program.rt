@@ -2,12 +2,13 @@
 
 ghost use Rattle.std.specs.Prelude.{◌≡◌, ◌≢◌, IfErr, IfOk, List, OnOk, ℕ, None, Some, false, map, true};
 ghost use Rattle.std.specs.Io.KnownBytes.{Appends, Keeps};
-ghost use Rattle.rvmc_answers.specs.Answers.{needs_threads};
+ghost use Rattle.rvmc_answers.specs.Making.{needs_threads};
 ghost use Rattle.rvmc_answers.specs.Outputs.{output_bytes};
 ghost use Rattle.rvmc_cli.specs.Meaning.{meaning_of};
 ghost use Rattle.rvmc_line.specs.declared.line.CommandLine.{CommandLine as Line};
-ghost use Rattle.rvmc_tool.specs.Tool.{Answers, IsWhole, Refuses, RefusesPlain, Shows, Tells, is_quiet};
-ghost use Rattle.rvmc_tool.specs.Tool.{plain_meaning_of};
+ghost use Rattle.rvmc_tool.specs.Tool.{Answers, Refuses, Shows, is_quiet};
+ghost use Rattle.rvmc_tool.specs.Plain.{IsWhole, RefusesPlain, Tells};
+ghost use Rattle.rvmc_tool.specs.Plain.{plain_meaning_of};
 ghost use Rattle.rvmc_report.specs.Faults.{fault_status};
 ghost use Rattle.rvmc_report.specs.Input.{TakesAtMost};
 

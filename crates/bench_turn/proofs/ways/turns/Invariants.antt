@@ -1,6 +1,6 @@
 -- The rank keeps its harts, and has no sides of links.
 use Rattle.std.proofs.Common.{◌<◌, [], vec_len}
-use Rattle.cl_rank.specs.Sides.{AreChannelsOf}
+use Rattle.cl_rank.specs.RankSides.{AreChannelsOf}
 use Rattle.cl_rank.specs.Views.{view_of}
 use Rattle.bench_turn.proofs.ways.turns.Given as goal
 

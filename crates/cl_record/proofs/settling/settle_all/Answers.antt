@@ -7,7 +7,7 @@ use Rattle.part_channel.specs.Channels.{receiver_box, sender_box}
 use Rattle.part_channel.specs.Receiving.{RecvView}
 use Rattle.part_channel.specs.Sending.{SendView}
 use Rattle.part_channel.specs.Settling.{IsLeft}
-use Rattle.cl_rank.specs.Sides.{side_of}
+use Rattle.cl_rank.specs.RankSides.{side_of}
 use Rattle.cl_record.specs.declared.wiring.Ends.{Ends}
 use Rattle.cl_record.specs.Settling.{AreSettled}
 use Rattle.cl_record.proofs.Sides.{Kept, from_now, kept_recvs, kept_sends, next_at, own, seam_more, settled_more, to_now}

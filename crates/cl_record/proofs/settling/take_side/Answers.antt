@@ -1,6 +1,6 @@
 use Rattle.std.proofs.Common.{◌∙◌, sym, ap, Some, slice_get}
 use Rattle.std.proofs.lemmas.Option.{same_Some, slice_get-get_or, slice_get_within}
-use Rattle.cl_rank.specs.Sides.{side_of}
+use Rattle.cl_rank.specs.RankSides.{side_of}
 use Rattle.cl_record.proofs.Sides.{first_of, others_of}
 use Rattle.cl_record.proofs.settling.take_side.Goals as goal
 

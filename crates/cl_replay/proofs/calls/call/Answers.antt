@@ -1,5 +1,6 @@
 use Rattle.std.proofs.Common.{refl, sym, ap, ◌∙◌, arith, length, subst, ◌++◌, ◌∷◌, []}
-use Rattle.mp_hub.specs.Hub.{HubView, StandsFor, reply_of}
+use Rattle.mp_hub.specs.Hub.{HubView, reply_of}
+use Rattle.mp_hub.specs.Outcomes.{StandsFor}
 use Rattle.mp_hub.proofs.BoardKept.{board_law}
 use Rattle.cl_state.specs.declared.asking.Answer.TheVariants as answer
 use Rattle.cl_state.specs.declared.asking.Ask.TheVariants as ask

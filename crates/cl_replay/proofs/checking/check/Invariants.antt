@@ -1,7 +1,7 @@
 use Rattle.std.specs.Prelude.{take}
 use Rattle.cl_machine.specs.Order.{InOrder}
 use Rattle.cl_machine.specs.declared.steps.Step.{Step}
-use Rattle.cl_replay.specs.Replays.{IsReached}
+use Rattle.cl_replay.specs.Replaying.{IsReached}
 use Rattle.cl_replay.proofs.checking.check.Given as goal
 
 abbrev pub invariant-loop-n : goal.invariant-loop-n

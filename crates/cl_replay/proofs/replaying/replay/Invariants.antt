@@ -1,4 +1,4 @@
-use Rattle.cl_replay.specs.Replays.{IsReached}
+use Rattle.cl_replay.specs.Replaying.{IsReached}
 use Rattle.cl_replay.proofs.replaying.replay.Given as goal
 
 abbrev pub invariant-loop-k : goal.invariant-loop-k

@@ -1,9 +1,10 @@
 use Rattle.std.proofs.Common.{◌<◌, arith, sym, ap, ◌∙◌, subst, inl, inr, ⊎_elim}
 use Rattle.cl_trace.specs.Traces.{kind_of_bare}
-use Rattle.cl_machine.specs.Turns.{kind_seen}
+use Rattle.cl_machine.specs.SameSteps.{kind_seen}
 use Rattle.cl_state.specs.Asked.{doing, part_of}
 use Rattle.cl_state.specs.Right.{growth_of}
-use Rattle.cl_state.specs.Room.{rank_of, writes_of}
+use Rattle.cl_state.specs.Room.{rank_of}
+use Rattle.cl_state.specs.TurnRoom.{writes_of}
 use Rattle.cl_state.specs.Writes.{missing_for}
 use Rattle.cl_replay.specs.Turns.{LacksPages}
 use Rattle.cl_replay.proofs.Asks.{either, quiet_grows}

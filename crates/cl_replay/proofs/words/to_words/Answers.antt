@@ -1,5 +1,6 @@
 use Rattle.std.proofs.Common.{◌≡◌, ap, ◌∙◌, arith}
-use Rattle.part_channel.specs.Words.{bytes_of, words_of}
+use Rattle.part_channel.specs.Words.{bytes_of}
+use Rattle.part_channel.specs.BoxWords.{words_of}
 use Rattle.part_channel.proofs.Words.{bytes_back}
 use Rattle.cl_replay.proofs.Spells.{all_words}
 use Rattle.cl_replay.proofs.words.to_words.Goals as goal

@@ -1,5 +1,5 @@
 use Rattle.std.proofs.Common.{◌≡◌, length, take}
-use Rattle.part_channel.specs.Words.{words_of}
+use Rattle.part_channel.specs.BoxWords.{words_of}
 use Rattle.cl_replay.proofs.words.to_words.Given as goal
 
 abbrev pub invariant-loop-i : goal.invariant-loop-i

@@ -1,7 +1,7 @@
 use Rattle.std.proofs.Common.{◌≡◌, ◌<◌, ◌+◌, ◌∙◌, ◌++◌, ◌∷◌, [], refl, sym, ap, arith, length}
 use Rattle.std.proofs.lemmas.List.{length-append}
 use Rattle.std.proofs.lemmas.Option.{slice_get_read, slice_get_within}
-use Rattle.cl_rank.specs.Sides.{sides_in}
+use Rattle.cl_rank.specs.RankSides.{sides_in}
 use Rattle.cl_record.specs.declared.plans.Plan.{Plan}
 use Rattle.cl_record.proofs.Sides.{next_at, seam_more}
 use Rattle.cl_threads.proofs.Passed.{all_yielded}

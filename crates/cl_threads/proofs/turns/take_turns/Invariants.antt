@@ -1,6 +1,6 @@
 use Rattle.std.proofs.Common.{◌≡◌, ◌%◌, ◌-◌, List, length, vec_len}
 use Rattle.cl_rank.specs.Deeds.{Deed}
-use Rattle.cl_rank.specs.Sides.{AreChannelsOf}
+use Rattle.cl_rank.specs.RankSides.{AreChannelsOf}
 use Rattle.cl_rank.specs.Views.{view_of}
 use Rattle.cl_threads.proofs.Turning.{WentSoFar}
 use Rattle.cl_threads.proofs.turns.take_turns.Given as goal

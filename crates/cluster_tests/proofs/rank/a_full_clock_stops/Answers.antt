@@ -1,5 +1,5 @@
 use Rattle.cl_state.specs.Room.{rank_of}
-use Rattle.cl_rank.specs.Turns.{Answered}
+use Rattle.cl_rank.specs.Turning.{Answered}
 use Rattle.cluster_tests.proofs.Turning.{full_clock}
 use Rattle.cluster_tests.proofs.rank.a_full_clock_stops.Goals as goal
 

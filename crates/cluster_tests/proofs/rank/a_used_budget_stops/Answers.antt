@@ -1,6 +1,6 @@
 use Rattle.std.proofs.Common.{sym}
 use Rattle.cl_state.specs.Room.{rank_of}
-use Rattle.cl_rank.specs.Turns.{Answered}
+use Rattle.cl_rank.specs.Turning.{Answered}
 use Rattle.cluster_tests.proofs.Turning.{used_budget}
 use Rattle.cluster_tests.proofs.rank.a_used_budget_stops.Goals as goal
 

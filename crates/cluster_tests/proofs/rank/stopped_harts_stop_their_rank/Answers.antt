@@ -1,5 +1,5 @@
 use Rattle.cl_state.specs.Room.{rank_of}
-use Rattle.cl_rank.specs.Turns.{Answered}
+use Rattle.cl_rank.specs.Turning.{Answered}
 use Rattle.cluster_tests.proofs.Turning.{all_stopped}
 use Rattle.cluster_tests.proofs.rank.stopped_harts_stop_their_rank.Goals as goal
 

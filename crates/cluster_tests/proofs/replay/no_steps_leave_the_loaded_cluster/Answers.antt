@@ -1,5 +1,5 @@
 use Rattle.cl_machine.specs.Cluster.{loaded_cluster}
-use Rattle.cl_replay.specs.Replays.{IsReached}
+use Rattle.cl_replay.specs.Replaying.{IsReached}
 use Rattle.cl_replay.specs.States.{StandsFor}
 use Rattle.cluster_tests.proofs.Merging.{ok_map}
 use Rattle.cluster_tests.proofs.Replaying.{reached_none}

@@ -1,6 +1,6 @@
 -- While a box is filled: the first words are.
 use Rattle.std.proofs.Common.{◌≡◌}
-use Rattle.part_channel.specs.Words.{words_of}
+use Rattle.part_channel.specs.BoxWords.{words_of}
 use Rattle.part_channel.proofs.lanes.put.Given as goal
 
 abbrev pub invariant-loop-at : goal.invariant-loop-at

@@ -1,5 +1,6 @@
 use Rattle.std.proofs.Common.{◌≡◌, length}
-use Rattle.rv_asm_lines.specs.Data.{appended, items_bytes}
+use Rattle.rv_asm_lines.specs.Data.{items_bytes}
+use Rattle.rv_asm_lines.specs.Appending.{appended}
 use Rattle.rv_asm_lines.specs.LayoutView.{addresses_view}
 use Rattle.rv_asm_lines.proofs.data.put_items.Given as goal
 

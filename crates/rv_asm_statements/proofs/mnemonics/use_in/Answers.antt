@@ -1,5 +1,5 @@
 use Rattle.std.proofs.Common.{map, sym}
-use Rattle.rv_asm_statements.specs.Arguments.{argument_view}
+use Rattle.rv_asm_statements.specs.CodeViews.{argument_view}
 use Rattle.rv_asm_statements.specs.Walk.{first_given}
 use Rattle.rv_asm_statements.specs.RowView.{row_view}
 use Rattle.rv_asm_statements.specs.Mnemonics.{row_use}

@@ -1,6 +1,6 @@
 use Rattle.std.proofs.Common.{map, sym, ◌∙◌}
 use Rattle.rv_asm_statements.specs.Walk.{beside, first_given}
-use Rattle.rv_asm_statements.specs.Registers.{register_view}
+use Rattle.rv_asm_statements.specs.CodeViews.{register_view}
 use Rattle.rv_asm_statements.proofs.Walks.{given_passed, given_met, given_end, beside_other, beside_this}
 use Rattle.rv_asm_statements.proofs.registers.number_in.Goals as goal
 

@@ -1,6 +1,6 @@
 use Rattle.std.proofs.Common.{◌≡◌, drop, map}
 use Rattle.rv_asm_statements.specs.Walk.{beside, first_given}
-use Rattle.rv_asm_statements.specs.Registers.{register_view}
+use Rattle.rv_asm_statements.specs.CodeViews.{register_view}
 use Rattle.rv_asm_statements.proofs.registers.number_in.Given as goal
 
 abbrev pub invariant-loop-row : goal.invariant-loop-row

@@ -1,6 +1,6 @@
 use Rattle.std.proofs.Common.{map, sym, arith}
 use Rattle.std.proofs.lemmas.List.{length-map}
-use Rattle.rv_asm_statements.specs.Arguments.{argument_view}
+use Rattle.rv_asm_statements.specs.CodeViews.{argument_view}
 use Rattle.rv_asm_statements.proofs.OtherCounts.{reg_number_at-other}
 use Rattle.rv_asm_statements.proofs.shapes.reg_number.Goals as goal
 use Rattle.rv_asm_statements.proofs.shapes.reg_number.Goals.{in_default-via-then-operands-lt2, in_default-via-else-operands-lt2+else-operands-lt3}

@@ -1,6 +1,6 @@
 use Rattle.std.proofs.Common.{map, sym, arith}
 use Rattle.std.proofs.lemmas.List.{length-map}
-use Rattle.rv_asm_statements.specs.Arguments.{argument_view}
+use Rattle.rv_asm_statements.specs.CodeViews.{argument_view}
 use Rattle.rv_asm_statements.proofs.OtherCounts.{reg_reg_reg_at-other}
 use Rattle.rv_asm_statements.proofs.shapes.reg_reg_reg.Goals as goal
 use Rattle.rv_asm_statements.proofs.shapes.reg_reg_reg.Goals.{in_default-via-then-operands-lt3, in_default-via-else-operands-lt3+else-operands-lt4}

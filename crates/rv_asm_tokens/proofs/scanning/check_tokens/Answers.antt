@@ -1,6 +1,6 @@
 use Rattle.std.proofs.Common.{◌≤◌, ◌+◌, Some, None, IsOk, length, arith, refl, sym, subst}
 use Rattle.std.proofs.lemmas.Result.{err_from_is_err_and}
-use Rattle.rv_asm_tokens.specs.Lexeme.{lexeme_of}
+use Rattle.rv_asm_tokens.specs.TokenView.{lexeme_of}
 use Rattle.rv_asm_tokens.specs.Scan.{tokens_of}
 use Rattle.rv_asm_tokens.proofs.Steps.{token_fails, token_none, token_goes, tokens_end}
 use Rattle.rv_asm_tokens.proofs.scanning.check_tokens.Goals as goal

@@ -1,7 +1,7 @@
 use Rattle.std.proofs.Common.{◌+◌, [], drop, Some, None, arith, sym, ◌∙◌}
 use Rattle.std.proofs.lemmas.List.{drop-drop}
 use Rattle.std.proofs.lemmas.Result.{err_from_is_err_and}
-use Rattle.rv_asm_tokens.specs.Lexeme.{lexeme_of}
+use Rattle.rv_asm_tokens.specs.TokenView.{lexeme_of}
 use Rattle.rv_asm_tokens.specs.Scan.{tokens_of}
 use Rattle.rv_asm_tokens.proofs.Steps.{token_fails, token_first, token_none, token_goes, tokens_end}
 use Rattle.rv_asm_tokens.proofs.scanning.first_token.Goals as goal

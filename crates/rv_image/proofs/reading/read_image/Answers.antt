@@ -1,7 +1,8 @@
 -- What is read is an image and is spelled by the bytes; an image's text is read as that image.
 use Rattle.std.proofs.Common.{ap, subst, sym, ◌∙◌, arith}
 use Rattle.std.proofs.lemmas.Result.{err_from_is_err_and}
-use Rattle.rv_image.specs.Reading.{IsFaultOf, reading}
+use Rattle.rv_image.specs.Reading.{reading}
+use Rattle.rv_image.specs.ReadingAnswers.{IsFaultOf}
 use Rattle.rv_image.proofs.Whole.{reading_takes, reading_again}
 use Rattle.rv_image.proofs.reading.read_image.Goals as goal
 

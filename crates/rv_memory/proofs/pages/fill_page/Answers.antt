@@ -3,7 +3,8 @@ use Rattle.std.proofs.Common.{◌≡◌, ◌+◌, ◌-◌, ◌*◌, ◌/◌, ◌
 use Rattle.std.proofs.Math.ListN.{set}
 use Rattle.std.proofs.lemmas.List.{length-map, length-set, map-set, set-get_or, get_or_default, length-take-le}
 use Rattle.std.specs.Prelude.{ℕ, Bool, Option, None, map}
-use Rattle.rv_memory.specs.Pages.{touches, missing_pages}
+use Rattle.rv_memory.specs.Pages.{touches}
+use Rattle.rv_memory.specs.MorePages.{missing_pages}
 use Rattle.rv_memory.specs.Held.{is_there, page_bytes, all_bytes}
 use Rattle.rv_memory.specs.Memory.{overwritten}
 use Rattle.rv_memory.proofs.Marked.{missing-there, touches-in}

@@ -1,7 +1,7 @@
 use Rattle.std.proofs.Common.{◌≡◌, ◌≤◌, ◌+◌, drop}
 use Rattle.std.specs.Prelude.{map}
 use Rattle.rv_memory.specs.Held.{is_there}
-use Rattle.rv_memory.specs.Pages.{missing_pages, missing_from}
+use Rattle.rv_memory.specs.MorePages.{missing_pages, missing_from}
 use Rattle.rv_memory.proofs.pages.missing.Given as goal
 
 abbrev pub invariant-loop-page : goal.invariant-loop-page

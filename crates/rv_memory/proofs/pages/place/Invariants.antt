@@ -1,7 +1,8 @@
 use Rattle.std.proofs.Common.{◌≡◌, ◌+◌, ◌++◌, take, drop, length}
 use Rattle.std.specs.Prelude.{map}
 use Rattle.rv_memory.specs.Held.{is_there, all_bytes, AreWhole}
-use Rattle.rv_memory.specs.Pages.{written_pages, missing_pages, missing_from}
+use Rattle.rv_memory.specs.Pages.{written_pages}
+use Rattle.rv_memory.specs.MorePages.{missing_pages, missing_from}
 use Rattle.rv_memory.proofs.pages.place.Given as goal
 
 abbrev pub invariant-loop-page : goal.invariant-loop-page

@@ -2,7 +2,7 @@
 use Rattle.std.proofs.Common.{◌≡◌, ◌∙◌, sym, ap, arith, length}
 use Rattle.std.specs.Prelude.{map}
 use Rattle.rv_memory.specs.Held.{is_there}
-use Rattle.rv_memory.specs.Pages.{missing_pages}
+use Rattle.rv_memory.specs.MorePages.{missing_pages}
 use Rattle.rv_memory.proofs.Marked.{missing_from-written}
 use Rattle.rv_memory.proofs.pages.write.Goals as goal
 

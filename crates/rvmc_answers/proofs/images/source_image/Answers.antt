@@ -1,5 +1,6 @@
 use Rattle.std.proofs.Common.{rules, ◌∙◌, ap, List, ℕ, subst, sym}
-use Rattle.rv_asm.specs.Source.{FailsAt, meaning}
+use Rattle.rv_asm.specs.Source.{meaning}
+use Rattle.rv_asm.specs.Made.{FailsAt}
 use Rattle.rvmc_answers.proofs.Sources.{source_image-utf8, told_meaning, told_source}
 use Rattle.rvmc_answers.proofs.images.source_image.Goals as goal
 

@@ -3,7 +3,7 @@ use Rattle.std.specs.Vec.{with_item, with_items}
 use Rattle.std.proofs.lemmas.Result.{on_ok_weaker}
 use Rattle.cl_state.specs.Room.{rank_of}
 use Rattle.cl_trace.specs.Traces.{kind_of_bare}
-use Rattle.cl_machine.specs.Turns.{kind_seen}
+use Rattle.cl_machine.specs.SameSteps.{kind_seen}
 use Rattle.cl_replay.specs.declared.states.ClusterState.{ClusterState}
 use Rattle.cl_replay.specs.Turns.{IsFreed, IsReady, IsTake, Readies, Takes}
 use Rattle.cl_replay.proofs.ByKind.{alone_fault, at_step, call_fault, call_leads, changed_items, freed_leads}

@@ -3,7 +3,7 @@ use Rattle.std.proofs.lemmas.Option.{same_Some, slice_get_read}
 use Rattle.cl_run.specs.declared.driver.Seat.{Seat}
 use Rattle.cl_run.proofs.Seats.{no_stop, some_stop, station_at}
 use Rattle.cl_machine.proofs.Lists.{get-set_same}
-use Rattle.cl_rank.specs.Sides.{AreChannelsOf}
+use Rattle.cl_rank.specs.RankSides.{AreChannelsOf}
 use Rattle.cl_run.specs.Driver.{Agree, GoesOn, station, stations}
 use Rattle.cl_run.proofs.Joined.{links_stay}
 use Rattle.cl_run.proofs.Slots.{seats_joined}

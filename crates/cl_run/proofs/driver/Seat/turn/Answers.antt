@@ -1,7 +1,7 @@
 use Rattle.std.proofs.Common.{refl, ◌∙◌, ap, ◌%◌, ◌+◌}
 use Rattle.std.proofs.lemmas.List.{get_or_read}
 use mathlib.Core.Logic.{inl, inr}
-use Rattle.cl_rank.specs.Turns.{RankView}
+use Rattle.cl_rank.specs.Turning.{RankView}
 use Rattle.cl_run.proofs.driver.Seat.turn.Goals as goal
 
 pub returns-in-Ok-clause-goes : goal.returns-in-Ok-clause-goes

@@ -30,7 +30,7 @@ use denote.Triple.Walked.{says, stay_none_ref, Stays, walk_of, Walks, ends_at, w
 use Rattle.std.specs.contracts.option.Option as option
 use Rattle.mp_types.specs.contracts.lists.Bytes as bytes
 use Rattle.mp_match.specs.contracts.posts.Post as post
-use Rattle.mp_match.specs.Board.{posted}
+use Rattle.mp_match.specs.Board.{board_with}
 use Rattle.mp_match.specs.contracts.history.History.with_post.Key.{name as key}
 use Rattle.mp_match.specs.contracts.history.History.with_post as f
 use Rattle.mp_match.proofs.history.History.with_post.Statement as stated
@@ -63,7 +63,7 @@ module _ {M : Type 1} {𝓤 : Ura M} (𝓛 : Logic 𝓤) (mem : Memory → SProp
     walk : ent 𝓤 (on_entry 𝓛 f.signature κs qs a (p ∷ [], (q ∷ [], (r ∷ [], tt))))
         (WpFn 𝓤 H C Λ code.function (p ∷ q ∷ r ∷ []) ((walk_of 𝓛 f.ended stayed (f.clauses 𝓛 mem run)).post bound))
     walk =
-        let made : (history.the_row).Denot = record { board = posted a.0.now.board a.1.0.now a.1.1.0.now } in
+        let made : (history.the_row).Denot = record { board = board_with a.0.now.board a.1.0.now a.1.1.0.now } in
         qed 𝓛 (raw (alive 𝓛 f.signature κs qs) ∷ ‵ passed ∷ []) ∵ enter ! C Λ code.function (p ∷ q ∷ r ∷ []) _ $
         alloc_all ! (λ l. pass_all ! refl ((tt, tt), ((tt, tt), ((tt, tt), tt))) $ sets ! (agg ! (no_more !)) refl (tt, tt) $
         returns ! (look_at ! 0 refl) $ free_all ! refl $

@@ -2,7 +2,7 @@
 use Rattle.std.proofs.Common.{arith, ap, subst}
 use Rattle.std.specs.Slots.{slots_items}
 use Rattle.part_box.specs.declared.view.View.{View}
-use Rattle.part_box.specs.Steps.{joined_view}
+use Rattle.part_box.specs.Seats.{joined_view}
 use Rattle.part_box.specs.Keys.{Place, Sender, Receiver}
 use Rattle.part_box.specs.Rule.{GateRule}
 use Rattle.part_box.specs.Settling.{IsSettled}

@@ -3,7 +3,7 @@ use Rattle.std.proofs.Common.{◌≡◌, ℕ, ◌+◌, ◌≤◌, length, map, s
 use Rattle.std.specs.Prelude.{slice_get}
 use Rattle.part_box.specs.Keys.{Sender}
 use Rattle.part_channel.specs.Channels.{ChannelView, sender_box}
-use Rattle.part_channel.specs.Words.{words_of}
+use Rattle.part_channel.specs.BoxWords.{words_of}
 use Rattle.part_channel.specs.Sending.{SendView, phase_of, one_if, made_of, readied}
 use Rattle.part_channel.proofs.Lists.{read_at, set_modified, at_set, at_end}
 use Rattle.part_channel.proofs.Sent.{own_at, phase_ready, keeps_ready, boxes_set}

@@ -5,7 +5,7 @@ use Rattle.std.specs.Prelude.{ℕ, Option, None, Result, Ok, Err, IsOk, Bool, ma
 use Rattle.rv_memory.specs.Access.{size_of}
 use Rattle.rv_memory.specs.Held.{is_there}
 use Rattle.rv_memory.specs.Memory.{Memory}
-use Rattle.rv_memory.specs.Pages.{missing_pages}
+use Rattle.rv_memory.specs.MorePages.{missing_pages}
 use Rattle.rv_memory.proofs.Marked.{present-none, missing-there, touches-in}
 use Rattle.rv_memory.proofs.Paged.{page-listed, in_page, stored-view, stored-held, there-get}
 use Rattle.rv_memory.proofs.memory.RankMemory.store_bytes.Goals as goal

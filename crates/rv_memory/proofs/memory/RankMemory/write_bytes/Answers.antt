@@ -1,6 +1,6 @@
 use Rattle.std.proofs.Common.{◌≡◌, ◌<◌, ◌∙◌, List, [], ◌∷◌, length, ap, sym, refl, arith}
 use Rattle.std.specs.Prelude.{ℕ}
-use Rattle.rv_memory.specs.Access.{IsWritable}
+use Rattle.rv_memory.specs.Present.{IsWritable}
 use Rattle.rv_memory.specs.Held.{all_bytes}
 use Rattle.rv_memory.specs.Memory.{Memory, with_bytes}
 use Rattle.rv_memory.proofs.Marked.{with_no_bytes, writable-inside}

@@ -1,0 +1,25 @@
+-- How a command takes its image from the input.
+use Rattle.std.specs.Prelude.{◌≡◌, ⊤, Bool, true, false, Result, Ok, Err}
+use Rattle.rv_image.specs.declared.images.ImageParts.{ImageParts}
+use Rattle.rvmc_line.specs.declared.line.CommandLine.{CommandLine}
+use Rattle.rvmc_line.specs.declared.line.CommandLine.TheVariants.{Check, Debug}
+use Rattle.rvmc_report.specs.declared.faults.Fault.{Fault}
+use Rattle.rvmc_report.specs.declared.faults.Fault.TheVariants as faults
+
+-- whether a command takes a record, and not an image
+abbrev pub takes_record : CommandLine → Bool
+takes_record Check = true
+takes_record (Debug words) = true
+takes_record other = false
+
+-- the fault of the input, unless memory was refused
+abbrev pub IsFaultIn : Result ImageParts Fault → Fault → Type 0
+IsFaultIn meant faults.Memory = ⊤
+IsFaultIn meant (faults.Source fault) = meant ≡ Err (faults.Source fault)
+IsFaultIn meant (faults.Image fault) = meant ≡ Err (faults.Image fault)
+IsFaultIn meant other = ⊥
+
+-- the image that is meant, or the fault
+abbrev pub Reads : Result ImageParts Fault → Result ImageParts Fault → Type 0
+Reads meant (Ok image) = meant ≡ Ok image
+Reads meant (Err fault) = IsFaultIn meant fault
