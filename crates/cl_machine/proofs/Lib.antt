@@ -12,3 +12,4 @@ pub mod Verdicts
 pub mod Worked
 pub mod Witness
 pub mod Same
+pub mod LoadedRun

@@ -13,3 +13,4 @@ pub mod ProductSteps
 pub mod Joined
 pub mod Laws
 pub mod Rows
+pub mod LoadedRun

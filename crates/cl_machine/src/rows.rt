@@ -1,5 +1,6 @@
 //! Worked rows: what runs of small clusters are, and what no run is.
 
+ghost use Rattle.cl_machine.specs.LoadedRun.{LoadedRow};
 ghost use Rattle.cl_machine.specs.Rows.{EarlyRow, JoinedRow, NothingSent, RealCallsRow, RealEndRow, ReceivesFirst};
 ghost use Rattle.cl_machine.specs.Rows.{SendsFirst, SharedRow, StampTooLow};
 
@@ -48,4 +49,10 @@ pub fn gets_nothing_unsent()
 /// A hub call's stamp is above the hub's clock too, and not just its rank's.
 pub fn stamps_above_both_clocks()
     ensures { StampTooLow }
+{}
+
+/// An image that loads has a run: its only hart does an instruction, calls EXIT, and idles. So what the laws of runs and
+/// of images ask for can be met.
+pub fn loads_and_ends()
+    ensures { LoadedRow }
 {}
