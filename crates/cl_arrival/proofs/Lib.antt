@@ -9,3 +9,4 @@ pub mod Arrived
 pub mod Found
 pub mod Arrival
 pub mod Writes
+pub mod AloneRows
