@@ -2,6 +2,7 @@
 use Rattle.std.specs.Prelude.{ℕ, ◌≡◌, zero, suc, ◌+◌, List, [], ◌∷◌, ◌++◌, replicate, flat_map, true, false}
 use Rattle.rv_image.specs.declared.images.ImageParts.{ImageParts}
 use Rattle.rv_image.specs.declared.images.ImageVersion.TheVariants.{One}
+use Rattle.rv_image.specs.Image.{IsImage}
 use Rattle.rv_memory.specs.Memory.{bytes_of}
 use Rattle.mp_types.specs.declared.replies.Reply.TheVariants as reply
 use Rattle.mp_types.specs.declared.requests.Request.TheVariants as request
@@ -52,8 +53,9 @@ sending_deeds =
 
 abbrev pub ReadyRow : Type 0
 ReadyRow =
-    (old : Rank) × (new : Rank) × IsAlone (loaded (linked sending_words) 0) sending_deeds old
-    × RankMoves old (deed 0 13 (Act.Ready 0 0 (replicate 64 0))) new
+    IsImage (linked sending_words)
+    × ((old : Rank) × (new : Rank) × IsAlone (loaded (linked sending_words) 0) sending_deeds old
+    × RankMoves old (deed 0 13 (Act.Ready 0 0 (replicate 64 0))) new)
 
 -- ---- rank 1 takes it, and is told that it has arrived
 
@@ -81,7 +83,8 @@ taking = deed 1 15 (Act.Take 0 0 13 (replicate 64 0))
 
 abbrev pub TakeRow : Type 0
 TakeRow =
-    (old : Rank) × (new : Rank) × IsAlone (loaded (linked receiving_words) 1) receiving_deeds old
+    IsImage (linked receiving_words)
+    × ((old : Rank) × (new : Rank) × IsAlone (loaded (linked receiving_words) 1) receiving_deeds old
     × RankMoves old taking new
     × ReportsArrived old taking 0 0
-    × (phases_begun (is_receiving 0) (loaded (linked receiving_words) 1) (receiving_deeds ++ taking ∷ []) ≡ 1)
+    × (phases_begun (is_receiving 0) (loaded (linked receiving_words) 1) (receiving_deeds ++ taking ∷ []) ≡ 1))
