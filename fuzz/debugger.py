@@ -1,0 +1,201 @@
+"""The command `debug`: its words, what they print and what is refused, as docs/DEBUGGING.md and docs/DECISIONS.md
+("The debugger", "The command line") have them. And words drawn at random."""
+
+import re
+
+from cluster import Walk
+
+MOST, MOST_SMALL = (1 << 64) - 1, 255
+
+NUMBER = re.compile(r"0x[0-9a-fA-F]+|[0-9]+")
+NAME = re.compile(r"[A-Za-z_.$][A-Za-z0-9_.$]*")
+
+# texts that are no words, beside those with a wrong number of arguments
+NO_WORDS = ["", "fly", "Step", " step", "step=1", "place=", "go", "go=", "go=x", "go=0x", "go=0X1", "go=+1", "go=1 "]
+NO_WORDS += ["go=18446744073709551616", "regs=0", "regs=0,256", "regs=0x100,0", "regs=0,0,", "bytes=0,1", "go=1=1"]
+NO_WORDS += ["bytes=0,1a,1", "bytes=0,,1", "bytes=0,a-b,1", "break=0,0", "break=a,0,0", "break=0,0,", "go=\u0661"]
+
+
+class Refused(Exception):
+    """A word that is refused."""
+
+
+def number(text, most):
+    """A number of at most so many, or None."""
+    value = int(text, 0 if text.startswith("0x") else 10) if NUMBER.fullmatch(text) else most + 1
+    return value if value <= most else None
+
+
+def spot(text):
+    """What stands for an address: a number or a name, or None."""
+    return text if NAME.fullmatch(text) else number(text, MOST)
+
+
+# how the arguments of each word are read
+SMALL, LARGE = (lambda text: number(text, MOST_SMALL)), (lambda text: number(text, MOST))
+ARGUMENTS = {"go": [LARGE], "break": [SMALL, SMALL, spot], "regs": [SMALL, SMALL], "bytes": [SMALL, spot, LARGE]}
+ALONE = ["step", "back", "run", "place"]
+
+
+def meaning(text):
+    """A word's name and its arguments, or None where the text is no word."""
+    name, *behind = text.split("=")
+    if name in ALONE:
+        return None if behind else (name, [])
+    if name not in ARGUMENTS or len(behind) != 1:
+        return None
+    given, readers = behind[0].split(","), ARGUMENTS[name]
+    if len(given) != len(readers):
+        return None
+    values = [reader(argument) for reader, argument in zip(readers, given)]
+    return None if None in values else (name, values)
+
+
+class Debugger:
+    """A record and a place in it. `bad` is the first step that the machine doesn't have, or None."""
+
+    def __init__(self, image, steps):
+        self.image, self.steps = image, steps
+        self.place, self.breaks = 0, []
+        # of each step its rank, its hart, and where that hart is before it
+        self.next = []
+        self.bad = None
+        walk = Walk(image, len(steps))
+        for at, step in enumerate(steps):
+            self.next.append((step.rank, step.hart, walk.cluster.ranks[step.rank].harts[step.hart].pc))
+            if not walk.takes(step):
+                self.bad = at
+                return
+
+    def rank(self, rank):
+        """A rank as it is at the place."""
+        if rank >= self.image.ranks:
+            raise Refused("NoRank")
+        walk = Walk(self.image, len(self.steps))
+        for step in self.steps[: self.place]:
+            walk.takes(step)
+        return walk.cluster.ranks[rank]
+
+    def address(self, at):
+        """The address that a number or a name stands for."""
+        if isinstance(at, int):
+            return at
+        found = [address for address, name in self.image.symbols if name == at.encode()]
+        if not found:
+            raise Refused("NoSymbol")
+        return found[0]
+
+    def does(self, name, values):
+        """Does a word: what it prints."""
+        if name in ARGUMENTS and name != "go":
+            return getattr(self, f"does_{name}")(*values)
+        last = len(self.steps)
+        if name == "go":
+            if values[0] > last:
+                raise Refused(f"PastEnd {last}")
+            self.place = values[0]
+        elif name == "step":
+            self.place = min(self.place + 1, last)
+        elif name == "back":
+            self.place = max(self.place - 1, 0)
+        elif name == "run":
+            later = range(self.place + 1, last)
+            self.place = next((at for at in later if self.next[at] in self.breaks), last)
+        return f"at {self.place} of {last}\n".encode()
+
+    def does_break(self, rank, hart, at):
+        """Sets a break."""
+        at = self.address(at)
+        if rank >= self.image.ranks:
+            raise Refused("NoRank")
+        if hart >= self.image.harts:
+            raise Refused("NoHart")
+        self.breaks.append((rank, hart, at))
+        return b""
+
+    def does_regs(self, rank, hart):
+        """Shows a hart."""
+        owner = self.rank(rank)
+        if hart >= self.image.harts:
+            raise Refused("NoHart")
+        at = owner.harts[hart]
+        told = f"rank {rank} hart {hart} {at.told()}\n"
+        return (told + "".join(f"x{n} {value:016x}\n" for n, value in enumerate(at.regs))).encode()
+
+    def does_bytes(self, rank, at, count):
+        """Shows bytes."""
+        at = self.address(at)
+        memory = self.rank(rank).memory
+        if not memory.can_read(at, count):
+            raise Refused("Range")
+        shown = memory.read(at, count)
+        lines = (shown[first : first + 16].hex(" ") for first in range(0, len(shown), 16))
+        return "".join(f"{line}\n" for line in lines).encode()
+
+
+def told(words, image, steps):
+    """What the words tell of a record: the status and both texts."""
+    debugger, out = Debugger(image, steps), b""
+    try:
+        if debugger.bad is not None:
+            raise Refused(f"NotARun {debugger.bad}")
+        for text in words:
+            out += debugger.does(*meaning(text))
+    except Refused as fault:
+        return 1, out, f"rvmc: debug: {fault}\n".encode()
+    return 0, out, b""
+
+
+class Words:
+    """Words drawn at random, for a record whose steps are a run."""
+
+    def __init__(self, random, image, steps):
+        self.random, self.image, self.steps = random, image, steps
+        self.next = Debugger(image, steps).next or [(0, 0, 0)]
+
+    def drawn(self):
+        """Some words, one of them none now and then."""
+        words = [self.word() for _ in range(1 + self.random.randrange(9))]
+        if self.random.randrange(12) == 0:
+            words.insert(self.random.randrange(len(words) + 1), self.random.choice(NO_WORDS))
+        return words
+
+    def written(self, value):
+        """A number, in decimal or in hexadecimal."""
+        form = self.random.choice(["{}", "{}", "{:#x}", "00{}", "0x0{:X}"])
+        return form.format(value)
+
+    def rank(self):
+        """A rank, or mostly so."""
+        return self.written(self.random.choice([*2 * [*range(self.image.ranks)], self.image.ranks, 255]))
+
+    def hart(self):
+        """A hart, or mostly so."""
+        return self.written(self.random.choice([*3 * [*range(self.image.harts)], self.image.harts]))
+
+    def name(self):
+        """A name, of a symbol or of none."""
+        names = [name.decode() for _, name in self.image.symbols]
+        return self.random.choice([*names, *names, "nobody", "_" * 32])
+
+    def word(self):
+        """A word."""
+        kind = self.random.choice(["go", "go", "run", "run", "break", "break", "regs", "bytes", *ALONE])
+        if kind in ALONE:
+            return kind
+        if kind == "go":
+            last = len(self.steps)
+            places = [0, last // 2, last - 1, last, self.random.randrange(last + 1), self.random.randrange(last + 1)]
+            return "go=" + self.written(self.random.choice([*3 * places, last + 1, MOST]))
+        if kind == "regs":
+            return f"regs={self.rank()},{self.hart()}"
+        if kind == "bytes":
+            memory = self.image.memory
+            count = self.random.choice([0, 1, 8, 15, 16, 17, 40])
+            at = self.random.choice([0, 1, memory - count, memory - count + 1, self.random.randrange(memory), MOST])
+            at = self.name() if self.random.randrange(4) == 0 else self.written(at)
+            return f"bytes={self.rank()},{at},{self.written(count)}"
+        if self.random.randrange(4):
+            rank, hart, at = map(self.written, self.random.choice(self.next))
+            return f"break={rank},{hart},{at}"
+        return f"break={self.rank()},{self.hart()},{self.random.choice([self.name(), self.written(4)])}"
