@@ -6,11 +6,12 @@
 //!
 //! The table in `stdin` and `stdout` is data from outside. Words and data are those of GNU as and ld, with the text at
 //! 0 and the data at the text's length rounded up to 16 (`-Ttext=0 -Tdata=ADDRESS`, no relaxation). Fields and faults,
-//! and what the last sources with no fault come to, were written by hand from the language's rules.
+//! and what the last sources with no fault come to, were written by hand from the language's rules. Of a source that is
+//! refused memory a line says so, and it is assembled once more.
 #![tactic(auto)]
 
-use rv_asm::assemble;
-use rv_image::{ImageParts, Link, Members, Symbol};
+use rv_asm::{AsmFault, AsmFaultKind, assemble};
+use rv_image::{Image, ImageParts, Link, Members, Symbol};
 use std::alloc::Global;
 use std::io;
 use std::io::Write;
@@ -104,9 +105,29 @@ fn print_image<W: Write>(out: &mut W, parts: &ImageParts) -> io::Result<()> {
     print_symbols(out, parts.symbols.as_slice())
 }
 
+/// The image of a source, or its fault. Where memory is refused, a line says so, and the source is assembled once more.
+fn meaning<W: Write>(
+    alloc: Global,
+    out: &mut W,
+    source: &str,
+) -> io::Result<Result<Image, AsmFault>> {
+    match assemble(alloc, source) {
+        Err(
+            AsmFault {
+                kind: AsmFaultKind::Memory,
+                ..
+            },
+        ) => {
+            out.write_all(b"memory: assemble\n")?;
+            Ok(assemble(alloc, source))
+        }
+        answer => Ok(answer),
+    }
+}
+
 /// Prints what one source gives.
 fn print_meaning<W: Write>(alloc: Global, out: &mut W, source: &str) -> io::Result<()> {
-    match assemble(alloc, source) {
+    match meaning(alloc, out, source)? {
         Ok(image) => print_image(out, image.parts()),
         Err(fault) => writeln!(out, "{fault}"),
     }
