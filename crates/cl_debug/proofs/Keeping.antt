@@ -1,15 +1,17 @@
 -- The pass that keeps a cluster at each multiple of the spacing.
 use Rattle.std.specs.Prelude.{ℕ, zero, suc, ◌+◌, ◌-◌, ◌*◌, ◌/◌, ◌<◌, ◌≤◌}
-use Rattle.std.specs.Prelude.{◌≡◌, List, [], ◌∷◌, ◌++◌, length, min, slice_get, Some}
-use Rattle.std.proofs.Common.{sym, subst, ap, ◌∙◌, ◌^◌, arith, pow-add}
+use Rattle.std.specs.Prelude.{◌≡◌, List, [], ◌∷◌, ◌++◌, length, min, slice_get, take, Some}
+use Rattle.std.proofs.Common.{refl, sym, subst, ap, ◌∙◌, ◌^◌, arith, pow-add}
 use Rattle.std.proofs.Math.Nat.{mul-le-mul_left}
 use Rattle.std.proofs.lemmas.List.{length-append}
 use Rattle.std.proofs.lemmas.Option.{same_Some}
 use Rattle.rv_image.specs.declared.images.ImageParts.{ImageParts}
+use Rattle.cl_machine.specs.Cluster.{Cluster, IsRun, loaded_cluster}
 use Rattle.cl_machine.specs.declared.steps.Step.{Step}
 use Rattle.cl_replay.specs.declared.states.ClusterState.{ClusterState}
 use Rattle.cl_replay.specs.Kept.{Snapshot, snapshot}
 use Rattle.cl_replay.specs.Replaying.{IsReached}
+use Rattle.cl_replay.specs.States.{StandsFor}
 use Rattle.cl_debug.specs.Faults.{OpenFaultHolds}
 use Rattle.cl_debug.specs.Leads.{AreKept, IsKeptAt, LeadFaultHolds, LeadsTo}
 use Rattle.cl_debug.specs.Spacing.{IsSpacing, multiples}
@@ -22,6 +24,22 @@ pub record KeptSoFar (image : ImageParts) (steps : List Step) (spacing k : ℕ) 
   pub count : length kept ≡ k
   pub reached : (j : ℕ) (there : Snapshot) → slice_get kept j ≡ Some there → IsKeptAt image steps (j * spacing) there
   pub here : IsReached image steps (min (k * spacing) (length steps)) state
+
+no_steps : (cluster : Cluster) (steps : List Step) → IsRun cluster (take 0 steps) cluster
+no_steps cluster [] = refl
+no_steps cluster (step ∷ steps) = refl
+
+-- at first nothing is kept, and the state is the loaded one
+pub none_kept : (image : ImageParts) (steps : List Step) (spacing : ℕ) (kept : List Snapshot) (state : ClusterState)
+    → kept ≡ [] → StandsFor image state (loaded_cluster image) → KeptSoFar image steps spacing 0 kept state
+none_kept image steps spacing kept state none stands = subst (λ xs. KeptSoFar image steps spacing 0 xs state) (sym none)
+    (record {
+      count = refl;
+      reached = λ j there at. absurd (cc);
+      here = subst (λ n. IsReached image steps n state)
+          (let e : 0 ≡ min (0 * spacing) (length steps) = omega arith in e)
+          (record { cluster = loaded_cluster image; run = no_steps (loaded_cluster image) steps; stands = stands });
+    })
 
 -- a multiple of the spacing up to the length
 pub at_most : (spacing len k : ℕ) → 0 < spacing → k < multiples spacing len → k * spacing ≤ len

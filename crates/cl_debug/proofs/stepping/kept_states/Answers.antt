@@ -1,7 +1,7 @@
 use Rattle.std.proofs.Common.{◌≡◌, ◌+◌, ◌*◌, ◌≤◌, arith, length, subst}
 use Rattle.std.proofs.lemmas.Result.{err_from_is_err_and}
 use Rattle.cl_debug.specs.Spacing.{multiples}
-use Rattle.cl_debug.proofs.Keeping.{KeptSoFar, all_run, at_most, kept_fault, kept_more}
+use Rattle.cl_debug.proofs.Keeping.{KeptSoFar, all_run, at_most, kept_fault, kept_more, none_kept}
 use Rattle.cl_debug.proofs.stepping.kept_states.Goals as goal
 
 pub returns-in_err-advance-clause-fault : goal.returns-in_err-advance-clause-fault
@@ -37,3 +37,18 @@ returns-clause-run c =
     let all = subst (λ k. KeptSoFar image steps spacing k kept state) end c.loop-k.invariant in
     let reached = all_run image steps spacing kept state c.requires all in
     (reached.cluster, reached.run)
+
+pub loop-k-init : goal.loop-k-init
+loop-k-init c =
+    none_kept c.args.image.now c.args.steps.now c.args.spacing c.in_ok-kept.kept.items c.in_ok-state.state
+    c.in_ok-kept.ensures.items c.in_ok-state.ensures
+
+pub overflow_mul-from : goal.overflow_mul-from
+overflow_mul-from c =
+    let within = at_most c.args.spacing (length c.args.steps.now) c.loop-k.k c.requires c.loop-k-test.true in
+    omega (arith, within)
+
+pub overflow_add-to : goal.overflow_add-to
+overflow_add-to c =
+    let within = at_most c.args.spacing (length c.args.steps.now) c.loop-k.k c.requires c.loop-k-test.true in
+    omega (arith, within, c.min.ensures)
