@@ -1,0 +1,3 @@
+pub mod Senders
+pub mod Told
+pub mod InTurn

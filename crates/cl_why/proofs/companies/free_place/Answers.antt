@@ -1,0 +1,13 @@
+use Rattle.cl_why.specs.Why.{IsStuckIn}
+use Rattle.cl_why.proofs.InTurn.{all_of, one_more}
+use Rattle.cl_why.proofs.companies.free_place.Goals as goal
+
+pub loop-place-preserved : goal.loop-place-preserved
+loop-place-preserved c =
+    one_more (IsStuckIn c.args.among.now c.args.state.now) c.args.among.now c.loop-place.place c.loop-place-test.true
+    c.loop-place.invariant (c.in_ok-is_stuck_beside.ensures c.if-not-branch.false)
+
+pub returns-clause-none : goal.returns-clause-none
+returns-clause-none c = λ none image cluster stands r rank hart among there low.
+    all_of (IsStuckIn c.args.among.now c.args.state.now) c.args.among.now c.loop-place.place c.loop-place-test.false
+    c.loop-place.invariant r among image cluster stands rank hart there low
