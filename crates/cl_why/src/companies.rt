@@ -56,9 +56,9 @@ fn first_ranks(alloc: Global, count: u8) -> Result<Vec<u8>, AllocError>
     Ok(ranks)
 }
 
-/// Ranks that are stuck together, by their numbers: of all ranks, whoever isn't stuck beside the rest is left out, until
-/// nobody is. Those that have ended are among them. Where the state was reached from an image, and a hart of theirs
-/// waits, they are in a deadlock. The only error is want of memory.
+/// Ranks that are stuck together, by their numbers: of all ranks, whoever isn't stuck beside the rest is left out,
+/// until nobody is. Those that have ended are among them. Where the state was reached from an image, and a hart of
+/// theirs waits, they are in a deadlock. The only error is want of memory.
 pub fn stuck(alloc: Global, state: &ClusterState) -> Result<Vec<u8>, AllocError>
     ensures stuck { IfOk result (λ ranks. AreStuckIn ranks.items state.now) }
     ensures deadlock { IfOk result (λ ranks. IsDeadlockIn ranks.items state.now) }
