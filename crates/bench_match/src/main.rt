@@ -3,15 +3,17 @@
 //! Its first argument says how many messages wait that no receive asks for, its second how often a message is sent,
 //! received and collected beside them. With a third the messages have so many tags in turn, and receives of any tag take
 //! them. With the word `hub` and a number it has a hub do it instead, and prints how many messages were got in how many
-//! calls; without words it does both.
+//! calls; how many microseconds the first, the last and all of them took stands on standard error, the first and the last
+//! as many as one more number says. Without words it does both.
 #![tactic(auto)]
 
 mod hub;
 
-use hub::got_of;
+use hub::Calls;
 use mp_match::{Queues, Selection, Sent};
 use mp_types::{Bytes, Envelope};
 use std::alloc::Global;
+use std::time::Instant;
 use std::{env, io};
 
 /// The tag that the receives ask for; the messages that wait have another.
@@ -105,15 +107,31 @@ fn print_any(rt: &HostRuntime, waiting: u32, matches: u32, tags: u32) -> io::Res
     )
 }
 
-/// Has a hub match them.
-fn print_hub(rt: &HostRuntime, messages: u32) -> io::Result<()> {
-    let (got, calls) = got_of(rt.alloc(), messages)?;
-    println!(rt; "{got} of {messages} messages got in {calls} calls")
+/// Has a hub match them, and tells how long that took.
+fn make_timed(rt: &HostRuntime, calls: &mut Calls, name: &str, messages: u32) -> io::Result<()> {
+    let begin = Instant::now(rt)?;
+    calls.make(rt.alloc(), messages)?;
+    eprintln!(rt; "{name} {}", begin.elapsed(rt)?.as_micros())
+}
+
+/// Has a hub match them, and tells how long so many of the first and of the last took, at most half of them, and all.
+fn print_hub(rt: &HostRuntime, messages: u32, part: u32) -> io::Result<()> {
+    let part = part.min(messages / 2);
+    let mut calls = Calls::start(rt.alloc())?;
+    let begin = Instant::now(rt)?;
+    make_timed(rt, &mut calls, "first", part)?;
+    calls.make(rt.alloc(), messages - part - part)?;
+    make_timed(rt, &mut calls, "last", part)?;
+    eprintln!(rt; "all {}", begin.elapsed(rt)?.as_micros())?;
+    let (got, entries) = (calls.got(), calls.entries());
+    println!(rt; "{got} of {messages} messages got in {entries} calls")
 }
 
 fn main(rt: HostRuntime) -> io::Result<()> {
     match env::args(&rt)?.nth(1) {
-        Some(word) if word.as_str() == "hub" => print_hub(&rt, number_at(&rt, 2, 100)?),
+        Some(word) if word.as_str() == "hub" => {
+            print_hub(&rt, number_at(&rt, 2, 100)?, number_at(&rt, 3, 10)?)
+        }
         Some(_) => {
             let (waiting, matches) = (number_at(&rt, 1, 10)?, number_at(&rt, 2, 100)?);
             match number_at(&rt, 3, 0)? {
@@ -123,7 +141,7 @@ fn main(rt: HostRuntime) -> io::Result<()> {
         }
         None => {
             print_matches(&rt, 10, 100)?;
-            print_hub(&rt, 100)
+            print_hub(&rt, 100, 10)
         }
     }
 }
