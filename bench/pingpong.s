@@ -1,4 +1,4 @@
-# The guest by which bench/threads counts messages a second: 8 bytes go from rank 0 to rank 1 and back, 5,000 times, so
+# The guest by which bench/pingpong counts messages a second: 8 bytes go from rank 0 to rank 1 and back, 5,000 times, so
 # each rank waits for a message of the other one before it sends. Each adds 1 to them, and ends with the last number
 # that it got.
         .ranks 2
