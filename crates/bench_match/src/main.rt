@@ -1,10 +1,12 @@
 //! Matches messages while others wait, and prints how many it matched: a program to time the matching with.
 //!
 //! Its first argument says how many messages wait that no receive asks for, its second how often a message is sent,
-//! received and collected beside them. With a third the messages have so many tags in turn, and receives of any tag take
-//! them. With the word `hub` and a number it has a hub do it instead, and prints how many messages were got in how many
-//! calls; how many microseconds the first, the last and all of them took stands on standard error, the first and the last
-//! as many as one more number says. Without words it does both.
+//! received and collected beside them. With a third the messages have so many tags in turn, and receives of any tag
+//! take them.
+//!
+//! With the word `hub` and a number it has a hub do it instead, and prints how many messages were got in how many
+//! calls. How many microseconds the first, the last and all of them took stands on standard error; one more number says
+//! how many the first and the last are. Without words it does both.
 #![tactic(auto)]
 
 mod hub;
