@@ -108,6 +108,14 @@ impl PlainQueues {
         Some(Message { envelope, bytes })
     }
 
+    // Whether the message of the send of this number is held.
+    fn holds(&self, post: u64) -> bool {
+        match post.checked_sub(1) {
+            None => false,
+            Some(place) => matches!(self.bodies.get(place as usize), Some(Some(_))),
+        }
+    }
+
     pub fn finished(&self, post: u64) -> bool {
         let Some(line) = self.line(post) else {
             return false;
@@ -117,7 +125,11 @@ impl PlainQueues {
             None => false,
             Some(place) => match self.lines.get(place as usize) {
                 None => false,
-                Some(other) => matches!(other.post, Post::Receive(_)),
+                Some(other) => match other.post {
+                    Post::Send(_) => false,
+                    Post::Receive(_) => true,
+                    Post::Claim(_) => !self.holds(post),
+                },
             },
         };
         standard || received

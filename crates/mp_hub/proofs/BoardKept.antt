@@ -54,7 +54,7 @@ grows h rank q r b (is_gathered ns asked f e) = inl (ap (λ (c : Board). c.lines
 abbrev Fair : ℕ → List Line → Type 0
 Fair n ms = (ms ≡ pairs (posts_of ms)) × (length ms ≤ n)
 
-pairs_snoc : (ps : List Post) (p : Post) → pairs (ps ++ p ∷ []) ≡ add (pairs ps) p
+pub pairs_snoc : (ps : List Post) (p : Post) → pairs (ps ++ p ∷ []) ≡ add (pairs ps) p
 pairs_snoc ps p = pairs_more ps (p ∷ []) []
 
 fair_more : (n : ℕ) (old new : List Line) → Grows old new → Fair n old → Fair (n + 1) new

@@ -45,7 +45,7 @@ or_right false b h = h
 or_false : (a b : Bool) → a ≡ false → b ≡ false → (a || b) ≡ false
 or_false a b p q = λ i. p i || q i
 
-or_none : (a b : Bool) → (a || b) ≡ false → (a ≡ false) × (b ≡ false)
+pub or_none : (a b : Bool) → (a || b) ≡ false → (a ≡ false) × (b ≡ false)
 or_none true b h = absurd (cc)
 or_none false b h = (refl, h)
 
@@ -123,7 +123,7 @@ one_claim ps r s n c d =
     sym c.4 ∙ ap (λ (a : Selection). a.rank) selection ∙ d.4
 
 -- a message that its rank receives waits no longer
-waits_no_longer : (ps : List Post) (ws : List Waiting) (rank n : ℕ) → Owned ps ws → ClaimOf ps rank n
+pub waits_no_longer : (ps : List Post) (ws : List Waiting) (rank n : ℕ) → Owned ps ws → ClaimOf ps rank n
     → is_waiting (received ws rank n) n ≡ false
 waits_no_longer ps [] rank n owned c = refl
 waits_no_longer ps (w ∷ ws) rank n owned c = go (is_claim rank n w) refl (waits_no_longer ps ws rank n owned.1 c)

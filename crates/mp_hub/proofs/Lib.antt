@@ -10,6 +10,7 @@ pub mod Histories
 pub mod HeldKept
 pub mod Losses
 pub mod Handles
+pub mod Held
 pub mod Owners
 pub mod Links
 pub mod Finished

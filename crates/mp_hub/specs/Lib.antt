@@ -1,5 +1,6 @@
 pub mod Hub
 pub mod Outcomes
+pub mod Held
 pub mod Laws
 pub mod Made
 pub mod Twice

@@ -1,5 +1,6 @@
 -- What the board answers, by the table and the owners that stand for it.
-use Rattle.std.specs.Prelude.{cond, ℕ, zero, suc, ◌-◌, ◌<◌, ◌≤◌, ◌≡◌, ◌||◌, List, [], ◌∷◌, length, Option, Some, None}
+use Rattle.std.specs.Prelude.{cond, ℕ, zero, suc, ◌-◌, ◌<◌, ◌≤◌, ◌≡◌, Bool, true, false, List, [], ◌∷◌}
+use Rattle.std.specs.Prelude.{length, Option, Some, None}
 use Rattle.std.specs.List.{slice_get, slice_set}
 use Rattle.std.specs.Option.{is_some, option_map}
 use Rattle.std.proofs.Common.{refl, sym, ap, ◌∙◌, subst, arith}
@@ -12,9 +13,11 @@ use Rattle.mp_match.specs.declared.live.Live.{Live}
 use Rattle.mp_match.specs.declared.live.Owner.{Owner}
 use Rattle.mp_match.specs.Free.{free_in, free_post}
 use Rattle.mp_match.specs.Pairs.{is_free, partner_for, partner_of_line}
-use Rattle.mp_match.specs.Board.{Board, collect, collect_from, envelope_at, envelope_in, is_finished, is_held}
+use Rattle.mp_match.specs.Board.{Board, collect, collect_from, envelope_at, envelope_in, is_held}
 use Rattle.mp_match.specs.Bodies.{bytes_in}
-use Rattle.mp_match.specs.Board.{is_receive_at, is_standard, line_of, message_at, message_in, partner_of}
+use Rattle.mp_match.specs.Board.{line_of, message_at, message_in, partner_of}
+use Rattle.mp_match.specs.Board.{claim_at, claim_of}
+use Rattle.mp_match.specs.Claimed.{holds, open_claim}
 use Rattle.mp_match.specs.Live.{IsOver, IsPast, StandFor, body_in, kept_post, line_in, message_of, owner_in, owner_of}
 use Rattle.mp_match.specs.Live.{post_at, post_in}
 use Rattle.mp_match.proofs.OrderKept.{chosen}
@@ -54,9 +57,24 @@ pub partner_line : (b : Board) (number : ℕ) (line : Line) → line_of b number
 partner_line b zero line h = absurd (cc)
 partner_line b (suc place) line h = ap partner_of_line h
 
-pub finished_line : (b : Board) (number : ℕ) (line : Line) → line_of b number ≡ Some line
-    → is_finished b number ≡ (is_standard (Some line) || is_receive_at b line.partner)
-finished_line b number line h = (λ i. is_standard (h i) || is_receive_at b (partner_line b number line h i))
+-- no claim has the message of a post that is over
+pub past_claim : (b : Board) (number : ℕ) → IsPast b number → None ≡ open_claim b number
+past_claim b zero past = refl
+past_claim b (suc place) past = go (slice_get b.lines place) refl
+  where
+    none : (x : Bool) → (let o : Option ℕ = None in o) ≡ cond x None None
+    none true = refl
+    none false = refl
+
+    go : (o : Option Line) → slice_get b.lines place ≡ o → None ≡ open_claim b (suc place)
+    go None e =
+        none (is_held (slice_get b.bodies place))
+        ∙ (λ i. cond (is_held (slice_get b.bodies place)) (claim_at b (partner_of_line (sym e i))) None)
+    go (Some line) e =
+        let p = past line e in
+        let same : p.0 ≡ place = (let q : suc place ≡ suc p.0 = p.1 in omega (arith, q)) in
+        let o = subst (λ z. IsOver b z line) same p.2 in
+        (λ i. cond (is_held (sym o.empty i)) (claim_of b (suc place)) None)
 
 -- what is over is collected in vain
 pub past_collected : (b : Board) (number : ℕ) → IsPast b number → (None, b) ≡ collect b number
@@ -128,6 +146,12 @@ module _ (os : List Owner) (f : ℕ → Option Live) (b : Board) (s : StandFor o
       go None e = sym (no_message (envelope_at b (Some place)) (slice_get b.bodies place) (none_body place e))
       go (Some live) e =
           let l = s.live place live e in (λ i. message_in (envelope_in (sym l.line i)) (sym l.body i))
+
+  pub holds_is : (number : ℕ) → (number ≡ 0 → ⊥) → is_some (body_in (f (number - 1))) ≡ holds b number
+  holds_is zero h = absurd (h refl)
+  holds_is (suc place) h =
+      let e : suc place - 1 ≡ place = omega arith in
+      ap (λ (p : ℕ). is_some (body_in (f p))) e ∙ held_is place
 
   -- the place of the next post has none
   pub next_none : (place : ℕ) → length b.lines ≤ place → f place ≡ None

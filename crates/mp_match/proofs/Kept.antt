@@ -16,7 +16,7 @@ use Rattle.mp_match.specs.declared.live.Owner.{Owner}
 use Rattle.mp_match.specs.Pairs.{add, partner_for, partner_set, partners_told}
 use Rattle.mp_match.specs.Board.{Board, board_with, without}
 use Rattle.mp_match.specs.Live.{owner_of, owners_of, set_at, paired, entered, emptied, are_exchanged}
-use Rattle.mp_match.specs.Live.{IsKept, IsOver, StandFor, is_partner, spent_by, has_received, has_claimed}
+use Rattle.mp_match.specs.Live.{IsKept, IsOver, StandFor, is_partner, spent_by, has_taken}
 use Rattle.mp_match.proofs.Lines.{given, look, is_new, is_old, is_given, add_new, add_old, add_given, add_length}
 use Rattle.mp_match.proofs.OrderKept.{chosen}
 use Rattle.mp_match.proofs.Places.{get_last, get_front, get_within}
@@ -331,32 +331,24 @@ no_body (Some x) h = absurd (cc)
 abbrev sends_post : Post → Bool
 sends_post p = elim p [ Send s ↦ true | Receive a ↦ false | Claim a ↦ false ]
 
-abbrev receives_post : Post → Bool
-receives_post p = elim p [ Send s ↦ false | Receive a ↦ true | Claim a ↦ false ]
+abbrev takes_post : Post → Bool
+takes_post p = elim p [ Send s ↦ false | Receive a ↦ true | Claim a ↦ true ]
 
-abbrev claims_post : Post → Bool
-claims_post p = elim p [ Send s ↦ false | Receive a ↦ false | Claim a ↦ true ]
+sent_taken : (p q : Post) → sends_post p ≡ true → takes_post q ≡ true → are_exchanged p q ≡ true
+sent_taken (Send s) (Receive a) h k = refl
+sent_taken (Send s) (Claim a) h k = refl
+sent_taken (Send s) (Send t) h k = absurd (cc)
+sent_taken (Receive a) q h k = absurd (cc)
+sent_taken (Claim a) q h k = absurd (cc)
 
-sent_received : (p q : Post) → sends_post p ≡ true → receives_post q ≡ true → are_exchanged p q ≡ true
-sent_received (Send s) (Receive a) h k = refl
-sent_received (Send s) (Send t) h k = absurd (cc)
-sent_received (Send s) (Claim a) h k = absurd (cc)
-sent_received (Receive a) q h k = absurd (cc)
-sent_received (Claim a) q h k = absurd (cc)
-
-received_sent : (p q : Post) → receives_post p ≡ true → sends_post q ≡ true → are_exchanged p q ≡ true
-received_sent (Receive a) (Send s) h k = refl
-received_sent (Receive a) (Receive c) h k = absurd (cc)
-received_sent (Receive a) (Claim c) h k = absurd (cc)
-received_sent (Send s) q h k = absurd (cc)
-received_sent (Claim a) q h k = absurd (cc)
-
-claimed_sent : (p q : Post) → claims_post p ≡ true → sends_post q ≡ true → are_exchanged p q ≡ true
-claimed_sent (Claim a) (Send s) h k = refl
-claimed_sent (Claim a) (Receive c) h k = absurd (cc)
-claimed_sent (Claim a) (Claim c) h k = absurd (cc)
-claimed_sent (Send s) q h k = absurd (cc)
-claimed_sent (Receive a) q h k = absurd (cc)
+taken_sent : (p q : Post) → takes_post p ≡ true → sends_post q ≡ true → are_exchanged p q ≡ true
+taken_sent (Receive a) (Send s) h k = refl
+taken_sent (Receive a) (Receive c) h k = absurd (cc)
+taken_sent (Receive a) (Claim c) h k = absurd (cc)
+taken_sent (Claim a) (Send s) h k = refl
+taken_sent (Claim a) (Receive c) h k = absurd (cc)
+taken_sent (Claim a) (Claim c) h k = absurd (cc)
+taken_sent (Send s) q h k = absurd (cc)
 
 -- what a post of the table shows
 record Shows (o : Option Live) (partner : ℕ) (test : Post → Bool) : Type 0 where
@@ -378,24 +370,11 @@ spent_shows (Some live) q h = go live.line.post refl live.body refl h
     go (Receive a) e body n h = absurd (cc)
     go (Claim a) e body n h = absurd (cc)
 
-received_shows : (o : Option Live) (q : ℕ) → has_received o q ≡ true → Shows o q receives_post
-received_shows None q h = absurd (cc)
-received_shows (Some live) q h =
-    let a = and_parts (receives_post live.line.post && is_partner live.line.partner q) (not (is_some live.body)) h in
-    let w = and_parts (receives_post live.line.post) (is_partner live.line.partner q) a.0 in
-    record {
-      live = live;
-      here = refl;
-      kind = w.0;
-      paired = partner_is live.line.partner q w.1;
-      empty = no_body live.body a.1;
-    }
-
-claimed_shows : (o : Option Live) (q : ℕ) → has_claimed o q ≡ true → Shows o q claims_post
-claimed_shows None q h = absurd (cc)
-claimed_shows (Some live) q h =
-    let a = and_parts (claims_post live.line.post && is_partner live.line.partner q) (not (is_some live.body)) h in
-    let w = and_parts (claims_post live.line.post) (is_partner live.line.partner q) a.0 in
+taken_shows : (o : Option Live) (q : ℕ) → has_taken o q ≡ true → Shows o q takes_post
+taken_shows None q h = absurd (cc)
+taken_shows (Some live) q h =
+    let a = and_parts (takes_post live.line.post && is_partner live.line.partner q) (not (is_some live.body)) h in
+    let w = and_parts (takes_post live.line.post) (is_partner live.line.partner q) a.0 in
     record {
       live = live;
       here = refl;
@@ -425,18 +404,11 @@ over_by os f b s i j t u pairs x y line l =
 
 module _ (os : List Owner) (f : Table) (b : Board) (s : StandFor os f b) (send place : ℕ)
     (spent : spent_by (f send) ≡ Some place) where
-  pub stand_received : (g h : Table) → has_received (f place) send ≡ true → ((k : ℕ) → g k ≡ set_at f send None k)
+  pub stand_forgotten : (g h : Table) → has_taken (f place) send ≡ true → ((k : ℕ) → g k ≡ set_at f send None k)
       → ((k : ℕ) → h k ≡ set_at g place None k) → StandFor os h b
-  stand_received g h received first second =
+  stand_forgotten g h taken first second =
       let x = spent_shows (f send) place spent in
-      let y = received_shows (f place) send received in
+      let y = taken_shows (f place) send taken in
       stand_less os g h b place
-      (stand_less os f g b send s (over_by os f b s send place sends_post receives_post sent_received x y) first)
-      (over_by os f b s place send receives_post sends_post received_sent y x) second
-
-  pub stand_claimed : (g : Table) → has_claimed (f place) send ≡ true → ((k : ℕ) → g k ≡ set_at f place None k)
-      → StandFor os g b
-  stand_claimed g claimed first =
-      let x = spent_shows (f send) place spent in
-      let y = claimed_shows (f place) send claimed in
-      stand_less os f g b place s (over_by os f b s place send claims_post sends_post claimed_sent y x) first
+      (stand_less os f g b send s (over_by os f b s send place sends_post takes_post sent_taken x y) first)
+      (over_by os f b s place send takes_post sends_post taken_sent y x) second

@@ -7,5 +7,6 @@ pub mod Queued
 pub mod Matches
 pub mod Board
 pub mod Bodies
+pub mod Claimed
 pub mod Free
 pub mod Live

@@ -108,17 +108,11 @@ spent_by (Some live) =
       | Claim a ↦ None
     ]
 
--- whether it is a receive, or a claim, whose message is that of the send at the place
-abbrev pub has_received : Option Live → ℕ → Bool
-has_received None send = false
-has_received (Some live) send =
-    elim live.line.post [ Send s ↦ false | Receive a ↦ true | Claim a ↦ false ]
-    && is_partner live.line.partner send && not (is_some live.body)
-
-abbrev pub has_claimed : Option Live → ℕ → Bool
-has_claimed None send = false
-has_claimed (Some live) send =
-    elim live.line.post [ Send s ↦ false | Receive a ↦ false | Claim a ↦ true ]
+-- whether it is a receive or a claim whose message is that of the send at the place
+abbrev pub has_taken : Option Live → ℕ → Bool
+has_taken None send = false
+has_taken (Some live) send =
+    elim live.line.post [ Send s ↦ false | Receive a ↦ true | Claim a ↦ true ]
     && is_partner live.line.partner send && not (is_some live.body)
 
 -- its message isn't held any more
@@ -132,9 +126,10 @@ pub record IsKept (b : Board) (place : ℕ) (live : Live) : Type 0 where
   pub line : slice_get b.lines place ≡ Some live.line
   pub body : slice_get b.bodies place ≡ Some live.body
 
--- a send that a receive has, or a receive or a claim that has a send
+-- a send, and a receive or a claim, either of them first
 abbrev pub are_exchanged : Post → Post → Bool
 are_exchanged (Send s) (Receive a) = true
+are_exchanged (Send s) (Claim a) = true
 are_exchanged (Receive a) (Send s) = true
 are_exchanged (Claim a) (Send s) = true
 are_exchanged _ _ = false

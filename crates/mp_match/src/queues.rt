@@ -3,7 +3,8 @@
 ghost use Rattle.std.specs.Prelude.{◌≡◌, ◌+◌, ◌<◌, ◌≤◌, ◌^◌, ◌∷◌, ◌↔◌, [], length, not, ◌||◌, is_some, IfOk, IfSome};
 ghost use Rattle.std.specs.Prelude.{IsNone, IsOk, OnErr, OnOk, Err, None, Some, ◌-◌, slice_get, slice_set};
 ghost use Rattle.mp_match.specs.Pairs.{partner_for};
-ghost use Rattle.mp_match.specs.Board.{claim_of, claimed_if, collect, collect_from, compared_after};
+ghost use Rattle.mp_match.specs.Board.{claim_at, claimed_if, collect, collect_from, compared_after, is_standard};
+ghost use Rattle.mp_match.specs.Claimed.{holds, is_claim_collected, open_claim};
 ghost use Rattle.mp_match.specs.Bodies.{bytes_in};
 ghost use Rattle.mp_match.specs.Board.{envelope_at, held_count, is_collected, is_finished, is_held, is_receive_at};
 ghost use Rattle.mp_match.specs.Board.{is_receive_of, is_send_of, line_of, message_at, message_in, no_posts};
@@ -41,8 +42,8 @@ pub enum PostFault {
 /// A message is held from its send until its receive is collected. Posts go by their numbers, from 1; a number that no
 /// post has is the number of a post that never gets a message.
 ///
-/// What is kept is what may still be asked for: of each post two bytes; of one that waits for a partner, or whose message
-/// is held, all; and of a send that was claimed all but its message.
+/// What is kept is what may still be asked for: of each post two bytes, and all of one that waits for a partner or whose
+/// message is held.
 #[derive(Drop)]
 pub struct Queues {
     alloc: Global,
@@ -388,29 +389,37 @@ impl Queues {
     }
 
     // Lets go of a send whose message was taken, and of the receive or the claim that had it, by what both their lines
-    // say. A claimed send stays, since it is asked for its claim.
+    // say.
     fn forget(&mut self, send: u64)
         ensures { self.new ≡ self.old }
     {
         let Some(place) = self.table.spent_by(send) else {
             return;
         };
-        if self.table.has_received(place, send) {
+        if self.table.has_taken(place, send) {
             self.table.remove(send);
-            self.table.remove(place);
-        } else if self.table.has_claimed(place, send) {
             self.table.remove(place);
         }
     }
 
-    /// Whether a send is standard or paired with a receive.
+    /// Whether a send is standard or paired with a receive, or was claimed and its message isn't held any more.
     pub fn finished(&self, post: u64) -> bool
-        ensures { result ≡ is_finished self.now post }
+        ensures { result ≡ (is_finished self.now post || is_claim_collected self.now post) }
     {
         match self.kept(post) {
-            Some(line) => is_standard(line.post) || self.is_receive(line.partner),
+            Some(line) => {
+                self.is_line_finished(line)
+                    || (!self.holds(post) && self.claim_at(line.partner).is_some())
+            }
             None => sends(self.owner(post)),
         }
+    }
+
+    // Whether it is a standard send, or has a receive.
+    fn is_line_finished(&self, line: Line) -> bool
+        ensures { result ≡ (is_standard (Some line) || is_receive_at self.now line.partner) }
+    {
+        is_standard(line.post) || self.is_receive(line.partner)
     }
 
     /// Whether the post is a receive or a claim of the rank.
@@ -463,15 +472,41 @@ impl Queues {
         }
     }
 
-    /// The number of the claim that has this send's message.
+    /// The number of the claim that has this send's message, while that is held.
     pub fn claim_of(&self, post: u64) -> Option<u64>
-        ensures { result ≡ claim_of self.now post }
+        ensures { result ≡ open_claim self.now post }
     {
-        let place = self.kept(post)?.partner?;
+        match self.kept(post) {
+            None => None,
+            Some(line) => {
+                if self.holds(post) {
+                    self.claim_at(line.partner)
+                } else {
+                    None
+                }
+            }
+        }
+    }
+
+    // The number of the claim at the place.
+    fn claim_at(&self, place: Option<u64>) -> Option<u64>
+        ensures { result ≡ claim_at self.now place }
+    {
+        let place = place?;
         match self.owners.get(place as usize) {
             Some(Owner::Claims(_)) => Some(place + 1),
             _ => None,
         }
+    }
+
+    // Whether the message of the send of this number is held.
+    fn holds(&self, post: u64) -> bool
+        ensures { result ≡ holds self.now post }
+    {
+        if post == 0 {
+            return false;
+        }
+        self.table.is_held(post - 1)
     }
 
     // Whose the post is.

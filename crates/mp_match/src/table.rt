@@ -2,7 +2,7 @@
 
 ghost use Rattle.std.specs.Prelude.{◌≡◌, ℕ, is_some, None, Some, IfOk, IsOk, OnErr, OnOk};
 ghost use Rattle.std.specs.Option.{option_copied};
-ghost use Rattle.mp_match.specs.Live.{body_in, emptied, has_claimed, has_received, is_partner, kept, line_in, paired};
+ghost use Rattle.mp_match.specs.Live.{body_in, emptied, has_taken, is_partner, kept, line_in, paired};
 ghost use Rattle.mp_match.specs.Live.{message_of, post_in, set_at, spent_by};
 ghost use Rattle.mp_types.specs.Carried.{carried_by_message};
 ghost use Rattle.mp_match.specs.Board.{envelope_in};
@@ -142,28 +142,14 @@ impl Table {
         }
     }
 
-    /// Whether there is a receive at the place that had the message of the send at the other.
-    pub fn has_received(&self, place: u64, send: u64) -> bool
-        ensures { result ≡ has_received (kept self.now.map place) send }
+    /// Whether there is a receive or a claim at the place that had the message of the send at the other.
+    pub fn has_taken(&self, place: u64, send: u64) -> bool
+        ensures { result ≡ has_taken (kept self.now.map place) send }
     {
         match self.at(place) {
             None => false,
             Some(live) => {
-                matches!(live.line.post, Post::Receive(_))
-                    && is_partner(live.line.partner, send)
-                    && live.body.is_none()
-            }
-        }
-    }
-
-    /// Whether there is a claim at the place that had the message of the send at the other.
-    pub fn has_claimed(&self, place: u64, send: u64) -> bool
-        ensures { result ≡ has_claimed (kept self.now.map place) send }
-    {
-        match self.at(place) {
-            None => false,
-            Some(live) => {
-                matches!(live.line.post, Post::Claim(_))
+                matches!(live.line.post, Post::Receive(_) | Post::Claim(_))
                     && is_partner(live.line.partner, send)
                     && live.body.is_none()
             }
