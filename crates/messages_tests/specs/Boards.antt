@@ -34,3 +34,7 @@ one_claimed = claim_posted one_sent any
 -- the message was collected
 abbrev pub one_collected : Board
 one_collected = without one_received 0
+
+-- the claim's message was collected
+abbrev pub one_claim_collected : Board
+one_claim_collected = without one_claimed 0

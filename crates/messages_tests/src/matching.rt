@@ -4,7 +4,8 @@ ghost use Rattle.std.specs.Prelude.{◌≡◌, ◌-◌, ◌<◌, ◌^◌, ◌↔
 ghost use Rattle.mp_match.specs.Pairs.{partner_for};
 ghost use Rattle.mp_match.specs.declared.posts.Post.TheVariants as post;
 ghost use Rattle.messages_tests.specs.Accepted.{RefusesOthers};
-ghost use Rattle.messages_tests.specs.Boards.{message, one_claimed, one_collected, one_received, one_sent};
+ghost use Rattle.messages_tests.specs.Boards.{message, one_claim_collected, one_claimed, one_collected, one_received};
+ghost use Rattle.messages_tests.specs.Boards.{one_sent};
 
 use mp_match::{PostFault, Queues, Selection, Sent};
 use mp_types::{Bytes, Envelope, Message};
@@ -105,6 +106,23 @@ pub fn claimed_send_is_unfinished(queues: &Queues) -> bool
     ensures { result ≡ false }
 {
     queues.finished(1)
+}
+
+/// It is once the claim was collected, when no claim is told any more.
+pub fn claim_collected_finishes(queues: &Queues) -> (bool, Option<u64>)
+    requires { queues.now ≡ one_claim_collected }
+    ensures { result ≡ (true, None) }
+{
+    (queues.finished(1), queues.claim_of(1))
+}
+
+/// A claim that was collected counts as collected, and is collected in vain.
+pub fn collected_claim_is_collected(queues: &mut Queues) -> (bool, Option<Message>)
+    requires { queues.old ≡ one_claim_collected }
+    ensures { result ≡ (true, None) }
+{
+    let collected = queues.is_collected(2);
+    (collected, queues.collect(2))
 }
 
 /// A synchronous send is finished where a receive has its message.
