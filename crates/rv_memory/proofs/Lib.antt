@@ -2,3 +2,4 @@
 pub mod Values
 pub mod Marked
 pub mod Paged
+pub mod Shown

@@ -1,5 +1,5 @@
 -- The pages that are there, one by one.
-use Rattle.std.proofs.Common.{◌≡◌, ℕ, zero, suc, ◌+◌, ◌*◌, ◌<◌, ◌≤◌, List, [], ◌∷◌, ◌++◌, length, get_or, take, drop, refl, ap, sym, ◌∙◌, zero-add, add-zero, add-suc, arith, take-append-drop, drop-cons}
+use Rattle.std.proofs.Common.{◌≡◌, ℕ, zero, suc, ◌+◌, ◌*◌, ◌<◌, ◌≤◌, List, [], ◌∷◌, ◌++◌, length, get_or, take, drop, refl, ap, sym, ◌∙◌, add-zero, arith, take-append-drop, drop-cons}
 use Rattle.std.specs.Int.{bytes_low_first}
 use Rattle.std.proofs.lemmas.Grind.{common_steps}
 use Rattle.std.proofs.lemmas.Bool.Decides.{nat_tests}
@@ -149,7 +149,7 @@ or-true true = refl
 or-true false = refl
 
 -- pages above a range stay
-written-above : (k : ℕ) (pages : List Bool) (a c : ℕ) → a + c ≤ k * 4096 → written_from k pages a c ≡ pages
+pub written-above : (k : ℕ) (pages : List Bool) (a c : ℕ) → a + c ≤ k * 4096 → written_from k pages a c ≡ pages
 written-above k [] a c p = refl
 written-above k (t ∷ pages) a c p = rw (touches-below a c k p, or-false t, written-above (suc k) pages a c (omega (arith, p))) refl
 
@@ -200,6 +200,11 @@ pub writable-inside : (memory : Memory) (a n : ℕ) → 0 < n → IsWritable mem
 writable-inside memory a n some w =
     let h = writable-go (n == 0) (is_inside memory a n) (nat_le memory.text a) (grind (arith, nat_tests)) w in
     grind (arith, nat_tests, h.0)
+
+pub writable-behind : (memory : Memory) (a n : ℕ) → 0 < n → IsWritable memory a n → memory.text ≤ a
+writable-behind memory a n some w =
+    let h = writable-go (n == 0) (is_inside memory a n) (nat_le memory.text a) (grind (arith, nat_tests)) w in
+    grind (arith, nat_tests, h.1)
 
 pub present-none : (memory : Memory) (a n : ℕ) → 0 < n → IsPresent memory a n → missing_pages memory.pages a n ≡ 0
 present-none memory a n some w =

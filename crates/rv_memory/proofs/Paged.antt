@@ -210,7 +210,7 @@ taken (Some page) old new n e b is none =
     (blank-last new page (rw is at b), sym (rw (e, is) (length-append new (page ∷ []))))
 
 -- bytes behind others
-overwritten-front : (front rest new : List ℕ) (n : ℕ) → length front ≡ n → overwritten (front ++ rest) n new ≡ front ++ (new ++ drop (length new) rest)
+pub overwritten-front : (front rest new : List ℕ) (n : ℕ) → length front ≡ n → overwritten (front ++ rest) n new ≡ front ++ (new ++ drop (length new) rest)
 overwritten-front front rest new n e =
     let z : n + 0 ≡ n = add-zero n in
     let o : 0 + length new ≡ length new = zero-add (length new) in
@@ -247,14 +247,14 @@ pub whole-none : (n : ℕ) → AreWhole (replicate n None)
 whole-none zero = tt
 whole-none (suc n) = (blank-length, whole-none n)
 
-all-none : (n : ℕ) → all_bytes (replicate n None) ≡ replicate {A = ℕ} (n * 4096) 0
+pub all-none : (n : ℕ) → all_bytes (replicate n None) ≡ replicate {A = ℕ} (n * 4096) 0
 unfolding blank_page
 all-none zero = refl
 all-none (suc n) =
     let e : suc n * 4096 ≡ 4096 + n * 4096 = omega arith in
     rw e (ap (λ b. replicate {A = ℕ} 4096 0 ++ b) (all-none n) ∙ replicate-append-replicate {A = ℕ} 4096 (n * 4096) 0)
 
-there-none : (n : ℕ) → map is_there (replicate n None) ≡ replicate n false
+pub there-none : (n : ℕ) → map is_there (replicate n None) ≡ replicate n false
 there-none zero = refl
 there-none (suc n) = ap (λ ts. false ∷ ts) (there-none n)
 

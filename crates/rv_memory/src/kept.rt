@@ -123,18 +123,18 @@ pub struct KeptMemory {
 
 impl Model for KeptMemory {
     ghost use Rattle.std.specs.Prelude.{length, map};
-    ghost use Rattle.rv_memory.specs.Held.{all_bytes, is_there, IsHeld};
+    ghost use Rattle.rv_memory.specs.Held.{all_bytes, is_there, shown, IsHeld};
     ghost use Rattle.rv_memory.specs.Memory.{Memory};
 
     ghost Value = { Memory };
 
     ghost view = { λ m. record {
-      bytes = all_bytes m.pages.items;
+      bytes = all_bytes (shown m.text m.pages.items);
       text = length m.text;
-      pages = map is_there m.pages.items;
+      pages = map is_there (shown m.text m.pages.items);
     } };
 
-    ghost invariant = { λ m. IsHeld m.text m.pages.items };
+    ghost invariant = { λ m. IsHeld m.text (shown m.text m.pages.items) };
 }
 
 impl KeptMemory {

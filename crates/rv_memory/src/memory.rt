@@ -53,25 +53,26 @@ impl Width {
 #[derive(Drop)]
 pub struct RankMemory {
     pub(crate) alloc: Global,
-    /// The text once more in one piece, for fetches, shared with the memories of other ranks and with copies.
+    /// Shared with the memories of other ranks and with copies.
     pub(crate) text: Text,
+    /// Those that the text fills aren't held.
     pub(crate) pages: Vec<Option<Page>>,
 }
 
 impl Model for RankMemory {
     ghost use Rattle.std.specs.Prelude.{length, map};
-    ghost use Rattle.rv_memory.specs.Held.{all_bytes, is_there, IsHeld};
+    ghost use Rattle.rv_memory.specs.Held.{all_bytes, is_there, shown, IsHeld};
     ghost use Rattle.rv_memory.specs.Memory.{Memory};
 
     ghost Value = { Memory };
 
     ghost view = { λ m. record {
-      bytes = all_bytes m.pages.items;
+      bytes = all_bytes (shown m.text m.pages.items);
       text = length m.text;
-      pages = map is_there m.pages.items;
+      pages = map is_there (shown m.text m.pages.items);
     } };
 
-    ghost invariant = { λ m. IsHeld m.text m.pages.items };
+    ghost invariant = { λ m. IsHeld m.text (shown m.text m.pages.items) };
 }
 
 impl RankMemory {
@@ -107,10 +108,12 @@ impl RankMemory {
         ensures { IfOk result (λ memory. memory ≡ loaded_memory size (arc_slice_items text) init.now) }
     {
         let text = Text::new(text);
-        let start = (text.len() + 15) / 16 * 16;
+        let bytes = text.as_slice();
+        let whole = bytes.len() / 4096 * 4096;
+        let start = (bytes.len() + 15) / 16 * 16;
         let mut pages = pages::none(alloc, size / 4096)?;
-        pages::write(&mut pages, alloc, 0, text.as_slice())?;
-        pages::write(&mut pages, alloc, start, init)?;
+        pages::write(bytes, &mut pages, alloc, whole, &bytes[whole..])?;
+        pages::write(bytes, &mut pages, alloc, start, init)?;
         Ok(RankMemory { alloc, text, pages })
     }
 
@@ -187,7 +190,7 @@ impl RankMemory {
             return Err(Cause::LoadAccess);
         }
         let page = &self.pages[(address / 4096) as usize];
-        Ok(read(page, (address % 4096) as usize, size as usize))
+        Ok(read(page, self.text.as_slice(), address as usize, size as usize))
     }
 
     /// The trap of a store, or `None` where it doesn't trap: `StoreMisaligned` where the address isn't a multiple of
@@ -253,7 +256,12 @@ impl RankMemory {
         ensures { result ≡ value_at self.now.bytes address 8 }
     {
         let mut bytes = [0; 8];
-        pages::copy(self.pages.as_slice(), address as usize, &mut bytes);
+        pages::copy(
+            self.text.as_slice(),
+            self.pages.as_slice(),
+            address as usize,
+            &mut bytes,
+        );
         value(&bytes, 0, 8)
     }
 
@@ -284,7 +292,7 @@ impl RankMemory {
         ensures value { result ≡ missing_pages self.now.pages address count }
         ensures most { result ≤ 256 }
     {
-        pages::missing(self.pages.as_slice(), address, count)
+        pages::missing(self.text.as_slice(), self.pages.as_slice(), address, count)
     }
 
     /// Puts the bytes from an address on into the front of `out`, as many as are in the memory and `out` has room for,
@@ -297,7 +305,12 @@ impl RankMemory {
             return 0;
         }
         let count = out.len().min((self.size() - address) as usize);
-        pages::copy(self.pages.as_slice(), address as usize, &mut out[..count]);
+        pages::copy(
+            self.text.as_slice(),
+            self.pages.as_slice(),
+            address as usize,
+            &mut out[..count],
+        );
         count
     }
 
@@ -327,7 +340,12 @@ impl RankMemory {
     {
         let mut bytes = Vec::new(alloc);
         bytes.resize(count, 0)?;
-        pages::copy(self.pages.as_slice(), address, bytes.as_mut_slice());
+        pages::copy(
+            self.text.as_slice(),
+            self.pages.as_slice(),
+            address,
+            bytes.as_mut_slice(),
+        );
         Ok(bytes)
     }
 
@@ -346,7 +364,13 @@ impl RankMemory {
         if bytes.is_empty() {
             return Ok(());
         }
-        match pages::write(&mut self.pages, self.alloc, address as usize, bytes) {
+        match pages::write(
+            self.text.as_slice(),
+            &mut self.pages,
+            self.alloc,
+            address as usize,
+            bytes,
+        ) {
             Ok(()) => Ok(()),
             Err(_) => Err(BytesFault::Memory),
         }
@@ -395,7 +419,13 @@ impl RankMemory {
         if spares.len() < missing {
             return false;
         }
-        pages::place(&mut self.pages, spares, address, count);
+        pages::place(
+            self.text.as_slice(),
+            &mut self.pages,
+            spares,
+            address,
+            count,
+        );
         true
     }
 
@@ -406,7 +436,12 @@ impl RankMemory {
         ensures { self.new ≡ with_bytes self.old address bytes.now }
     {
         if !bytes.is_empty() {
-            pages::fill(&mut self.pages, address as usize, bytes);
+            pages::fill(
+                self.text.as_slice(),
+                &mut self.pages,
+                address as usize,
+                bytes,
+            );
         }
     }
 }

@@ -1,7 +1,7 @@
 //! One page: 4,096 bytes in memory of their own.
 ghost use Rattle.std.specs.Prelude.{◌≡◌, ◌+◌, ◌-◌, ◌^◌, ◌<◌, ◌≤◌, ◌++◌, length, replicate, IfOk, OnOk, OnErr, IsOk};
-ghost use Rattle.std.specs.Prelude.{true, false, not, Option, ◌≢◌};
-ghost use Rattle.rv_memory.specs.Held.{blank_page, page_bytes, is_there};
+ghost use Rattle.std.specs.Prelude.{true, false, not, Option, None, ◌≢◌, ◌*◌, ◌/◌, ◌%◌, drop, nat_le};
+ghost use Rattle.rv_memory.specs.Held.{blank_page, page_bytes, is_there, shown_page};
 ghost use Rattle.rv_memory.specs.Memory.{value_at, bytes_of, overwritten};
 
 use crate::fault::StoreFault;
@@ -116,17 +116,54 @@ pub(crate) fn is_missing(page: &Option<Page>) -> bool
     page.is_none()
 }
 
-/// The value of `count` bytes, 8 at most, of a page that may not be there.
-#[inline(always)]
-pub(crate) fn read(page: &Option<Page>, at: usize, count: usize) -> u64
-    requires inside { at + count ≤ 4096 }
+/// What there is of the text from a page's first byte on.
+pub(crate) fn rest_of(text: &[u8], page: usize) -> &[u8]
+    requires { page < 2 ^ 20 }
+    ensures { result.now ≡ drop (page * 4096) text.now }
+{
+    &text[(page * 4096).min(text.len())..]
+}
+
+/// Whether the text fills a page, so that the page needn't be held. `rest` is what there is of the text from the page's
+/// first byte on.
+pub(crate) fn is_text(rest: &[u8]) -> bool
+    ensures { result ≡ nat_le 4096 (length rest.now) }
+{
+    4096 <= rest.len()
+}
+
+/// The value of `count` bytes, 8 at most, of a page that isn't held. It stands by itself, so that what each load does of
+/// its own stays small.
+#[inline(never)]
+fn read_absent(text: &[u8], address: usize, count: usize) -> u64
+    requires number { address < 2 ^ 20 }
+    requires inside { address % 4096 + count ≤ 4096 }
     requires most { count ≤ 8 }
-    ensures value { result ≡ value_at (page_bytes page.now) at count }
+    ensures value { result
+        ≡ value_at (page_bytes (shown_page (drop (address / 4096 * 4096) text.now) None)) (address % 4096) count }
+    ensures bound { result < 256 ^ count }
+{
+    let rest = rest_of(text, address / 4096);
+    if is_text(rest) {
+        value(rest, address % 4096, count)
+    } else {
+        0
+    }
+}
+
+/// The value of `count` bytes, 8 at most, of the page that has the address. Where it isn't held it is text or zeros.
+#[inline(always)]
+pub(crate) fn read(page: &Option<Page>, text: &[u8], address: usize, count: usize) -> u64
+    requires number { address < 2 ^ 20 }
+    requires inside { address % 4096 + count ≤ 4096 }
+    requires most { count ≤ 8 }
+    ensures value { result
+        ≡ value_at (page_bytes (shown_page (drop (address / 4096 * 4096) text.now) page.now)) (address % 4096) count }
     ensures bound { result < 256 ^ count }
 {
     match page {
-        Some(page) => value(page.bytes(), at, count),
-        None => 0,
+        Some(page) => value(page.bytes(), address % 4096, count),
+        None => read_absent(text, address, count),
     }
 }
 

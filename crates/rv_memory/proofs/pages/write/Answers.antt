@@ -1,8 +1,7 @@
 -- The pages are made before one is written.
-use Rattle.std.proofs.Common.{◌≡◌, ◌∙◌, sym, ap, arith, length}
+use Rattle.std.proofs.Common.{arith, length}
 use Rattle.std.specs.Prelude.{map}
-use Rattle.rv_memory.specs.Held.{is_there}
-use Rattle.rv_memory.specs.MorePages.{missing_pages}
+use Rattle.rv_memory.specs.Held.{is_there, shown}
 use Rattle.rv_memory.proofs.Marked.{missing_from-written}
 use Rattle.rv_memory.proofs.pages.write.Goals as goal
 
@@ -14,4 +13,4 @@ fill-requires-clause-most c = omega (arith, c.requires.most, c.place.ensures.lon
 
 pub fill-requires-clause-present : goal.fill-requires-clause-present
 fill-requires-clause-present c =
-    rw c.place.ensures.there (missing_from-written 0 (map is_there c.args.pages.now.items) c.args.address (length c.args.bytes.now))
+    rw c.place.ensures.there (missing_from-written 0 (map is_there (shown c.args.text.now c.args.pages.now.items)) c.args.address (length c.args.bytes.now))

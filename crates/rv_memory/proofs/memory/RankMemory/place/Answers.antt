@@ -1,0 +1,11 @@
+use Rattle.std.proofs.Common.{arith}
+use Rattle.rv_memory.proofs.Shown.{held-most, held-same}
+use Rattle.rv_memory.proofs.memory.RankMemory.place.Goals as goal
+
+pub place-requires-clause-most : goal.place-requires-clause-most
+place-requires-clause-most c = omega (arith, held-most c.self.inside.text c.self.inside.pages.items c.self.invariant)
+
+pub invariant_of-self : goal.invariant_of-self
+invariant_of-self c =
+    let kept = c.as_slice.ensures in
+    held-same c.self.inside.text c.self.inside.pages.items c.place.new.pages.items c.self.invariant (rw kept at c.place.ensures.whole) c.place.ensures.long (rw kept at c.place.ensures.bytes)
