@@ -1,3 +1,4 @@
 pub mod Accepted
 pub mod Boards
 pub mod Calls
+pub mod Premises

@@ -4,6 +4,7 @@ ghost use Rattle.std.specs.Prelude.{◌≡◌, ◌≢◌, ◌<◌, ◌≤◌, �
 ghost use Rattle.mp_match.specs.Board.{held_count};
 ghost use Rattle.mp_hub.specs.Hub.{started};
 ghost use Rattle.messages_tests.specs.Calls.{MoreWorkedCalls};
+ghost use Rattle.messages_tests.specs.Premises.{HubPremises};
 
 use mp_hub::{CallFault, HubState};
 use mp_types::{Code, Reply, Request};
@@ -11,6 +12,11 @@ use mp_types::{Code, Reply, Request};
 /// Some calls with the replies that the definitions give, computed.
 pub fn more_worked_calls()
     ensures { MoreWorkedCalls }
+{}
+
+/// What the laws of loss, of completion, of posts' owners and of links ask for, after some calls.
+pub fn premises_are_met()
+    ensures { HubPremises }
 {}
 
 /// A send where 65,536 messages are held is refused with FULL, whatever memory there is.
