@@ -2,3 +2,4 @@ pub mod Accepted
 pub mod Boards
 pub mod Calls
 pub mod Premises
+pub mod Held

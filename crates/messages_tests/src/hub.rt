@@ -4,6 +4,7 @@ ghost use Rattle.std.specs.Prelude.{◌≡◌, ◌≢◌, ◌<◌, ◌≤◌, �
 ghost use Rattle.mp_match.specs.Board.{held_count};
 ghost use Rattle.mp_hub.specs.Hub.{started};
 ghost use Rattle.messages_tests.specs.Calls.{MoreWorkedCalls};
+ghost use Rattle.messages_tests.specs.Held.{FullLaw};
 ghost use Rattle.messages_tests.specs.Premises.{HubPremises};
 
 use mp_hub::{CallFault, HubState};
@@ -17,6 +18,12 @@ pub fn more_worked_calls()
 /// What the laws of loss, of completion, of posts' owners and of links ask for, after some calls.
 pub fn premises_are_met()
     ensures { HubPremises }
+{}
+
+/// A send is refused with FULL exactly where 65,536 messages were sent that nobody has got, whatever was sent and got
+/// before.
+pub fn full_law()
+    ensures { FullLaw }
 {}
 
 /// A send where 65,536 messages are held is refused with FULL, whatever memory there is.
