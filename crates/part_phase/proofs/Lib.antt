@@ -3,3 +3,4 @@ pub mod Changes
 pub mod Padding
 pub mod Arrivals
 pub mod Ends
+pub mod Sides

@@ -1,9 +1,16 @@
 -- What holds of phases, in the standard's words (MPI 4.1, chapter 4.2).
-use Rattle.std.specs.Prelude.{◌≡◌, ◌≢◌, ℕ, ◌+◌, ◌*◌, ◌<◌, ◌≤◌, length, get_or, true, false, Some, None}
+use Rattle.std.specs.Prelude.{◌≡◌, ◌≢◌, ℕ, ◌+◌, ◌*◌, ◌<◌, ◌≤◌, List, length, get_or, slice_get, true, false, Some, None}
+use Rattle.std.specs.Prelude.{option_map}
 use Rattle.rv_image.specs.declared.images.ImageVersion.{ImageVersion}
+use Rattle.rv_image.specs.declared.images.Link.{Link}
+use Rattle.part_phase.specs.declared.phases.Phase.{Phase}
+use Rattle.part_phase.specs.declared.phases.Phase.TheVariants.{Apart, Sending, Receiving}
 use Rattle.part_phase.specs.declared.receiving.RecvPhase.{RecvPhase}
 use Rattle.part_phase.specs.declared.sending.SendPhase.{SendPhase}
+use Rattle.part_phase.specs.Phases.{changed_at, first_phases}
+use Rattle.part_phase.specs.Receiving.{unshaped_receiving}
 use Rattle.part_phase.specs.Receiving.{is_cut, cut_into, next_box, next_box_of, one_taken, begun_receiving}
+use Rattle.part_phase.specs.Sending.{readied, unshaped_sending}
 use Rattle.part_phase.specs.Sending.{all_freed, begun_sending, is_ready, next_to_free, one_freed}
 
 -- a byte of the whole lies in a box, as the sender cut it, and in a partition, as the receiver did
@@ -76,3 +83,24 @@ NextToFreeLaw = (p : SendPhase) (part : ℕ) → next_to_free p ≡ Some part �
 abbrev pub LastFreedLaw : Type 0
 LastFreedLaw = (p : SendPhase) → p.freed + 1 ≡ p.parts →
     (next_to_free (one_freed p) ≡ None) × ((part : ℕ) → is_ready (one_freed p) part ≡ false)
+
+-- ---- the sides of a rank
+
+-- a rank has the sender's side of each link from it, the receiver's of each to it, and none of any other
+abbrev pub FirstSidesLaw : Type 0
+FirstSidesLaw = (links : List Link) (rank n : ℕ) (link : Link) → slice_get links n ≡ Some link →
+    (link.from ≡ rank → slice_get (first_phases links rank) n ≡ Some (Sending unshaped_sending)) ×
+    (link.from ≢ rank → link.to ≡ rank → slice_get (first_phases links rank) n ≡ Some (Receiving unshaped_receiving)) ×
+    (link.from ≢ rank → link.to ≢ rank → slice_get (first_phases links rank) n ≡ Some Apart)
+
+-- a change of the side of one link is just that: the sides of all other links stay
+abbrev pub OneSideLaw : Type 0
+OneSideLaw = (phases : List Phase) (link : ℕ) (change : Phase → Phase) →
+    (slice_get (changed_at link change phases) link ≡ option_map change (slice_get phases link)) ×
+    ((other : ℕ) → other ≢ link → slice_get (changed_at link change phases) other ≡ slice_get phases other)
+
+-- a partition that is made ready is ready in this phase, and no other is
+abbrev pub ReadiedLaw : Type 0
+ReadiedLaw = (p : SendPhase) (part : ℕ) → part < length p.ready →
+    (is_ready (readied part p) part ≡ true) ×
+    ((other : ℕ) → other ≢ part → is_ready (readied part p) other ≡ is_ready p other)

@@ -1,6 +1,7 @@
 //! What holds of phases, in the standard's words (MPI 4.1, chapter 4.2).
 
 ghost use Rattle.part_phase.specs.Laws.{ArrivedLaw, AwaitedLaw, BegunReceivingLaw, BegunSendingLaw, CutLaw};
+ghost use Rattle.part_phase.specs.Laws.{FirstSidesLaw, OneSideLaw, ReadiedLaw};
 ghost use Rattle.part_phase.specs.Laws.{LastFreedLaw, LastTakenLaw, NextBoxLaw, NextToFreeLaw, OneTakenLaw};
 
 /// A partition that waits for no box in a phase has arrived: each byte of it lies in a box that was taken. One that
@@ -28,4 +29,12 @@ pub fn beginning_law()
 pub fn freeing_law()
     ensures next { NextToFreeLaw }
     ensures last { LastFreedLaw }
+{}
+
+/// A rank has one side of each link that it is an end of, as the link goes, and none of any other. What is done to the
+/// side of one link leaves all others, and what is done to one partition leaves all others.
+pub fn sides_law()
+    ensures first { FirstSidesLaw }
+    ensures one { OneSideLaw }
+    ensures readied { ReadiedLaw }
 {}
