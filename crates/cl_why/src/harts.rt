@@ -40,7 +40,8 @@ fn is_stopped(mode: Mode) -> bool
     }
 }
 
-fn is_waiting(mode: Mode) -> bool
+/// Whether a hart in this mode waits.
+pub(crate) fn is_waiting(mode: Mode) -> bool
     ensures { (result ≡ true) ↔ IsWaiting mode }
 {
     match mode {

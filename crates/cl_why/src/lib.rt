@@ -8,5 +8,7 @@ mod boxes;
 mod companies;
 mod harts;
 mod requests;
+mod verdicts;
 
 pub use companies::{is_stuck_beside, stuck};
+pub use verdicts::deadlock;
