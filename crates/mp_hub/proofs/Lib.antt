@@ -15,3 +15,4 @@ pub mod Owners
 pub mod Links
 pub mod Finished
 pub mod Together
+pub mod Live

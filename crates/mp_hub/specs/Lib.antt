@@ -12,5 +12,6 @@ pub mod Finished
 pub mod Replies
 pub mod Links
 pub mod Vain
+pub mod Live
 pub mod Rows
 pub mod RankRows

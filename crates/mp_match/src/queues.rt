@@ -14,6 +14,8 @@ ghost use Rattle.mp_match.specs.Live.{IsPast, owner_in};
 ghost use Rattle.mp_match.specs.Free.{free_post};
 ghost use Rattle.mp_types.specs.Carried.{carried_by_message};
 
+mod live_posts;
+
 use crate::entering::enter;
 use crate::history::History;
 use crate::live::{
