@@ -1,14 +1,17 @@
--- A cluster that was reached from an image: each of its ranks came there alone, and it has the image's links.
+-- A cluster that was reached from an image: it has as many ranks, each of which came there alone with as many harts as
+-- the image says, and it has the image's links.
 use Rattle.std.specs.Prelude.{ℕ, zero, suc, ◌≡◌, ◌⊎◌, List, [], ◌∷◌, ◌++◌, length, map, Option, Some, None}
 use Rattle.std.specs.Prelude.{slice_get, slice_set}
-use Rattle.std.proofs.Common.{refl, sym, ap, ◌∙◌, subst, inl, inr}
+use Rattle.std.proofs.Common.{refl, sym, ap, ◌∙◌, subst, inl, inr, arith}
 use Rattle.std.proofs.lemmas.Bool.{cases_eq}
+use Rattle.std.proofs.lemmas.List.{length-append, length-map, length-set}
 use Rattle.std.proofs.lemmas.Option.{same_Some}
+use Rattle.rv_hart.specs.State.{start_state}
 use Rattle.rv_image.specs.declared.images.ImageParts.{ImageParts}
 use Rattle.cl_journal.specs.declared.entries.Entry.{Entry}
 use Rattle.cl_rank.specs.Deeds.{Deed, RankMoves}
 use Rattle.cl_rank.specs.Alone.{IsAlone}
-use Rattle.cl_state.specs.Rank.{Rank, below, loaded}
+use Rattle.cl_state.specs.Rank.{Rank, below, loaded, start_harts}
 use Rattle.cl_state.proofs.Moves.{told_at}
 use Rattle.cl_machine.specs.declared.steps.Step.{Step}
 use Rattle.cl_machine.specs.Cluster.{Cluster, IsRun, IsStep, loaded_cluster}
@@ -19,6 +22,7 @@ use Rattle.cl_machine.proofs.Lists.{get-set_other, get-set_same}
 use Rattle.cl_machine.proofs.Tables.{table_law}
 
 pub record Comes (image : ImageParts) (cluster : Cluster) : Type 0 where
+  pub count : length cluster.ranks ≡ image.ranks
   pub alone : (r : ℕ) (rank : Rank) → slice_get cluster.ranks r ≡ Some rank
       → (ds : List Deed) × IsAlone (loaded image r) ds rank
   pub links : cluster.journal.links ≡ image.links
@@ -58,6 +62,7 @@ map_at f (x ∷ xs) (suc i) rank h = map_at f xs i rank h
 
 comes_loaded : (image : ImageParts) → Comes image (loaded_cluster image)
 comes_loaded image = record {
+  count = length-map (below image.ranks) (loaded image) ∙ below_length image.ranks;
   alone = λ r rank there.
       let m = map_at (loaded image) (below image.ranks) r rank there in
       ([], m.2 ∙ ap (loaded image) (below_at image.ranks r m.0 m.1));
@@ -78,6 +83,7 @@ same_links old new (Some entry) moves = ap (λ (j : Journal). j.links) moves.2
 pub comes_on : (image : ImageParts) (old : Cluster) (d : Deed) (new : Cluster) → Comes image old → Goes old d new
     → Comes image new
 comes_on image old d new comes goes = record {
+  count = ap (λ (rs : List Rank). length rs) (goes.0).4 ∙ (length-set old.ranks d.rank (goes.0).1 ∙ comes.count);
   alone = λ r rank there. by_rank r rank (sym (ap (λ rs. slice_get rs r) (goes.0).4) ∙ there);
   links = same_links old.journal new.journal (entry_of d) goes.1 ∙ comes.links;
 }
@@ -129,3 +135,19 @@ site_from (d ∷ ds) old new run =
 pub same_site : (image : ImageParts) (r : ℕ) (ds : List Deed) (rank : Rank) → IsAlone (loaded image r) ds rank
     → rank.site ≡ (loaded image r).site
 same_site image r ds rank run = site_from ds (loaded image r) rank run
+
+started : (image : ImageParts) (r n : ℕ) → length (start_harts image r n) ≡ n
+started image r zero = refl
+started image r (suc n) =
+    let less = started image r n in
+    omega (arith, less, length-append (start_harts image r n) (start_state image.entry image.memory n r ∷ []))
+
+harts_from : (ds : List Deed) (old new : Rank) → IsAlone old ds new → length new.harts ≡ length old.harts
+harts_from [] old new run = ap (λ (x : Rank). length x.harts) run
+harts_from (d ∷ ds) old new run =
+    harts_from ds run.0 new run.2
+    ∙ (ap (λ (x : Rank). length x.harts) ((run.1).4) ∙ (told_at old d.hart _ d.stamp).harts)
+
+pub same_harts : (image : ImageParts) (r : ℕ) (ds : List Deed) (rank : Rank) → IsAlone (loaded image r) ds rank
+    → length rank.harts ≡ image.harts
+same_harts image r ds rank run = harts_from ds (loaded image r) rank run ∙ started image r image.harts
