@@ -1,3 +1,9 @@
 pub mod Senders
 pub mod Told
 pub mod InTurn
+pub mod Sizes
+pub mod Left
+pub mod Narrowed
+pub mod Waits
+pub mod Unready
+pub mod One

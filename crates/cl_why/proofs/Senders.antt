@@ -1,17 +1,20 @@
 -- Who could bring something, and the ranks of a list.
-use Rattle.std.specs.Prelude.{ℕ, ◌≡◌, ◌<◌, ◌==◌, ◌&&◌, ◌||◌, not, Bool, true, false, cond, List, length, get_or, Option}
-use Rattle.std.specs.Prelude.{Some, None, nat_lt}
-use Rattle.std.specs.List.{list_all, position_or_len}
+use Rattle.std.specs.Prelude.{ℕ, ◌≡◌, ◌<◌, ◌+◌, ◌==◌, ◌&&◌, ◌||◌, not, Bool, true, false, cond, List, [], ◌∷◌, length}
+use Rattle.std.specs.Prelude.{get_or, Option, Some, None, nat_lt}
+use Rattle.std.specs.List.{list_all, list_any, position_or_len}
 use Rattle.std.specs.Option.{is_some}
-use Rattle.std.proofs.Common.{refl, sym, subst, ◌∙◌, rules}
-use Rattle.std.proofs.lemmas.Bool.{and_parts, eqb-true}
+use Rattle.std.proofs.Common.{refl, sym, ap, subst, ◌∙◌, arith, rules}
+use Rattle.std.proofs.lemmas.Bool.{and_from, and_parts, eq-eqb, eqb-true, lt-ltb, or_left, or_right}
 use Rattle.std.proofs.lemmas.List.Folds.{list_all_at}
 use Rattle.std.proofs.lemmas.List.Sums.{passes_at_first}
 use Rattle.std.proofs.lemmas.Option.{same_Some}
 use Rattle.mp_match.specs.declared.posts.Line.{Line}
 use Rattle.mp_match.specs.declared.posts.Post.{Post}
-use Rattle.mp_match.specs.Free.{free_in}
-use Rattle.mp_match.specs.Pairs.{admits, is_free}
+use Rattle.mp_match.specs.Board.{line_of}
+use Rattle.mp_match.specs.Live.{post_in}
+use Rattle.mp_match.specs.Pairs.{admits}
+use Rattle.mp_hub.specs.Hub.{HubView, is_ready}
+use Rattle.mp_hub.specs.Live.{IsReadyToAll}
 use Rattle.mp_waits.specs.Waits.{OnlyOf, could_pair}
 use Rattle.cl_calls.specs.Site.{place_of}
 use Rattle.cl_stuck.specs.Stuck.{is_among}
@@ -45,17 +48,58 @@ senders_only among ms source all k could =
     admitted (admits source k) (is_among among k)
     (subst (λ n. (not (admits source n) || is_among among n) ≡ true) here its) parts.0
 
+-- who is among some has a place there
+first_within : (p : ℕ → Bool) (xs : List ℕ) → list_any p xs ≡ true → position_or_len p xs < length xs
+first_within p [] any = absurd (cc)
+first_within p (x ∷ xs) any = by (p x) any (first_within p xs)
+  where
+    by : (b : Bool) → (b || list_any p xs) ≡ true → (list_any p xs ≡ true → position_or_len p xs < length xs)
+        → cond (not b) (1 + position_or_len p xs) 0 < length (x ∷ xs)
+    by true its less = omega arith
+    by false its less = (let low = less its in omega (arith, low))
+
+placed : (k : ℕ) (ms : List ℕ) → list_any (λ x. x == k) ms ≡ true → is_some (place_of k ms) ≡ true
+placed k ms here =
+    let n = position_or_len (λ x. x == k) ms in
+    let low : nat_lt n (length ms) ≡ true = lt-ltb n (length ms) (first_within (λ x. x == k) ms here) in
+    ap (λ b. is_some (cond b (Some n) None)) low
+
+all_pass : (p : ℕ → Bool) (xs : List ℕ) → ((k : ℕ) → list_any (λ x. x == k) xs ≡ true → p k ≡ true)
+    → list_all p xs ≡ true
+all_pass p [] each = refl
+all_pass p (x ∷ xs) each =
+    and_from (p x) (list_all p xs) (each x (or_left (x == x) (list_any (λ y. y == x) xs) (eq-eqb x x refl)))
+    (all_pass p xs (λ k here. each k (or_right (x == k) (list_any (λ y. y == k) xs) here)))
+
+-- where none but these could send, each member that is admitted is one of these
+pub senders_all : (among ms : List ℕ) (source : Option ℕ)
+    → OnlyOf (is_among among) (λ k. admits source k && is_some (place_of k ms))
+    → list_all (λ k. not (admits source k) || is_among among k) ms ≡ true
+senders_all among ms source only =
+    all_pass (λ k. not (admits source k) || is_among among k) ms (λ k here. by k (placed k ms here) (admits source k)
+    refl)
+  where
+    by : (k : ℕ) → is_some (place_of k ms) ≡ true → (a : Bool) → admits source k ≡ a
+        → (not a || is_among among k) ≡ true
+    by k place true e = only k (and_from (admits source k) (is_some (place_of k ms)) e place)
+    by k place false e = refl
+
 -- a post without a partner
 abbrev pub alone : Post → Option Line
 alone p = Some (record { post = p; partner = None })
 
--- who could make the other side of a post without a partner could make that of its line
-pub free_pairs : (among : List ℕ) (member : ℕ → ℕ → Bool) (o : Option Line) (p : Post) → Some p ≡ free_in o
-    → OnlyOf (is_among among) (could_pair member (alone p)) → OnlyOf (is_among among) (could_pair member o)
-free_pairs among member None p e only = λ k could. absurd (cc)
-free_pairs among member (Some line) p e only = by (is_free line.partner) e
+-- who could make the other side of a post could make that of its line
+pub same_pairs : (member : ℕ → ℕ → Bool) (o : Option Line) (p : Post) → post_in o ≡ Some p
+    → could_pair member o ≡ could_pair member (alone p)
+same_pairs member None p e = absurd (cc)
+same_pairs member (Some line) p e =
+    (let same : line.post ≡ p = same_Some line.post p e in ap (λ q. could_pair member (alone q)) same)
+
+-- for a post that isn't ready, and isn't live either, nobody waits
+pub none_left : (among : ℕ → Bool) (member : ℕ → ℕ → Bool) (h : HubView) (rank number : ℕ) → IsReadyToAll h number
+    → is_ready h rank number ≡ false → OnlyOf among (could_pair member (line_of h.board number))
+none_left among member h rank number ready not_ready = by (line_of h.board number) refl
   where
-    by : (b : Bool) → Some p ≡ cond b (Some line.post) None
-        → OnlyOf (is_among among) (could_pair member (Some line))
-    by true its = subst (λ q. OnlyOf (is_among among) (could_pair member (alone q))) (same_Some p line.post its) only
-    by false its = absurd (cc)
+    by : (o : Option Line) → line_of h.board number ≡ o → OnlyOf among (could_pair member o)
+    by None e = λ k could. absurd (cc)
+    by (Some line) e = (let no : true ≡ false = sym (ready line rank e) ∙ not_ready in absurd (cc))

@@ -1,1 +1,3 @@
 pub mod Why
+pub mod Stuck
+pub mod Laws

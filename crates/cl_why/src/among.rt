@@ -1,10 +1,11 @@
 //! Whether none but the ranks of a list could bring something.
 
-ghost use Rattle.std.specs.Prelude.{◌≡◌, ◌↔◌, ◌||◌, not, true, None, Some};
+ghost use Rattle.std.specs.Prelude.{◌≡◌, ◌↔◌, ◌||◌, not, ℕ, false, true, None, Some};
 ghost use Rattle.std.specs.List.{list_all, list_any};
 ghost use Rattle.mp_match.specs.Pairs.{admits as admits_of};
 ghost use Rattle.mp_match.specs.Board.{line_of};
 ghost use Rattle.mp_transfers.specs.Inits.{is_receiver};
+ghost use Rattle.mp_hub.specs.Hub.{is_ready};
 ghost use Rattle.mp_waits.specs.Waits.{OnlyOf, could_pair, could_send, sends_over};
 ghost use Rattle.cl_stuck.specs.Stuck.{is_among as is_among_of, is_member};
 
@@ -44,7 +45,7 @@ fn has_senders(among: &[u8], members: &[u8], source: Option<u8>) -> bool
 
 /// Whether none but these could send what is selected: all members of its communicator that it admits are among them.
 pub(crate) fn could_only_send(among: &[u8], site: &Site, selection: &Selection) -> bool
-    ensures { result ≡ true → OnlyOf (is_among_of among.now) (could_send (is_member site.now) selection.now) }
+    ensures { (result ≡ true) ↔ OnlyOf (is_among_of among.now) (could_send (is_member site.now) selection.now) }
 {
     has_senders(
         among,
@@ -53,9 +54,9 @@ pub(crate) fn could_only_send(among: &[u8], site: &Site, selection: &Selection) 
     )
 }
 
-/// Whether none but these could make the other side of a post without a partner.
+/// Whether none but these could make the other side of a post.
 fn could_only_make(among: &[u8], site: &Site, post: &Post) -> bool
-    ensures { result ≡ true → OnlyOf (is_among_of among.now)
+    ensures { (result ≡ true) ↔ OnlyOf (is_among_of among.now)
         (could_pair (is_member site.now) (Some (record { post = post.now; partner = None }))) }
 {
     match post {
@@ -65,15 +66,16 @@ fn could_only_make(among: &[u8], site: &Site, post: &Post) -> bool
     }
 }
 
-/// Whether the post is without a partner, and none but these could make one. A synchronous send that was claimed, and
-/// isn't received yet, has its partner.
+/// Whether none but these could make the other side of a post that isn't ready: receive a send, also one that was
+/// claimed, or send what is selected. Of a post that isn't there nobody could.
 pub(crate) fn could_only_pair(among: &[u8], site: &Site, hub: &HubState, post: u64) -> bool
-    ensures { result ≡ true
-        → OnlyOf (is_among_of among.now) (could_pair (is_member site.now) (line_of hub.now.board post)) }
+    ensures { (rank : ℕ) → is_ready hub.now rank post ≡ false
+        → ((result ≡ true)
+        ↔ OnlyOf (is_among_of among.now) (could_pair (is_member site.now) (line_of hub.now.board post))) }
 {
-    match hub.free_post(post) {
-        None => false,
-        Some(free) => could_only_make(among, site, &free),
+    match hub.live_post(post) {
+        None => true,
+        Some(live) => could_only_make(among, site, &live),
     }
 }
 

@@ -1,10 +1,12 @@
 //! Harts that are stopped, or wait on what the ranks of a list alone could bring.
 
-ghost use Rattle.std.specs.Prelude.{◌≡◌, ◌↔◌, ◌<◌, ◌⊎◌, IfOk, Some, false, true, vec_len};
+ghost use Rattle.std.specs.Prelude.{◌≡◌, ◌↔◌, ◌<◌, ◌⊎◌, IfOk, OnErr, Some, false, true, vec_len};
 ghost use Rattle.rv_image.specs.declared.images.ImageParts.{ImageParts};
 ghost use Rattle.part_box.specs.declared.settled.Settled.{Settled as SettledBox};
 ghost use Rattle.mp_transfers.specs.Inits.{is_receiver};
 ghost use Rattle.mp_waits.specs.Waits.{OnlyOf, sends_over};
+ghost use Rattle.cl_state.specs.Asked.{asked};
+ghost use Rattle.cl_state.specs.TurnRoom.{carried};
 ghost use Rattle.cl_state.specs.Room.{rank_of};
 ghost use Rattle.cl_state_laws.specs.Vain.{IsStopped, IsWaiting, mode_of, waits_on as waits_on_of};
 ghost use Rattle.cl_machine.specs.Boxes.{box_number};
@@ -63,26 +65,26 @@ fn waits_on(doing: &Doing) -> bool
 
 /// Whether nothing stands in the box, and none but these could put something there.
 fn is_unsent(among: &[u8], state: &ClusterState, link: u8, part: u8) -> bool
-    ensures empty { result ≡ true
-        → (s : SettledBox) → settled_at state.now.boxes.items (box_number link part) ≡ Some s → s.full ≡ false }
-    ensures only { result ≡ true → OnlyOf (is_among among.now) (sends_over state.now.hub.links link) }
+    ensures { (result ≡ true)
+        ↔ (((s : SettledBox) → settled_at state.now.boxes.items (box_number link part) ≡ Some s → s.full ≡ false)
+        × OnlyOf (is_among among.now) (sends_over state.now.hub.links link)) }
 {
     is_empty(state.boxes.as_slice(), link, part) && has_sender(among, state.hub.links(), link)
 }
 
 /// Whether something stands in the box, and none but these could take it.
 fn is_untaken(among: &[u8], state: &ClusterState, link: u8, part: u8) -> bool
-    ensures full { result ≡ true
-        → (s : SettledBox) → settled_at state.now.boxes.items (box_number link part) ≡ Some s → s.full ≡ true }
-    ensures only { result ≡ true → OnlyOf (is_among among.now) (λ k. is_receiver state.now.hub.links k link) }
+    ensures { (result ≡ true)
+        ↔ (((s : SettledBox) → settled_at state.now.boxes.items (box_number link part) ≡ Some s → s.full ≡ true)
+        × OnlyOf (is_among among.now) (λ k. is_receiver state.now.hub.links k link)) }
 {
     is_full(state.boxes.as_slice(), link, part) && has_receiver(among, state.hub.links(), link)
 }
 
 /// Whether what a hart of the rank asks isn't there in this state, and could come from these alone.
 fn asks_in_vain(among: &[u8], state: &ClusterState, rank: u8, site: &Site, ask: &Ask) -> bool
-    ensures { result ≡ true → (image : ImageParts) (cluster : Cluster) → StandsFor image state.now cluster
-        → AsksInVain among.now cluster rank site.now ask.now }
+    ensures { (image : ImageParts) (cluster : Cluster) → StandsFor image state.now cluster
+        → ((result ≡ true) ↔ AsksInVain among.now cluster rank site.now ask.now) }
 {
     match ask {
         Ask::Hub(request) => is_in_vain(among, site, &state.hub, rank, request),
@@ -103,9 +105,10 @@ pub(crate) fn is_held(
     number: u8,
 ) -> Result<bool, AllocError>
     requires { number < vec_len own.now.harts }
-    ensures { IfOk result (λ held. held ≡ true → (image : ImageParts) (cluster : Cluster)
-        → StandsFor image state.now cluster
-        → IsStopped (mode_of (rank_of own.now) number) ⊎ IsHeld among.now cluster rank (rank_of own.now) number) }
+    ensures held { IfOk result (λ held. (image : ImageParts) (cluster : Cluster) → StandsFor image state.now cluster
+        → ((held ≡ true)
+        ↔ (IsStopped (mode_of (rank_of own.now) number) ⊎ IsHeld among.now cluster rank (rank_of own.now) number))) }
+    ensures memory { OnErr result (0 < carried (asked (rank_of own.now) number)) }
 {
     let now = mode(own, number);
     if is_stopped(now) {

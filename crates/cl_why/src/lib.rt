@@ -7,6 +7,7 @@ mod among;
 mod boxes;
 mod companies;
 mod harts;
+pub mod laws;
 mod requests;
 mod verdicts;
 

@@ -1,6 +1,6 @@
 //! Requests to the hub that aren't answered yet, and are up to the ranks of a list.
 
-ghost use Rattle.std.specs.Prelude.{◌≡◌, ℕ, false, true, slice_get, Some};
+ghost use Rattle.std.specs.Prelude.{◌≡◌, ◌↔◌, ℕ, false, true, slice_get, Some};
 ghost use Rattle.mp_match.specs.Board.{line_of};
 ghost use Rattle.mp_hub.specs.Hub.{is_ready};
 ghost use Rattle.mp_hub.specs.Vain.{asks_in_vain};
@@ -15,20 +15,19 @@ use mp_types::Request;
 
 /// Whether the post isn't ready and is up to these.
 fn holds_back(among: &[u8], site: &Site, hub: &HubState, rank: u8, post: u64) -> bool
-    ensures unready { result ≡ true → is_ready hub.now rank post ≡ false }
-    ensures only { result ≡ true
-        → OnlyOf (is_among among.now) (could_pair (is_member site.now) (line_of hub.now.board post)) }
+    ensures { (result ≡ true) ↔ ((is_ready hub.now rank post ≡ false)
+        × OnlyOf (is_among among.now) (could_pair (is_member site.now) (line_of hub.now.board post))) }
 {
     !hub.is_ready(rank, post) && could_only_pair(among, site, hub, post)
 }
 
 /// Whether one of the posts isn't ready and is up to these.
 fn has_one_up_to(among: &[u8], site: &Site, hub: &HubState, rank: u8, posts: &[u64]) -> bool
-    ensures { result ≡ true
-        → (i : ℕ) × (post : ℕ)
+    ensures { (result ≡ true)
+        ↔ ((i : ℕ) × (post : ℕ)
         × (slice_get posts.now i ≡ Some post)
         × (is_ready hub.now rank post ≡ false)
-        × OnlyOf (is_among among.now) (could_pair (is_member site.now) (line_of hub.now.board post)) }
+        × OnlyOf (is_among among.now) (could_pair (is_member site.now) (line_of hub.now.board post))) }
 {
     for place in 0..posts.len() {
         if holds_back(among, site, hub, rank, posts[place]) {
@@ -38,9 +37,10 @@ fn has_one_up_to(among: &[u8], site: &Site, hub: &HubState, rank: u8, posts: &[u
     false
 }
 
-/// Whether what the rank asks of the hub could come from these alone.
+/// Whether what the rank asks of the hub in vain could come from these alone.
 fn is_up_to(among: &[u8], site: &Site, hub: &HubState, rank: u8, request: &Request) -> bool
-    ensures { result ≡ true → IsUpTo (is_member site.now) (is_among among.now) hub.now rank request.now }
+    ensures { asks_in_vain hub.now rank request.now ≡ true
+        → ((result ≡ true) ↔ IsUpTo (is_member site.now) (is_among among.now) hub.now rank request.now) }
 {
     match request {
         Request::Collect { post } | Request::Finished { post } => could_only_pair(
@@ -69,8 +69,8 @@ pub(crate) fn is_in_vain(
     rank: u8,
     request: &Request,
 ) -> bool
-    ensures in_vain { result ≡ true → asks_in_vain hub.now rank request.now ≡ true }
-    ensures up_to { result ≡ true → IsUpTo (is_member site.now) (is_among among.now) hub.now rank request.now }
+    ensures { (result ≡ true) ↔ ((asks_in_vain hub.now rank request.now ≡ true)
+        × IsUpTo (is_member site.now) (is_among among.now) hub.now rank request.now) }
 {
     hub.asks_in_vain(rank, request) && is_up_to(among, site, hub, rank, request)
 }

@@ -21,8 +21,8 @@ use std::alloc::{AllocError, Global};
 fn has_waiting(own: &RankState) -> bool
     ensures { (result ≡ true) ↔ ((hart : ℕ) × IsWaiting (mode_of (rank_of own.now) hart)) }
 {
-    for hart in own.harts.iter() {
-        if is_waiting(hart.mode()) {
+    for number in 0..own.harts.len() {
+        if is_waiting(own.harts[number].mode()) {
             return true;
         }
     }
@@ -35,10 +35,12 @@ fn waits(state: &ClusterState, rank: u8) -> bool
         → ((result ≡ true) ↔ ((own : Rank) × (hart : ℕ)
         × (slice_get cluster.ranks rank ≡ Some own) × IsWaiting (mode_of own hart))) }
 {
-    match state.ranks.get(usize::from(rank)) {
-        None => false,
-        Some(own) => has_waiting(own),
+    let place = usize::from(rank);
+    if place >= state.ranks.len() {
+        return false;
     }
+    let own = &state.ranks[place];
+    has_waiting(own)
 }
 
 /// Whether a hart of these ranks waits.
@@ -46,8 +48,8 @@ fn some_waits(among: &[u8], state: &ClusterState) -> bool
     ensures { (image : ImageParts) (cluster : Cluster) → StandsFor image state.now cluster
         → ((result ≡ true) ↔ SomeWaits among.now cluster) }
 {
-    for rank in among {
-        if waits(state, *rank) {
+    for place in 0..among.len() {
+        if waits(state, among[place]) {
             return true;
         }
     }

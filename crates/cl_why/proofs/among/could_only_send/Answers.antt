@@ -5,13 +5,17 @@ use Rattle.mp_match.specs.Pairs.{admits}
 use Rattle.mp_waits.specs.Waits.{OnlyOf}
 use Rattle.cl_calls.specs.Site.{members, place_of}
 use Rattle.cl_stuck.specs.Stuck.{is_among}
-use Rattle.cl_why.proofs.Senders.{senders_only}
+use Rattle.cl_why.proofs.Senders.{senders_all, senders_only}
 use Rattle.cl_why.proofs.among.could_only_send.Goals as goal
 
 pub returns : goal.returns
-returns c = λ its.
+returns c =
     let among = c.args.among.now in
     let source = c.args.selection.now.source in
-    subst (λ ms. OnlyOf (is_among among) (λ k. admits source k && is_some (place_of k ms)))
-    (c.members.ensures ∙ ap (members c.args.site.now) c.from.ensures)
-    (senders_only among c.members.result.now source (sym c.has_senders.ensures ∙ its))
+    let same = c.members.ensures ∙ ap (members c.args.site.now) c.from.ensures in (
+      λ its. subst (λ ms. OnlyOf (is_among among) (λ k. admits source k && is_some (place_of k ms))) same
+          (senders_only among c.members.result.now source (sym c.has_senders.ensures ∙ its)),
+      λ only. c.has_senders.ensures
+          ∙ senders_all among c.members.result.now source
+          (subst (λ ms. OnlyOf (is_among among) (λ k. admits source k && is_some (place_of k ms))) (sym same) only),
+    )

@@ -1,6 +1,6 @@
 use Rattle.std.proofs.Common.{ℕ, IsTrue, take}
 use Rattle.cl_stuck.specs.Stuck.{is_among}
-use Rattle.cl_why.specs.Why.{IsStuckIn}
+use Rattle.cl_why.specs.Stuck.{IsStuckIn}
 use Rattle.cl_why.proofs.companies.free_place.Given as goal
 
 -- those before this place are stuck beside all
