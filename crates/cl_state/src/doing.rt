@@ -19,7 +19,7 @@ use crate::several::ask_several;
 use crate::transfers::{ask, ask_claimed, receive, send, source, sync_send, tag};
 use cl_calls::{Call, NO_RANK, Probing, Site, Standing, fault};
 use mp_request::OpenRequest;
-use mp_types::Request;
+use mp_types::{Posts, Request};
 use rv_hart::{Hart, Mode, Wait};
 use rv_memory::RankMemory;
 use std::alloc::{AllocError, Global};
@@ -74,9 +74,14 @@ impl Doing {
         }
     }
 
-    /// What such a turn asks. Only a copy of bytes to be sent, or a
-    /// list of posts, takes memory: nothing else is refused.
-    pub fn ask(&self, alloc: Global, standing: &Standing) -> Result<Ask, AllocError>
+    /// What such a turn asks. Only a copy of bytes to be sent, or a list of posts, takes memory: nothing else is
+    /// refused. A list of posts that is the one that is known is shared, and takes none.
+    pub fn ask(
+        &self,
+        alloc: Global,
+        standing: &Standing,
+        known: Option<&Posts>,
+    ) -> Result<Ask, AllocError>
         requires { IsCheckedOn standing.now self.now }
         ensures { MatchResult result (λ ask. ask ≡ asked_on standing.now self.now)
             (λ e. 0 < carried (asked_on standing.now self.now)) }
@@ -84,7 +89,7 @@ impl Doing {
         match *self {
             Doing::Step => Ok(Ask::Plain),
             Doing::Refused(_) => Ok(Ask::Local),
-            Doing::Go(call) => ask_by(alloc, standing, &call),
+            Doing::Go(call) => ask_by(alloc, standing, &call, known),
             Doing::Poll(call, post) => Ok(poll(&call, post)),
             Doing::Stopped => Ok(Ask::Idle),
         }
@@ -157,7 +162,12 @@ fn ask_completing(standing: &Standing, manner: Manner, handle: u64) -> Ask
     }
 }
 
-fn ask_by(alloc: Global, standing: &Standing, call: &Call) -> Result<Ask, AllocError>
+fn ask_by(
+    alloc: Global,
+    standing: &Standing,
+    call: &Call,
+    known: Option<&Posts>,
+) -> Result<Ask, AllocError>
     requires { IsCheckedOn standing.now (Go call.now) }
     ensures { MatchResult result (λ ask. ask ≡ asked_on standing.now (Go call.now))
         (λ e. 0 < carried (asked_on standing.now (Go call.now))) }
@@ -181,7 +191,7 @@ fn ask_by(alloc: Global, standing: &Standing, call: &Call) -> Result<Ask, AllocE
         Call::Test(call) => Ok(ask_completing(standing, Manner::Immediate, call.handle)),
         Call::Wait(call) => Ok(ask_completing(standing, Manner::Blocking, call.handle)),
         Call::Testall(several) | Call::Waitall(several) => {
-            ask_several(alloc, memory, requests, &several)
+            ask_several(alloc, memory, requests, &several, known)
         }
         Call::Iprobe(probing) | Call::Probe(probing) => Ok(probe(site, &probing)),
         Call::Improbe(probing) | Call::Mprobe(probing) => Ok(claim(site, &probing)),

@@ -1,6 +1,6 @@
 //! Calls that complete several requests together.
 
-ghost use Rattle.std.specs.Prelude.{◌≡◌, ◌<◌, ◌≤◌, ◌+◌, ◌∷◌, [], IsTrue, MatchResult, length};
+ghost use Rattle.std.specs.Prelude.{◌≡◌, ◌<◌, ◌≤◌, ◌+◌, ◌∷◌, ◌↔◌, [], IsTrue, MatchResult, length};
 ghost use Rattle.std.specs.List.{list_any};
 ghost use Rattle.cl_calls.specs.Checks.{is_array, is_few};
 ghost use Rattle.cl_calls.specs.Needs.{array_at};
@@ -55,30 +55,64 @@ fn posts(alloc: Global, requests: &Requests, handles: &[u64]) -> Result<Vec<u64>
     Ok(posts)
 }
 
-/// What is asked for several requests. The list of their posts takes memory where there is one.
+/// Whether these are the posts of those that need the hub, in the array's order.
+fn are_posts(known: &[u64], requests: &Requests, handles: &[u64]) -> bool
+    ensures { IsTrue result ↔ (known.now ≡ posts_of (pendings requests.now handles.now)) }
+{
+    let mut left = known;
+    let mut rest = handles;
+    while let Some((handle, after)) = rest.split_first() {
+        if let Some(post) = pending(requests, *handle).post() {
+            match left.split_first() {
+                Some((first, others)) if *first == post => left = others,
+                _ => return false,
+            }
+        }
+        rest = after;
+    }
+    left.is_empty()
+}
+
+/// The posts of those that need the hub, which share the list that is known where it is theirs: no memory is asked for
+/// then. Else their list takes memory where there is one.
+fn posts_like(
+    alloc: Global,
+    requests: &Requests,
+    handles: &[u64],
+    known: Option<&Posts>,
+) -> Result<Posts, AllocError>
+    ensures { MatchResult result (λ posts. posts ≡ posts_of (pendings requests.now handles.now))
+        (λ e. IsTrue (has_posts (posts_of (pendings requests.now handles.now)))) }
+{
+    if let Some(known) = known {
+        if are_posts(known.as_slice(), requests, handles) {
+            return known.try_copy(alloc);
+        }
+    }
+    Posts::from_vec(posts(alloc, requests, handles)?)
+}
+
+/// What is asked for several requests, of whose posts a list may be known. The list of their posts takes memory where
+/// there is one, and none where it is the one that is known.
 #[tactic(auto, using(crate::proofs::Posts::carries_posts))]
 pub(crate) fn ask_several(
     alloc: Global,
     memory: &RankMemory,
     requests: &Requests,
     several: &Several,
+    known: Option<&Posts>,
 ) -> Result<Ask, AllocError>
     requires few { IsTrue (is_few (array_at several.now.array several.now.count)) }
     requires inside { IsTrue (is_array memory.now (array_at several.now.array several.now.count)) }
     ensures { MatchResult result (λ ask. ask ≡ asked_several memory.now requests.now several.now)
         (λ e. 0 < carried (asked_several memory.now requests.now several.now)) }
 {
-    let posts = posts(
-        alloc,
-        requests,
-        handles_at(memory, array(several)).as_slice(),
-    )?;
-    if posts.is_empty() {
+    let handles = handles_at(memory, array(several));
+    let posts = posts_like(alloc, requests, handles.as_slice(), known)?;
+    if posts.as_slice().is_empty() {
         return Ok(Ask::Local);
     }
-    Ok(Ask::Hub(Request::All {
-        posts: Posts::from_vec(posts),
-    }))
+    Ok(Ask::Hub(Request::All { posts }))
 }
 
 /// What is left for the requests behind this one.

@@ -13,7 +13,7 @@ use crate::telling::{Common, News, tell_hart};
 use crate::turn::Turn;
 use cl_calls::{Call, Site, Standing};
 use mp_request::Requests;
-use mp_types::Stamp;
+use mp_types::{Posts, Stamp};
 use part_phase::Phases;
 use rv_hart::Hart;
 use rv_memory::{RankMemory, SparePages};
@@ -120,13 +120,28 @@ impl RankState {
     }
 
     /// The same of a turn that was worked out.
-    #[tactic(auto, unfolding(crate::specs::Asked::asked))]
     pub fn ask_next(&self, hart: u8, doing: &Doing) -> Result<Ask, AllocError>
         requires { IsNext self.now hart doing.now }
         ensures { MatchResult result (λ ask. ask ≡ asked (rank_of self.now) hart)
             (λ e. 0 < carried (asked (rank_of self.now) hart)) }
     {
-        doing.ask(self.alloc, &self.standing())
+        self.ask_again(hart, doing, None)
+    }
+
+    /// The same, where a list of posts is known for which the hart asked before. Where it asks for these once more the
+    /// list is shared, and no memory is asked for.
+    #[tactic(auto, unfolding(crate::specs::Asked::asked))]
+    pub fn ask_again(
+        &self,
+        hart: u8,
+        doing: &Doing,
+        known: Option<&Posts>,
+    ) -> Result<Ask, AllocError>
+        requires { IsNext self.now hart doing.now }
+        ensures { MatchResult result (λ ask. ask ≡ asked (rank_of self.now) hart)
+            (λ e. 0 < carried (asked (rank_of self.now) hart)) }
+    {
+        doing.ask(self.alloc, &self.standing(), known)
     }
 
     /// The link whose phase the hart's turn begins, if it starts a partitioned request.

@@ -125,7 +125,7 @@ fn copy(alloc: Global, memory: &RankMemory, buffer: u64, count: u16) -> Result<B
     if bytes.len() > MESSAGE_MAX {
         return Err(AllocError);
     }
-    Ok(Bytes::from_vec(bytes))
+    Bytes::from_vec(bytes)
 }
 
 /// What is asked for a transfer. Only a copy of bytes to be sent takes memory, and is refused where there is none.

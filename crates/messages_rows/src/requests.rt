@@ -75,7 +75,7 @@ fn all(alloc: Global, row: &Row<'_>) -> Result<Option<Request>, AllocError> {
         posts.push(post)?;
     }
     Ok(Some(Request::All {
-        posts: Posts::from_vec(posts),
+        posts: Posts::from_vec(posts)?,
     }))
 }
 

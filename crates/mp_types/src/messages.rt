@@ -31,7 +31,7 @@ pub struct Message {
 }
 
 impl Message {
-    /// The same message in memory of its own. A copy of a message of no bytes takes no memory.
+    /// The same message once more: the two share its bytes, which takes no memory. One of no bytes is never refused.
     pub fn try_copy(&self, alloc: Global) -> Result<Message, AllocError>
         ensures copy { IfOk result (λ copy. copy ≡ self.now) }
         ensures free { self.now.bytes ≡ [] → IsOk result }
@@ -124,7 +124,7 @@ impl Gots {
         self.items.as_slice()
     }
 
-    /// The same messages in memory of their own. A copy of no messages takes no memory.
+    /// The same messages in a list of its own, which shares their bytes. A copy of no messages takes no memory.
     pub fn try_copy(&self, alloc: Global) -> Result<Gots, AllocError>
         ensures copy { IfOk result (λ copy. copy ≡ self.now) }
         ensures free { self.now ≡ [] → IsOk result }

@@ -77,7 +77,8 @@ impl Request {
         self == other
     }
 
-    /// The same request in memory of its own. A copy of one that carries no elements takes no memory.
+    /// The same request once more: the two share what it carries, which takes no memory. One that carries no elements is
+    /// never refused.
     pub fn try_copy(&self, alloc: Global) -> Result<Request, AllocError>
         ensures copy { IfOk result (λ copy. copy ≡ self.now) }
         ensures free { carried_by_request self.now ≡ 0 → IsOk result }
