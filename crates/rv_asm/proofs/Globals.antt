@@ -19,7 +19,7 @@ use Rattle.rv_asm_tokens.specs.Fault.{if_some}
 use Rattle.rv_asm_statements.specs.declared.directives.Directive.TheVariants as directive
 use Rattle.rv_asm_statements.specs.declared.statements.Statement.{Statement}
 use Rattle.rv_asm_statements.specs.declared.statements.Statement.TheVariants.{Label, Directive as Directed}
-use Rattle.rv_asm_lines.specs.declared.layout.Item.{Item}
+use Rattle.rv_asm_lines.specs.Item.{Item}
 use Rattle.rv_asm_lines.specs.Globals.{global_of, globals_behind, is_global, most_globals, with_global}
 use Rattle.rv_asm_lines.specs.GlobalNames.{globals_in}
 use Rattle.rv_asm_lines.specs.Layout.{Layout, item_at, next_place}

@@ -6,7 +6,7 @@ use Rattle.std.proofs.lemmas.List.Elements.{filter_map-append}
 use Rattle.std.specs.Str.Lines.{lines}
 use Rattle.rv_asm_statements.specs.declared.statements.Statement.{Statement}
 use Rattle.rv_asm_statements.specs.declared.statements.Statement.TheVariants.{Label, Instruction, Directive as Directed}
-use Rattle.rv_asm_lines.specs.declared.layout.Item.{Item}
+use Rattle.rv_asm_lines.specs.Item.{Item}
 use Rattle.rv_asm_lines.specs.declared.parts.Part.{Part}
 use Rattle.rv_asm_lines.specs.declared.parts.Part.TheVariants.{Text, Data}
 use Rattle.rv_asm_lines.specs.Layout.{Labels, Layout, added, at_end, empty_layout, end_of, item_at, layout_of, next_place}

@@ -9,7 +9,7 @@ use Rattle.rv_asm_statements.specs.declared.directives.Directive.TheVariants as 
 use Rattle.rv_asm_statements.specs.declared.statements.Statement.{Statement}
 use Rattle.rv_asm_statements.specs.declared.statements.Statement.TheVariants.{Label, Instruction, Directive as Directed}
 use Rattle.rv_asm_lines.specs.declared.fields.Fields.{Fields}
-use Rattle.rv_asm_lines.specs.declared.layout.Item.{Item}
+use Rattle.rv_asm_lines.specs.Item.{Item}
 use Rattle.rv_asm_lines.specs.Fields.{fields_after, fields_behind, once, one_more}
 use Rattle.rv_asm_lines.specs.Layout.{Layout, empty_layout, item_at, layout_of, next_place}
 use Rattle.rv_asm.specs.Directed.{entry_said, harts_said, if_directed, memory_said, ranks_said, said_by}

@@ -10,7 +10,7 @@ use Rattle.rv_asm_tokens.specs.Scan.{tokens_of}
 use Rattle.rv_asm_statements.specs.declared.statements.Statement.{Statement}
 use Rattle.rv_asm_statements.specs.declared.statements.Statement.TheVariants.{Label}
 use Rattle.rv_asm_statements.specs.Statements.{statement_of}
-use Rattle.rv_asm_lines.specs.declared.layout.Item.{Item}
+use Rattle.rv_asm_lines.specs.Item.{Item}
 use Rattle.rv_asm_lines.specs.Fields.{fields_behind}
 use Rattle.rv_asm_lines.specs.Globals.{globals_behind}
 use Rattle.rv_asm_lines.specs.Layout.{Layout, at_end, empty_layout, fitted, item_at, labels_at, layout_of, line_step, lines_from, most_bytes, next_place, place_in, placed, with_item, with_label}

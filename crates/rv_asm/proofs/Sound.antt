@@ -13,7 +13,7 @@ use Rattle.rv_asm_statements.specs.declared.directives.Directive.TheVariants as 
 use Rattle.rv_asm_statements.specs.declared.mnemonics.Use.{Use}
 use Rattle.rv_asm_statements.specs.declared.statements.Statement.{Statement}
 use Rattle.rv_asm_statements.specs.declared.statements.Statement.TheVariants.{Label, Instruction, Directive as Directed}
-use Rattle.rv_asm_lines.specs.declared.layout.Item.{Item}
+use Rattle.rv_asm_lines.specs.Item.{Item}
 use Rattle.rv_asm_lines.specs.declared.parts.Part.{Part}
 use Rattle.rv_asm_lines.specs.declared.parts.Part.TheVariants.{Text, Data}
 use Rattle.rv_asm_lines.specs.declared.parts.Place.{Place}

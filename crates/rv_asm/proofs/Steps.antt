@@ -5,7 +5,7 @@ use Rattle.rv_asm_tokens.specs.declared.fault.AsmFaultKind.{AsmFaultKind}
 use Rattle.rv_asm_tokens.specs.declared.fault.AsmFaultKind.TheVariants as kinds
 use Rattle.rv_asm_tokens.specs.declared.fault.AsmFault.{AsmFault}
 use Rattle.rv_asm_tokens.specs.Returned.{Fails}
-use Rattle.rv_asm_lines.specs.declared.layout.Item.{Item}
+use Rattle.rv_asm_lines.specs.Item.{Item}
 use Rattle.rv_asm_lines.specs.Layout.{Layout, line_step, lines_from, at_line}
 use Rattle.rv_asm_lines.specs.Output.{Output, item_step, items_from}
 use Rattle.rv_asm.specs.Made.{FailsAt}

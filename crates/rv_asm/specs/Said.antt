@@ -6,7 +6,7 @@ use Rattle.rv_asm_tokens.specs.Lexeme.{Lexeme, name, colon}
 use Rattle.rv_asm_statements.specs.declared.statements.Statement.{Statement}
 use Rattle.rv_asm_statements.specs.declared.statements.Statement.TheVariants.{Label}
 use Rattle.rv_asm_statements.specs.Statements.{statement_of}
-use Rattle.rv_asm_lines.specs.declared.layout.Item.{Item}
+use Rattle.rv_asm_lines.specs.Item.{Item}
 
 -- the labels at the front of a line, and what stands behind them
 abbrev pub labels_of : List Lexeme → List Statement

@@ -34,7 +34,7 @@ use std::collections::BTreeSet;
 fn add_item(
     alloc: Global,
     line: u64,
-    layout: &mut Layout,
+    layout: &mut Layout<'_>,
     statement: Statement,
 ) -> Result<(), AsmFaultKind>
     ensures value { MatchResult result
@@ -50,11 +50,9 @@ fn add_item(
     }
     let next = part_after(place.part, &statement);
     take_global(alloc, &mut layout.globals, &statement)?;
-    layout.items.push(Item {
-        line,
-        place,
-        statement,
-    })?;
+    layout
+        .items
+        .push(Item::stated(alloc, line, place, statement)?)?;
     match place.part {
         Part::Text => layout.text = end as u32,
         Part::Data => layout.init = end as u32,
@@ -68,7 +66,7 @@ fn add_item(
 fn place(
     alloc: Global,
     line: u64,
-    layout: &mut Layout,
+    layout: &mut Layout<'_>,
     statement: Option<Statement>,
 ) -> Result<(), AsmFaultKind>
     ensures value { MatchResult result
@@ -105,7 +103,7 @@ const MOST_ITEMS: u32 = 1_048_576;
 fn take_statement(
     alloc: Global,
     number: u64,
-    layout: &mut Layout,
+    layout: &mut Layout<'_>,
     tokens: &Tokens<'_>,
 ) -> Result<(), AsmFaultKind>
     ensures { MatchResult result
@@ -121,23 +119,23 @@ fn take_statement(
 
 /// Adds one line.
 #[tactic(auto, unfolding(rv_asm_lines::specs::Layout::line_step))]
-fn take_line(
+fn take_line<'a>(
     alloc: Global,
     number: u64,
-    layout: &mut Layout,
-    line: &[u8],
+    layout: &mut Layout<'a>,
+    line: &'a [u8],
 ) -> Result<(), AsmFaultKind>
     ensures { MatchResult result
         (λ _. line_step number (layout_view layout.old) line.now ≡ Ok (layout_view layout.new))
         (λ e. Fails e (line_step number (layout_view layout.old) line.now)) }
 {
     let mut tokens = Tokens::of_line(line)?;
-    take_labels(alloc, number, layout, &mut tokens)?;
+    take_labels(number, layout, &mut tokens)?;
     take_statement(alloc, number, layout, &tokens)
 }
 
 /// Where everything of a source stands, or the first fault of the first pass.
-fn layout_source(alloc: Global, source: &str) -> Result<Layout, AsmFault>
+fn layout_source<'a>(alloc: Global, source: &'a str) -> Result<Layout<'a>, AsmFault>
     ensures { MatchResult result
         (λ layout. layout_of source.now ≡ Ok (layout_view layout))
         (λ fault. FailsAt fault (layout_of source.now)) }
@@ -165,7 +163,7 @@ fn layout_source(alloc: Global, source: &str) -> Result<Layout, AsmFault>
 }
 
 /// The text and the entry, or the first fault of the second pass.
-fn make_output(alloc: Global, layout: &Layout) -> Result<Output, AsmFault>
+fn make_output(alloc: Global, layout: &Layout<'_>) -> Result<Output, AsmFault>
     ensures output { MatchResult result
         (λ output. items_from (layout_view layout.now) empty_output layout.now.items.items ≡ Ok (output_view output))
         (λ fault. FailsAt fault (items_from (layout_view layout.now) empty_output layout.now.items.items)) }
@@ -182,7 +180,7 @@ fn make_output(alloc: Global, layout: &Layout) -> Result<Output, AsmFault>
         match take_item(alloc, layout, item, &mut output) {
             Ok(()) => {}
             Err(kind) => return Err(AsmFault {
-                line: item.line,
+                line: item.line(),
                 kind,
             }),
         }

@@ -10,7 +10,7 @@ use rv_image::{Symbol, SymbolName, Symbols};
 use std::alloc::{AllocError, Global};
 
 /// The names of `.globl` in byte order, with the addresses of their labels.
-pub fn symbols_of(alloc: Global, layout: &Layout) -> Result<Symbols, AllocError>
+pub fn symbols_of(alloc: Global, layout: &Layout<'_>) -> Result<Symbols, AllocError>
     requires { (w : List ℕ) → IfSome (address_in w (addresses_view layout.now)) (λ at. at < 2 ^ 32) }
     ensures { IfOk result (λ symbols. symbols ≡ symbols_in (layout_view layout.now)) }
 {

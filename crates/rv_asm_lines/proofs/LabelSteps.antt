@@ -1,6 +1,5 @@
 -- The labels that the code keeps are the definition's, in order.
-use Rattle.std.proofs.Common.{◌≡◌, ℕ, Bool, true, false, cond, List, [], ◌∷◌, ◌++◌, Option, Some, None, Result, Ok, Err, is_some, refl, ap, ◌∙◌}
-use Rattle.std.specs.Global.{Vec}
+use Rattle.std.proofs.Common.{◌≡◌, ℕ, Bool, true, false, cond, List, [], ◌∷◌, ◌++◌, Option, Some, None, Result, Ok, Err, is_some, refl, ap, ◌∙◌, Bor}
 use Rattle.std.specs.Prelude.{nat_eq}
 use Rattle.std.specs.Str.{bytes_eq}
 use Rattle.std.specs.Cmp.Lexicographic.{pointwise}
@@ -16,9 +15,9 @@ use Rattle.rv_asm_lines.specs.declared.parts.Place.{Place}
 use Rattle.rv_asm_lines.specs.Layout.{Labels, Layout, addresses, place_in, with_label, labels_at}
 use Rattle.rv_asm_lines.specs.LayoutView.{labels_view, front_label}
 
-pub lookup_view : (w : List ℕ) (es : List (Vec ℕ × Place)) → lookup (λ k. pointwise nat_eq w k.items) es ≡ place_in w (labels_view es)
+pub lookup_view : (w : List ℕ) (es : List (Bor (List ℕ) × Place)) → lookup (λ k. pointwise nat_eq w k.now) es ≡ place_in w (labels_view es)
 lookup_view w [] = refl
-lookup_view w (e ∷ es) = ap (cond (bytes_eq w e.0.items) (Some e.1)) (lookup_view w es)
+lookup_view w (e ∷ es) = ap (cond (bytes_eq w e.0.now) (Some e.1)) (lookup_view w es)
 
 chosen : {A B : Type 0} (f : A → B) (b : Bool) (x : A) (o : Option A) → cond b (Some (f x)) (option_map f o) ≡ option_map f (cond b (Some x) o)
 chosen f true x o = refl
@@ -33,11 +32,11 @@ absent_step : {A : Type 0} (b : Bool) (x : A) (o : Option A) → cond b (Some x)
 absent_step true x o h = absurd cc
 absent_step false x o h = (refl, h)
 
-pub insert_view : (k : Vec ℕ) (at : Place) (es : List (Vec ℕ × Place)) → place_in k.items (labels_view es) ≡ None → labels_view (insert_entry (λ x y. pointwise nat_eq x.items y.items) es k at) ≡ labels_view es ++ (k.items, at) ∷ []
+pub insert_view : (k : Bor (List ℕ)) (at : Place) (es : List (Bor (List ℕ) × Place)) → place_in k.now (labels_view es) ≡ None → labels_view (insert_entry (λ x y. pointwise nat_eq x.now y.now) es k at) ≡ labels_view es ++ (k.now, at) ∷ []
 insert_view k at [] h = refl
 insert_view k at (e ∷ es) h =
-    let a = absent_step (bytes_eq k.items e.0.items) e.1 (place_in k.items (labels_view es)) h in
-    rw (a.0) (ap (λ (ls : Labels). (e.0.items, e.1) ∷ ls) (insert_view k at es a.1))
+    let a = absent_step (bytes_eq k.now e.0.now) e.1 (place_in k.now (labels_view es)) h in
+    rw (a.0) (ap (λ (ls : Labels). (e.0.now, e.1) ∷ ls) (insert_view k at es a.1))
 
 -- ---- the front of a line
 

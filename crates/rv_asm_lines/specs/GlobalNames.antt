@@ -1,7 +1,7 @@
 -- The names that the items of a source give.
 use Rattle.std.specs.Prelude.{ℕ, List, Option, Some, None, Bool, false, not}
 use Rattle.std.specs.List.{filter_map}
-use Rattle.rv_asm_lines.specs.declared.layout.Item.{Item}
+use Rattle.rv_asm_lines.specs.Item.{Item}
 use Rattle.rv_asm_lines.specs.Globals.{global_of, is_global}
 
 -- the names that items give, in the order of their lines

@@ -1,14 +1,15 @@
 -- The layout that the code keeps.
 use Rattle.std.specs.Prelude.{ℕ, List, ◌∷◌, map, Option, Some, None}
 use Rattle.rv_asm_tokens.specs.Lexeme.{Lexeme, name, colon}
+use Rattle.std.specs.Borrow.{Bor}
 use Rattle.std.specs.BTreeSet.{BTreeSet}
 use Rattle.std.specs.Global.{Vec}
 use Rattle.rv_asm_lines.specs.declared.layout.Layout.{Layout as Kept}
 use Rattle.rv_asm_lines.specs.declared.parts.Place.{Place}
 use Rattle.rv_asm_lines.specs.Layout.{Labels, Layout, addresses}
 
-abbrev pub labels_view : List (Vec ℕ × Place) → Labels
-labels_view entries = map (λ e. (e.0.items, e.1)) entries
+abbrev pub labels_view : List (Bor (List ℕ) × Place) → Labels
+labels_view entries = map (λ e. (e.0.now, e.1)) entries
 
 -- the names of `.globl`
 abbrev pub names_view : BTreeSet (Vec ℕ) → List (List ℕ)

@@ -3,6 +3,8 @@ pub mod Parts
 pub mod Fields
 pub mod Globals
 pub mod GlobalNames
+pub mod Item
+pub mod ItemView
 pub mod Layout
 pub mod StatementStep
 pub mod LayoutView

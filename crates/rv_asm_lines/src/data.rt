@@ -53,7 +53,7 @@ fn put_low_bytes(bytes: &mut Vec<u8>, width: Width, value: i128) -> Result<(), A
 /// Adds an item: its number, or the address of its label.
 #[tactic(auto, unfolding(crate::specs::Data::item_bytes))]
 fn put_item(
-    layout: &Layout,
+    layout: &Layout<'_>,
     width: Width,
     item: &Target,
     bytes: &mut Vec<u8>,
@@ -71,7 +71,7 @@ fn put_item(
 /// Adds items from left to right.
 #[tactic(auto, unfolding(crate::specs::Data::items_bytes))]
 fn put_items(
-    layout: &Layout,
+    layout: &Layout<'_>,
     width: Width,
     items: &[Target],
     bytes: &mut Vec<u8>,
@@ -99,7 +99,7 @@ fn put_zeros(bytes: &mut Vec<u8>, count: u32) -> Result<(), AllocError>
 /// Adds the bytes of a directive at a place of its part.
 #[tactic(auto, unfolding(crate::specs::Data::directive_bytes))]
 pub fn put_directive(
-    layout: &Layout,
+    layout: &Layout<'_>,
     at: u32,
     directive: &Directive,
     bytes: &mut Vec<u8>,

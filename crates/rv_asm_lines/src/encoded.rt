@@ -38,7 +38,7 @@ fn put_words(text: &mut Vec<u8>, words: &Words) -> Result<(), AllocError>
 /// Adds the instructions of a mnemonic and its operands at an address.
 #[tactic(auto, unfolding(crate::specs::Output::with_use))]
 pub fn put_use(
-    layout: &Layout,
+    layout: &Layout<'_>,
     at: u64,
     found: &Use,
     text: &mut Vec<u8>,

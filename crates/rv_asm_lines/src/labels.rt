@@ -6,15 +6,15 @@ ghost use Rattle.rv_asm_lines.specs.Layout.{labels_at, place_in, with_label};
 ghost use Rattle.rv_asm_lines.specs.LayoutView.{addresses_view, labels_view, layout_view, front_label};
 ghost use Rattle.rv_asm_lines.specs.Resolved.{address_in};
 
-use crate::layout::{Item, Layout, next_place};
+use crate::item::Item;
+use crate::layout::{Layout, next_place};
 use crate::parts::{Place, address_of};
 use indexmap::IndexMap;
-use rv_asm_statements::{Label, Statement};
 use rv_asm_tokens::{AsmFaultKind, Token, Tokens};
-use std::alloc::{AllocError, Global};
+use std::alloc::AllocError;
 
 /// Where a label stands.
-fn find_place(labels: &IndexMap<Vec<u8>, Place>, name: &[u8]) -> Option<Place>
+fn find_place(labels: &IndexMap<&[u8], Place>, name: &[u8]) -> Option<Place>
     ensures { result ≡ place_in name.now (labels_view labels.now.entries) }
 {
     labels.get(name).copied()
@@ -22,7 +22,7 @@ fn find_place(labels: &IndexMap<Vec<u8>, Place>, name: &[u8]) -> Option<Place>
 
 /// The address of a label, where no more text follows.
 #[tactic(auto, using(crate::proofs::LabelSteps::address_of_place))]
-pub fn find_label(layout: &Layout, name: &[u8]) -> Option<u64>
+pub fn find_label(layout: &Layout<'_>, name: &[u8]) -> Option<u64>
     ensures value { result ≡ address_in name.now (addresses_view layout.now) }
     ensures small { IfSome result (λ at. at < 2 ^ 34) }
 {
@@ -48,28 +48,21 @@ fn first_label<'a>(tokens: &mut Tokens<'a>) -> Option<&'a [u8]>
 }
 
 /// Adds a label, which is new, at the end of the part.
-fn add_label(alloc: Global, line: u64, layout: &mut Layout, name: &[u8]) -> Result<(), AllocError>
+fn add_label<'a>(line: u64, layout: &mut Layout<'a>, name: &'a [u8]) -> Result<(), AllocError>
     requires { place_in name.now (labels_view layout.old.labels.entries) ≡ None }
     ensures { OnOk result (layout_view layout.new ≡ with_label line (layout_view layout.old) name.now) }
 {
-    let key = Vec::from_slice(alloc, name)?;
-    let label = Label::copied(alloc, name)?;
     let place = next_place(layout);
-    layout.labels.insert(key, place)?;
-    layout.items.push(Item {
-        line,
-        place,
-        statement: Statement::Label(label),
-    })?;
+    layout.labels.insert(name, place)?;
+    layout.items.push(Item::label(line, place, name))?;
     Ok(())
 }
 
 /// Takes the labels that a line begins with, and leaves what follows them.
-pub fn take_labels(
-    alloc: Global,
+pub fn take_labels<'a>(
     line: u64,
-    layout: &mut Layout,
-    tokens: &mut Tokens<'_>,
+    layout: &mut Layout<'a>,
+    tokens: &mut Tokens<'a>,
 ) -> Result<(), AsmFaultKind>
     ensures { MatchResult result
         (λ _. labels_at line (layout_view layout.old) tokens.old ≡ Ok (layout_view layout.new, tokens.new))
@@ -83,7 +76,7 @@ pub fn take_labels(
         if find_place(&layout.labels, name).is_some() {
             return Err(AsmFaultKind::LabelTwice);
         }
-        add_label(alloc, line, layout, name)?;
+        add_label(line, layout, name)?;
         *tokens = rest;
     }
 }

@@ -8,6 +8,7 @@ mod encoded;
 mod fields;
 mod globals;
 mod instructions;
+mod item;
 mod labels;
 mod layout;
 mod offsets;
@@ -18,7 +19,8 @@ mod words;
 
 pub use fields::{Fields, NO_FIELDS, harts_of, memory_of, ranks_of, take_fields};
 pub use globals::take_global;
+pub use item::Item;
 pub use labels::{find_label, take_labels};
-pub use layout::{Item, Layout, next_place};
+pub use layout::{Layout, next_place};
 pub use output::{Output, take_item};
 pub use parts::{Part, Place, length_of_statement, may_stand, part_after};

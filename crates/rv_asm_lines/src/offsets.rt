@@ -43,7 +43,7 @@ pub fn even_within(low: i32, high: i32, value: i128) -> Result<i32, AsmFaultKind
 
 /// What a target adds to an address: a number, or how far a label is.
 #[tactic(auto, unfolding(crate::specs::Resolved::label_offset))]
-pub fn offset(layout: &Layout, at: u64, target: &Target) -> Result<i128, AsmFaultKind>
+pub fn offset(layout: &Layout<'_>, at: u64, target: &Target) -> Result<i128, AsmFaultKind>
     ensures value { Is (λ x. x) result (offset_of (addresses_view layout.now) at target.now) }
     ensures low { IfOk result (λ x. neg_ℤ (pos (2 ^ 70)) ≤ℤ x) }
     ensures high { IfOk result (λ x. x ≤ℤ pos (2 ^ 70)) }

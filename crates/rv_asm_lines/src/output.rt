@@ -11,8 +11,9 @@ use crate::cluster::{link_of, members_of};
 use crate::data::put_directive;
 use crate::encoded::put_use;
 use crate::fields::ranks_of;
+use crate::item::{Item, Kept};
 use crate::labels::find_label;
-use crate::layout::{Item, Layout};
+use crate::layout::Layout;
 use crate::parts::{Part, Place, address_of};
 use rv_asm_statements::{Directive, Statement};
 use rv_asm_tokens::AsmFaultKind;
@@ -47,7 +48,7 @@ fn take_entry(end: u32, at: u64, output: &mut Output) -> Result<(), AsmFaultKind
 /// The label `_start` is the entry where no `.entry` is.
 #[tactic(auto, unfolding(crate::specs::Output::label_step))]
 fn take_label(
-    layout: &Layout,
+    layout: &Layout<'_>,
     name: &[u8],
     place: Place,
     output: &mut Output,
@@ -66,7 +67,7 @@ fn take_label(
 #[tactic(auto, unfolding(crate::specs::Output::directive_step))]
 fn take_directive(
     alloc: Global,
-    layout: &Layout,
+    layout: &Layout<'_>,
     place: Place,
     directive: &Directive,
     output: &mut Output,
@@ -102,12 +103,36 @@ fn take_directive(
     }
 }
 
+/// Adds what a statement at a place is.
+#[tactic(auto, unfolding(crate::specs::Output::stated_step))]
+fn take_statement(
+    alloc: Global,
+    layout: &Layout<'_>,
+    place: Place,
+    statement: &Statement,
+    output: &mut Output,
+) -> Result<(), AsmFaultKind>
+    ensures output { MatchResult result
+        (λ _. stated_step (layout_view layout.now) place statement.now (output_view output.old)
+        ≡ Ok (output_view output.new))
+        (λ e. Fails e (stated_step (layout_view layout.now) place statement.now (output_view output.old))) }
+    ensures sound { OnOk result (IsSound (addresses_view layout.now) place.at statement.now) }
+{
+    match statement {
+        Statement::Label(name) => take_label(layout, name.as_slice(), place, output),
+        Statement::Instruction(found) => {
+            put_use(layout, u64::from(place.at), found, &mut output.text)
+        }
+        Statement::Directive(directive) => take_directive(alloc, layout, place, directive, output),
+    }
+}
+
 /// Adds what one item is.
 #[tactic(auto, unfolding(crate::specs::Output::stated_step))]
 pub fn take_item(
     alloc: Global,
-    layout: &Layout,
-    item: &Item,
+    layout: &Layout<'_>,
+    item: &Item<'_>,
     output: &mut Output,
 ) -> Result<(), AsmFaultKind>
     ensures output { MatchResult result
@@ -117,13 +142,13 @@ pub fn take_item(
         (stated_step (layout_view layout.now) item.now.place item.now.statement (output_view output.old))) }
     ensures sound { OnOk result (IsSound (addresses_view layout.now) item.now.place.at item.now.statement) }
 {
-    match &item.statement {
-        Statement::Label(name) => take_label(layout, name.as_slice(), item.place, output),
-        Statement::Instruction(found) => {
-            put_use(layout, u64::from(item.place.at), found, &mut output.text)
+    match &item.kept {
+        Kept::Label(_, _, _, name) => take_label(layout, name, item.place(), output),
+        Kept::Directive(_, _, _, directive) => {
+            take_directive(alloc, layout, item.place(), directive, output)
         }
-        Statement::Directive(directive) => {
-            take_directive(alloc, layout, item.place, directive, output)
+        Kept::Other(_, _, _, statement) => {
+            take_statement(alloc, layout, item.place(), statement, output)
         }
     }
 }

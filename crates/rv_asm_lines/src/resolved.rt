@@ -150,7 +150,7 @@ fn address_words(d: Reg, z: i128) -> Words
 /// The words of a template and its operands, at an address.
 #[tactic(auto, unfolding(crate::specs::Resolved::instrs_of))]
 pub fn words_of(
-    layout: &Layout,
+    layout: &Layout<'_>,
     at: u64,
     template: Template,
     o: &Filled,

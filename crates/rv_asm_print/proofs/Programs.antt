@@ -18,7 +18,7 @@ use Rattle.rv_asm_tokens.specs.Scan.{tokens_from}
 use Rattle.rv_asm_statements.specs.declared.mnemonics.Use.{Use}
 use Rattle.rv_asm_statements.specs.declared.statements.Statement.TheVariants.{Instruction}
 use Rattle.rv_asm_lines.specs.declared.fields.Fields.{Fields}
-use Rattle.rv_asm_lines.specs.declared.layout.Item.{Item}
+use Rattle.rv_asm_lines.specs.Item.{Item}
 use Rattle.rv_asm_lines.specs.declared.parts.Part.{Part}
 use Rattle.rv_asm_lines.specs.declared.parts.Part.TheVariants.{Text}
 use Rattle.rv_asm_lines.specs.Resolved.{use_length}

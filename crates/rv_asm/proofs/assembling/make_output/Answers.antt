@@ -1,6 +1,6 @@
 use Rattle.std.proofs.Common.{◌≡◌, ◌+◌, ◌<◌, ◌≤◌, ◌++◌, ◌∷◌, [], take, drop, get_or, length, subst, arith, refl, sym, ap, ◌∙◌, List}
 use Rattle.std.proofs.lemmas.List.{drop_all, take_all, take_more}
-use Rattle.rv_asm_lines.specs.declared.layout.Item.{Item}
+use Rattle.rv_asm_lines.specs.Item.{Item}
 use Rattle.rv_asm_lines.specs.Output.{items_from, empty_output}
 use Rattle.rv_asm_lines.specs.LayoutView.{addresses_view, layout_view}
 use Rattle.rv_asm_lines.specs.OutputView.{output_view}
@@ -19,7 +19,7 @@ returns-in-Err c =
     let x = c.item-item.result in
     let same : c.deref-item-items.result.now ≡ items = c.deref-item-items.ensures.value in
     let is : drop i items ≡ x ∷ drop (i + 1) items = ap (drop i) (sym same) ∙ cons_at c.deref-item-items.result.now i x c.loop-item-test.true ∙ ap (λ (y : Item). y ∷ drop (i + 1) c.deref-item-items.result.now) (sym c.item-item.is) ∙ ap (λ (ys : List Item). x ∷ drop (i + 1) ys) same in
-    record { output = item_stops (layout_view c.args.layout.now) (output_view c.loop-item.output) (drop i items) x (drop (i + 1) items) c.in-Err.kind (items_from (layout_view c.args.layout.now) empty_output items) is c.in-Err.ensures.output c.loop-item.invariant.same; sound = tt }
+    record { output = rw (c.line.ensures) (item_stops (layout_view c.args.layout.now) (output_view c.loop-item.output) (drop i items) x (drop (i + 1) items) c.in-Err.kind (items_from (layout_view c.args.layout.now) empty_output items) is c.in-Err.ensures.output c.loop-item.invariant.same); sound = tt }
 
 pub loop-item-preserved : goal.loop-item-preserved
 loop-item-preserved c =
