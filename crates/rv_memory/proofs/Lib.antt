@@ -3,3 +3,4 @@ pub mod Values
 pub mod Marked
 pub mod Paged
 pub mod Shown
+mod Touched

@@ -1,6 +1,6 @@
 //! The pages of a memory, and the ranges of bytes that touch them. Pages that the text fills aren't held: they are read
 //! from the text, which stands once for all memories.
-ghost use Rattle.std.specs.Prelude.{◌≡◌, ◌+◌, ◌-◌, ◌*◌, ◌/◌, ◌<◌, ◌≤◌, ◌^◌, length, map, take, drop, replicate, true};
+ghost use Rattle.std.specs.Prelude.{◌≡◌, ◌+◌, ◌-◌, ◌*◌, ◌/◌, ◌<◌, ◌≤◌, ◌^◌, length, map, take, drop, replicate, true, ◌≢◌};
 ghost use Rattle.std.specs.Prelude.{◌&&◌, ◌||◌, if◌then◌else◌, not};
 ghost use Rattle.std.specs.Prelude.{IfOk, OnOk, OnErr, IsOk, None, Option, nat_le};
 ghost use Rattle.rv_memory.specs.Held.{page_bytes, is_there, all_bytes, shown, shown_page, AreWhole};
@@ -53,14 +53,39 @@ fn missing_page(rest: &[u8], page: &Option<Page>, touched: bool) -> usize
     }
 }
 
-/// How many of the pages that `count` bytes from an address on touch aren't there.
+/// The first page, of so many, that bytes from an address on may touch; their number where there is none.
+fn first_touched(pages: usize, address: u64) -> usize
+    ensures within { result ≤ pages }
+    ensures before { result * 4096 ≤ address }
+{
+    pages.min((address / 4096) as usize)
+}
+
+/// The page behind the last one, of so many, that `count` bytes from an address on may touch.
+fn end_touched(pages: usize, first: usize, address: u64, count: u64) -> usize
+    requires first { first ≤ pages }
+    requires few { pages ≤ 2 ^ 20 }
+    ensures from { first ≤ result }
+    ensures within { result ≤ pages }
+    ensures behind { result < pages → count ≢ 0 → address + count ≤ result * 4096 }
+{
+    if count == 0 {
+        return first;
+    }
+    let end = address.saturating_add(count - 1) / 4096 + 1;
+    first.max(pages.min(end as usize))
+}
+
+/// How many of the pages that `count` bytes from an address on touch aren't there. Only those are looked at.
 pub(crate) fn missing(text: &[u8], pages: &[Option<Page>], address: u64, count: u64) -> usize
     requires { length pages.now ≤ 2 ^ 20 }
     ensures value { result ≡ missing_pages (map is_there (shown text.now pages.now)) address count }
     ensures most { result ≤ length pages.now }
 {
+    let first = first_touched(pages.len(), address);
+    let end = end_touched(pages.len(), first, address, count);
     let mut missing = 0;
-    for page in 0..pages.len() {
+    for page in first..end {
         let touched = touches(address, count, page);
         missing += missing_page(rest_of(text, page), &pages[page], touched);
     }
@@ -99,6 +124,10 @@ pub(crate) fn place(
     ensures taken { spares.new + missing_pages (map is_there (shown text.now pages.old.items)) address count
         ≡ spares.old }
 {
+    // mostly they are all there
+    if missing(text, pages.as_slice(), address, count) == 0 {
+        return;
+    }
     for page in 0..pages.len() {
         let touched = touches(address, count, page);
         place_page(rest_of(text, page), &mut pages[page], spares, touched);

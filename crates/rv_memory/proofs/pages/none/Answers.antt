@@ -1,4 +1,3 @@
-use Rattle.std.proofs.Common.{◌≡◌, ◌∙◌, rules, arith}
 use Rattle.std.specs.Prelude.{None}
 use Rattle.rv_memory.proofs.Paged.{replicate-more}
 use Rattle.rv_memory.proofs.pages.none.Goals as goal

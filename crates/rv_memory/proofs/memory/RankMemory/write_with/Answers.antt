@@ -1,4 +1,4 @@
-use Rattle.std.proofs.Common.{◌≡◌, ◌∙◌, length, ap}
+use Rattle.std.proofs.Common.{◌∙◌, length, ap}
 use Rattle.rv_memory.specs.Memory.{with_bytes}
 use Rattle.rv_memory.proofs.Marked.{with_bytes-with_pages, missing_from-written}
 use Rattle.rv_memory.proofs.memory.RankMemory.write_with.Goals as goal

@@ -1,4 +1,3 @@
-use Rattle.std.proofs.Common.{rules, arith}
 use Rattle.rv_memory.proofs.Paged.{blank-push}
 use Rattle.rv_memory.proofs.spares.SparePages.make.Goals as goal
 

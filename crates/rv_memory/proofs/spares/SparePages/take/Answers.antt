@@ -1,4 +1,4 @@
-use Rattle.std.proofs.Common.{◌≡◌, rules, arith, sym, ◌<◌}
+use Rattle.std.proofs.Common.{arith, sym, ◌<◌}
 use Rattle.std.specs.Prelude.{vec_len}
 use Rattle.rv_memory.proofs.Paged.{blank-take, taken}
 use Rattle.rv_memory.proofs.spares.SparePages.take.Goals as goal
