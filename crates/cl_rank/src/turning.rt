@@ -176,7 +176,8 @@ impl Rank {
             return Err(Stop::AllEnded);
         }
         let doing = self.state.next(hart);
-        let Ok(ask) = self.state.ask_next(hart, &doing) else {
+        let known = self.trace.posts_of(hart);
+        let Ok(ask) = self.state.ask_again(hart, &doing, known) else {
             return Err(Stop::Memory);
         };
         let Ok(()) = self.state.room_next(hart, &doing) else {
