@@ -1,0 +1,5 @@
+pub mod Places
+pub mod Waits
+pub mod Texts
+pub mod Unreceived
+pub mod Laws
