@@ -3,6 +3,7 @@
 
 pub mod answers;
 pub mod cli;
+pub mod laws;
 pub mod line;
 pub mod report;
 pub mod tool;
