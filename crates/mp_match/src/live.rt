@@ -91,7 +91,7 @@ pub fn count_of(body: &Option<Bytes>) -> u64
     }
 }
 
-// The bytes of a message in memory of their own, while it is held.
+// The bytes of a message once more, while it is held.
 fn body_copy(alloc: Global, body: &Option<Bytes>) -> Result<Option<Bytes>, AllocError>
     ensures { IfOk result (λ copy. copy ≡ body.now) }
 {

@@ -102,7 +102,8 @@ impl Queues {
         }
     }
 
-    /// The same posts and messages in memory of their own. A copy of no posts takes no memory.
+    /// The same posts in memory of their own, with the same messages, which share their bytes. A copy of no posts takes
+    /// no memory.
     pub fn try_copy(&self, alloc: Global) -> Result<Queues, AllocError>
         ensures copy { IfOk result (λ copy. copy ≡ self.now) }
         ensures free { self.now ≡ no_posts → IsOk result }
@@ -294,8 +295,8 @@ impl Queues {
         self.collect_from(partner)
     }
 
-    /// Takes out the message of a receive or a claim as `collect` does, and gives it twice: as it lay here, and in
-    /// memory of its own.
+    /// Takes out the message of a receive or a claim as `collect` does, and gives it twice: as it lay here, and
+    /// once more. The two share its bytes.
     ///
     /// Refused for memory alone, and never where there is no message or one of no bytes; after a refusal all is as it
     /// was.
@@ -344,7 +345,7 @@ impl Queues {
         Ok((self.collect_from(found.partner), copy))
     }
 
-    // The message of the send at the place, if any, in memory of its own.
+    // The message of the send at the place once more, if any.
     fn copy_from(&self, alloc: Global, place: Option<u64>) -> Result<Option<Message>, AllocError>
         ensures copy { IfOk result (λ copy. copy ≡ (collect_from self.now place).0) }
         ensures free { carried_by_message (collect_from self.now place).0 ≡ 0 → IsOk result }
