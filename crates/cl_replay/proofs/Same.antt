@@ -1,20 +1,22 @@
 -- A cluster whose parts are as they were.
-use Rattle.std.specs.Prelude.{ℕ, ◌≡◌, List, length, map, slice_set}
+use Rattle.std.specs.Prelude.{ℕ, ◌≡◌, List, length, map}
 use Rattle.std.specs.Global.{Vec}
 use Rattle.std.specs.Vec.{with_item, with_items}
 use Rattle.std.proofs.lemmas.List.{with_items_is}
 use Rattle.part_box.specs.declared.settled.Settled.{Settled}
 use Rattle.std.proofs.Common.{ap, get_or, subst, sym, ◌∙◌}
 use Rattle.std.proofs.Math.Seq.{map-set_same}
-use Rattle.rv_image.specs.declared.images.ImageParts.{ImageParts}
 use Rattle.mp_hub.specs.Outcomes.{StandsFor as HubStandsFor}
 use Rattle.cl_record.specs.Keys.{ShowsAll}
 use Rattle.cl_state.specs.Room.{rank_of}
 use Rattle.cl_state.specs.declared.state.RankState.{RankState}
-use Rattle.cl_machine.specs.Cluster.{Cluster}
 use Rattle.cl_journal.specs.Journal.{calls_of}
 use Rattle.cl_replay.specs.Kept.{Snapshot, snapshot}
-use Rattle.cl_replay.specs.States.{AreSame, StandsAlike, StandsFor}
+use Rattle.cl_machine.specs.declared.steps.Step.{Step}
+use Rattle.cl_replay.specs.States.{AreSame, StandsAlike}
+use Rattle.cl_replay.specs.Steps.{Leads, StepFaultHolds}
+use Rattle.cl_replay.specs.declared.faults.StepFault.{StepFault}
+use Rattle.cl_replay.specs.declared.faults.StepFault.TheVariants.{NotAStep, Memory}
 use Rattle.cl_replay.specs.declared.states.ClusterState.{ClusterState}
 
 -- one rank is another in memory, and the same to those who look
@@ -51,4 +53,20 @@ snapshot_same one other same = record {
   hub = ap (λ (kept : Snapshot). kept.hub) same;
   clock = ap (λ (kept : Snapshot). kept.clock) same;
   boxes = ap (λ (kept : Snapshot). kept.boxes) same;
+}
+
+-- a step from a cluster that is the same
+pub same_leads : (one other new : ClusterState) (e : Step) → AreSame one other → Leads other e new → Leads one e new
+same_leads one other new e same leads = λ image cluster stands. leads image cluster (same_stands one other same image cluster stands)
+
+pub same_fault : (one other : ClusterState) (e : Step) → AreSame one other → (fault : StepFault) → StepFaultHolds other e fault → StepFaultHolds one e fault
+same_fault one other e same NotAStep holds = λ image cluster next stands. holds image cluster next (same_stands one other same image cluster stands)
+same_fault one other e same Memory holds = λ image cluster stands. holds image cluster (same_stands one other same image cluster stands)
+
+pub same_twice : (one other new : ClusterState) → AreSame one other → AreSame other new → AreSame one new
+same_twice one other new same more = record {
+  ranks = more.ranks ∙ same.ranks;
+  hub = more.hub ∙ same.hub;
+  clock = more.clock ∙ same.clock;
+  boxes = more.boxes ∙ same.boxes;
 }

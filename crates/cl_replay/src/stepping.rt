@@ -1,16 +1,31 @@
 //! One step of a cluster.
 
-ghost use Rattle.std.specs.Prelude.{◌≡◌, IfErr, OnOk, Err};
+ghost use Rattle.std.specs.Prelude.{◌≡◌, IfErr, IsFalse, IsTrue, OnOk, Err};
+ghost use Rattle.cl_trace.specs.declared.events.Kind.TheVariants as kinds;
 ghost use Rattle.cl_replay.specs.States.{AreSame};
 ghost use Rattle.cl_replay.specs.Steps.{Leads, StepFaultHolds};
 
 use crate::calls::call;
 use crate::faults::StepFault;
 use crate::states::ClusterState;
-use crate::turns::{freed, miss, plain, quiet, ready, take};
+use crate::turns::{freed, miss, plain, plain_at_once, quiet, ready, take};
 use cl_journal::CLOCK_MAX;
 use cl_machine::{KindRef, Step};
 use cl_trace::Bare;
+
+/// Whether a step is an instruction that was done.
+#[inline(always)]
+fn is_plain_step(step: &Step) -> bool
+    ensures { IsTrue result → step.now.kind ≡ kinds.Plain }
+{
+    match step.kind() {
+        KindRef::Bare(kind) => match kind {
+            Bare::Plain => true,
+            _ => false,
+        },
+        KindRef::Hub(_) => false,
+    }
+}
 
 impl ClusterState {
     /// Does one step, if the machine has it from here: the rank and its hart are there, the hart
@@ -18,13 +33,45 @@ impl ClusterState {
     /// is as the kind wants it.
     ///
     /// A plain step copies nothing; it costs what the hart's own step costs, and one look at the
-    /// word before.
+    /// word before. It stands where this is called, any other step by itself.
     ///
     /// Refusals: NotAStep just where the machine has no such step; Memory where a page that the turn
     /// may write isn't there, where a local step puts bytes behind the output, or where a call of the
     /// hub carries or makes something, and in no other step, and then the cluster is as it was. After
     /// NotAStep the state may be anything.
+    #[inline(always)]
     pub fn step(&mut self, step: &Step) -> Result<(), StepFault>
+        ensures leads { OnOk result (Leads self.old step.now self.new) }
+        ensures fault { IfErr result (StepFaultHolds self.old step.now) }
+        ensures same { result ≡ Err StepFault.Memory → AreSame self.old self.new }
+    {
+        if self.step_at_once(step) {
+            return Ok(());
+        }
+        self.step_any(step)
+    }
+
+    /// Does a plain step that the machine has from here, unless the page that it stores to isn't there. Else nothing is
+    /// done.
+    #[inline(always)]
+    fn step_at_once(&mut self, step: &Step) -> bool
+        ensures leads { IsTrue result → Leads self.old step.now self.new }
+        ensures same { IsFalse result → AreSame self.old self.new }
+    {
+        let rank = usize::from(step.rank());
+        if !is_plain_step(step) || rank >= self.ranks.len() {
+            return false;
+        }
+        let state = &mut self.ranks[rank];
+        if usize::from(step.hart()) >= state.harts.len() {
+            return false;
+        }
+        plain_at_once(state, step)
+    }
+
+    /// Does a step of any kind, if the machine has it from here.
+    #[inline(never)]
+    fn step_any(&mut self, step: &Step) -> Result<(), StepFault>
         ensures leads { OnOk result (Leads self.old step.now self.new) }
         ensures fault { IfErr result (StepFaultHolds self.old step.now) }
         ensures same { result ≡ Err StepFault.Memory → AreSame self.old self.new }

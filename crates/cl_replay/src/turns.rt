@@ -1,6 +1,6 @@
 //! One rank's part of a step, with the box that the step touches.
 
-ghost use Rattle.std.specs.Prelude.{◌≡◌, ◌<◌, ◌+◌, ◌↔◌, ◌^◌, Err, IfErr, IsTrue, MatchResult, OnErr, OnOk, max};
+ghost use Rattle.std.specs.Prelude.{◌≡◌, ◌<◌, ◌+◌, ◌↔◌, ◌^◌, Err, IfErr, IsFalse, IsTrue, MatchResult, OnErr, OnOk, max};
 ghost use Rattle.std.specs.Prelude.{vec_len, Some};
 ghost use Rattle.cl_state.specs.declared.asking.Ask.TheVariants as ask;
 ghost use Rattle.cl_state.specs.declared.asking.Answer.TheVariants as answer;
@@ -15,6 +15,7 @@ ghost use Rattle.cl_replay.specs.Turns.{IsTold, LacksPages, QuietFault, Readies,
 use crate::boxes::{get, number_of, set};
 use crate::faults::StepFault;
 use crate::words::{contents, to_words};
+use cl_journal::CLOCK_MAX;
 use cl_machine::{KindRef, Step};
 use cl_rank::step_plain;
 use cl_state::{Answer, Ask, Doing, RankState};
@@ -88,7 +89,6 @@ fn plain_with_room(state: &mut RankState, step: &Step) -> Result<(), StepFault>
 }
 
 /// Does the instruction of a running hart, where it is no ECALL and the stamp is the next.
-#[inline(always)]
 pub(crate) fn plain(state: &mut RankState, step: &Step) -> Result<(), StepFault>
     requires { step.now.hart < vec_len state.old.harts }
     ensures goes { OnOk result (AsksNext (rank_of state.old) step.now ask.Plain
@@ -100,10 +100,24 @@ pub(crate) fn plain(state: &mut RankState, step: &Step) -> Result<(), StepFault>
     if !follows(state.clock, step.stamp()) {
         return Err(StepFault::NotAStep);
     }
-    if step_plain(state, step.hart(), step.stamp()) {
-        return Ok(());
-    }
     plain_with_room(state, step)
+}
+
+/// The same, unless the page that the instruction stores to isn't there. Else nothing is done. It costs what the hart's
+/// own step costs, and one look at the word before.
+#[inline(always)]
+pub(crate) fn plain_at_once(state: &mut RankState, step: &Step) -> bool
+    requires { step.now.hart < vec_len state.old.harts }
+    ensures goes { IsTrue result → AsksNext (rank_of state.old) step.now ask.Plain
+        × IsTold (rank_of state.old) step.now answer.Alone (rank_of state.new) }
+    ensures low { IsTrue result → step.now.stamp < 2 ^ 62 }
+    ensures none { IsFalse result → state.new ≡ state.old }
+{
+    let clock = state.clock;
+    if clock >= CLOCK_MAX || clock + 1 != step.stamp() {
+        return false;
+    }
+    step_plain(state, step.hart(), step.stamp())
 }
 
 /// Whether a hart asks this in a step of a kind that touches its rank alone.
