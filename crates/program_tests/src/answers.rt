@@ -6,12 +6,13 @@ ghost use Rattle.cl_text.specs.declared.faults.RecordFault.TheVariants.{Short};
 ghost use Rattle.rv_asm_tokens.specs.declared.fault.AsmFault.{AsmFault};
 ghost use Rattle.rvmc_answers.specs.Answers.{end_status};
 ghost use Rattle.rvmc_answers.specs.Making.{needs_threads};
+ghost use Rattle.rvmc_answers.specs.Outputs.{output_bytes};
 ghost use Rattle.rvmc_report.specs.declared.faults.Fault.TheVariants as faults;
 
 use cl_run::Plan;
 use rvmc_answers::answers::{Answer, answer_to, answer_with_threads};
 use rvmc_answers::plans::{listed, plans};
-use rvmc_line::{CommandLine, Numbers};
+use rvmc_line::{CommandLine, Numbers, Written};
 use rvmc_report::faults::Fault;
 use std::alloc::{AllocError, Global};
 use std::sync::Wait;
@@ -47,7 +48,7 @@ pub fn one_wants_no_thread(
         budget: 1,
         plan,
         order,
-        recorded: false,
+        written: Written::Report,
     };
     answer_to(alloc, &line, bytes)
 }
@@ -77,7 +78,7 @@ pub fn images_are_no_sources(
         budget: 1,
         plan,
         order,
-        recorded: false,
+        written: Written::Report,
     };
     answer_to(alloc, &line, &[])
 }
@@ -96,6 +97,22 @@ pub fn check_has_no_plans(alloc: Global, bytes: &[u8]) -> Result<Answer, Fault>
     ensures { result ≢ Err faults.Plans }
 {
     answer_to(alloc, &CommandLine::Check, bytes)
+}
+
+/// Nor does `why`: bytes that are no record have no place.
+#[tactic(auto, unfolding(cl_text::specs::Reading::reading_record))]
+pub fn nothing_has_no_place(alloc: Global, at: Option<u64>) -> Result<Answer, Fault>
+    ensures status { IfOk result (λ answer. end_status answer.end ≡ 1) }
+    ensures short { IfErr result (λ fault. (fault ≡ faults.Memory) ⊎ (fault ≡ faults.Record (Short 0))) }
+{
+    answer_to(alloc, &CommandLine::Why { at }, &[])
+}
+
+/// A place that is there is told of with the status 0, whatever is found.
+pub fn each_place_ends_with_0(alloc: Global, at: Option<u64>, bytes: &[u8]) -> Result<Answer, Fault>
+    ensures { IfOk result (λ answer. output_bytes answer.output ≢ [] → end_status answer.end ≡ 0) }
+{
+    answer_to(alloc, &CommandLine::Why { at }, bytes)
 }
 
 /// Without a list all take turns, the last too.

@@ -3,8 +3,9 @@
 ghost use Rattle.std.specs.Prelude.{◌≡◌, [], ◌∷◌, IfErr, IfOk, IsErr, None, Ok, Some, false, true};
 ghost use Rattle.clap.specs.declared.error.kind.ErrorKind.TheVariants.{DisplayVersion};
 ghost use Rattle.rvmc_cli.specs.Meaning.{IsRefusal};
-ghost use Rattle.rvmc_line.specs.declared.line.CommandLine.TheVariants.{Asm, Check, Dis, One, Run};
+ghost use Rattle.rvmc_line.specs.declared.line.CommandLine.TheVariants.{Asm, Check, Dis, One, Run, Why};
 ghost use Rattle.rvmc_line.specs.declared.line.ParseFault.TheVariants as faults;
+ghost use Rattle.rvmc_line.specs.declared.line.Written.TheVariants as written;
 
 use rvmc_cli::parse;
 use rvmc_line::{CommandLine, ParseFault};
@@ -12,7 +13,7 @@ use std::alloc::Global;
 
 /// Without words a source is run, with a budget of 1,000,000 turns, and no memory is needed to say so.
 pub fn no_words(alloc: Global) -> Result<CommandLine, ParseFault>
-    ensures { result ≡ Ok (One true 1000000 None None false) }
+    ensures { result ≡ Ok (One true 1000000 None None written.Report) }
 {
     parse(alloc, &[])
 }
@@ -44,7 +45,7 @@ pub fn from_takes_an_image(alloc: Global) -> Result<CommandLine, ParseFault>
 /// `one` runs an image, each rank for 1,000,000 turns at most.
 #[tactic(auto, unfolding(rvmc_cli::specs::Meaning::faults_in, rvmc_cli::specs::Meaning::command_in, rvmc_cli::specs::Meaning::line_in, clap::proofs::OnLiterals::clap_on_literals))]
 pub fn one_runs_an_image(alloc: Global) -> Result<CommandLine, ParseFault>
-    ensures { IfOk result (λ line. line ≡ One false 1000000 None None false) }
+    ensures { IfOk result (λ line. line ≡ One false 1000000 None None written.Report) }
 {
     parse(alloc, &["one"])
 }
@@ -52,7 +53,7 @@ pub fn one_runs_an_image(alloc: Global) -> Result<CommandLine, ParseFault>
 /// `--source` has it run a source.
 #[tactic(auto, unfolding(rvmc_cli::specs::Meaning::faults_in, rvmc_cli::specs::Meaning::command_in, rvmc_cli::specs::Meaning::line_in, clap::proofs::OnLiterals::clap_on_literals))]
 pub fn source_runs_a_source(alloc: Global) -> Result<CommandLine, ParseFault>
-    ensures { IfOk result (λ line. line ≡ One true 1000000 None None false) }
+    ensures { IfOk result (λ line. line ≡ One true 1000000 None None written.Report) }
 {
     parse(alloc, &["one", "--source"])
 }
@@ -60,7 +61,7 @@ pub fn source_runs_a_source(alloc: Global) -> Result<CommandLine, ParseFault>
 /// `--budget` bounds the turns, and nothing else.
 #[tactic(auto, unfolding(rvmc_cli::specs::Meaning::faults_in, rvmc_cli::specs::Meaning::command_in, rvmc_cli::specs::Meaning::line_in, clap::proofs::OnLiterals::clap_on_literals, rvmc_line::specs::Number::number_in))]
 pub fn budget_is_heeded(alloc: Global) -> Result<CommandLine, ParseFault>
-    ensures { IfOk result (λ line. line ≡ One false 5 None None false) }
+    ensures { IfOk result (λ line. line ≡ One false 5 None None written.Report) }
 {
     parse(alloc, &["one", "--budget", "5"])
 }
@@ -76,7 +77,7 @@ pub fn budget_of_0_is_refused(alloc: Global) -> Result<CommandLine, ParseFault>
 /// The greatest budget is taken.
 #[tactic(auto, unfolding(rvmc_cli::specs::Meaning::faults_in, rvmc_cli::specs::Meaning::command_in, rvmc_cli::specs::Meaning::line_in, clap::proofs::OnLiterals::clap_on_literals, rvmc_line::specs::Number::number_in))]
 pub fn budget_of_16777216_is_heeded(alloc: Global) -> Result<CommandLine, ParseFault>
-    ensures { IfOk result (λ line. line ≡ One false 16777216 None None false) }
+    ensures { IfOk result (λ line. line ≡ One false 16777216 None None written.Report) }
 {
     parse(alloc, &["one", "--budget", "16777216"])
 }
@@ -108,7 +109,7 @@ pub fn version_is_no_refusal(alloc: Global) -> Result<CommandLine, ParseFault>
 /// `--plan` lists harts.
 #[tactic(auto, unfolding(rvmc_cli::specs::Meaning::faults_in, rvmc_cli::specs::Meaning::command_in, rvmc_cli::specs::Meaning::line_in, clap::proofs::OnLiterals::clap_on_literals, rvmc_line::specs::Number::number_in, rvmc_line::specs::Number::numbers_in))]
 pub fn plan_is_for_harts(alloc: Global) -> Result<CommandLine, ParseFault>
-    ensures { IfOk result (λ line. line ≡ One false 1000000 (Some (0 ∷ 1 ∷ [])) None false) }
+    ensures { IfOk result (λ line. line ≡ One false 1000000 (Some (0 ∷ 1 ∷ [])) None written.Report) }
 {
     parse(alloc, &["one", "--plan", "0,1"])
 }
@@ -116,7 +117,7 @@ pub fn plan_is_for_harts(alloc: Global) -> Result<CommandLine, ParseFault>
 /// `--order` lists ranks.
 #[tactic(auto, unfolding(rvmc_cli::specs::Meaning::faults_in, rvmc_cli::specs::Meaning::command_in, rvmc_cli::specs::Meaning::line_in, clap::proofs::OnLiterals::clap_on_literals, rvmc_line::specs::Number::number_in, rvmc_line::specs::Number::numbers_in))]
 pub fn order_is_for_ranks(alloc: Global) -> Result<CommandLine, ParseFault>
-    ensures { IfOk result (λ line. line ≡ One false 1000000 None (Some (1 ∷ 0 ∷ [])) false) }
+    ensures { IfOk result (λ line. line ≡ One false 1000000 None (Some (1 ∷ 0 ∷ [])) written.Report) }
 {
     parse(alloc, &["one", "--order", "1,0"])
 }
@@ -132,7 +133,7 @@ pub fn wrong_order_is_refused(alloc: Global) -> Result<CommandLine, ParseFault>
 /// `run` runs an image with a lead of 64 turns.
 #[tactic(auto, unfolding(rvmc_cli::specs::Meaning::faults_in, rvmc_cli::specs::Meaning::command_in, rvmc_cli::specs::Meaning::line_in, clap::proofs::OnLiterals::clap_on_literals))]
 pub fn run_leads_by_64(alloc: Global) -> Result<CommandLine, ParseFault>
-    ensures { IfOk result (λ line. line ≡ Run false 1000000 None 64 false) }
+    ensures { IfOk result (λ line. line ≡ Run false 1000000 None 64 written.Report) }
 {
     parse(alloc, &["run"])
 }
@@ -140,7 +141,7 @@ pub fn run_leads_by_64(alloc: Global) -> Result<CommandLine, ParseFault>
 /// It takes a source, a budget and a plan as `one` does.
 #[tactic(auto, unfolding(rvmc_cli::specs::Meaning::faults_in, rvmc_cli::specs::Meaning::command_in, rvmc_cli::specs::Meaning::line_in, clap::proofs::OnLiterals::clap_on_literals, rvmc_line::specs::Number::number_in, rvmc_line::specs::Number::numbers_in))]
 pub fn run_takes_what_one_takes(alloc: Global) -> Result<CommandLine, ParseFault>
-    ensures { IfOk result (λ line. line ≡ Run true 5 (Some (0 ∷ 1 ∷ [])) 64 false) }
+    ensures { IfOk result (λ line. line ≡ Run true 5 (Some (0 ∷ 1 ∷ [])) 64 written.Report) }
 {
     parse(
         alloc,
@@ -151,7 +152,7 @@ pub fn run_takes_what_one_takes(alloc: Global) -> Result<CommandLine, ParseFault
 /// `--lead` bounds the lead, and nothing else.
 #[tactic(auto, unfolding(rvmc_cli::specs::Meaning::faults_in, rvmc_cli::specs::Meaning::command_in, rvmc_cli::specs::Meaning::line_in, clap::proofs::OnLiterals::clap_on_literals, rvmc_line::specs::Number::number_in))]
 pub fn lead_of_1_is_heeded(alloc: Global) -> Result<CommandLine, ParseFault>
-    ensures { IfOk result (λ line. line ≡ Run false 1000000 None 1 false) }
+    ensures { IfOk result (λ line. line ≡ Run false 1000000 None 1 written.Report) }
 {
     parse(alloc, &["run", "--lead", "1"])
 }
@@ -159,7 +160,7 @@ pub fn lead_of_1_is_heeded(alloc: Global) -> Result<CommandLine, ParseFault>
 /// It may stand behind an equals sign.
 #[tactic(auto, unfolding(rvmc_cli::specs::Meaning::faults_in, rvmc_cli::specs::Meaning::command_in, rvmc_cli::specs::Meaning::line_in, clap::proofs::OnLiterals::clap_on_literals, rvmc_line::specs::Number::number_in))]
 pub fn lead_behind_an_equals_sign_is_heeded(alloc: Global) -> Result<CommandLine, ParseFault>
-    ensures { IfOk result (λ line. line ≡ Run false 1000000 None 5 false) }
+    ensures { IfOk result (λ line. line ≡ Run false 1000000 None 5 written.Report) }
 {
     parse(alloc, &["run", "--lead=5"])
 }
@@ -167,7 +168,7 @@ pub fn lead_behind_an_equals_sign_is_heeded(alloc: Global) -> Result<CommandLine
 /// The greatest lead is taken.
 #[tactic(auto, unfolding(rvmc_cli::specs::Meaning::faults_in, rvmc_cli::specs::Meaning::command_in, rvmc_cli::specs::Meaning::line_in, clap::proofs::OnLiterals::clap_on_literals, rvmc_line::specs::Number::number_in))]
 pub fn lead_of_65536_is_heeded(alloc: Global) -> Result<CommandLine, ParseFault>
-    ensures { IfOk result (λ line. line ≡ Run false 1000000 None 65536 false) }
+    ensures { IfOk result (λ line. line ≡ Run false 1000000 None 65536 written.Report) }
 {
     parse(alloc, &["run", "--lead", "65536"])
 }
@@ -215,7 +216,7 @@ pub fn order_of_run_is_refused(alloc: Global) -> Result<CommandLine, ParseFault>
 /// `--record` asks for the record, and for nothing else.
 #[tactic(auto, unfolding(rvmc_cli::specs::Meaning::faults_in, rvmc_cli::specs::Meaning::command_in, rvmc_cli::specs::Meaning::line_in, clap::proofs::OnLiterals::clap_on_literals))]
 pub fn record_of_run(alloc: Global) -> Result<CommandLine, ParseFault>
-    ensures { IfOk result (λ line. line ≡ Run false 1000000 None 64 true) }
+    ensures { IfOk result (λ line. line ≡ Run false 1000000 None 64 written.Record) }
 {
     parse(alloc, &["run", "--record"])
 }
@@ -223,7 +224,7 @@ pub fn record_of_run(alloc: Global) -> Result<CommandLine, ParseFault>
 /// The same of a run on one thread.
 #[tactic(auto, unfolding(rvmc_cli::specs::Meaning::faults_in, rvmc_cli::specs::Meaning::command_in, rvmc_cli::specs::Meaning::line_in, clap::proofs::OnLiterals::clap_on_literals))]
 pub fn record_of_one(alloc: Global) -> Result<CommandLine, ParseFault>
-    ensures { IfOk result (λ line. line ≡ One false 1000000 None None true) }
+    ensures { IfOk result (λ line. line ≡ One false 1000000 None None written.Record) }
 {
     parse(alloc, &["one", "--record"])
 }
@@ -231,7 +232,7 @@ pub fn record_of_one(alloc: Global) -> Result<CommandLine, ParseFault>
 /// A record is written of a source's run, too.
 #[tactic(auto, unfolding(rvmc_cli::specs::Meaning::faults_in, rvmc_cli::specs::Meaning::command_in, rvmc_cli::specs::Meaning::line_in, clap::proofs::OnLiterals::clap_on_literals))]
 pub fn record_of_a_source(alloc: Global) -> Result<CommandLine, ParseFault>
-    ensures { IfOk result (λ line. line ≡ One true 1000000 None None true) }
+    ensures { IfOk result (λ line. line ≡ One true 1000000 None None written.Record) }
 {
     parse(alloc, &["one", "--record", "--source"])
 }
@@ -250,6 +251,62 @@ pub fn record_of_a_check_is_refused(alloc: Global) -> Result<CommandLine, ParseF
     ensures { IsErr result }
 {
     parse(alloc, &["check", "--record"])
+}
+
+/// `--why` asks for what harts wait for, behind the report.
+#[tactic(auto, unfolding(rvmc_cli::specs::Meaning::faults_in, rvmc_cli::specs::Meaning::command_in, rvmc_cli::specs::Meaning::line_in, clap::proofs::OnLiterals::clap_on_literals))]
+pub fn why_of_one(alloc: Global) -> Result<CommandLine, ParseFault>
+    ensures { IfOk result (λ line. line ≡ One false 1000000 None None written.Why) }
+{
+    parse(alloc, &["one", "--why"])
+}
+
+/// The same of a run with threads.
+#[tactic(auto, unfolding(rvmc_cli::specs::Meaning::faults_in, rvmc_cli::specs::Meaning::command_in, rvmc_cli::specs::Meaning::line_in, clap::proofs::OnLiterals::clap_on_literals))]
+pub fn why_of_run(alloc: Global) -> Result<CommandLine, ParseFault>
+    ensures { IfOk result (λ line. line ≡ Run false 1000000 None 64 written.Why) }
+{
+    parse(alloc, &["run", "--why"])
+}
+
+/// A record has no place for it.
+#[tactic(auto, unfolding(rvmc_cli::specs::Meaning::faults_in, rvmc_cli::specs::Meaning::command_in, rvmc_cli::specs::Meaning::line_in, clap::proofs::OnLiterals::clap_on_literals))]
+pub fn why_and_record_are_refused(alloc: Global) -> Result<CommandLine, ParseFault>
+    ensures { IsErr result }
+{
+    parse(alloc, &["one", "--why", "--record"])
+}
+
+/// In whatever order they stand.
+#[tactic(auto, unfolding(rvmc_cli::specs::Meaning::faults_in, rvmc_cli::specs::Meaning::command_in, rvmc_cli::specs::Meaning::line_in, clap::proofs::OnLiterals::clap_on_literals))]
+pub fn record_and_why_are_refused(alloc: Global) -> Result<CommandLine, ParseFault>
+    ensures { IsErr result }
+{
+    parse(alloc, &["run", "--record", "--why"])
+}
+
+/// `why` tells of a record's end.
+#[tactic(auto, unfolding(rvmc_cli::specs::Meaning::faults_in, rvmc_cli::specs::Meaning::command_in, rvmc_cli::specs::Meaning::line_in, clap::proofs::OnLiterals::clap_on_literals))]
+pub fn why_tells_of_the_end(alloc: Global) -> Result<CommandLine, ParseFault>
+    ensures { IfOk result (λ line. line ≡ Why None) }
+{
+    parse(alloc, &["why"])
+}
+
+/// With `--at` of the place with so many steps done, the start too.
+#[tactic(auto, unfolding(rvmc_cli::specs::Meaning::faults_in, rvmc_cli::specs::Meaning::command_in, rvmc_cli::specs::Meaning::line_in, clap::proofs::OnLiterals::clap_on_literals, rvmc_line::specs::Number::number_in))]
+pub fn why_tells_of_the_start(alloc: Global) -> Result<CommandLine, ParseFault>
+    ensures { IfOk result (λ line. line ≡ Why (Some 0)) }
+{
+    parse(alloc, &["why", "--at", "0"])
+}
+
+/// No record has more steps than a `u64` counts.
+#[tactic(auto, unfolding(rvmc_cli::specs::Meaning::faults_in, rvmc_cli::specs::Meaning::command_in, rvmc_cli::specs::Meaning::line_in, clap::proofs::OnLiterals::clap_on_literals, rvmc_line::specs::Number::number_in))]
+pub fn place_of_65_bits_is_refused(alloc: Global) -> Result<CommandLine, ParseFault>
+    ensures { IsErr result }
+{
+    parse(alloc, &["why", "--at", "18446744073709551616"])
 }
 
 /// No other word is a command.

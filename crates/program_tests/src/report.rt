@@ -10,9 +10,10 @@ ghost use Rattle.cl_trace.specs.Traces.{TraceView};
 ghost use Rattle.rvmc_report.specs.Report.{ends_of, has_trapped, is_cut_short, wants_memory};
 ghost use Rattle.rvmc_report.specs.WholeRecord.{HasEachRank};
 ghost use Rattle.rvmc_report.specs.declared.faults.Fault.TheVariants as faults;
+ghost use Rattle.rvmc_report.specs.declared.faults.PlaceFault.TheVariants.{PastEnd};
 ghost use Rattle.rvmc_report.specs.declared.input.InputFault.TheVariants as input;
 
-use cl_replay::Verdict;
+use cl_replay::{ReplayFault, Verdict};
 use cl_run::{Record, RunFault};
 use cl_text::RecordFault;
 use rv_asm::{AsmFault, AsmFaultKind};
@@ -80,6 +81,27 @@ pub fn want_of_memory_is_no_fault_of_a_record() -> Fault
     ensures { result ≡ faults.Memory }
 {
     Fault::from(RecordFault::Memory)
+}
+
+/// Nor of steps that are done again.
+pub fn want_of_memory_is_no_fault_of_a_place() -> Fault
+    ensures { result ≡ faults.Memory }
+{
+    Fault::from(ReplayFault::Memory)
+}
+
+/// A place behind the end is told with the number of steps.
+pub fn place_behind_the_end_is_named(steps: u64) -> Fault
+    ensures { result ≡ faults.Why (PastEnd steps) }
+{
+    Fault::from(ReplayFault::PastEnd(steps))
+}
+
+/// A step before a place that is none is a fault of the input.
+pub fn wrong_step_before_a_place_ends_with_1(n: u64) -> u8
+    ensures { result ≡ 1 }
+{
+    Fault::from(ReplayFault::Step(n)).status()
 }
 
 /// A fault of a record is a fault of the input.

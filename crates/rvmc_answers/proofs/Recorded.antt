@@ -18,7 +18,8 @@ use Rattle.rvmc_answers.specs.Answers.{SaysOfRecord}
 use Rattle.rvmc_answers.specs.Images.{image_in}
 use Rattle.rvmc_answers.specs.Laws.{RecordedIsGoodLaw}
 use Rattle.rvmc_answers.proofs.Reading.{ok≢err}
-use Rattle.rvmc_line.specs.declared.line.CommandLine.TheVariants.{Asm, Check, Debug, Dis, One, Run}
+use Rattle.rvmc_line.specs.declared.line.CommandLine.TheVariants.{Asm, Check, Debug, Dis, One, Run, Why}
+use Rattle.rvmc_line.specs.declared.line.Written.TheVariants as written
 use Rattle.rvmc_report.specs.Verdicts.{verdict_status, verdict_text}
 use Rattle.rvmc_report.specs.declared.faults.Fault.{Fault}
 
@@ -76,7 +77,7 @@ good_text text told ended is says = go (reading_record text) refl says
 -- a run that is told of by its record, and not as a fault of the input
 told_by : (Right : Type 0) (Leaves : Record → Type 0) (image : ImageParts) (text : List ℕ) (status : ℕ)
     → ((left : Record) → Leaves left → IsMergedRun image left) → text ≢ []
-    → IsRunBy Right Leaves (IsTextOf true image) text status → ¬ (¬ (IsMergedText text))
+    → IsRunBy Right Leaves (IsTextOf written.Record image) text status → ¬ (¬ (IsMergedText text))
 told_by Right Leaves image text status merged some by none =
     some (by.refused (λ right.
     let of = by.told right in
@@ -84,7 +85,7 @@ told_by Right Leaves image text status merged some by none =
 
 run_text : (meant : Result ImageParts Fault) (budget : ℕ) (harts : Option (List ℕ)) (text : List ℕ) (status : ℕ)
     → text ≢ []
-    → MatchResult meant (λ image. IsRun image budget harts true text status) (λ _. IsFaulty text status)
+    → MatchResult meant (λ image. IsRun image budget harts written.Record text status) (λ _. IsFaulty text status)
     → ¬ (¬ (IsMergedText text))
 run_text (Ok image) budget harts text status some (plans, of, by) =
     told_by _ _ image text status (λ left is. is.merged) some by
@@ -92,24 +93,29 @@ run_text (Err fault) budget harts text status some faulty = λ none. some faulty
 
 one_text : (meant : Result ImageParts Fault) (budget : ℕ) (harts ranks : Option (List ℕ)) (text : List ℕ) (status : ℕ)
     → text ≢ []
-    → MatchResult meant (λ image. IsOne image budget harts ranks true text status) (λ _. IsFaulty text status)
+    → MatchResult meant (λ image. IsOne image budget harts ranks written.Record text status) (λ _. IsFaulty text status)
     → ¬ (¬ (IsMergedText text))
 one_text (Ok image) budget harts ranks text status some (plans, of, by) =
     told_by _ _ image text status (λ left is. is.merged) some by
 one_text (Err fault) budget harts ranks text status some faulty = λ none. some faulty.0
 
 pub recorded_is_good : RecordedIsGoodLaw
-recorded_is_good (Run source budget plan lead true) bytes text told status ended asked says some checked =
-    let meant = image_in (Run source budget plan lead true) bytes in
+recorded_is_good (Run source budget plan lead written.Record) bytes text told status ended asked says some checked =
+    let meant = image_in (Run source budget plan lead written.Record) bytes in
     good_text text told ended (run_text meant budget plan text status some says) checked
-recorded_is_good (One source budget plan order true) bytes text told status ended asked says some checked =
-    let meant = image_in (One source budget plan order true) bytes in
+recorded_is_good (One source budget plan order written.Record) bytes text told status ended asked says some checked =
+    let meant = image_in (One source budget plan order written.Record) bytes in
     good_text text told ended (one_text meant budget plan order text status some says) checked
-recorded_is_good (Run source budget plan lead false) bytes text told status ended asked says some checked =
+recorded_is_good (Run source budget plan lead written.Report) bytes text told status ended asked says some checked =
     absurd (true≢false (sym asked))
-recorded_is_good (One source budget plan order false) bytes text told status ended asked says some checked =
+recorded_is_good (Run source budget plan lead written.Why) bytes text told status ended asked says some checked =
+    absurd (true≢false (sym asked))
+recorded_is_good (One source budget plan order written.Report) bytes text told status ended asked says some checked =
+    absurd (true≢false (sym asked))
+recorded_is_good (One source budget plan order written.Why) bytes text told status ended asked says some checked =
     absurd (true≢false (sym asked))
 recorded_is_good (Asm from) bytes text told status ended asked says some checked = absurd (true≢false (sym asked))
 recorded_is_good Dis bytes text told status ended asked says some checked = absurd (true≢false (sym asked))
 recorded_is_good Check bytes text told status ended asked says some checked = absurd (true≢false (sym asked))
 recorded_is_good (Debug words) bytes text told status ended asked says some checked = absurd (true≢false (sym asked))
+recorded_is_good (Why at) bytes text told status ended asked says some checked = absurd (true≢false (sym asked))

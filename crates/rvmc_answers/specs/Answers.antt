@@ -1,5 +1,5 @@
 -- What each command answers: the text on standard output, and the status.
-use Rattle.std.specs.Prelude.{◌≡◌, ◌⊎◌, ℕ, Bool, true, false, List, [], length, MatchResult, Option, None, Some}
+use Rattle.std.specs.Prelude.{◌≡◌, ◌≤◌, ◌⊎◌, ◌++◌, ℕ, true, false, List, [], length, MatchResult, Option, None, Some}
 use Rattle.cl_debug.specs.declared.faults.DebugFault.{DebugFault}
 use Rattle.cl_machine.specs.Merge.{IsMerge}
 use Rattle.cl_machine.specs.declared.steps.Step.{Step}
@@ -8,24 +8,29 @@ use Rattle.cl_record.specs.Records.{IsMergedRun, steps_in}
 use Rattle.cl_record.specs.declared.plans.Plan.{Plan}
 use Rattle.cl_record.specs.declared.records.Record.{Record}
 use Rattle.cl_replay.specs.Checks.{IsVerdict}
+use Rattle.cl_replay.specs.Replaying.{IsReached}
 use Rattle.cl_replay.specs.Replays.{IsRunUpTo}
 use Rattle.cl_replay.specs.declared.checking.Verdict.{Verdict}
+use Rattle.cl_replay.specs.declared.states.ClusterState.{ClusterState}
 use Rattle.cl_run.specs.Runs.{IsOneRun}
 use Rattle.cl_text.specs.Reading.{reading_record}
 use Rattle.cl_text.specs.Text.{record_text}
 use Rattle.cl_text.specs.Whole.{IsRecord}
 use Rattle.cl_threads.specs.Runs.{IsThreadRun}
-use Rattle.rv_image.specs.Image.{in_version_two}
+use Rattle.rv_image.specs.Image.{IsImage, in_version_two}
 use Rattle.rv_image.specs.Text.{image_text}
 use Rattle.rv_image.specs.declared.images.ImageParts.{ImageParts}
 use Rattle.rvmc_debug.specs.Words.{IsTold as HasTold}
 use Rattle.rvmc_line.specs.declared.debug.DebugWord.{DebugWord}
 use Rattle.rvmc_line.specs.declared.line.CommandLine.{CommandLine}
-use Rattle.rvmc_line.specs.declared.line.CommandLine.TheVariants.{Asm, Check, Debug, Dis, One, Run}
+use Rattle.rvmc_line.specs.declared.line.CommandLine.TheVariants.{Asm, Check, Debug, Dis, One, Run, Why}
+use Rattle.rvmc_line.specs.declared.line.Written.{Written}
+use Rattle.rvmc_line.specs.declared.line.Written.TheVariants as written
 use Rattle.rvmc_report.specs.Faults.{fault_of_debug, fault_status}
 use Rattle.rvmc_report.specs.Listing.{listing}
 use Rattle.rvmc_report.specs.Report.{rank_ends, report, status_of}
 use Rattle.rvmc_report.specs.Verdicts.{verdict_status, verdict_text}
+use Rattle.rvmc_why.specs.Why.{IsWhy}
 use Rattle.rvmc_answers.specs.Images.{image_in}
 use Rattle.rvmc_answers.specs.Plans.{ArePlansOf, listed}
 use Rattle.rvmc_answers.specs.declared.answers.End.{End}
@@ -55,10 +60,31 @@ pub record IsRecordOf (image : ImageParts) (left : Record) (text : List ℕ) : T
   pub inside : IsRecord image steps
   pub spelled : text ≡ record_text image steps
 
--- the report of a record, or with `--record` its own text
-abbrev pub IsTextOf : Bool → ImageParts → Record → List ℕ → Type 0
-IsTextOf false image left text = text ≡ report (rank_ends left)
-IsTextOf true image left text = IsRecordOf image left text
+-- what the harts wait for in a state to which the first n steps lead, which are a run of the image
+pub record IsWhyAt (image : ImageParts) (steps : List Step) (n : ℕ) (text : List ℕ) : Type 0 where
+  pub limits : IsImage image
+  pub within : n ≤ length steps
+  pub state : ClusterState
+  pub reached : IsReached image steps n state
+  pub told : IsWhy image state text
+
+-- what they wait for where a record ends: where its steps lead, in order of their stamps
+pub record IsWhyOf (image : ImageParts) (left : Record) (text : List ℕ) : Type 0 where
+  pub steps : List Step
+  pub sorted : IsMerge (steps_in left) steps
+  pub why : IsWhyAt image steps (length steps) text
+
+-- the report of a record, and that behind it
+pub record IsReportWithWhy (image : ImageParts) (left : Record) (text : List ℕ) : Type 0 where
+  pub why : List ℕ
+  pub told : IsWhyOf image left why
+  pub spelled : text ≡ report (rank_ends left) ++ why
+
+-- the report of a record, or with `--record` its own text; with `--why` more stands behind the report
+abbrev pub IsTextOf : Written → ImageParts → Record → List ℕ → Type 0
+IsTextOf written.Report image left text = text ≡ report (rank_ends left)
+IsTextOf written.Record image left text = IsRecordOf image left text
+IsTextOf written.Why image left text = IsReportWithWhy image left text
 
 -- what is told of the record that a run leaves, and the status of the run
 pub record IsTold (Leaves : Record → Type 0) (IsText : Record → List ℕ → Type 0) (text : List ℕ) (status : ℕ)
@@ -92,27 +118,28 @@ pub record IsLeftByOne (image : ImageParts) (plans : List Plan) (order : List �
   pub merged : IsMergedRun image left
 
 -- `run`: each rank on a thread of its own
-abbrev pub IsRun : ImageParts → ℕ → Option (List ℕ) → Bool → List ℕ → ℕ → Type 0
-IsRun image budget harts recorded text status =
+abbrev pub IsRun : ImageParts → ℕ → Option (List ℕ) → Written → List ℕ → ℕ → Type 0
+IsRun image budget harts written text status =
     ByPlans image budget harts (λ plans.
-    IsRunBy (HasPlans image plans) (IsLeftByThreads image plans) (IsTextOf recorded image) text status)
+    IsRunBy (HasPlans image plans) (IsLeftByThreads image plans) (IsTextOf written image) text status)
 
 -- `one`: all ranks on one thread, in this order
-abbrev pub IsOne : ImageParts → ℕ → Option (List ℕ) → Option (List ℕ) → Bool → List ℕ → ℕ → Type 0
-IsOne image budget harts ranks recorded text status =
+abbrev pub IsOne : ImageParts → ℕ → Option (List ℕ) → Option (List ℕ) → Written → List ℕ → ℕ → Type 0
+IsOne image budget harts ranks written text status =
     ByPlans image budget harts (λ plans.
     let order = listed ranks image.ranks in
-    IsRunBy (ArePlans image plans order) (IsLeftByOne image plans order) (IsTextOf recorded image) text status)
+    IsRunBy (ArePlans image plans order) (IsLeftByOne image plans order) (IsTextOf written image) text status)
 
--- one case a command, of the image that it takes; `check` and `debug` take none
+-- one case a command, of the image that it takes; `check`, `debug` and `why` take none
 abbrev pub Makes : CommandLine → ImageParts → List ℕ → ℕ → Type 0
 Makes (Asm false) image text status = IsDone (image_text image) text status
 Makes (Asm true) image text status = IsDone (image_text (in_version_two image)) text status
 Makes Dis image text status = IsDone (listing image) text status
-Makes (Run source budget plan lead recorded) image text status = IsRun image budget plan recorded text status
-Makes (One source budget plan order recorded) image text status = IsOne image budget plan order recorded text status
+Makes (Run source budget plan lead written) image text status = IsRun image budget plan written text status
+Makes (One source budget plan order written) image text status = IsOne image budget plan order written text status
 Makes Check image text status = ⊥
 Makes (Debug words) image text status = ⊥
+Makes (Why at) image text status = ⊥
 
 -- what a command says that takes an image from the bytes
 abbrev pub SaysOfImage : CommandLine → List ℕ → List ℕ → ℕ → Type 0
@@ -156,15 +183,37 @@ SaysOfWords words bytes text status =
     MatchResult (reading_record bytes) (λ read. SaysOfSteps read.0 read.1 words text status)
     (λ _. IsFaulty text status)
 
+-- the place of which `why` tells: so many steps are done, or all
+abbrev pub place_in : Option ℕ → List Step → ℕ
+place_in (Some n) steps = n
+place_in None steps = length steps
+
+-- there are so many steps, and they are a run of the image
+pub record HasPlace (image : ImageParts) (steps : List Step) (n : ℕ) : Type 0 where
+  pub within : n ≤ length steps
+  pub run : IsRunUpTo image steps n
+
+-- a place that isn't there is a fault of the input. The status tells nothing of the verdict
+abbrev pub SaysOfPlace : ImageParts → List Step → ℕ → List ℕ → ℕ → Type 0
+SaysOfPlace image steps n text status =
+    (IsWhyAt image steps n text × (status ≡ 0)) ⊎ ((¬ HasPlace image steps n) × IsFaulty text status)
+
+-- what `why` says of the record that the bytes spell
+abbrev pub SaysWhy : Option ℕ → List ℕ → List ℕ → ℕ → Type 0
+SaysWhy at bytes text status =
+    MatchResult (reading_record bytes) (λ read. SaysOfPlace read.0 read.1 (place_in at read.1) text status)
+    (λ _. IsFaulty text status)
+
 -- what a command line says of the bytes that are read
 abbrev pub Says : CommandLine → List ℕ → List ℕ → ℕ → Type 0
 Says Check bytes text status = SaysOfRecord bytes text status
 Says (Debug words) bytes text status = SaysOfWords words bytes text status
+Says (Why at) bytes text status = SaysWhy at bytes text status
 Says line bytes text status = SaysOfImage line bytes text status
 
 -- ---- which fault is told
 
 -- threads are started: the plan is right
 abbrev pub HasThreads : CommandLine → ImageParts → Type 0
-HasThreads (Run source budget plan lead recorded) image = ByPlans image budget plan (HasPlans image)
+HasThreads (Run source budget plan lead written) image = ByPlans image budget plan (HasPlans image)
 HasThreads other image = ⊥

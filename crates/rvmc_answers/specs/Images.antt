@@ -7,7 +7,7 @@ use Rattle.rv_asm_tokens.specs.declared.fault.AsmFaultKind.TheVariants as kinds
 use Rattle.rv_image.specs.Reading.{reading}
 use Rattle.rv_image.specs.declared.images.ImageParts.{ImageParts}
 use Rattle.rvmc_line.specs.declared.line.CommandLine.{CommandLine}
-use Rattle.rvmc_line.specs.declared.line.CommandLine.TheVariants.{Asm, Check, Debug, Dis, One, Run}
+use Rattle.rvmc_line.specs.declared.line.CommandLine.TheVariants.{Asm, Check, Debug, Dis, One, Run, Why}
 use Rattle.rvmc_report.specs.Faults.{fault_of_image, fault_of_source}
 use Rattle.rvmc_report.specs.declared.faults.Fault.{Fault}
 use Rattle.rvmc_report.specs.declared.faults.Fault.TheVariants as faults
@@ -34,10 +34,11 @@ spelled_image bytes = result_map_both (λ image. image) fault_of_image (reading 
 abbrev pub takes_source : CommandLine → Bool
 takes_source (Asm from) = not from
 takes_source Dis = false
-takes_source (Run source budget plan lead recorded) = source
-takes_source (One source budget plan order recorded) = source
+takes_source (Run source budget plan lead written) = source
+takes_source (One source budget plan order written) = source
 takes_source Check = false
 takes_source (Debug words) = false
+takes_source (Why at) = false
 
 -- the image that a command takes from the bytes
 abbrev pub image_in : CommandLine → List ℕ → Result ImageParts Fault

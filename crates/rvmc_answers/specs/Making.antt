@@ -1,5 +1,5 @@
 -- What the calls behind each command answer, and their faults.
-use Rattle.std.specs.Prelude.{◌≡◌, ⊤, ℕ, Bool, true, false, List, length, MatchResult, Err}
+use Rattle.std.specs.Prelude.{◌≡◌, ◌<◌, ◌≤◌, ⊤, ℕ, Bool, true, false, List, length, MatchResult, Option, Err}
 use Rattle.cl_debug.specs.declared.faults.DebugFault.{DebugFault}
 use Rattle.cl_debug.specs.declared.faults.DebugFault.TheVariants.{NotARun}
 use Rattle.cl_machine.specs.declared.steps.Step.{Step}
@@ -12,16 +12,19 @@ use Rattle.rv_image.specs.Image.{IsImage}
 use Rattle.rv_image.specs.declared.images.ImageParts.{ImageParts}
 use Rattle.rvmc_line.specs.declared.debug.DebugWord.{DebugWord}
 use Rattle.rvmc_line.specs.declared.line.CommandLine.{CommandLine}
-use Rattle.rvmc_line.specs.declared.line.CommandLine.TheVariants.{Check, Debug, One, Run}
+use Rattle.rvmc_line.specs.declared.line.CommandLine.TheVariants.{Check, Debug, One, Run, Why}
 use Rattle.rvmc_report.specs.WholeRecord.{HasEachRank}
 use Rattle.rvmc_report.specs.declared.faults.Fault.{Fault}
 use Rattle.rvmc_report.specs.declared.faults.Fault.TheVariants as faults
+use Rattle.rvmc_report.specs.declared.faults.PlaceFault.{PlaceFault}
+use Rattle.rvmc_report.specs.declared.faults.PlaceFault.TheVariants.{PastEnd}
+use Rattle.rvmc_report.specs.declared.faults.PlaceFault.TheVariants as place
 use Rattle.rvmc_answers.specs.Taking.{IsFaultIn}
 use Rattle.rvmc_answers.specs.Images.{image_in}
 use Rattle.rvmc_answers.specs.Plans.{listed}
 use Rattle.rvmc_answers.specs.declared.answers.End.{End}
 use Rattle.rvmc_answers.specs.declared.answers.End.TheVariants.{Cut, Status}
-use Rattle.rvmc_answers.specs.Answers.{ByPlans, IsDebugged, HasThreads}
+use Rattle.rvmc_answers.specs.Answers.{ByPlans, IsDebugged, HasThreads, place_in}
 
 -- ---- how an answer ends
 
@@ -46,14 +49,14 @@ EndsSo line bytes text end = IsWhole end
 
 -- whether a command needs threads
 abbrev pub needs_threads : CommandLine → Bool
-needs_threads (Run source budget plan lead recorded) = true
+needs_threads (Run source budget plan lead written) = true
 needs_threads other = false
 
 -- the plan is wrong, or the order of the ranks
 abbrev pub IsMisplanned : CommandLine → ImageParts → Type 0
-IsMisplanned (Run source budget plan lead recorded) image =
+IsMisplanned (Run source budget plan lead written) image =
     ByPlans image budget plan (λ plans. ¬ (HasPlans image plans))
-IsMisplanned (One source budget plan order recorded) image =
+IsMisplanned (One source budget plan order written) image =
     ByPlans image budget plan (λ plans. ¬ (ArePlans image plans (listed order image.ranks)))
 IsMisplanned other image = ⊥
 
@@ -92,10 +95,23 @@ IsDebugFault bytes (faults.Debug fault) =
     MatchResult (reading_record bytes) (λ read. IsNoRun read.0 read.1 fault) (λ _. ⊥)
 IsDebugFault bytes fault = IsRecordFault bytes fault
 
+-- of steps of which a place is wanted: there are fewer, which the fault counts, or one before the place is the first
+-- that isn't the machine's
+abbrev pub IsNoPlace : ImageParts → List Step → ℕ → PlaceFault → Type 0
+IsNoPlace image steps n (PastEnd count) = (length steps < n) × (count ≡ length steps)
+IsNoPlace image steps n (place.NotARun k) = (k < n) × (n ≤ length steps) × BreaksAt image steps k
+
+-- of bytes that are read as a record that has the place
+abbrev pub IsPlaceFault : Option ℕ → List ℕ → Fault → Type 0
+IsPlaceFault at bytes (faults.Why fault) =
+    MatchResult (reading_record bytes) (λ read. IsNoPlace read.0 read.1 (place_in at read.1) fault) (λ _. ⊥)
+IsPlaceFault at bytes fault = IsRecordFault bytes fault
+
 -- of what a command takes from the bytes
 abbrev pub IsFaultOf : CommandLine → List ℕ → Fault → Type 0
 IsFaultOf Check bytes fault = IsRecordFault bytes fault
 IsFaultOf (Debug words) bytes fault = IsDebugFault bytes fault
+IsFaultOf (Why at) bytes fault = IsPlaceFault at bytes fault
 IsFaultOf line bytes fault = IsImageFault line bytes fault
 
 -- ---- the steps to an answer

@@ -12,6 +12,7 @@ ghost use Rattle.rvmc_report.specs.Listing.{listing};
 
 use crate::checks::checked;
 use crate::debugging::debugged;
+use crate::explaining::explained;
 use crate::images::image_in;
 use crate::outputs::Output;
 use crate::runs::{one, run};
@@ -89,10 +90,13 @@ fn made(alloc: Global, line: &CommandLine, image: Image) -> Result<Answer, Fault
             budget,
             plan,
             order,
-            recorded,
+            written,
             ..
-        } => one(alloc, &image, *budget, plan, order, *recorded),
-        CommandLine::Run { .. } | CommandLine::Check | CommandLine::Debug { .. } => unreachable!(),
+        } => one(alloc, &image, *budget, plan, order, *written),
+        CommandLine::Run { .. }
+        | CommandLine::Check
+        | CommandLine::Debug { .. }
+        | CommandLine::Why { .. } => unreachable!(),
     }
 }
 
@@ -118,8 +122,8 @@ pub fn needs_threads(line: &CommandLine) -> bool
 
 /// What a command that needs no threads answers to its input.
 ///
-/// A fault of the input is an `Err`, as want of memory is: the first fault of the source, the image or the record, or
-/// `Plans` where a run's plan or order is wrong. A word of `debug` that is refused is no such `Err`: the answer has the
+/// A fault of the input is an `Err`, as want of memory is: the first fault of the source, the image or the record,
+/// `Plans` where a run's plan or order is wrong, or `Why` where the place isn't there of which `why` is to tell. A word of `debug` that is refused is no such `Err`: the answer has the
 /// texts of the words before it, and is cut short by the fault.
 pub fn answer_to(alloc: Global, line: &CommandLine, bytes: &[u8]) -> Result<Answer, Fault>
     requires plain { needs_threads line.now ≡ false }
@@ -131,6 +135,7 @@ pub fn answer_to(alloc: Global, line: &CommandLine, bytes: &[u8]) -> Result<Answ
     match line {
         CommandLine::Check => checked(alloc, bytes),
         CommandLine::Debug { words } => debugged(alloc, words, bytes),
+        CommandLine::Why { at } => explained(alloc, *at, bytes),
         _ => answer_of_image(alloc, line, bytes),
     }
 }
@@ -155,11 +160,11 @@ pub fn answer_with_threads<R: Threads + Wait + Sync>(
             budget,
             plan,
             lead,
-            recorded,
+            written,
             ..
         } => {
             let image = image_in(alloc, line, bytes)?;
-            run(rt, alloc, &image, *budget, plan, *lead, *recorded)
+            run(rt, alloc, &image, *budget, plan, *lead, *written)
         }
         _ => answer_to(alloc, line, bytes),
     }

@@ -46,7 +46,10 @@ fn takes_source(line: &CommandLine) -> bool
 {
     match line {
         CommandLine::Asm { from } => !*from,
-        CommandLine::Dis | CommandLine::Check | CommandLine::Debug { .. } => false,
+        CommandLine::Dis
+        | CommandLine::Check
+        | CommandLine::Debug { .. }
+        | CommandLine::Why { .. } => false,
         CommandLine::Run { source, .. } | CommandLine::One { source, .. } => *source,
     }
 }

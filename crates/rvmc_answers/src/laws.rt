@@ -1,6 +1,6 @@
 //! Laws of answers. The functions do nothing; their contracts are the laws.
 
-ghost use Rattle.rvmc_answers.specs.Laws.{RecordedIsGoodLaw, StopsFitLaw};
+ghost use Rattle.rvmc_answers.specs.Laws.{RecordedIsGoodLaw, StopsFitLaw, VerdictIsTrueLaw};
 
 /// A report of `run` tells of each rank a cause to stop that fits what it tells of its harts and its turns.
 pub fn stops_fit()
@@ -10,4 +10,10 @@ pub fn stops_fit()
 /// What `run --record` or `one --record` leaves is good by `check`, unless it leaves nothing for a fault of the input.
 pub fn recorded_is_good()
     ensures { RecordedIsGoodLaw }
+{}
+
+/// The verdict that `why` tells of a record's place, and `--why` of a run's end, is right of the machine's cluster there:
+/// whatever turns are taken from it on, no hart goes on of the ranks that are named as a deadlock.
+pub fn verdict_is_true()
+    ensures { VerdictIsTrueLaw }
 {}

@@ -4,6 +4,7 @@
 pub mod answers;
 mod checks;
 mod debugging;
+mod explaining;
 mod images;
 pub mod laws;
 pub mod outputs;

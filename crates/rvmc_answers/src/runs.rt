@@ -12,6 +12,7 @@ ghost use Rattle.rvmc_answers.specs.Plans.{listed};
 ghost use Rattle.rvmc_report.specs.Report.{rank_ends, status_of};
 
 use crate::answers::{Answer, End};
+use crate::explaining::report_with_why;
 use crate::outputs::Output;
 use crate::plans::{listed, plans_of};
 use cl_merge::merge;
@@ -20,7 +21,7 @@ use cl_run::run_one;
 use cl_text::RecordText;
 use cl_threads::{Pace, run_threads};
 use rv_image::Image;
-use rvmc_line::Numbers;
+use rvmc_line::{Numbers, Written};
 use rvmc_report::faults::Fault;
 use rvmc_report::report::{report, status};
 use std::alloc::{AllocError, Global};
@@ -38,32 +39,32 @@ fn record_of(alloc: Global, image: &Image, left: Record) -> Result<RecordText, A
     RecordText::new(alloc, image, steps)
 }
 
-/// What is told of a run: its report, or the text of its record.
+/// What is told of a run: its report, alone or with what its harts wait for, or the text of its record.
 fn output_of(
     alloc: Global,
     image: &Image,
     left: Record,
-    recorded: bool,
+    written: Written,
 ) -> Result<Output, AllocError>
     requires { IsLeft image.now left }
-    ensures { IfOk result (λ output. IsTextOf recorded image.now left (output_bytes output)) }
+    ensures { IfOk result (λ output. IsTextOf written image.now left (output_bytes output)) }
 {
-    if recorded {
-        Ok(Output::Record(record_of(alloc, image, left)?))
-    } else {
-        Ok(Output::Text(report(alloc, &left)?))
+    match written {
+        Written::Report => Ok(Output::Text(report(alloc, &left)?)),
+        Written::Record => Ok(Output::Record(record_of(alloc, image, left)?)),
+        Written::Why => Ok(Output::Text(report_with_why(alloc, image, left)?)),
     }
 }
 
 /// The same, with the status of the run.
-fn told(alloc: Global, image: &Image, left: Record, recorded: bool) -> Result<Answer, AllocError>
+fn told(alloc: Global, image: &Image, left: Record, written: Written) -> Result<Answer, AllocError>
     requires { IsLeft image.now left }
-    ensures text { IfOk result (λ answer. IsTextOf recorded image.now left (output_bytes answer.output)) }
+    ensures text { IfOk result (λ answer. IsTextOf written image.now left (output_bytes answer.output)) }
     ensures status { IfOk result (λ answer. end_status answer.end ≡ status_of (rank_ends left)) }
     ensures whole { IfOk result (λ answer. IsWhole answer.end) }
 {
     let end = End::Status(status(&left));
-    let output = output_of(alloc, image, left, recorded)?;
+    let output = output_of(alloc, image, left, written)?;
     Ok(Answer { output, end })
 }
 
@@ -73,17 +74,17 @@ fn one_by(
     image: &Image,
     plans: &[Plan],
     order: &[u8],
-    recorded: bool,
+    written: Written,
 ) -> Result<Answer, Fault>
     requires { IsImage image.now }
     ensures says { IfOk result (λ answer.
         IsRunBy (ArePlans image.now plans.now order.now) (IsLeftByOne image.now plans.now order.now)
-        (IsTextOf recorded image.now) (output_bytes answer.output) (end_status answer.end)) }
+        (IsTextOf written image.now) (output_bytes answer.output) (end_status answer.end)) }
     ensures whole { IfOk result (λ answer. IsWhole answer.end) }
     ensures fault { IfErr result (IsRunFault (¬ (ArePlans image.now plans.now order.now)) ⊥) }
 {
     let left = run_one(alloc, image, plans, order)?;
-    Ok(told(alloc, image, left, recorded)?)
+    Ok(told(alloc, image, left, written)?)
 }
 
 /// `one`: a run by the same plan for each rank, all ranks on one thread.
@@ -93,10 +94,10 @@ pub(crate) fn one(
     budget: u64,
     harts: &Option<Numbers>,
     ranks: &Option<Numbers>,
-    recorded: bool,
+    written: Written,
 ) -> Result<Answer, Fault>
     ensures says { IfOk result (λ answer.
-        IsOne image.now budget harts.now ranks.now recorded (output_bytes answer.output) (end_status answer.end)) }
+        IsOne image.now budget harts.now ranks.now written (output_bytes answer.output) (end_status answer.end)) }
     ensures whole { IfOk result (λ answer. IsWhole answer.end) }
     ensures fault { IfErr result (IsRunFault
         (ByPlans image.now budget harts.now (λ plans. ¬ (ArePlans image.now plans (listed ranks.now image.now.ranks))))
@@ -104,7 +105,7 @@ pub(crate) fn one(
 {
     let plans = plans_of(alloc, image, budget, harts)?;
     let order = listed(alloc, ranks, image.parts().ranks)?;
-    one_by(alloc, image, &plans, &order, recorded)
+    one_by(alloc, image, &plans, &order, written)
 }
 
 /// A run by these plans with a thread for each rank, which is held back where it is more than `lead` turns ahead.
@@ -114,17 +115,17 @@ fn run_by<R: Threads + Wait + Sync>(
     image: &Image,
     plans: &[Plan],
     lead: u64,
-    recorded: bool,
+    written: Written,
 ) -> Result<Answer, Fault>
     ensures says { IfOk result (λ answer.
-        IsRunBy (HasPlans image.now plans.now) (IsLeftByThreads image.now plans.now) (IsTextOf recorded image.now)
+        IsRunBy (HasPlans image.now plans.now) (IsLeftByThreads image.now plans.now) (IsTextOf written image.now)
         (output_bytes answer.output) (end_status answer.end)) }
     ensures whole { IfOk result (λ answer. IsWhole answer.end) }
     ensures fault { IfErr result (IsRunFault (¬ (HasPlans image.now plans.now)) (HasPlans image.now plans.now)) }
 {
     let pace = Pace::new(image.parts().ranks, lead);
     let left = run_threads(rt, alloc, image, plans, &pace)?;
-    Ok(told(alloc, image, left, recorded)?)
+    Ok(told(alloc, image, left, written)?)
 }
 
 /// `run`: a run by the same plan for each rank, each rank on a thread of its own.
@@ -135,15 +136,15 @@ pub(crate) fn run<R: Threads + Wait + Sync>(
     budget: u64,
     harts: &Option<Numbers>,
     lead: u64,
-    recorded: bool,
+    written: Written,
 ) -> Result<Answer, Fault>
     ensures says { IfOk result (λ answer.
-        IsRun image.now budget harts.now recorded (output_bytes answer.output) (end_status answer.end)) }
+        IsRun image.now budget harts.now written (output_bytes answer.output) (end_status answer.end)) }
     ensures whole { IfOk result (λ answer. IsWhole answer.end) }
     ensures fault { IfErr result (IsRunFault
         (ByPlans image.now budget harts.now (λ plans. ¬ (HasPlans image.now plans)))
         (ByPlans image.now budget harts.now (HasPlans image.now))) }
 {
     let plans = plans_of(alloc, image, budget, harts)?;
-    run_by(rt, alloc, image, &plans, lead, recorded)
+    run_by(rt, alloc, image, &plans, lead, written)
 }

@@ -12,7 +12,9 @@ use Rattle.rvmc_cli.specs.App.{rvmc_app}
 use Rattle.rvmc_line.specs.Debug.{debug_words_in}
 use Rattle.rvmc_line.specs.Number.{number_in, numbers_in}
 use Rattle.rvmc_line.specs.declared.line.CommandLine.{CommandLine}
-use Rattle.rvmc_line.specs.declared.line.CommandLine.TheVariants.{Asm, Check, Debug, Dis, One, Run}
+use Rattle.rvmc_line.specs.declared.line.CommandLine.TheVariants.{Asm, Check, Debug, Dis, One, Run, Why}
+use Rattle.rvmc_line.specs.declared.line.Written.{Written}
+use Rattle.rvmc_line.specs.declared.line.Written.TheVariants as written
 use Rattle.rvmc_line.specs.declared.line.ParseFault.{ParseFault}
 use Rattle.rvmc_line.specs.declared.line.ParseFault.TheVariants as parse
 
@@ -40,23 +42,40 @@ list_option name rows =
 abbrev pub lead_in : List Row → Option ℕ
 lead_in rows = number_option (codes "lead") 1 65536 64 rows
 
+-- `--record` or `--why`, without both the report alone; they don't go together
+abbrev pub written_in : List Row → Option Written
+written_in rows =
+    if flag_in (codes "record") rows
+    then (if flag_in (codes "why") rows then None else Some written.Record)
+    else (if flag_in (codes "why") rows then Some written.Why else Some written.Report)
+
 -- each option of `run`
 abbrev pub run_in : List Row → Option CommandLine
 run_in rows =
-    option_and_then (λ budget. option_and_then (λ lead. option_map (λ plan.
-    Run (flag_in (codes "source") rows) budget plan lead (flag_in (codes "record") rows))
-    (list_option (codes "plan") rows)) (lead_in rows)) (budget_in rows)
+    option_and_then (λ budget. option_and_then (λ lead. option_and_then (λ written. option_map (λ plan.
+    Run (flag_in (codes "source") rows) budget plan lead written)
+    (list_option (codes "plan") rows)) (written_in rows)) (lead_in rows)) (budget_in rows)
 
 -- each option of `one`
 abbrev pub one_in : List Row → Option CommandLine
 one_in rows =
-    option_and_then (λ budget. option_and_then (λ plan. option_map (λ order.
-    One (flag_in (codes "source") rows) budget plan order (flag_in (codes "record") rows))
-    (list_option (codes "order") rows)) (list_option (codes "plan") rows)) (budget_in rows)
+    option_and_then (λ budget. option_and_then (λ written. option_and_then (λ plan. option_map (λ order.
+    One (flag_in (codes "source") rows) budget plan order written)
+    (list_option (codes "order") rows)) (list_option (codes "plan") rows)) (written_in rows)) (budget_in rows)
 
 -- each word of `debug`
 abbrev pub debug_in : List Row → Option CommandLine
 debug_in rows = option_and_then (λ texts. option_map Debug (debug_words_in texts)) (all_of (codes "words") rows)
+
+-- `--at N`, below 2^64, or None without it
+abbrev pub at_in : List Row → Option (Option ℕ)
+at_in rows =
+    option_map_or (λ text. option_map (λ number. Some number) (number_in 0 18446744073709551615 text))
+    (first_of (codes "at") rows) (Some None)
+
+-- the option of `why`
+abbrev pub why_in : List Row → Option CommandLine
+why_in rows = option_map Why (at_in rows)
 
 -- the command of this name, with what was found for it
 unfoldable pub line_in : Text → List Row → Option CommandLine
@@ -67,7 +86,8 @@ line_in name rows =
     else (if bytes_eq name (codes "one") then one_in rows
     else (if bytes_eq name (codes "check") then Some Check
     else (if bytes_eq name (codes "debug") then debug_in rows
-    else None)))))
+    else (if bytes_eq name (codes "why") then why_in rows
+    else None))))))
 
 -- ---- the whole line
 
@@ -79,15 +99,16 @@ faults_in words = fault_of rvmc_app words
 unfoldable pub command_in : List Text → Option (Text × List Row)
 command_in words = subcommand_of rvmc_app words
 
--- without words it is `one --source`; else clap has to take the words, and each value has to be one
+-- without words it is `one --source`; else clap has to take the words, each value has to be one, and they have to go
+-- together
 abbrev pub meaning_of : List Text → Option CommandLine
-meaning_of [] = Some (One true 1000000 None None false)
+meaning_of [] = Some (One true 1000000 None None written.Report)
 meaning_of (word ∷ words) =
     if length (faults_in (word ∷ words)) == 0
     then option_and_then (λ found. line_in found.0 found.1) (command_in (word ∷ words))
     else None
 
--- why words that mean nothing are refused: by clap, or else for a value that isn't one
+-- why words that mean nothing are refused: by clap, or else for a value that isn't one, or that doesn't go with others
 abbrev pub refusals_of : List Text → Kinds
 refusals_of words = or_else (faults_in words) (kind.ValueValidation ∷ [])
 

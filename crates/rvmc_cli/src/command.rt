@@ -4,7 +4,7 @@ ghost use Rattle.std.specs.Prelude.{◌≡◌, IfOk, IsOkAnd, false};
 ghost use Rattle.clap.specs.Words.{AddsSubcommand, new_app, rule_of};
 ghost use Rattle.rvmc_cli.specs.App.{asm_app, check_app, debug_app, dis_app, flag, one_app};
 ghost use Rattle.rvmc_cli.specs.Built.{StandsFor, app_named};
-ghost use Rattle.rvmc_cli.specs.App.{option, run_app, runner_app, rvmc_app, texts, top_app};
+ghost use Rattle.rvmc_cli.specs.App.{option, run_app, runner_app, rvmc_app, texts, top_app, why_app};
 
 use clap::{Arg, ArgAction, Command};
 use std::alloc::{AllocError, Global};
@@ -22,6 +22,8 @@ Examples:
                               checks each step that the threads took
   rvmc debug go=2 regs=0,0 <hi.record
                               shows the registers after two steps
+  rvmc one --source --why <hi.s
+                              tells behind the report what each hart waits for
 
 Status:
   0 done, 1 fault of the input, 2 fault of the command line, 3 a hart trapped,
@@ -60,14 +62,16 @@ run, and with it the report. `rvmc one` runs the same image in an order that is
 laid down, and its report has the same form.
 
 With --record the record is written in place of the report: the image, and each
-step of each rank in the order of their stamps. `rvmc check` reads it.
+step of each rank in the order of their stamps. `rvmc check` reads it. With --why
+it is told behind the report what each hart waits for, as `rvmc why` tells it.
 
 Examples:
   rvmc run --source <hi.s
   rvmc run --budget 100 <hi.image
   rvmc run --lead 1 <hi.image          the ranks keep close together
   rvmc run --plan 0,0,1 <hi.image      hart 0 takes two turns, then hart 1 one
-  rvmc run --record <hi.image >hi.record";
+  rvmc run --record <hi.image >hi.record
+  rvmc run --why <hi.image             a deadlock is told behind the report";
 
 const ONE_EXAMPLES: &str = "\
 The ranks take turns in the order that --order lists, round and round, and a
@@ -78,14 +82,17 @@ be listed more than once, or not at all. Each rank has to be listed.
 
 The report has the bytes that each rank put out, how each hart ended, and why
 and after how many turns each rank stopped. With --record the record is written
-in its place: the image, and each step in order. `rvmc check` reads it.
+in its place: the image, and each step in order. `rvmc check` reads it. With
+--why it is told behind the report what each hart waits for, as `rvmc why` tells
+it.
 
 Examples:
   rvmc one --source <hi.s
   rvmc one --budget 100 <hi.image
   rvmc one --order 1,0 <hi.image       rank 1 takes the first turn
   rvmc one --plan 0,0,1 <hi.image      hart 0 takes two turns, then hart 1 one
-  rvmc one --record <hi.image >hi.record";
+  rvmc one --record <hi.image >hi.record
+  rvmc one --why <hi.image             a deadlock is told behind the report";
 
 const CHECK_EXAMPLES: &str = "\
 The steps of the record are taken one by one, from its image on, and each is
@@ -132,6 +139,35 @@ Examples:
   rvmc debug go=2 regs=0,0 <hi.record
   rvmc debug break=0,0,0x18 run run <hi.record
   rvmc debug go=3 bytes=0,0xfff8,4 back bytes=0,0xfff8,4 <hi.record";
+
+const WHY_EXAMPLES: &str = "\
+The steps of the record are done, all of them, or with --at the first N. Then a
+line for each hart tells how it is there:
+
+  rank 0 hart 0 ended 0
+  rank 0 hart 0 trapped 4 at 0x74
+  rank 0 hart 0 runs at 0x8
+  rank 0 hart 0 waits at 0x2c in RECV for a message from rank 1 tag 7 comm 0
+
+Behind an address stands the nearest symbol of the image at or before it, if
+there is one, as `0x2c (loop+0x8)`. Where a hart waits for several things, `; `
+stands between them. Behind the harts the messages are counted that no receive
+has taken yet, those of each sender and tag. The last line is the verdict:
+
+  deadlock: ranks 0 1   whatever turns are taken from here on, no hart of these
+                        ranks goes on
+  no deadlock shown     none was found; ranks that only poll may still never end
+
+The status is 0 whatever the verdict is. A record with fewer than N steps is a
+fault, as `rvmc: why: PastEnd 10`, and so is one whose steps up to there are no
+run of its image, as `rvmc: why: NotARun 3`: both have status 1.
+
+`run` and `one` tell the same of the end of their run, with --why.
+
+Examples:
+  rvmc one --record <hi.image >hi.record
+  rvmc why <hi.record
+  rvmc why --at 6 <hi.record           what each hart waits for after six steps";
 
 /// `--name`.
 fn flag<'a>(alloc: Global, name: &'a str, help: &'a str) -> Arg<'a>
@@ -223,7 +259,12 @@ fn runner<'a>(
             "HARTS",
             "The harts that take a rank's turns, as 0,1 [default: all in order]",
         ))?
-        .arg(flag(alloc, "record", "Writes the record in place of the report"))
+        .arg(flag(alloc, "record", "Writes the record in place of the report"))?
+        .arg(flag(
+            alloc,
+            "why",
+            "Tells behind the report what each hart waits for",
+        ))
 }
 
 fn run<'a>(alloc: Global) -> Result<Command<'a>, AllocError>
@@ -283,6 +324,23 @@ fn debug<'a>(alloc: Global) -> Result<Command<'a>, AllocError>
     .arg(texts(alloc, "words", "CMD", "What to do, and show, as go=2"))
 }
 
+fn why<'a>(alloc: Global) -> Result<Command<'a>, AllocError>
+    ensures { IfOk result (StandsFor why_app) }
+{
+    command(
+        alloc,
+        "why",
+        "Tells what each hart waits for, in the record on standard input",
+        WHY_EXAMPLES,
+    )
+    .arg(option(
+        alloc,
+        "at",
+        "N",
+        "Tells of the place with N steps done [default: all steps]",
+    ))
+}
+
 fn top<'a>(alloc: Global) -> Result<Command<'a>, AllocError>
     ensures { IfOk result (StandsFor top_app) }
 {
@@ -317,7 +375,8 @@ pub fn rvmc<'a>(alloc: Global) -> Result<Command<'a>, AllocError>
     let command = with_command(command, run(alloc))?;
     let command = with_command(command, one(alloc))?;
     let command = command.subcommand(check(alloc))?;
-    with_command(command, debug(alloc))
+    let command = with_command(command, debug(alloc))?;
+    with_command(command, why(alloc))
 }
 
 /// The command of this name by itself, whose usage a refusal shows; any other name stands for the whole command line.
@@ -328,6 +387,7 @@ pub fn named<'a>(alloc: Global, name: &str) -> Result<Command<'a>, AllocError>
         "run" => run(alloc)?.bin_name("rvmc run"),
         "one" => one(alloc)?.bin_name("rvmc one"),
         "debug" => debug(alloc)?.bin_name("rvmc debug"),
+        "why" => why(alloc)?.bin_name("rvmc why"),
         _ => rvmc(alloc),
     }
 }

@@ -4,18 +4,20 @@ ghost use Rattle.std.specs.Prelude.{◌≡◌, IfOk, None, Ok, [], false, map, o
 ghost use Rattle.std.specs.Prelude.{true};
 ghost use Rattle.clap.specs.Walk.{rows_of};
 ghost use Rattle.clap.specs.Words.{all_of, first_of, found_of, kind_of, subcommand_rows_of};
-ghost use Rattle.rvmc_cli.specs.Meaning.{IsRefusal, Parses, budget_in, debug_in, flag_in};
+ghost use Rattle.rvmc_cli.specs.Meaning.{IsRefusal, Parses, at_in, budget_in, debug_in, flag_in};
 ghost use Rattle.rvmc_cli.specs.Parsing.{Finds, IsTold, Reads, Tells};
 ghost use Rattle.rvmc_cli.specs.Meaning.{lead_in, line_in, list_option, number_option, one_in, run_in};
+ghost use Rattle.rvmc_cli.specs.Meaning.{why_in, written_in};
 ghost use Rattle.rvmc_cli.specs.declared.parsing.Wrong.TheVariants as wrong;
 ghost use Rattle.rvmc_line.specs.declared.line.CommandLine.TheVariants.{One};
+ghost use Rattle.rvmc_line.specs.declared.line.Written.TheVariants as written;
 ghost use Rattle.rvmc_line.specs.Debug.{debug_words_in};
 
 use crate::command;
 use clap::error::ErrorKind;
 use clap::{ArgMatches, Command};
 use rvmc_line::{
-    CommandLine, DebugWords, Numbers, ParseFault, debug_word_in, number_in, numbers_in,
+    CommandLine, DebugWords, Numbers, ParseFault, Written, debug_word_in, number_in, numbers_in,
 };
 use std::alloc::{AllocError, Global};
 use std::fmt;
@@ -41,6 +43,11 @@ enum Wrong<'a> {
     },
     /// A text is no word of `debug`.
     Word(&'a str),
+    /// Two flags were given that don't go together.
+    Both {
+        flag: &'static str,
+        other: &'static str,
+    },
 }
 
 impl From<AllocError> for Wrong<'_> {
@@ -73,6 +80,10 @@ impl fmt::Display for Wrong<'_> {
                 f,
                 "a CMD is go=N, step, back, run, place, break=R,H,PC, break=R,H,NAME, regs=R,H, bytes=R,A,N \
                  or bytes=R,NAME,N, with R and H from 0 to 255, not '{text}'"
+            ),
+            Wrong::Both { flag, other } => write!(
+                f,
+                "the argument '--{flag}' cannot be used with '--{other}'"
             ),
         }
     }
@@ -131,6 +142,21 @@ fn lead<'a>(matches: &ArgMatches<'a>) -> Result<u64, Wrong<'a>>
     number(matches, "lead", 1, 65_536, 64)
 }
 
+/// What is to be written of a run.
+fn written<'a>(matches: &ArgMatches<'a>) -> Result<Written, Wrong<'a>>
+    ensures { Reads (written_in (rows_of (found_of matches.now))) result }
+{
+    match (flag(matches, "record"), flag(matches, "why")) {
+        (false, false) => Ok(Written::Report),
+        (true, false) => Ok(Written::Record),
+        (false, true) => Ok(Written::Why),
+        (true, true) => Err(Wrong::Both {
+            flag: "why",
+            other: "record",
+        }),
+    }
+}
+
 /// The numbers of an option, if it was given.
 fn list<'a>(
     alloc: Global,
@@ -153,13 +179,14 @@ fn run<'a>(alloc: Global, matches: &ArgMatches<'a>) -> Result<CommandLine, Wrong
 {
     let budget = budget(matches)?;
     let lead = lead(matches)?;
+    let written = written(matches)?;
     let plan = list(alloc, matches, "plan")?;
     Ok(CommandLine::Run {
         source: flag(matches, "source"),
         budget,
         plan,
         lead,
-        recorded: flag(matches, "record"),
+        written,
     })
 }
 
@@ -167,6 +194,7 @@ fn one<'a>(alloc: Global, matches: &ArgMatches<'a>) -> Result<CommandLine, Wrong
     ensures { Finds (one_in (rows_of (found_of matches.now))) result }
 {
     let budget = budget(matches)?;
+    let written = written(matches)?;
     let plan = list(alloc, matches, "plan")?;
     let order = list(alloc, matches, "order")?;
     Ok(CommandLine::One {
@@ -174,7 +202,7 @@ fn one<'a>(alloc: Global, matches: &ArgMatches<'a>) -> Result<CommandLine, Wrong
         budget,
         plan,
         order,
-        recorded: flag(matches, "record"),
+        written,
     })
 }
 
@@ -210,6 +238,31 @@ fn debug<'a>(alloc: Global, matches: &ArgMatches<'a>) -> Result<CommandLine, Wro
     Ok(CommandLine::Debug { words })
 }
 
+/// The number of steps that `--at` names, if it was given.
+fn at<'a>(matches: &ArgMatches<'a>) -> Result<Option<u64>, Wrong<'a>>
+    ensures { Reads (at_in (rows_of (found_of matches.now))) result }
+{
+    let Some(text) = text(matches, "at") else {
+        return Ok(None);
+    };
+    match number_in(0, u64::MAX, text) {
+        Some(number) => Ok(Some(number)),
+        None => Err(Wrong::Number {
+            option: "at",
+            least: 0,
+            most: u64::MAX,
+            text,
+        }),
+    }
+}
+
+fn why<'a>(matches: &ArgMatches<'a>) -> Result<CommandLine, Wrong<'a>>
+    ensures { Reads (why_in (rows_of (found_of matches.now))) result }
+{
+    let at = at(matches)?;
+    Ok(CommandLine::Why { at })
+}
+
 /// The command line of the command that clap found.
 #[tactic(auto, unfolding(crate::specs::Meaning::line_in))]
 fn line<'a>(alloc: Global, name: &str, matches: &ArgMatches<'a>) -> Result<CommandLine, Wrong<'a>>
@@ -234,6 +287,9 @@ fn line<'a>(alloc: Global, name: &str, matches: &ArgMatches<'a>) -> Result<Comma
     }
     if name == "debug" {
         return debug(alloc, matches);
+    }
+    if name == "why" {
+        return why(matches);
     }
     Err(Wrong::Command)
 }
@@ -301,11 +357,11 @@ fn told(alloc: Global, matches: &ArgMatches<'_>) -> Result<CommandLine, ParseFau
 /// What the words after the program's name ask for. Without words it is `one --source`.
 ///
 /// `Asked` comes where the words ask for help or the version, `Refused` where clap doesn't take them,
-/// a number is out of its range, a list is none or a word of `debug` is none, and `Memory` where memory
-/// was refused, whatever the words, unless there are none.
+/// a number is out of its range, a list is none, a word of `debug` is none, or `--record` and `--why`
+/// are both there, and `Memory` where memory was refused, whatever the words, unless there are none.
 pub fn parse<'a>(alloc: Global, words: &'a [&'a str]) -> Result<CommandLine, ParseFault>
     ensures parsed { Parses (map (λ w. w.now) words.entry.now) result }
-    ensures none { words.entry.now ≡ [] → result ≡ Ok (One true 1000000 None None false) }
+    ensures none { words.entry.now ≡ [] → result ≡ Ok (One true 1000000 None None written.Report) }
 {
     if words.is_empty() {
         return Ok(CommandLine::One {
@@ -313,7 +369,7 @@ pub fn parse<'a>(alloc: Global, words: &'a [&'a str]) -> Result<CommandLine, Par
             budget: 1_000_000,
             plan: None,
             order: None,
-            recorded: false,
+            written: Written::Report,
         });
     }
     match command::rvmc(alloc)?.try_get_matches_from(words) {

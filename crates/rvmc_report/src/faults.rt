@@ -2,17 +2,30 @@
 
 ghost use Rattle.std.specs.Prelude.{◌≡◌};
 ghost use Rattle.rvmc_report.specs.Faults.{fault_of_image, fault_of_source};
-ghost use Rattle.rvmc_report.specs.OtherFaults.{fault_of_record, fault_of_run};
+ghost use Rattle.rvmc_report.specs.OtherFaults.{fault_of_record, fault_of_replay, fault_of_run};
 ghost use Rattle.rvmc_report.specs.Faults.{fault_of_debug, fault_status};
 ghost use Rattle.rvmc_report.specs.declared.faults.Fault.TheVariants as faults;
 
 use cl_debug::DebugFault;
 use cl_record::RunFault;
+use cl_replay::ReplayFault;
 use cl_text::RecordFault;
 use rv_asm::{AsmFault, AsmFaultKind};
 use rv_image::ImageFault;
 use std::alloc::{AllocError, AllocFailed};
 use thiserror::Error;
+
+/// Why there is no place with so many steps done. It is printed as its name and its number.
+#[derive(Clone, Copy, Debug, Drop, Error)]
+pub enum PlaceFault {
+    /// The place is behind the end. Carries the number of steps.
+    #[error("PastEnd {0}")]
+    PastEnd(u64),
+    /// The steps up to the place are no run of the image: the machine has no such step where the steps before it lead.
+    /// Carries its number, from 0.
+    #[error("NotARun {0}")]
+    NotARun(u64),
+}
 
 /// Why there is no answer. It prints as the fault's line on standard error, behind `rvmc: `.
 #[derive(Clone, Copy, Debug, Drop, Error)]
@@ -35,6 +48,9 @@ pub enum Fault {
     /// Why the debugger didn't open the record, or didn't do a word.
     #[error("debug: {0}")]
     Debug(DebugFault),
+    /// Why `why` has no place to tell of.
+    #[error("why: {0}")]
+    Why(PlaceFault),
     /// Memory was refused.
     #[error("memory")]
     Memory,
@@ -61,7 +77,8 @@ impl Fault {
             | Fault::Record(_)
             | Fault::Plans
             | Fault::Unlike { .. }
-            | Fault::Debug(_) => 1,
+            | Fault::Debug(_)
+            | Fault::Why(_) => 1,
             Fault::Memory | Fault::Spawn => 5,
             Fault::Read | Fault::Write => 6,
         }
@@ -121,6 +138,18 @@ impl From<DebugFault> for Fault {
         match fault {
             DebugFault::Memory => Fault::Memory,
             _ => Fault::Debug(fault),
+        }
+    }
+}
+
+impl From<ReplayFault> for Fault {
+    ghost from_gives = { λ fault e. e ≡ fault_of_replay fault };
+
+    fn from(fault: ReplayFault) -> Fault {
+        match fault {
+            ReplayFault::PastEnd(steps) => Fault::Why(PlaceFault::PastEnd(steps)),
+            ReplayFault::Step(number) => Fault::Why(PlaceFault::NotARun(number)),
+            ReplayFault::Memory => Fault::Memory,
         }
     }
 }

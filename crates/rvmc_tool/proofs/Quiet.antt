@@ -3,7 +3,7 @@ use Rattle.std.proofs.Common.{◌≡◌, ℕ, List, Option, Some, None, false, r
 use Rattle.std.specs.Io.KnownBytes.{Keeps}
 use Rattle.rvmc_report.specs.Faults.{fault_status}
 use Rattle.rvmc_report.specs.declared.faults.Fault.{Fault}
-use Rattle.rvmc_report.specs.declared.faults.Fault.TheVariants.{Source, Image, Record, Plans, Unlike, Debug}
+use Rattle.rvmc_report.specs.declared.faults.Fault.TheVariants.{Source, Image, Record, Plans, Unlike, Debug, Why}
 use Rattle.rvmc_report.specs.declared.faults.Fault.TheVariants.{Memory, Spawn, Read, Write}
 use Rattle.rvmc_tool.specs.Tool.{is_quiet}
 
@@ -15,6 +15,7 @@ fault_is_loud (Record fault) = refl
 fault_is_loud Plans = refl
 fault_is_loud (Unlike rank place) = refl
 fault_is_loud (Debug fault) = refl
+fault_is_loud (Why fault) = refl
 fault_is_loud Memory = refl
 fault_is_loud Spawn = refl
 fault_is_loud Read = refl

@@ -1,5 +1,5 @@
 -- What stands on the output is what the command line says of the bytes.
-use Rattle.std.proofs.Common.{◌≤◌, ℕ, ◌∙◌, List, [], Option, Some, None, length, inl, inr, refl, sym, subst, append-nil}
+use Rattle.std.proofs.Common.{◌≤◌, arith, ℕ, ◌∙◌, List, [], Option, Some, None, length, inl, inr, refl, sym, subst, append-nil}
 use Rattle.std.specs.Prelude.{◌⊎◌, IfOk, IfErr, MatchResult, Result, Ok, Err}
 use Rattle.std.specs.Io.KnownBytes.{Appends, Keeps}
 use Rattle.std.proofs.lemmas.Option.{slice_get_within}
@@ -11,7 +11,9 @@ use Rattle.cl_text.specs.Reading.{reading_record}
 use Rattle.cl_text.specs.declared.faults.RecordFault.{RecordFault}
 use Rattle.rv_image.specs.declared.images.ImageParts.{ImageParts}
 use Rattle.rvmc_answers.specs.Answers.{HasThreads, IsChecked, IsFaulty, Makes}
+use Rattle.rvmc_answers.specs.Answers.{SaysOfPlace, SaysWhy, place_in}
 use Rattle.rvmc_answers.specs.Making.{IsFaultOf, IsMisplanned, IsRecordFault, IsDebugFault, IsNoRun, Refuses}
+use Rattle.rvmc_answers.specs.Making.{IsNoPlace, IsPlaceFault}
 use Rattle.rvmc_answers.specs.Answers.{Says, SaysOfRecord, SaysOfSteps, SaysOfWords}
 use Rattle.rvmc_answers.specs.Answers.{end_status}
 use Rattle.rvmc_line.specs.declared.debug.DebugWord.{DebugWord}
@@ -20,23 +22,26 @@ use Rattle.rvmc_answers.specs.Taking.{IsFaultIn}
 use Rattle.rvmc_answers.specs.Outputs.{output_bytes}
 use Rattle.rvmc_answers.specs.declared.answers.Answer.{Answer}
 use Rattle.rvmc_line.specs.declared.line.CommandLine.{CommandLine}
-use Rattle.rvmc_line.specs.declared.line.CommandLine.TheVariants.{Asm, Check, Debug, Dis, One, Run}
+use Rattle.rvmc_line.specs.declared.line.CommandLine.TheVariants.{Asm, Check, Debug, Dis, One, Run, Why}
 use Rattle.rvmc_report.specs.Faults.{fault_status}
 use Rattle.rvmc_report.specs.declared.faults.Fault.{Fault}
 use Rattle.rvmc_report.specs.declared.faults.Fault.TheVariants as faults
+use Rattle.rvmc_report.specs.declared.faults.PlaceFault.{PlaceFault}
+use Rattle.rvmc_report.specs.declared.faults.PlaceFault.TheVariants as place
 use Rattle.rvmc_tool.specs.Tool.{Answers, IsRefused, IsSaid, IsUnlike}
 use Rattle.rvmc_tool.specs.Plain.{Tells}
 
 -- wrong plans are a fault of the input
 misplanned : (line : CommandLine) (image : ImageParts) → IsMisplanned line image → Makes line image [] 1
-misplanned (Run source budget plan lead recorded) image (plans, of, wrong) =
+misplanned (Run source budget plan lead written) image (plans, of, wrong) =
     (plans, of, record { told = λ right. absurd (wrong right); refused = λ _. (refl, refl) })
-misplanned (One source budget plan order recorded) image (plans, of, wrong) =
+misplanned (One source budget plan order written) image (plans, of, wrong) =
     (plans, of, record { told = λ right. absurd (wrong right); refused = λ _. (refl, refl) })
 misplanned (Asm from) image wrong = absurd wrong
 misplanned Dis image wrong = absurd wrong
 misplanned Check image wrong = absurd wrong
 misplanned (Debug words) image wrong = absurd wrong
+misplanned (Why at) image wrong = absurd wrong
 
 -- what a fault leaves: nothing, as the command line says, or for want of memory or of a thread
 abbrev Leaves : CommandLine → Result ImageParts Fault → Fault → Type 0
@@ -53,6 +58,7 @@ leaves line (Ok image) (faults.Record fault) is = absurd is
 leaves line (Ok image) faults.Plans is = inl (inl (misplanned line image is))
 leaves line (Ok image) (faults.Unlike rank place) is = inl (inr ((refl, refl), is))
 leaves line (Ok image) (faults.Debug fault) is = absurd is
+leaves line (Ok image) (faults.Why fault) is = absurd is
 leaves line (Ok image) faults.Memory is = inr (refl, refl)
 leaves line (Ok image) faults.Spawn is = inr (refl, refl)
 leaves line (Ok image) faults.Read is = absurd is
@@ -63,6 +69,7 @@ leaves line (Err meant) (faults.Record fault) is = absurd is
 leaves line (Err meant) faults.Plans is = absurd is
 leaves line (Err meant) (faults.Unlike rank place) is = absurd is
 leaves line (Err meant) (faults.Debug fault) is = absurd is
+leaves line (Err meant) (faults.Why fault) is = absurd is
 leaves line (Err meant) faults.Memory is = inr (refl, refl)
 leaves line (Err meant) faults.Spawn is = absurd is
 leaves line (Err meant) faults.Read is = absurd is
@@ -84,6 +91,7 @@ leaves_record bytes (faults.Record fault) is =
 leaves_record bytes faults.Plans is = absurd is
 leaves_record bytes (faults.Unlike rank place) is = absurd is
 leaves_record bytes (faults.Debug fault) is = absurd is
+leaves_record bytes (faults.Why fault) is = absurd is
 leaves_record bytes faults.Memory is = inr (refl, refl)
 leaves_record bytes faults.Spawn is = absurd is
 leaves_record bytes faults.Read is = absurd is
@@ -120,10 +128,43 @@ leaves_words words bytes (faults.Image fault) is = absurd is
 leaves_words words bytes (faults.Record fault) is = inl (subst (SaysNoWord words) (sym is) (refl, refl))
 leaves_words words bytes faults.Plans is = absurd is
 leaves_words words bytes (faults.Unlike rank place) is = absurd is
+leaves_words words bytes (faults.Why fault) is = absurd is
 leaves_words words bytes faults.Memory is = inr (refl, refl)
 leaves_words words bytes faults.Spawn is = absurd is
 leaves_words words bytes faults.Read is = absurd is
 leaves_words words bytes faults.Write is = absurd is
+
+-- nothing is told of a place that isn't there
+no_place : (read : Result (ImageParts × List Step) RecordFault) (at : Option ℕ) (fault : PlaceFault)
+    → MatchResult read (λ found. IsNoPlace found.0 found.1 (place_in at found.1) fault) (λ _. ⊥)
+    → MatchResult read (λ found. SaysOfPlace found.0 found.1 (place_in at found.1) [] 1) (λ _. IsFaulty [] 1)
+no_place (Ok found) at (place.PastEnd count) is = inr (λ has. absurd (omega (arith, has.within, is.0)), (refl, refl))
+no_place (Ok found) at (place.NotARun k) (before, within, breaks) =
+    inr (λ has. run_law found.0 found.1 (place_in at found.1) k has.run before breaks, (refl, refl))
+no_place (Err fault) at why is = absurd is
+
+-- what the fault of a record leaves that is to have a place
+abbrev LeavesPlace : Option ℕ → List ℕ → Fault → Type 0
+LeavesPlace at bytes fault = SaysWhy at bytes [] (fault_status fault) ⊎ IsRefused [] (fault_status fault)
+
+-- what is said of a reading, where there is no place
+abbrev SaysNoPlace : Option ℕ → Result (ImageParts × List Step) RecordFault → Type 0
+SaysNoPlace at read =
+    MatchResult read (λ found. SaysOfPlace found.0 found.1 (place_in at found.1) [] 1) (λ _. IsFaulty [] 1)
+
+leaves_place : (at : Option ℕ) (bytes : List ℕ) (fault : Fault) → IsPlaceFault at bytes fault
+    → LeavesPlace at bytes fault
+leaves_place at bytes (faults.Why fault) is = inl (no_place (reading_record bytes) at fault is)
+leaves_place at bytes (faults.Source fault) is = absurd is
+leaves_place at bytes (faults.Image fault) is = absurd is
+leaves_place at bytes (faults.Record fault) is = inl (subst (SaysNoPlace at) (sym is) (refl, refl))
+leaves_place at bytes faults.Plans is = absurd is
+leaves_place at bytes (faults.Unlike rank place) is = absurd is
+leaves_place at bytes (faults.Debug fault) is = absurd is
+leaves_place at bytes faults.Memory is = inr (refl, refl)
+leaves_place at bytes faults.Spawn is = absurd is
+leaves_place at bytes faults.Read is = absurd is
+leaves_place at bytes faults.Write is = absurd is
 
 -- what a fault leaves, of whatever a command takes
 abbrev LeavesOf : CommandLine → List ℕ → Fault → Type 0
@@ -135,10 +176,10 @@ leaves_of : (line : CommandLine) (bytes : List ℕ) (fault : Fault) → IsFaultO
     → LeavesOf line bytes fault
 leaves_of (Asm from) bytes fault is = leaves (Asm from) (image_in (Asm from) bytes) fault is
 leaves_of Dis bytes fault is = leaves Dis (image_in Dis bytes) fault is
-leaves_of (Run source budget plan lead recorded) bytes fault is =
-    leaves (Run source budget plan lead recorded) (image_in (Run source budget plan lead recorded) bytes) fault is
-leaves_of (One source budget plan order recorded) bytes fault is =
-    leaves (One source budget plan order recorded) (image_in (One source budget plan order recorded) bytes) fault is
+leaves_of (Run source budget plan lead written) bytes fault is =
+    leaves (Run source budget plan lead written) (image_in (Run source budget plan lead written) bytes) fault is
+leaves_of (One source budget plan order written) bytes fault is =
+    leaves (One source budget plan order written) (image_in (One source budget plan order written) bytes) fault is
 leaves_of Check bytes fault is = go (leaves_record bytes fault is)
   where
     go : LeavesRecord bytes fault → LeavesOf Check bytes fault
@@ -147,6 +188,11 @@ leaves_of Check bytes fault is = go (leaves_record bytes fault is)
 leaves_of (Debug words) bytes fault is = go (leaves_words words bytes fault is)
   where
     go : LeavesWords words bytes fault → LeavesOf (Debug words) bytes fault
+    go (inl says) = inl (inl says)
+    go (inr refused) = inr refused
+leaves_of (Why at) bytes fault is = go (leaves_place at bytes fault is)
+  where
+    go : LeavesPlace at bytes fault → LeavesOf (Why at) bytes fault
     go (inl says) = inl (inl says)
     go (inr refused) = inr refused
 

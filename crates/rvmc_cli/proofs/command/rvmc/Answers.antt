@@ -9,4 +9,5 @@ returns c =
     let run = with_built _ _ _ _ _ dis c.run.ensures c.in_ok-command-3.ensures in
     let one = with_built _ _ _ _ _ run c.one.ensures c.in_ok-command-4.ensures in
     let check = with_command _ _ _ _ _ one c.check.ensures c.in_ok-command-5.ensures in
-    IfOk-weaker c.with_command-4.result _ _ (λ new is. with_built _ _ _ new _ check c.debug.ensures is) c.with_command-4.ensures
+    let debug = with_built _ _ _ _ _ check c.debug.ensures c.in_ok-command-6.ensures in
+    IfOk-weaker c.with_command-5.result _ _ (λ new is. with_built _ _ _ new _ debug c.why.ensures is) c.with_command-5.ensures
