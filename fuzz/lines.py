@@ -5,13 +5,13 @@ import re
 
 # each command's flags, and its options with what tests a value
 DECIMAL = re.compile(r"[0-9]+")
-MOST_BUDGET, MOST_LEAD = 16_777_216, 65_536
+MOST_BUDGET, MOST_LEAD, MOST_PLACE = 16_777_216, 65_536, (1 << 64) - 1
 
 
-def bounded(text, most):
-    """A decimal number from 1 to a bound, or None."""
-    value = int(text) if DECIMAL.fullmatch(text) else 0
-    return value if 1 <= value <= most else None
+def bounded(text, most, least=1):
+    """A decimal number in bounds, or None."""
+    value = int(text) if DECIMAL.fullmatch(text) else -1
+    return value if least <= value <= most else None
 
 
 def listed(text):
@@ -28,13 +28,20 @@ COMMANDS = {
     "asm": (("--from",), ()),
     "dis": ((), ()),
     "check": ((), ()),
-    "one": (("--source", "--record"), (BUDGET, PLAN, ("--order", listed))),
-    "run": (("--source", "--record"), (BUDGET, PLAN, ("--lead", lambda text: bounded(text, MOST_LEAD)))),
+    "one": (("--source", "--record", "--why"), (BUDGET, PLAN, ("--order", listed))),
+    "run": (("--source", "--record", "--why"), (BUDGET, PLAN, ("--lead", lambda text: bounded(text, MOST_LEAD)))),
+    "why": ((), (("--at", lambda text: bounded(text, MOST_PLACE, 0)),)),
 }
+
+# flags that don't go together
+APART = {"--record", "--why"}
+
+# options whose values are numbers
+NUMBERED = ("--budget", "--lead", "--at")
 
 # values at and past each bound, and texts that are no values
 NUMBERS = ["0", "1", "2", "5", "300", "16777215", "16777216", "16777217", "65535", "65536", "65537", "001", "", "+5"]
-NUMBERS += ["0x5", "ten", "5 ", " 5", "1.0", "18446744073709551616", "18446744073709551617", "1,0", "\u0661"]
+NUMBERS += ["18446744073709551615", "0x5", "ten", "5 ", " 5", "1.0", "18446744073709551616", "18446744073709551617", "1,0", "\u0661"]
 LISTS = ["0", "0,0", "0,1", "1,0", "1", "00", "255", "256", "1,256", "0,", ",0", "0,,0", ",", "", " 0", "0 ", "0;1"]
 LISTS += ["0x0", "+1", "all", "18446744073709551616", "0,1,2,3,0,1,2,3"]
 WORDS = ["fly", "--fly", "", "one", "asm", "x", "--budge", "--sourc", "--source=yes", "--record=", "--from=1", "0"]
@@ -72,6 +79,8 @@ def meaning(words):
             if value is None:
                 return None
             values[name] = value
+    if APART <= seen:
+        return None
     return Meaning(command, seen & set(flags), values)
 
 
@@ -85,7 +94,7 @@ class Lines:
         """Some words."""
         if self.random.randrange(30) == 0:
             return [self.random.choice(WORDS)]
-        command = self.random.choice(["one", "one", "run", "run", "asm", "dis", "check"])
+        command = self.random.choice(["one", "one", "run", "run", "asm", "dis", "check", "why"])
         flags, options = COMMANDS[command]
         words = [command]
         for flag in flags:
@@ -95,8 +104,9 @@ class Lines:
             if self.random.randrange(3) == 0:
                 words += self.option(name)
         if self.random.randrange(6) == 0:
-            other = self.random.choice(["--source", "--record", "--budget", "--plan", "--order", "--lead", "--from"])
-            extra = self.option(other) if other in ("--budget", "--plan", "--order", "--lead") else [other]
+            options = ["--budget", "--plan", "--order", "--lead", "--at"]
+            other = self.random.choice([*options, "--source", "--record", "--from", "--why"])
+            extra = self.option(other) if other in options else [other]
             extra = self.random.choice([extra, [self.random.choice(WORDS)]])
             at = 1 + self.random.randrange(len(words))
             words[at:at] = extra
@@ -104,8 +114,8 @@ class Lines:
 
     def option(self, name):
         """An option with a value, in one word or in two, or with none."""
-        value = self.random.choice(NUMBERS if name in ("--budget", "--lead") else LISTS)
+        value = self.random.choice(NUMBERS if name in NUMBERED else LISTS)
         if self.random.randrange(3):
-            value = self.random.choice(NUMBERS[1:5] if name in ("--budget", "--lead") else LISTS[:5])
+            value = self.random.choice(NUMBERS[1:5] if name in NUMBERED else LISTS[:5])
         forms = [[f"{name}={value}"], [name, value]]
         return self.random.choice(forms) if self.random.randrange(20) else [name]

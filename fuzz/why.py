@@ -1,0 +1,179 @@
+"""What each hart waits for, and which ranks are in a deadlock, as docs/DEBUGGING.md ("A run that doesn't end") has it."""
+
+import copy
+
+from cluster import Walk
+from formats import HELD, HUB, MISS
+from hub import NOT_YET
+from machine import ENDED, TRAPPED, WAITING
+
+CALLS = {17: "SSEND", 18: "RECV", 23: "WAIT", 25: "PROBE", 27: "MPROBE", 29: "MRECV", 35: "WAITALL"}
+
+
+class Wait:
+    """One thing that a hart waits for, as text, and which ranks could bring it."""
+
+    def __init__(self, text, could):
+        self.text, self.could = text, set(could)
+
+
+class Tried:
+    """A hart's next turn, taken in a copy of the cluster, and what it asked for in vain."""
+
+    def __init__(self, cluster, number, hart):
+        self.cluster = copy.deepcopy(cluster)
+        rank = self.rank = self.cluster.ranks[number]
+        rank.must_miss, rank.most_calls = False, 1 << 60
+        self.asked = self.looked = self.held = None
+        self.ask, self.box, self.try_sent = rank.ask, rank.box, rank.try_sent
+        rank.ask, rank.box, rank.try_sent = self.asks, self.looks, self.sends
+        rank.turn(hart)
+
+    def asks(self, name, *arguments):
+        """A call of the hub."""
+        self.asked = (name, arguments)
+        return self.ask(name, *arguments)
+
+    def looks(self, side, number):
+        """A look at a box."""
+        self.looked = (side.link, number)
+        return self.box(side, number)
+
+    def sends(self, waits, handle, side, status):
+        """A try to complete a sender's phase."""
+        self.held = (side.link, side.freed)
+        return self.try_sent(waits, handle, side, status)
+
+    def waits(self):
+        """What the turn asked for in vain: nothing where it came on."""
+        kind, _, reply = self.rank.event
+        if kind == HELD:
+            link, part = self.held
+            return [Wait(f"its own partition {part} of link {link}", ())]
+        if kind == MISS:
+            return [self.at_box()]
+        if kind != HUB or reply != NOT_YET:
+            return []
+        name, arguments = self.asked
+        return getattr(self, f"of_{name}")(*arguments)
+
+    def at_box(self):
+        """A box that is empty, or full."""
+        link, part = self.looked
+        source, dest = self.cluster.image.links[link]
+        if self.rank.number == dest:
+            return Wait(f"partition {part} of link {link} from rank {source}", [source])
+        return Wait(f"rank {dest} to take partition {part} of link {link}", [dest])
+
+    def message(self, comm, source, tag):
+        """A message."""
+        who = "any rank" if source is None else f"rank {source}"
+        what = "any tag" if tag is None else f"tag {tag}"
+        could = self.cluster.comms[comm] if source is None else [source]
+        return Wait(f"a message from {who} {what} comm {comm}", could)
+
+    def of_post(self, number):
+        """The other side of a post."""
+        post = self.cluster.hub.post(number)
+        if post.kind != "send":
+            return [self.message(post.comm, post.source, post.tag)]
+        return [Wait(f"rank {post.dest} to receive", [post.dest])]
+
+    of_collect = of_finished = of_post
+
+    def of_probe(self, comm, source, tag):
+        """A message that a probe tells of."""
+        return [self.message(comm, source, tag)]
+
+    of_claim = of_probe
+
+    def of_all(self, numbers):
+        """Those of several posts that aren't ready."""
+        hub, found = self.cluster.hub, []
+        for number in numbers:
+            post = hub.post(number)
+            if not (hub.is_complete(post) if post.kind == "send" else post.partner):
+                found += self.of_post(number)
+        return found
+
+    def of_cut(self, link):
+        """How a sender cuts its transfer."""
+        source = self.cluster.image.links[link][0]
+        return [Wait(f"the shape of link {link} from rank {source}", [source])]
+
+
+def place(image, at):
+    """An address with the nearest symbol at or before it, the first of several."""
+    found = None
+    for address, name in image.symbols:
+        if address <= at and (found is None or address > found[0]):
+            found = (address, name)
+    return f"{at:#x}" + (f" ({found[1].decode()}+{at - found[0]:#x})" if found else "")
+
+
+def hart_line(image, rank, number, waits):
+    """How a hart is."""
+    hart = rank.harts[number]
+    at = place(image, hart.pc)
+    told = f"runs at {at}"
+    if hart.mode == ENDED:
+        told = f"ended {hart.why}"
+    elif hart.mode == TRAPPED:
+        told = f"trapped {hart.why} at {at}"
+    elif hart.mode == WAITING:
+        things = "; ".join(wait.text for wait in waits) or "nothing more"
+        told = f"waits at {at} in {CALLS[hart.regs[17]]} for {things}"
+    return f"rank {rank.number} hart {number} {told}\n"
+
+
+def unreceived(hub, rank):
+    """The messages to a rank that no receive and no claim has."""
+    sends = [post for post in hub.posts if post.kind == "send" and post.partner is None and post.dest == rank]
+    keys = [post.envelope[1:3] for post in sends]
+    if not keys:
+        return ""
+    lines = (f"  from rank {source} tag {tag}: {keys.count((source, tag))}\n" for source, tag in sorted(set(keys)))
+    return f"rank {rank} unreceived: {len(keys)} messages\n" + "".join(lines)
+
+
+def is_stuck(rank, waits, among):
+    """Whether each hart of a rank is stopped, or waits for what these ranks alone could bring. Of several things that
+    have to come together it is enough that one is so."""
+    return all(
+        hart.is_stopped() or any(wait.could <= among for wait in waits[rank.number, number])
+        for number, hart in enumerate(rank.harts)
+    )
+
+
+def verdict(cluster, waits):
+    """The most ranks that are stuck together, where one of their harts waits."""
+    among = set(range(len(cluster.ranks)))
+    while free := {rank for rank in among if not is_stuck(cluster.ranks[rank], waits, among)}:
+        among -= free
+    if all(hart.is_stopped() for rank in among for hart in cluster.ranks[rank].harts):
+        return "no deadlock shown\n"
+    return f"deadlock: ranks {' '.join(map(str, sorted(among)))}\n"
+
+
+def told(cluster):
+    """What is told of a cluster."""
+    waits = {
+        (rank.number, number): Tried(cluster, rank.number, number).waits() if hart.mode == WAITING else []
+        for rank in cluster.ranks
+        for number, hart in enumerate(rank.harts)
+    }
+    lines = [hart_line(cluster.image, cluster.ranks[rank], hart, found) for (rank, hart), found in waits.items()]
+    lines += [unreceived(cluster.hub, rank.number) for rank in cluster.ranks]
+    return ("".join(lines) + verdict(cluster, waits)).encode()
+
+
+def told_at(at, image, steps):
+    """What `why` tells of a record, after so many steps or after all: the status and both texts."""
+    count = len(steps) if at is None else at
+    if count > len(steps):
+        return 1, b"", f"rvmc: why: PastEnd {len(steps)}\n".encode()
+    walk = Walk(image, len(steps))
+    for number, step in enumerate(steps[:count]):
+        if not walk.takes(step):
+            return 1, b"", f"rvmc: why: NotARun {number}\n".encode()
+    return 0, told(walk.cluster), b""
