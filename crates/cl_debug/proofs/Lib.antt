@@ -5,3 +5,4 @@ pub mod OneStop
 pub mod Ranks
 pub mod Shows
 pub mod Stopping
+pub mod Moved
