@@ -7,8 +7,9 @@ use Rattle.cl_machine.specs.declared.steps.Step.{Step}
 use Rattle.cl_replay.specs.declared.states.ClusterState.{ClusterState}
 use Rattle.cl_replay.specs.Kept.{Snapshot, snapshot}
 use Rattle.cl_replay.specs.Replays.{IsRunUpTo}
-use Rattle.cl_replay.specs.Replaying.{BreaksAt, IsReached}
-use Rattle.cl_replay.specs.States.{StandsAlike}
+use Rattle.cl_replay.specs.Replaying.{IsReached}
+use Rattle.cl_replay.specs.InnerReplaying.{BreaksAt}
+use Rattle.cl_replay.specs.InnerStates.{StandsAlike}
 use Rattle.cl_replay.specs.Steps.{Leads, LeadsNowhere}
 use Rattle.cl_replay.proofs.Runs.{breaks, reached_more, run_law}
 use Rattle.cl_replay.proofs.Same.{same_stands, snapshot_same}

@@ -4,7 +4,7 @@ use Rattle.rv_image.specs.declared.images.ImageParts.{ImageParts}
 use Rattle.cl_state.specs.Rank.{Rank}
 use Rattle.cl_machine.specs.Cluster.{Cluster}
 use Rattle.cl_machine.specs.declared.steps.Step.{Step}
-use Rattle.cl_replay.specs.Replaying.{BreaksAt}
+use Rattle.cl_replay.specs.InnerReplaying.{BreaksAt}
 use Rattle.cl_replay.specs.Steps.{KindTakesMemory}
 use Rattle.cl_replay.specs.Turns.{LacksPages}
 use Rattle.cl_debug.specs.Debugging.{Debugging}

@@ -5,7 +5,8 @@ use Rattle.cl_machine.specs.declared.steps.Step.{Step}
 use Rattle.cl_replay.specs.declared.states.ClusterState.{ClusterState}
 use Rattle.cl_replay.specs.Kept.{Snapshot, snapshot}
 use Rattle.cl_replay.specs.Replays.{IsRunUpTo}
-use Rattle.cl_replay.specs.Replaying.{BreaksAt, IsReached}
+use Rattle.cl_replay.specs.Replaying.{IsReached}
+use Rattle.cl_replay.specs.InnerReplaying.{BreaksAt}
 use Rattle.cl_debug.specs.Spacing.{IsSpacing, multiples}
 use Rattle.cl_debug.specs.declared.faults.DebugFault.{DebugFault}
 

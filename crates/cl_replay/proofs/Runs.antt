@@ -7,7 +7,8 @@ use Rattle.cl_machine.specs.Cluster.{Cluster, IsRun, IsStep, loaded_cluster}
 use Rattle.cl_machine.specs.declared.steps.Step.{Step}
 use Rattle.cl_machine.proofs.Tables.{one_end, run_more}
 use Rattle.cl_replay.specs.declared.states.ClusterState.{ClusterState}
-use Rattle.cl_replay.specs.Replaying.{BreaksAt, IsReached}
+use Rattle.cl_replay.specs.Replaying.{IsReached}
+use Rattle.cl_replay.specs.InnerReplaying.{BreaksAt}
 use Rattle.cl_replay.specs.Laws.{RunLaw}
 use Rattle.cl_replay.specs.Steps.{Leads, LeadsNowhere}
 

@@ -13,7 +13,7 @@ use Rattle.cl_state.specs.declared.state.RankState.{RankState}
 use Rattle.cl_journal.specs.Journal.{calls_of}
 use Rattle.cl_replay.specs.Kept.{Snapshot, snapshot}
 use Rattle.cl_machine.specs.declared.steps.Step.{Step}
-use Rattle.cl_replay.specs.States.{AreSame, StandsAlike}
+use Rattle.cl_replay.specs.InnerStates.{AreSame, StandsAlike}
 use Rattle.cl_replay.specs.Steps.{Leads, StepFaultHolds}
 use Rattle.cl_replay.specs.declared.faults.StepFault.{StepFault}
 use Rattle.cl_replay.specs.declared.faults.StepFault.TheVariants.{NotAStep, Memory}

@@ -7,7 +7,7 @@ use Rattle.cl_record.specs.Records.{IsMergedRun, steps_in}
 use Rattle.cl_record.specs.declared.records.Record.{Record}
 use Rattle.cl_replay.specs.declared.checking.Verdict.{Verdict}
 use Rattle.cl_replay.specs.Checks.{IsVerdict}
-use Rattle.cl_replay.specs.Replaying.{BreaksAt}
+use Rattle.cl_replay.specs.InnerReplaying.{BreaksAt}
 use Rattle.cl_replay.specs.Replays.{IsRunUpTo}
 
 -- there is one verdict at most

@@ -8,3 +8,5 @@ pub mod Replaying
 pub mod Records
 pub mod Checks
 pub mod Laws
+pub mod InnerReplaying
+pub mod InnerStates

@@ -14,7 +14,8 @@ use Rattle.cl_record.specs.Records.{IsEndOf, IsMergedRun, steps_in}
 use Rattle.cl_record.specs.declared.records.Record.{Record}
 use Rattle.cl_replay.specs.declared.states.ClusterState.{ClusterState}
 use Rattle.cl_replay.specs.Boxes.{settled_at}
-use Rattle.cl_replay.specs.Replaying.{BreaksAt, IsReached}
+use Rattle.cl_replay.specs.Replaying.{IsReached}
+use Rattle.cl_replay.specs.InnerReplaying.{BreaksAt}
 
 -- both boxes are full, or both are empty, since the same stamp, and with the same bytes
 abbrev pub AreAlike : ImageVersion → Settled → Settled → Type 0

@@ -1,10 +1,9 @@
 -- Where the replay of the first steps of a list leads, or breaks off.
-use Rattle.std.specs.Prelude.{ℕ, ◌≡◌, ◌<◌, ◌≤◌, List, length, take, slice_get, Some}
+use Rattle.std.specs.Prelude.{ℕ, List, take}
 use Rattle.rv_image.specs.declared.images.ImageParts.{ImageParts}
-use Rattle.cl_machine.specs.Cluster.{Cluster, IsRun, IsStep, loaded_cluster}
+use Rattle.cl_machine.specs.Cluster.{Cluster, IsRun, loaded_cluster}
 use Rattle.cl_machine.specs.declared.steps.Step.{Step}
 use Rattle.cl_replay.specs.declared.states.ClusterState.{ClusterState}
-use Rattle.cl_replay.specs.declared.replaying.ReplayFault.{ReplayFault}
 use Rattle.cl_replay.specs.States.{StandsFor}
 
 -- the first n steps are a run of the image, and the state is the cluster to which they lead
@@ -12,17 +11,3 @@ pub record IsReached (image : ImageParts) (steps : List Step) (n : ℕ) (state :
   pub cluster : Cluster
   pub run : IsRun (loaded_cluster image) (take n steps) cluster
   pub stands : StandsFor image state cluster
-
--- the first k steps are a run of the image, and the step behind them isn't one of the cluster to which they lead
-pub record BreaksAt (image : ImageParts) (steps : List Step) (k : ℕ) : Type 0 where
-  pub cluster : Cluster
-  pub run : IsRun (loaded_cluster image) (take k steps) cluster
-  pub step : Step
-  pub there : slice_get steps k ≡ Some step
-  pub nowhere : (next : Cluster) → ¬ IsStep cluster step next
-
--- why a list of steps wasn't replayed up to the first n of them
-abbrev pub ReplayFaultHolds : ImageParts → List Step → ℕ → ReplayFault → Type 0
-ReplayFaultHolds image steps n (ReplayFault.PastEnd len) = (length steps < n) × (len ≡ length steps)
-ReplayFaultHolds image steps n (ReplayFault.Step k) = (k < n) × (n ≤ length steps) × BreaksAt image steps k
-ReplayFaultHolds image steps n ReplayFault.Memory = n ≤ length steps

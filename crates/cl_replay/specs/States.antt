@@ -27,15 +27,3 @@ pub record StandsFor (image : ImageParts) (state : ClusterState) (cluster : Clus
   pub hub_stands : HubStandsFor state.hub image.links (calls_of cluster.journal.entries)
   pub clock_is : state.clock ≡ cluster.journal.clock
   pub boxes_show : ShowsAll image state.boxes.items cluster.boxes
-
--- both states have the same ranks, hub, clock and boxes
-pub record AreSame (one other : ClusterState) : Type 0 where
-  pub ranks : map rank_of other.ranks.items ≡ map rank_of one.ranks.items
-  pub hub : other.hub ≡ one.hub
-  pub clock : other.clock ≡ one.clock
-  pub boxes : other.boxes.items ≡ one.boxes.items
-
--- whichever cluster the one state is, the other is that too
-abbrev pub StandsAlike : ClusterState → ClusterState → Type 0
-StandsAlike one other =
-    (image : ImageParts) (cluster : Cluster) → StandsFor image one cluster → StandsFor image other cluster

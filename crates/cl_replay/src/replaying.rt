@@ -1,7 +1,8 @@
 //! A list of steps, replayed.
 
 ghost use Rattle.std.specs.Prelude.{◌≡◌, ◌↔◌, ◌<◌, ◌≤◌, length, Err, IfErr, IfOk, OnOk};
-ghost use Rattle.cl_replay.specs.Replaying.{IsReached, ReplayFaultHolds};
+ghost use Rattle.cl_replay.specs.Replaying.{IsReached};
+ghost use Rattle.cl_replay.specs.InnerReplaying.{ReplayFaultHolds};
 
 use crate::faults::StepFault;
 use crate::states::ClusterState;

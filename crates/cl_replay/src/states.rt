@@ -5,7 +5,8 @@ ghost use Rattle.cl_state.specs.Rank.{below, loaded};
 ghost use Rattle.cl_state.specs.Room.{rank_of};
 ghost use Rattle.cl_machine.specs.Cluster.{loaded_cluster};
 ghost use Rattle.cl_replay.specs.Boxes.{vacant};
-ghost use Rattle.cl_replay.specs.States.{AreSame, StandsAlike, StandsFor};
+ghost use Rattle.cl_replay.specs.States.{StandsFor};
+ghost use Rattle.cl_replay.specs.InnerStates.{AreSame, StandsAlike};
 
 use cl_state::RankState;
 use mp_hub::HubState;

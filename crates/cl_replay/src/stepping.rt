@@ -2,7 +2,7 @@
 
 ghost use Rattle.std.specs.Prelude.{◌≡◌, IfErr, IsFalse, IsTrue, OnOk, Err};
 ghost use Rattle.cl_trace.specs.declared.events.Kind.TheVariants as kinds;
-ghost use Rattle.cl_replay.specs.States.{AreSame};
+ghost use Rattle.cl_replay.specs.InnerStates.{AreSame};
 ghost use Rattle.cl_replay.specs.Steps.{Leads, StepFaultHolds};
 
 use crate::calls::call;

@@ -45,7 +45,8 @@ use Rattle.cl_state.specs.Told.{told, told_in, told_row, with_part}
 use Rattle.cl_state.specs.Transfers.{source_of, tag_of}
 use Rattle.cl_state_laws.specs.Laws.{IsLook, missed}
 use Rattle.cl_state_laws.specs.Leaves.{delayed}
-use Rattle.cl_state_laws.specs.Vain.{IsPatient, IsStopped, IsWaiting, VainLaw, at_clock, mode_of, waits_on}
+use Rattle.cl_state_laws.specs.Vain.{IsPatient, IsStopped, IsWaiting, mode_of, waits_on}
+use Rattle.cl_state_laws.specs.VainLaws.{VainLaw, at_clock}
 use Rattle.cl_state_laws.proofs.Delays.{turn_delayed}
 use Rattle.cl_state_laws.proofs.Misses.{missed_in_vain, no_look_all, no_look_if, no_look_poll}
 use Rattle.cl_state_laws.proofs.Replies.{IsPartKept, row_kept, turn_waits}

@@ -7,3 +7,4 @@ pub mod CutRows
 pub mod PartitionRows
 pub mod RequestRows
 pub mod SeveralRows
+pub mod VainLaws

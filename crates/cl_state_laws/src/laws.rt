@@ -4,7 +4,7 @@ ghost use Rattle.cl_state.specs.Laws.{ToldLaw};
 ghost use Rattle.cl_state.specs.Moves.{KnownLaw, MovedLaw};
 ghost use Rattle.cl_state_laws.specs.Leaves.{BytesLaw, DelayLaw, HartLaw};
 ghost use Rattle.cl_state_laws.specs.Members.{MembersLaw};
-ghost use Rattle.cl_state_laws.specs.Vain.{VainLaw};
+ghost use Rattle.cl_state_laws.specs.VainLaws.{VainLaw};
 ghost use Rattle.cl_state_laws.specs.Laws.{HubRefusalLaw, MissLaw, NotYetLaw, PostsLaw, RefusalLaw, ReturnLaw};
 
 /// A told rank has the event's stamp as its clock, and keeps what the image fixes and its number of harts.

@@ -5,7 +5,8 @@ use Rattle.rv_image.specs.declared.images.ImageParts.{ImageParts}
 use Rattle.mp_transfers.specs.Inits.{is_receiver}
 use Rattle.mp_types.specs.declared.requests.Request.{Request}
 use Rattle.mp_types.specs.declared.requests.Request.TheVariants as request
-use Rattle.mp_waits.specs.Waits.{OnlyOf, SendsAsMember, WaitsFor, sends_over}
+use Rattle.mp_waits.specs.Waits.{OnlyOf, WaitsFor, sends_over}
+use Rattle.mp_waits.specs.Laws.{SendsAsMember}
 use Rattle.mp_waits.proofs.Waits.{waits_law}
 use Rattle.cl_calls.specs.Checks.{is_comm}
 use Rattle.cl_calls.specs.declared.sites.Site.{Site}

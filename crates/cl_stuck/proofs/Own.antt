@@ -15,7 +15,8 @@ use Rattle.cl_state.specs.Asked.{asked}
 use Rattle.cl_state.specs.Rank.{Rank}
 use Rattle.cl_state.specs.Told.{told}
 use Rattle.cl_state_laws.specs.Laws.{IsLook}
-use Rattle.cl_state_laws.specs.Vain.{IsPatient, IsStopped, at_clock, mode_of}
+use Rattle.cl_state_laws.specs.Vain.{IsPatient, IsStopped, mode_of}
+use Rattle.cl_state_laws.specs.VainLaws.{at_clock}
 use Rattle.cl_state_laws.proofs.Vain.{vain_law}
 use Rattle.cl_rank.specs.Deeds.{Act, Suits, Deed, answer_of}
 use Rattle.cl_machine.specs.Boxes.{box_number}

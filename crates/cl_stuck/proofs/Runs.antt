@@ -13,7 +13,8 @@ use Rattle.cl_state.specs.declared.asking.Ask.{Ask}
 use Rattle.cl_state.specs.declared.asking.Ask.TheVariants as ask
 use Rattle.cl_state.specs.Asked.{asked}
 use Rattle.cl_state.specs.Rank.{Rank}
-use Rattle.cl_state_laws.specs.Vain.{IsStopped, at_clock, mode_of}
+use Rattle.cl_state_laws.specs.Vain.{IsStopped, mode_of}
+use Rattle.cl_state_laws.specs.VainLaws.{at_clock}
 use Rattle.cl_state_laws.proofs.Vain.{vain_law}
 use Rattle.cl_rank.specs.Deeds.{Deed}
 use Rattle.cl_machine.specs.declared.steps.Step.{Step}
@@ -22,7 +23,8 @@ use Rattle.cl_machine.specs.Cluster.{Cluster, IsRun, IsStep}
 use Rattle.cl_machine.specs.Product.{entry_of}
 use Rattle.cl_machine.specs.ProductSteps.{Goes}
 use Rattle.cl_machine.proofs.Lists.{get-set_same, get-set_other}
-use Rattle.cl_stuck.specs.Stuck.{AreAsTheyWere, AreStuck, AsksInVain, DeadlockLaw, IsAsItWas, IsHeld, is_among, is_member}
+use Rattle.cl_stuck.specs.Stuck.{AreAsTheyWere, AreStuck, AsksInVain, IsAsItWas, IsHeld, is_among, is_member}
+use Rattle.cl_stuck.specs.Laws.{DeadlockLaw}
 use Rattle.cl_stuck.proofs.Boxes.{boxes_move}
 use Rattle.cl_stuck.proofs.Others.{in_vain_still}
 use Rattle.cl_stuck.proofs.Own.{Passed, hub_of, passed}

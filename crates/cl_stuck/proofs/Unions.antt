@@ -14,7 +14,8 @@ use Rattle.cl_state.specs.Asked.{asked}
 use Rattle.cl_state.specs.Rank.{Rank}
 use Rattle.cl_state_laws.specs.Vain.{IsStopped, mode_of}
 use Rattle.cl_machine.specs.Cluster.{Cluster}
-use Rattle.cl_stuck.specs.Stuck.{AsksInVain, IsHeld, NarrowLaw, UnionLaw, is_among, is_member}
+use Rattle.cl_stuck.specs.Stuck.{AsksInVain, IsHeld, is_among, is_member}
+use Rattle.cl_stuck.specs.Laws.{NarrowLaw, UnionLaw}
 use Rattle.cl_stuck.proofs.Own.{hub_of}
 
 -- each of these ranks is one of those

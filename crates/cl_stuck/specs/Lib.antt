@@ -1,2 +1,3 @@
 pub mod Stuck
 pub mod Rows
+pub mod Laws

@@ -1,6 +1,6 @@
 -- Ranks that are stuck: each of their harts is stopped, or waits on what none but these ranks could bring. And a
 -- deadlock: ranks whom no run of the machine lets go on.
-use Rattle.std.specs.Prelude.{ℕ, ◌<◌, ◌≡◌, ◌==◌, ◌⊎◌, Bool, IsTrue, List, ◌++◌, length, Some, slice_get, is_some}
+use Rattle.std.specs.Prelude.{ℕ, ◌<◌, ◌≡◌, ◌==◌, ◌⊎◌, Bool, IsTrue, List, length, Some, slice_get, is_some}
 use Rattle.std.specs.List.{list_any}
 use Rattle.rv_image.specs.declared.images.ImageParts.{ImageParts}
 use Rattle.mp_transfers.specs.Inits.{is_receiver}
@@ -89,28 +89,3 @@ AreStuck ranks cluster =
 -- the cluster was reached from an image
 abbrev pub IsReached : ImageParts → Cluster → Type 0
 IsReached image cluster = (steps : List Step) × IsRun (loaded_cluster image) steps cluster
-
--- ranks of which the rule holds are stuck for good: a deadlock, if one of their harts waits
-abbrev pub DeadlockLaw : Type 0
-DeadlockLaw =
-    (image : ImageParts) (cluster : Cluster) (ranks : List ℕ) → IsReached image cluster → AreStuck ranks cluster
-    → SomeWaits ranks cluster → IsDeadlock ranks cluster
-
--- ranks that are stuck together with some, or with others, are stuck together with all: so there are the most that are
-abbrev pub UnionLaw : Type 0
-UnionLaw =
-    (some others : List ℕ) (cluster : Cluster) → AreStuck some cluster → AreStuck others cluster
-    → AreStuck (some ++ others) cluster
-
--- each hart of the rank is stopped, or held beside these
-abbrev pub IsStuckBeside : List ℕ → Cluster → ℕ → Type 0
-IsStuckBeside ranks cluster r =
-    (rank : Rank) (hart : ℕ) → slice_get cluster.ranks r ≡ Some rank → hart < length rank.harts
-    → IsStopped (mode_of rank hart) ⊎ IsHeld ranks cluster r rank hart
-
--- who isn't stuck beside a company is stuck in no part of it: so the most are found by leaving out whoever isn't stuck
--- beside the rest, until nobody is left out
-abbrev pub NarrowLaw : Type 0
-NarrowLaw =
-    (all some : List ℕ) (cluster : Cluster) (r : ℕ) → OnlyOf (is_among all) (is_among some)
-    → ¬ IsStuckBeside all cluster r → AreStuck some cluster → ¬ IsTrue (is_among some r)

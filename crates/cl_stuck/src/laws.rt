@@ -1,6 +1,6 @@
 //! Laws of the cluster, over the definitions alone: functions with empty bodies, whose contracts are the laws.
 
-ghost use Rattle.cl_stuck.specs.Stuck.{DeadlockLaw, NarrowLaw, UnionLaw};
+ghost use Rattle.cl_stuck.specs.Laws.{DeadlockLaw, NarrowLaw, UnionLaw};
 
 /// Ranks that are stuck are in a deadlock: whatever steps any rank takes, nothing of theirs changes but their clocks.
 pub fn deadlock_law()

@@ -3,7 +3,7 @@ use Rattle.std.specs.Prelude.{ℕ, ◌≡◌, List, length, get_or, remove}
 use Rattle.std.proofs.Common.{subst, arith}
 use Rattle.cl_state.specs.Rank.{below}
 use Rattle.cl_replay.specs.declared.states.ClusterState.{ClusterState}
-use Rattle.cl_stuck.specs.Stuck.{IsStuckBeside}
+use Rattle.cl_stuck.specs.Laws.{IsStuckBeside}
 use Rattle.cl_stuck.proofs.Unions.{narrow_law}
 use Rattle.cl_why.specs.Stuck.{HasStuckIn, IsFreeIn}
 use Rattle.cl_why.specs.Why.{AreBelow}

@@ -25,7 +25,8 @@ use Rattle.cl_replay.specs.declared.states.ClusterState.{ClusterState}
 use Rattle.cl_replay.specs.Boxes.{settled_at}
 use Rattle.cl_replay.specs.States.{StandsFor}
 use Rattle.cl_replay.proofs.Boxed.{empty_is, shown_of_box, shown_of_settled}
-use Rattle.cl_stuck.specs.Stuck.{IsEmptyAt, IsFullAt, IsHeld, IsStuckBeside}
+use Rattle.cl_stuck.specs.Stuck.{IsEmptyAt, IsFullAt, IsHeld}
+use Rattle.cl_stuck.specs.Laws.{IsStuckBeside}
 
 module _ (image : ImageParts) (state : ClusterState) (cluster : Cluster) (stands : StandsFor image state cluster) where
   -- the hub's answer is that of the journal's calls

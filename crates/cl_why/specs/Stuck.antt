@@ -8,7 +8,8 @@ use Rattle.cl_state.specs.declared.state.RankState.{RankState}
 use Rattle.cl_machine.specs.Cluster.{Cluster}
 use Rattle.cl_replay.specs.declared.states.ClusterState.{ClusterState}
 use Rattle.cl_replay.specs.States.{StandsFor}
-use Rattle.cl_stuck.specs.Stuck.{AreStuck, IsDeadlock, IsReached, IsStuckBeside, SomeWaits}
+use Rattle.cl_stuck.specs.Stuck.{AreStuck, IsDeadlock, IsReached, SomeWaits}
+use Rattle.cl_stuck.specs.Laws.{IsStuckBeside}
 use Rattle.cl_why.specs.Why.{HasStuck, IsStateOf}
 
 -- each hart of the rank is stopped, or held beside these

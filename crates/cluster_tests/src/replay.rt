@@ -2,7 +2,7 @@
 
 ghost use Rattle.std.specs.Prelude.{◌≡◌, ℕ, Err, IfOk, length};
 ghost use Rattle.cl_machine.specs.Cluster.{loaded_cluster};
-ghost use Rattle.cl_replay.specs.Replaying.{BreaksAt};
+ghost use Rattle.cl_replay.specs.InnerReplaying.{BreaksAt};
 ghost use Rattle.cl_replay.specs.States.{StandsFor};
 ghost use Rattle.cl_replay.specs.declared.replaying.ReplayFault.TheVariants as fault;
 

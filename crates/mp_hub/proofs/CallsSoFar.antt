@@ -9,7 +9,8 @@ use Rattle.mp_types.specs.declared.requests.Request.TheVariants.{Recv}
 use Rattle.mp_match.specs.declared.posts.Selection.{Selection}
 use Rattle.std.proofs.Common.{Bool, true, Option}
 use Rattle.mp_hub.specs.Hub.{HubView, Call, outcome, recv_outcome, selecting, hub_on, started, reply_of}
-use Rattle.mp_hub.specs.Outcomes.{IsOutcome, IsOutcomeTwice, StandsFor}
+use Rattle.mp_hub.specs.Outcomes.{StandsFor}
+use Rattle.mp_hub.specs.InnerOutcomes.{IsOutcome, IsOutcomeTwice}
 
 pub hub_on-snoc : (cs : List Call) (h : HubView) (c : Call)
     → hub_on h (cs ++ c ∷ []) ≡ (outcome (hub_on h cs) c.0 c.1).1

@@ -10,7 +10,8 @@ use Rattle.mp_match.specs.declared.posts.Selection.{Selection}
 use Rattle.mp_match.specs.Board.{Board, claim_at, claim_in, claim_of, is_finished, is_held, is_receive, is_receive_at, is_send_of}
 use Rattle.mp_match.specs.Board.{is_standard, line_of, partner_of}
 use Rattle.mp_match.specs.Claimed.{is_claim_collected, open_claim}
-use Rattle.mp_match.specs.Live.{IsOver, IsPast, are_exchanged}
+use Rattle.mp_match.specs.Live.{IsOver, are_exchanged}
+use Rattle.mp_match.specs.InnerLive.{IsPast}
 use Rattle.mp_match.specs.Pairs.{partner_of_line}
 use Rattle.mp_hub.specs.Held.{AreHeld}
 use Rattle.mp_hub.specs.Hub.{HubView, is_complete, is_ready, was_received}

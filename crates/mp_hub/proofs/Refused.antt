@@ -11,7 +11,8 @@ use Rattle.mp_types.specs.declared.requests.Request.TheVariants.{Send}
 use Rattle.mp_match.specs.Board.{Board, collect, held_count}
 use Rattle.mp_hub.specs.declared.state.CallFault.{CallFault}
 use Rattle.mp_hub.specs.Hub.{HubView, Call, outcome, reply_of, message_or, all_got}
-use Rattle.mp_hub.specs.Outcomes.{StandsFor, IsOutcome}
+use Rattle.mp_hub.specs.Outcomes.{StandsFor}
+use Rattle.mp_hub.specs.InnerOutcomes.{IsOutcome}
 use Rattle.mp_hub.specs.Made.{brings, makes, IsFullFor}
 use Rattle.mp_hub.proofs.Outcomes.{is_plain, Comes, is_nothing, is_full, is_sent, is_posted, is_got, is_gathered, comes}
 

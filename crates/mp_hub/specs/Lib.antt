@@ -15,3 +15,4 @@ pub mod Vain
 pub mod Live
 pub mod Rows
 pub mod RankRows
+pub mod InnerOutcomes

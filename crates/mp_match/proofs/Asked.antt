@@ -11,15 +11,18 @@ use Rattle.mp_match.specs.declared.posts.Post.{Post}
 use Rattle.mp_match.specs.declared.posts.Line.{Line}
 use Rattle.mp_match.specs.declared.live.Live.{Live}
 use Rattle.mp_match.specs.declared.live.Owner.{Owner}
-use Rattle.mp_match.specs.Free.{free_in, free_post}
+use Rattle.mp_match.specs.Free.{free_in}
+use Rattle.mp_match.specs.FreePosts.{free_post}
 use Rattle.mp_match.specs.Pairs.{is_free, partner_for, partner_of_line}
 use Rattle.mp_match.specs.Board.{Board, collect, collect_from, envelope_at, envelope_in, is_held}
 use Rattle.mp_match.specs.Bodies.{bytes_in}
 use Rattle.mp_match.specs.Board.{line_of, message_at, message_in, partner_of}
 use Rattle.mp_match.specs.Board.{claim_at, claim_of}
 use Rattle.mp_match.specs.Claimed.{holds, open_claim}
-use Rattle.mp_match.specs.Live.{IsOver, IsPast, StandFor, body_in, kept_post, line_in, message_of, owner_in, owner_of}
-use Rattle.mp_match.specs.Live.{post_at, post_in}
+use Rattle.mp_match.specs.Live.{IsOver, StandFor, owner_of}
+use Rattle.mp_match.specs.InnerLive.{IsPast, body_in, kept_post, line_in, message_of, owner_in}
+use Rattle.mp_match.specs.Live.{post_in}
+use Rattle.mp_match.specs.InnerLive.{post_at}
 use Rattle.mp_match.proofs.OrderKept.{chosen}
 use Rattle.mp_match.proofs.Places.{get_within}
 

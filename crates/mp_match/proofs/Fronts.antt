@@ -9,7 +9,7 @@ use Rattle.mp_match.specs.declared.posts.Post.{Post}
 use Rattle.mp_match.specs.declared.posts.Post.TheVariants.{Send, Receive, Claim}
 use Rattle.mp_match.specs.declared.posts.Line.{Line}
 use Rattle.mp_match.specs.Pairs.{accepts, admits, may_pair, is_free, fits, partner_for}
-use Rattle.mp_match.specs.Queued.{least}
+use Rattle.mp_match.specs.InnerQueued.{least}
 use Rattle.mp_match.specs.Waiting.{same_option, same_key, is_key, key_of, key_with, receive_key, is_open_at}
 use Rattle.mp_match.specs.Queues.{AreQueued}
 use Rattle.mp_match.specs.Waiting.{first_waiting, one_if, compared_for}

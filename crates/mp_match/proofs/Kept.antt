@@ -15,8 +15,10 @@ use Rattle.mp_match.specs.declared.live.Live.{Live}
 use Rattle.mp_match.specs.declared.live.Owner.{Owner}
 use Rattle.mp_match.specs.Pairs.{add, partner_for, partner_set, partners_told}
 use Rattle.mp_match.specs.Board.{Board, board_with, without}
-use Rattle.mp_match.specs.Live.{owner_of, owners_of, set_at, paired, entered, emptied, are_exchanged}
-use Rattle.mp_match.specs.Live.{IsKept, IsOver, StandFor, is_partner, spent_by, has_taken}
+use Rattle.mp_match.specs.Live.{owner_of, owners_of, paired, are_exchanged}
+use Rattle.mp_match.specs.InnerLive.{set_at, entered, emptied}
+use Rattle.mp_match.specs.Live.{IsKept, IsOver, StandFor}
+use Rattle.mp_match.specs.InnerLive.{is_partner, spent_by, has_taken}
 use Rattle.mp_match.proofs.Lines.{given, look, is_new, is_old, is_given, add_new, add_old, add_given, add_length}
 use Rattle.mp_match.proofs.OrderKept.{chosen}
 use Rattle.mp_match.proofs.Places.{get_last, get_front, get_within}

@@ -8,9 +8,10 @@ use Rattle.std.specs.BTreeMap as tree
 use Rattle.std.specs.declared.collections.VecDeque.{VecDeque}
 use Rattle.std.specs.declared.alloc.Global.{Global}
 use Rattle.mp_match.specs.declared.posts.Selection.{Selection}
-use Rattle.mp_match.specs.Queued.{Entry, Keyed, selection_cmp, queue, places_in}
+use Rattle.mp_match.specs.Queued.{Keyed, selection_cmp, queue, places_in}
+use Rattle.mp_match.specs.InnerQueued.{Entry}
 use Rattle.mp_match.specs.Waiting.{same_key}
-use Rattle.mp_match.specs.Queues.{pushed}
+use Rattle.mp_match.specs.InnerQueues.{pushed}
 use Rattle.mp_match.proofs.Keys.{cmp_is}
 
 abbrev Queue : Type 0

@@ -5,7 +5,8 @@ use Rattle.std.proofs.Common.{refl, sym, ap, ◌∙◌}
 use Rattle.mp_match.specs.declared.posts.Post.{Post}
 use Rattle.mp_match.specs.declared.posts.Line.{Line}
 use Rattle.mp_match.specs.Pairs.{partner_for}
-use Rattle.mp_match.specs.Live.{post_at, post_in}
+use Rattle.mp_match.specs.Live.{post_in}
+use Rattle.mp_match.specs.InnerLive.{post_at}
 use Rattle.mp_match.proofs.OrderKept.{chosen}
 
 -- where the partner has no post there is none

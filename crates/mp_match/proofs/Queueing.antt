@@ -13,7 +13,8 @@ use Rattle.mp_match.specs.declared.posts.Post.TheVariants.{Send, Receive, Claim}
 use Rattle.mp_match.specs.declared.posts.Line.{Line}
 use Rattle.mp_match.specs.Pairs.{accepts, admits, may_pair, is_free, partner_for, partner_set, partners_told, add}
 use Rattle.mp_match.specs.Waiting.{same_key, is_key, key_of, receive_key, is_open_at}
-use Rattle.mp_match.specs.Queues.{message_key, places, AreQueued, pushed, popped}
+use Rattle.mp_match.specs.Queues.{message_key, places, AreQueued}
+use Rattle.mp_match.specs.InnerQueues.{pushed, popped}
 use Rattle.mp_match.proofs.Lines.{given}
 use Rattle.mp_match.proofs.OrderKept.{chosen, free_none}
 use Rattle.mp_match.proofs.Keys.{key_same, is_key_some}

@@ -18,7 +18,8 @@ use Rattle.mp_match.specs.declared.posts.Post.TheVariants.{Send, Receive, Claim}
 use Rattle.mp_match.specs.declared.posts.Line.{Line}
 use Rattle.mp_match.specs.contracts.posts.SelectionOrd.TheImpl.Laws.{total-law}
 use Rattle.mp_match.specs.Pairs.{accepts, admits, may_pair, is_free, fits, partner_for}
-use Rattle.mp_match.specs.Queued.{Entry, Keyed, selection_cmp, queue, places_in, least, least_accepted, accepts_key}
+use Rattle.mp_match.specs.Queued.{Keyed, selection_cmp, queue, places_in}
+use Rattle.mp_match.specs.InnerQueued.{Entry, least, least_accepted, accepts_key}
 use Rattle.mp_match.specs.Waiting.{same_option, same_key, is_key, key_of, is_open_at}
 use Rattle.mp_match.specs.Queues.{message_key, places, AreQueued}
 use Rattle.mp_match.proofs.Places.{found_none}

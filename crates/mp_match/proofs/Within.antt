@@ -12,8 +12,9 @@ use Rattle.std.specs.declared.ops.Bound.TheVariants.{Included, Excluded, Unbound
 use Rattle.std.proofs.Common.{refl, sym, ap, ◌∙◌, arith}
 use Rattle.std.proofs.lemmas.Bool.{and_parts, and_from, eqb-true}
 use Rattle.mp_match.specs.declared.posts.Selection.{Selection}
-use Rattle.mp_match.specs.Queued.{Entry, selection_cmp, least, least_accepted, admits_key, accepts_key}
-use Rattle.mp_match.specs.Queued.{first_key, next_key}
+use Rattle.mp_match.specs.Queued.{selection_cmp}
+use Rattle.mp_match.specs.InnerQueued.{Entry, least, least_accepted, admits_key, accepts_key}
+use Rattle.mp_match.specs.InnerQueued.{first_key, next_key}
 
 -- what isn't accepted may be left out
 left_out : (a : Selection) (t : Entry → Bool) → ((e : Entry) → accepts_key a e.0 ≡ true → t e ≡ true)

@@ -10,3 +10,7 @@ pub mod Bodies
 pub mod Claimed
 pub mod Free
 pub mod Live
+pub mod FreePosts
+pub mod InnerLive
+pub mod InnerQueued
+pub mod InnerQueues

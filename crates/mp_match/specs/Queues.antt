@@ -1,10 +1,10 @@
 -- The queues of the posts that wait.
-use Rattle.std.specs.Prelude.{◌≡◌, ℕ, ◌+◌, Bool, cond, List, [], ◌∷◌, ◌++◌, Option, Some, None, drop}
+use Rattle.std.specs.Prelude.{◌≡◌, ℕ, ◌+◌, Bool, cond, List, [], ◌∷◌, Option, Some, None}
 use Rattle.mp_match.specs.declared.posts.Selection.{Selection}
 use Rattle.mp_match.specs.declared.posts.Post.{Post}
 use Rattle.mp_match.specs.declared.posts.Post.TheVariants.{Send, Receive, Claim}
 use Rattle.mp_match.specs.declared.posts.Line.{Line}
-use Rattle.mp_match.specs.Waiting.{same_key, key_of, is_open_at}
+use Rattle.mp_match.specs.Waiting.{key_of, is_open_at}
 
 -- ---- keys
 
@@ -24,13 +24,3 @@ places t i (line ∷ lines) = cond (t line) (i ∷ places t (i + 1) lines) (plac
 -- each queue has the posts of its key that have no partner, in the order of posts
 abbrev pub AreQueued : (Post → Option Selection) → (Selection → List ℕ) → List Line → Type 0
 AreQueued key f lines = (k : Selection) → f k ≡ places (is_open_at key k) 0 lines
-
--- the place behind the others of its queue
-abbrev pub pushed : (Selection → List ℕ) → Option Selection → ℕ → Selection → List ℕ
-pushed f None place k = f k
-pushed f (Some q) place k = cond (same_key k q) (f q ++ place ∷ []) (f k)
-
--- without the first of a queue
-abbrev pub popped : (Selection → List ℕ) → Option Selection → Selection → List ℕ
-popped f None k = f k
-popped f (Some q) k = cond (same_key k q) (drop 1 (f q)) (f k)

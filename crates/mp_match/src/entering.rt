@@ -1,7 +1,8 @@
 //! A new post among those that aren't over.
 
 ghost use Rattle.std.specs.Prelude.{◌≡◌, ℕ, length, None, OnErr, OnOk};
-ghost use Rattle.mp_match.specs.Live.{entered, kept, kept_post, post_at};
+ghost use Rattle.mp_match.specs.Live.{kept};
+ghost use Rattle.mp_match.specs.InnerLive.{entered, kept_post, post_at};
 ghost use Rattle.mp_match.specs.Pairs.{add, partner_for};
 ghost use Rattle.mp_match.specs.Queued.{queue};
 ghost use Rattle.mp_match.specs.Waiting.{receive_key};

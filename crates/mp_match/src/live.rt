@@ -2,7 +2,8 @@
 
 ghost use Rattle.std.specs.Prelude.{◌≡◌, ◌∷◌, [], ℕ, IfOk, Option, Some, slice_get};
 ghost use Rattle.mp_match.specs.Board.{held_count, is_standard};
-ghost use Rattle.mp_match.specs.Live.{is_sender, is_taker, owner_of, sends};
+ghost use Rattle.mp_match.specs.Live.{owner_of};
+ghost use Rattle.mp_match.specs.InnerLive.{is_sender, is_taker, sends};
 
 use crate::posts::{Line, Post};
 use mp_types::Bytes;

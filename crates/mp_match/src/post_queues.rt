@@ -3,10 +3,10 @@
 ghost use Rattle.std.specs.Prelude.{◌≡◌, [], IfOk, OnErr, OnOk, None, Some, cond, slice_get, true, ◌<◌};
 ghost use Rattle.std.specs.BTreeMap as tree;
 ghost use Rattle.mp_match.specs.declared.posts.Selection.{Selection};
-ghost use Rattle.mp_match.specs.Queued.{accepts_key, admits_key, first_key, least, least_accepted, next_key};
+ghost use Rattle.mp_match.specs.InnerQueued.{accepts_key, admits_key, first_key, least, least_accepted, next_key};
 ghost use Rattle.mp_match.specs.Queued.{queue};
 ghost use Rattle.mp_match.specs.Queued.{selection_cmp};
-ghost use Rattle.mp_match.specs.Queues.{popped, pushed};
+ghost use Rattle.mp_match.specs.InnerQueues.{popped, pushed};
 
 use crate::posts::Selection;
 use std::alloc::{AllocError, Global};

@@ -10,8 +10,8 @@ ghost use Rattle.mp_match.specs.Board.{envelope_at, held_count, is_collected, is
 ghost use Rattle.mp_match.specs.Board.{is_receive_of, is_send_of, line_of, message_at, message_in, no_posts};
 ghost use Rattle.mp_match.specs.Board.{partner_of, board_with};
 ghost use Rattle.mp_match.specs.Board.{probed, receive_posted, send_posted, without};
-ghost use Rattle.mp_match.specs.Live.{IsPast, owner_in};
-ghost use Rattle.mp_match.specs.Free.{free_post};
+ghost use Rattle.mp_match.specs.InnerLive.{IsPast, owner_in};
+ghost use Rattle.mp_match.specs.FreePosts.{free_post};
 ghost use Rattle.mp_types.specs.Carried.{carried_by_message};
 
 mod live_posts;

@@ -2,8 +2,10 @@
 
 ghost use Rattle.std.specs.Prelude.{◌≡◌, ℕ, is_some, None, Some, IfOk, IsOk, OnErr, OnOk};
 ghost use Rattle.std.specs.Option.{option_copied};
-ghost use Rattle.mp_match.specs.Live.{body_in, emptied, has_taken, is_partner, kept, line_in, paired};
-ghost use Rattle.mp_match.specs.Live.{message_of, post_in, set_at, spent_by};
+ghost use Rattle.mp_match.specs.Live.{kept, paired};
+ghost use Rattle.mp_match.specs.InnerLive.{body_in, emptied, has_taken, is_partner, line_in};
+ghost use Rattle.mp_match.specs.Live.{post_in};
+ghost use Rattle.mp_match.specs.InnerLive.{message_of, set_at, spent_by};
 ghost use Rattle.mp_types.specs.Carried.{carried_by_message};
 ghost use Rattle.mp_match.specs.Board.{envelope_in};
 

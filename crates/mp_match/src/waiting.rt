@@ -5,12 +5,13 @@ ghost use Rattle.mp_match.specs.declared.posts.Line.{Line};
 ghost use Rattle.mp_match.specs.declared.posts.Post.{Post};
 ghost use Rattle.mp_match.specs.declared.posts.Selection.{Selection};
 ghost use Rattle.mp_match.specs.Pairs.{add, partner_for};
-ghost use Rattle.mp_match.specs.Live.{post_at};
+ghost use Rattle.mp_match.specs.InnerLive.{post_at};
 ghost use Rattle.mp_match.specs.Queued.{queue};
 ghost use Rattle.mp_match.specs.Waiting.{compared_for, key_of, key_with, one_if};
-ghost use Rattle.mp_match.specs.Queues.{AreQueued, message_key, popped};
+ghost use Rattle.mp_match.specs.Queues.{AreQueued, message_key};
+ghost use Rattle.mp_match.specs.InnerQueues.{popped};
 ghost use Rattle.mp_match.specs.Waiting.{receive_key};
-ghost use Rattle.mp_match.specs.Queues.{pushed};
+ghost use Rattle.mp_match.specs.InnerQueues.{pushed};
 
 use crate::history::History;
 use crate::post_queues::{PostQueues, least_of};

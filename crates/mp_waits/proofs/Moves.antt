@@ -21,7 +21,7 @@ use Rattle.mp_transfers.specs.declared.sides.Side.{Side}
 use Rattle.mp_transfers.specs.Inits.{is_receiver, lowest_link, peer_of, same_total, sender_over}
 use Rattle.mp_hub.specs.Hub.{HubView, outcome, got_or, cut_of, claim_found, claimed_now, is_complete, may_collect, init_with, init_first, setup_of, side_added, all_got, all_collected, are_distinct, is_known, is_ready, sending, selecting, with_board, with_claims, is_done}
 use Rattle.mp_hub.proofs.BoardKept.{all_lines, collect_lines}
-use Rattle.mp_waits.specs.Waits.{SendsAsMember}
+use Rattle.mp_waits.specs.Laws.{SendsAsMember}
 
 -- the post is one that this rank makes, and sends where it is a member
 abbrev pub IsBy : (ℕ → ℕ → Bool) → ℕ → Post → Type 0

@@ -19,7 +19,8 @@ use Rattle.mp_match.proofs.OrderKept.{Takes}
 use Rattle.mp_match.proofs.Places.{get_within}
 use Rattle.mp_probe.specs.Claims.{is_waiting}
 use Rattle.mp_hub.specs.Hub.{HubView, all_collected, all_got, are_distinct, is_complete, is_known, is_ready, may_collect, outcome}
-use Rattle.mp_waits.specs.Waits.{OnlyOf, SendsAsMember, could_pair}
+use Rattle.mp_waits.specs.Waits.{OnlyOf, could_pair}
+use Rattle.mp_waits.specs.Laws.{SendsAsMember}
 use Rattle.mp_waits.proofs.Lines.{post_stays}
 use Rattle.mp_waits.proofs.Moves.{GrowsBy, all, fits_all, moves}
 use Rattle.mp_waits.proofs.Collects.{NoMessage, mine_at, no_message_stays, no_message_up_to, none_waits, not_false, not_true, sources_at, taken_at}

@@ -21,7 +21,7 @@ use Rattle.mp_hub.specs.Hub.{Call, HubView, all_collected, all_got, are_distinct
 use Rattle.mp_hub.specs.Replies.{IsReplyTo}
 use Rattle.mp_hub.specs.Vain.{asks_in_vain}
 use Rattle.mp_hub.proofs.Owners.{replies_law}
-use Rattle.mp_waits.specs.Waits.{VainLaw}
+use Rattle.mp_waits.specs.Laws.{VainLaw}
 use Rattle.mp_waits.proofs.Collects.{no_message_from}
 use Rattle.mp_waits.proofs.Moves.{all}
 use Rattle.mp_waits.proofs.Waits.{laid_after}

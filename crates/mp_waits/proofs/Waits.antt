@@ -11,7 +11,8 @@ use Rattle.mp_hub.proofs.BoardKept.{board_law}
 use Rattle.mp_hub.proofs.Histories.{hub_more}
 use Rattle.mp_hub.proofs.SentKept.{mail}
 use Rattle.mp_waits.proofs.Cuts.{NoCut, no_cut_from, no_cut_stays, no_cut_waits}
-use Rattle.mp_waits.specs.Waits.{IsUpTo, SendsAsMember, WaitsFor, WaitsLaw}
+use Rattle.mp_waits.specs.Waits.{IsUpTo, WaitsFor}
+use Rattle.mp_waits.specs.Laws.{SendsAsMember, WaitsLaw}
 use Rattle.mp_waits.proofs.Lines.{good_lines}
 use Rattle.mp_waits.proofs.Moves.{Moves, moves}
 use Rattle.mp_waits.proofs.Probes.{NothingSent, claim_from, claim_up_to, claim_waits, nothing_stays, probe_from, probe_up_to, probe_waits}

@@ -1,5 +1,5 @@
 -- Who could bring what a rank asks for, where the hub answers that it isn't there yet.
-use Rattle.std.specs.Prelude.{ℕ, ◌≡◌, ◌↔◌, ◌==◌, ◌&&◌, Bool, true, false, List, [], ◌∷◌, ◌++◌, Option, Some, None}
+use Rattle.std.specs.Prelude.{ℕ, ◌≡◌, ◌==◌, ◌&&◌, Bool, true, false, List, Option, Some, None}
 use Rattle.std.specs.List.{slice_get}
 use Rattle.rv_image.specs.declared.images.Link.{Link}
 use Rattle.mp_types.specs.declared.requests.Request.{Request}
@@ -11,7 +11,6 @@ use Rattle.mp_match.specs.declared.posts.Selection.{Selection}
 use Rattle.mp_match.specs.Board.{line_of}
 use Rattle.mp_match.specs.Pairs.{admits}
 use Rattle.mp_hub.specs.Hub.{Call, HubView, hub_after, is_ready, reply_of, selecting}
-use Rattle.mp_hub.specs.Vain.{asks_in_vain}
 
 -- of all ranks these alone could: the ones that the test names
 abbrev pub OnlyOf : (ℕ → Bool) → (ℕ → Bool) → Type 0
@@ -57,26 +56,3 @@ IsUpTo member among hub rank _ = ⊥
 abbrev pub WaitsFor : (ℕ → ℕ → Bool) → (ℕ → Bool) → List Link → List Call → ℕ → Request → Type 0
 WaitsFor member among links calls rank q =
     (reply_of links calls rank q ≡ NotYet) × IsUpTo member among (hub_after links calls) rank q
-
--- a send is in a communicator of which its sender is a member
-abbrev pub SendsAsMember : (ℕ → ℕ → Bool) → ℕ → Request → Type 0
-SendsAsMember member rank (request.Send sync comm dest tag bytes) = member comm rank ≡ true
-SendsAsMember member rank _ = Unit {0}
-
-pub record WaitsLaw : Type 0 where
-  -- a call of a rank that isn't among them brings it nothing: it waits for the same ranks still
-  pub others : (member : ℕ → ℕ → Bool) (among : ℕ → Bool) (links : List Link) (calls : List Call)
-      (rank other : ℕ) (q call : Request)
-      → among rank ≡ true → among other ≡ false → SendsAsMember member other call
-      → WaitsFor member among links calls rank q
-      → WaitsFor member among links (calls ++ (other, call) ∷ []) rank q
-  -- and its own call, which isn't answered yet, leaves the hub as it was
-  pub own : (member : ℕ → ℕ → Bool) (among : ℕ → Bool) (links : List Link) (calls : List Call) (rank : ℕ) (q : Request)
-      → WaitsFor member among links calls rank q
-      → hub_after links (calls ++ (rank, q) ∷ []) ≡ hub_after links calls
-
--- a call is answered NotYet exactly where it is told so without making it
-abbrev pub VainLaw : Type 0
-VainLaw =
-    (links : List Link) (calls : List Call) (rank : ℕ) (q : Request)
-    → (asks_in_vain (hub_after links calls) rank q ≡ true) ↔ (reply_of links calls rank q ≡ NotYet)

@@ -1,6 +1,6 @@
 //! Laws of the hub's meaning, with no code: each function's contract is the law.
 
-ghost use Rattle.mp_waits.specs.Waits.{VainLaw, WaitsLaw};
+ghost use Rattle.mp_waits.specs.Laws.{VainLaw, WaitsLaw};
 
 /// A rank that isn't answered yet waits on whatever ranks call that couldn't bring what it asks for, and its own vain
 /// calls leave the hub as it was.

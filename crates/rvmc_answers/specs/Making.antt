@@ -6,7 +6,7 @@ use Rattle.cl_machine.specs.declared.steps.Step.{Step}
 use Rattle.cl_record.specs.Plans.{ArePlans, HasPlans}
 use Rattle.cl_record.specs.Records.{IsMergedRun}
 use Rattle.cl_record.specs.declared.records.Record.{Record}
-use Rattle.cl_replay.specs.Replaying.{BreaksAt}
+use Rattle.cl_replay.specs.InnerReplaying.{BreaksAt}
 use Rattle.cl_text.specs.Reading.{reading_record}
 use Rattle.rv_image.specs.Image.{IsImage}
 use Rattle.rv_image.specs.declared.images.ImageParts.{ImageParts}

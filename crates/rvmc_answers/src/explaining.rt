@@ -1,7 +1,7 @@
 //! What harts wait for, at a place of a record, or where a run ended.
 
 ghost use Rattle.std.specs.Prelude.{◌≡◌, IfErr, IfOk};
-ghost use Rattle.cl_replay.specs.Replaying.{ReplayFaultHolds};
+ghost use Rattle.cl_replay.specs.InnerReplaying.{ReplayFaultHolds};
 ghost use Rattle.rvmc_answers.specs.Answers.{IsReportWithWhy, IsWhyAt, IsWhyOf, SaysWhy, end_status, place_in};
 ghost use Rattle.rvmc_answers.specs.Making.{IsLeft, IsPlaceFault, IsWhole};
 ghost use Rattle.rvmc_answers.specs.Outputs.{output_bytes};

@@ -2,7 +2,7 @@
 
 ghost use Rattle.std.specs.Prelude.{◌≡◌};
 ghost use Rattle.mp_hub.specs.Vain.{asks_in_vain};
-ghost use Rattle.mp_match.specs.Free.{free_post};
+ghost use Rattle.mp_match.specs.FreePosts.{free_post};
 
 use super::{HubState, has_distinct, selection_of};
 use mp_match::Post;

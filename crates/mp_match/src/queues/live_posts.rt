@@ -2,7 +2,8 @@
 
 ghost use Rattle.std.specs.Prelude.{◌≡◌, Some, IfSome, IsNone};
 ghost use Rattle.mp_match.specs.Board.{line_of};
-ghost use Rattle.mp_match.specs.Live.{IsPast, post_in};
+ghost use Rattle.mp_match.specs.Live.{post_in};
+ghost use Rattle.mp_match.specs.InnerLive.{IsPast};
 
 use super::Queues;
 use crate::posts::Post;

@@ -1,5 +1,5 @@
 use Rattle.std.proofs.Common.{arith, length}
-use Rattle.cl_replay.specs.Replaying.{ReplayFaultHolds}
+use Rattle.cl_replay.specs.InnerReplaying.{ReplayFaultHolds}
 use Rattle.cl_replay.specs.declared.replaying.ReplayFault.{ReplayFault}
 use Rattle.cluster_tests.proofs.Replaying.{of_fault}
 use Rattle.cluster_tests.proofs.replay.all_steps_are_not_past_the_end.Goals as goal

@@ -1,4 +1,4 @@
-use Rattle.cl_replay.specs.Replaying.{ReplayFaultHolds}
+use Rattle.cl_replay.specs.InnerReplaying.{ReplayFaultHolds}
 use Rattle.cl_replay.specs.declared.replaying.ReplayFault.{ReplayFault}
 use Rattle.cluster_tests.proofs.Replaying.{of_fault, one_break}
 use Rattle.cluster_tests.proofs.replay.the_broken_step_is_told.Goals as goal

@@ -1,5 +1,5 @@
 use Rattle.std.proofs.Common.{◌≡◌, None}
-use Rattle.mp_match.specs.Queued.{least_accepted}
+use Rattle.mp_match.specs.InnerQueued.{least_accepted}
 use Rattle.mp_match.proofs.post_queues.least_within.Given as goal
 
 -- the queues so far leave the rest to be looked at with the least of them

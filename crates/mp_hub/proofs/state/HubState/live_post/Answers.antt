@@ -1,5 +1,5 @@
 use Rattle.std.proofs.Common.{subst}
-use Rattle.mp_match.specs.Live.{IsPast}
+use Rattle.mp_match.specs.InnerLive.{IsPast}
 use Rattle.mp_hub.specs.Held.{AreHeld}
 use Rattle.mp_hub.specs.Hub.{HubView}
 use Rattle.mp_hub.proofs.Live.{ready_to_all}

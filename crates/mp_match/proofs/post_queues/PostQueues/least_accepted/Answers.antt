@@ -2,7 +2,8 @@ use Rattle.std.proofs.Common.{None, ap, ◌∙◌}
 use Rattle.std.specs.Ordering.{is_gt}
 use Rattle.std.specs.BTreeMap.Range.{entries_between}
 use Rattle.std.specs.declared.ops.Bound.TheVariants.{Included, Excluded, Unbounded}
-use Rattle.mp_match.specs.Queued.{least_accepted, selection_cmp}
+use Rattle.mp_match.specs.Queued.{selection_cmp}
+use Rattle.mp_match.specs.InnerQueued.{least_accepted}
 use Rattle.mp_match.proofs.Within.{least_after, least_between, first_below}
 use Rattle.mp_match.proofs.post_queues.PostQueues.least_accepted.Goals as goal
 

@@ -2,7 +2,8 @@ use Rattle.std.proofs.Common.{◌≡◌, ◌∷◌, ◌++◌, [], ℕ, length, a
 use Rattle.mp_match.specs.declared.live.Live.{Live}
 use Rattle.mp_match.specs.Pairs.{partner_for}
 use Rattle.mp_match.specs.Board.{Board, compared_after}
-use Rattle.mp_match.specs.Live.{entered, kept, owner_of}
+use Rattle.mp_match.specs.Live.{kept, owner_of}
+use Rattle.mp_match.specs.InnerLive.{entered}
 use Rattle.mp_match.proofs.Asked.{next_none, owners_length, post_waits}
 use Rattle.mp_match.proofs.Kept.{stand_add}
 use Rattle.mp_match.proofs.Rows.{held_snoc, held_below, one_held}

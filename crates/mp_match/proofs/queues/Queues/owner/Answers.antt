@@ -1,6 +1,7 @@
 use Rattle.std.proofs.Common.{ap, ◌∙◌, ◌-◌, slice_get}
 use Rattle.mp_match.specs.Board.{Board, line_of}
-use Rattle.mp_match.specs.Live.{kept, owner_in}
+use Rattle.mp_match.specs.Live.{kept}
+use Rattle.mp_match.specs.InnerLive.{owner_in}
 use Rattle.mp_match.proofs.Asked.{owner_numbered}
 use Rattle.mp_match.proofs.queues.Queues.owner.Goals as goal
 

@@ -2,7 +2,8 @@ use Rattle.std.proofs.Common.{ap, sym, ◌∙◌}
 use Rattle.mp_match.specs.declared.posts.Post.{Post}
 use Rattle.mp_match.specs.Queued.{queue}
 use Rattle.mp_match.specs.Waiting.{receive_key}
-use Rattle.mp_match.specs.Queues.{message_key, popped, pushed}
+use Rattle.mp_match.specs.Queues.{message_key}
+use Rattle.mp_match.specs.InnerQueues.{popped, pushed}
 use Rattle.mp_match.proofs.Partners.{no_partner, partner_is}
 use Rattle.mp_match.proofs.Queueing.{entered, left, messages_alike, receives_alike}
 use Rattle.mp_match.proofs.waiting.Waiting.add.Goals as goal

@@ -1,6 +1,7 @@
 use Rattle.std.proofs.Common.{◌+◌, ap, slice_get, ◌∙◌}
 use Rattle.mp_match.specs.declared.posts.Selection.{Selection}
-use Rattle.mp_match.specs.Queued.{least, queue}
+use Rattle.mp_match.specs.Queued.{queue}
+use Rattle.mp_match.specs.InnerQueued.{least}
 use Rattle.mp_match.specs.Waiting.{one_if}
 use Rattle.mp_match.proofs.Fronts.{send_partner, fronts_compared}
 use Rattle.mp_match.proofs.waiting.Waiting.receive_for.Goals as goal
