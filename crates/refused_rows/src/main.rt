@@ -1,21 +1,18 @@
-//! Takes the record on standard input through the calls that ask for memory, and prints whether they answer what is in
-//! it: it is that of a run on one thread, in which each rank has a turn in its order. A call that is refused memory is
-//! told in a line that begins with `memory`, and made once more. Where it is a call of an object, the line says whether
-//! that is the same as before, compared whole with a copy. So all that a refused request may do is to add such a line.
-//! `tests/refused` refuses each in turn.
+//! Takes the record on standard input through the calls that read, write, run, merge and check, and prints whether they
+//! answer what is in it: it is that of a run on one thread, in which each rank has a turn in its order. A call that is
+//! refused memory is told in a line that begins with `memory`, and made once more. So all that a refused request may do
+//! is to add such a line. `tests/refused` refuses each in turn.
 #![tactic(auto)]
 
 mod reading;
 mod running;
-mod same;
-mod walking;
 
 ghost use Rattle.cl_text.specs.Limits.{FitSteps};
 
 use crate::reading::{image_text, read_image_back, read_steps, record_text};
-use crate::running::{Setting, checked, merged, plans, ran, ran_by_threads};
-use crate::same::{are_same_outputs, are_same_steps};
-use crate::walking::print_walks;
+use crate::running::{
+    Setting, are_same_outputs, are_same_steps, checked, merged, plans, ran, ran_by_threads,
+};
 use cl_record::Record;
 use cl_replay::{Step, Verdict};
 use rv_image::Image;
@@ -73,6 +70,5 @@ fn main(rt: HostRuntime) -> io::Result<()> {
     let Some(threads) = ran_by_threads(&rt, &rt, &setting)? else {
         return println!(rt; "no threads");
     };
-    print_runs(&rt, &setting, steps.as_slice(), &threads)?;
-    print_walks(&rt, record.as_slice(), &image, steps.as_slice())
+    print_runs(&rt, &setting, steps.as_slice(), &threads)
 }

@@ -4,7 +4,7 @@ use crate::reading::tell;
 use cl_merge::merge;
 use cl_rank::Stop;
 use cl_record::{Plan, Record, RunFault};
-use cl_replay::{ClusterState, ReplayFault, Step, Verdict, check, replay};
+use cl_replay::{Step, Verdict, check};
 use cl_run::run_one;
 use cl_threads::{Pace, run_threads};
 use rv_image::Image;
@@ -134,18 +134,17 @@ pub fn checked(rt: &HostRuntime, setting: &Setting<'_>, steps: &[Step]) -> io::R
     }
 }
 
-/// Where the first n steps lead.
-pub fn replayed(
-    rt: &HostRuntime,
-    image: &Image,
-    steps: &[Step],
-    n: u64,
-) -> io::Result<Option<ClusterState>> {
-    match replay(rt.alloc(), image, steps, n) {
-        Err(ReplayFault::Memory) => {
-            tell(rt, "replay")?;
-            Ok(replay(rt.alloc(), image, steps, n).ok())
-        }
-        answer => Ok(answer.ok()),
-    }
+/// Whether two lists of steps are the same.
+pub fn are_same_steps(one: &[Step], other: &[Step]) -> bool {
+    one.len() == other.len() && one.iter().zip(other.iter()).all(|(a, b)| a.is_same(b))
+}
+
+/// Whether the ranks of two runs put out the same.
+pub fn are_same_outputs(one: &Record, other: &Record) -> bool {
+    let (one, other) = (one.ranks.as_slice(), other.ranks.as_slice());
+    one.len() == other.len()
+        && one
+            .iter()
+            .zip(other.iter())
+            .all(|(a, b)| a.out.as_slice() == b.out.as_slice())
 }
