@@ -31,16 +31,16 @@ module _ (h : HubView) (held : AreHeld h.board h.claims) (place : ℕ) (line : L
   finished : is_receive (Some over.other) ≡ true → is_complete h (suc place) ≡ true
   finished taken =
       let done : is_finished h.board (suc place) ≡ true =
-          ap (λ o. is_standard (line_of h.board (suc place)) || is_receive_at h.board o) partner_is
-          ∙ (ap (λ o. is_standard (line_of h.board (suc place)) || is_receive o) over.there
-          ∙ (ap (λ b. is_standard (line_of h.board (suc place)) || b) taken
-          ∙ or_true (is_standard (line_of h.board (suc place))))) in
+      ap (λ o. is_standard (line_of h.board (suc place)) || is_receive_at h.board o) partner_is
+      ∙ (ap (λ o. is_standard (line_of h.board (suc place)) || is_receive o) over.there
+      ∙ (ap (λ b. is_standard (line_of h.board (suc place)) || b) taken
+      ∙ or_true (is_standard (line_of h.board (suc place))))) in
       ap (λ b. b || was_received h (claim_of h.board (suc place))) done
 
   collected : is_some (claim_of h.board (suc place)) ≡ true → is_complete h (suc place) ≡ true
   collected claimed =
       let gone : is_claim_collected h.board (suc place) ≡ true =
-          ap (λ o. not (is_held o) && is_some (claim_of h.board (suc place))) over.empty ∙ claimed in
+      ap (λ o. not (is_held o) && is_some (claim_of h.board (suc place))) over.empty ∙ claimed in
       sym (complete_is h (suc place) held)
       ∙ (ap (λ b. (is_finished h.board (suc place) || b) || was_received h (open_claim h.board (suc place))) gone
       ∙ ap (λ b. b || was_received h (open_claim h.board (suc place))) (or_true (is_finished h.board (suc place))))
