@@ -197,7 +197,7 @@ fn asked(alloc: Global, own: &RankState, number: usize) -> Result<Ask, AllocErro
         written: own.out.len(),
     };
     let doing = Doing::of(&standing, &own.harts[number]);
-    doing.ask(alloc, &standing)
+    doing.ask(alloc, &standing, None)
 }
 
 /// What a hart waits for that makes this call, and asks this.
