@@ -17,7 +17,7 @@ use rvmc_answers::answers::{Answer, answer_to};
 use rvmc_answers::laws::{recorded_is_good, stops_fit};
 use rvmc_answers::outputs::Output;
 use rvmc_answers::plans::plans;
-use rvmc_line::{CommandLine, Numbers};
+use rvmc_line::{CommandLine, Numbers, Written};
 use rvmc_report::report::report;
 use std::alloc::Global;
 use std::sync::Wait;
@@ -63,7 +63,7 @@ pub fn what_is_recorded_is_good(
         budget,
         plan,
         order,
-        recorded: true,
+        written: Written::Record,
     };
     let recorded = answered(alloc, &line, bytes)?;
     let text = bytes_of(alloc, &recorded.output)?;
