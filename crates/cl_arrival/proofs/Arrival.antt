@@ -15,7 +15,7 @@ use Rattle.cl_rank.specs.Alone.{IsAlone}
 use Rattle.cl_machine.specs.Boxes.{Thing, box_number}
 use Rattle.cl_machine.specs.Cluster.{loaded_cluster}
 use Rattle.cl_machine.specs.Joined.{got_of, thing_of}
-use Rattle.cl_machine.specs.Parts.{PartRunAt, is_part, own}
+use Rattle.cl_machine.specs.Parts.{PartRunAt, is_index, own}
 use Rattle.cl_machine.specs.Product.{box_at}
 use Rattle.cl_order.proofs.Ranks.{starts}
 use Rattle.cl_arrival.specs.Arrival.{ArrivalLaw, IsMadeIn, made_at, taken_at}
@@ -32,7 +32,7 @@ get_front (z ∷ xs) ys (suc k) x e = get_front xs ys k x e
 
 taken_append : (b : ℕ) (xs ys : List Deed) → taken_at b (xs ++ ys) ≡ taken_at b xs ++ taken_at b ys
 taken_append b xs ys =
-    ap (λ zs. map thing_of (filter_map got_of zs)) (filter-append (λ (d : Deed). is_part b (box_at d)) xs ys)
+    ap (λ zs. map thing_of (filter_map got_of zs)) (filter-append (λ (d : Deed). is_index b (box_at d)) xs ys)
     ∙ (ap (map thing_of) (filter_map-append got_of (own box_at b xs) (own box_at b ys))
     ∙ map-append thing_of (filter_map got_of (own box_at b xs)) (filter_map got_of (own box_at b ys)))
 

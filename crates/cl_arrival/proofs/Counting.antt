@@ -11,7 +11,7 @@ use Rattle.cl_rank.specs.Deeds.{Act, Deed, RankMoves}
 use Rattle.cl_rank.specs.Alone.{IsAlone}
 use Rattle.cl_machine.specs.Boxes.{box_number}
 use Rattle.cl_machine.specs.Joined.{got_of, made_of, thing_of}
-use Rattle.cl_machine.specs.Parts.{is_part}
+use Rattle.cl_machine.specs.Parts.{is_index}
 use Rattle.cl_machine.specs.Product.{box_at}
 use Rattle.cl_arrival.specs.Arrival.{after, begun_between, made_at, phases_begun, taken_at}
 
@@ -144,7 +144,7 @@ module _ (P : Rank → ℕ → ℕ → Type 0) (going : Rank → Bool) where
       (let e : 0 + phases_begun going old ds ≡ phases_begun going old ds = omega arith in e)
       (subst (λ m. P new (0 + phases_begun going old ds) m) (let e : 0 + length (taken_at b ds) ≡ length
       (taken_at b ds) = omega arith in e)
-      (along (λ ds. length (taken_at b ds)) (takes b) refl (λ d ds. got_cond (is_part b
+      (along (λ ds. length (taken_at b ds)) (takes b) refl (λ d ds. got_cond (is_index b
       (box_at d)) d _) step ds old new 0 0 run h))
 
   pub along_makes : (b : ℕ) → Steps (makes b) → (ds : List Deed) (old new : Rank) → IsAlone old ds new → P old 0 0
@@ -154,5 +154,5 @@ module _ (P : Rank → ℕ → ℕ → Type 0) (going : Rank → Bool) where
       (let e : 0 + phases_begun going old ds ≡ phases_begun going old ds = omega arith in e)
       (subst (λ m. P new (0 + phases_begun going old ds) m) (let e : 0 + length (made_at b ds) ≡ length
       (made_at b ds) = omega arith in e)
-      (along (λ ds. length (made_at b ds)) (makes b) refl (λ d ds. made_cond (is_part b
+      (along (λ ds. length (made_at b ds)) (makes b) refl (λ d ds. made_cond (is_index b
       (box_at d)) d _) step ds old new 0 0 run h))

@@ -14,7 +14,7 @@ use Rattle.cl_rank.specs.Deeds.{Act, Suits, Deed, RankMoves}
 use Rattle.cl_rank.specs.Alone.{IsAlone}
 use Rattle.cl_machine.specs.Boxes.{Thing, box_number}
 use Rattle.cl_machine.specs.Joined.{Got, got_for, got_of, made_for, made_of, thing_of}
-use Rattle.cl_machine.specs.Parts.{is_part, own}
+use Rattle.cl_machine.specs.Parts.{is_index, own}
 use Rattle.cl_machine.specs.Product.{box_at, box_for}
 use Rattle.cl_gates.specs.Gates.{MayAsk}
 use Rattle.cl_gates.proofs.Kept.{questions}
@@ -107,14 +107,14 @@ up_to (x ∷ before) later d start end run =
 
 -- ---- what the deed is
 
-take_act : (a : Act) (s b : ℕ) (g : Got) → is_part b (box_for a) ≡ true → got_for s a ≡ Some g
+take_act : (a : Act) (s b : ℕ) (g : Got) → is_index b (box_for a) ≡ true → got_for s a ≡ Some g
     → (link : ℕ) × (part : ℕ) × (a ≡ Act.Take link part g.stamp g.bytes) × (box_number link part ≡ b)
 take_act (Act.Take link part gate bytes) s b g is e =
     let one : record { stamp = gate; bytes = bytes; take = s } ≡ g = same_Some _ _ e in
     (link, part, ap (λ (x : Got). Act.Take link part x.stamp x.bytes) one, eqb-true (box_number link part) b is)
 take_act _ s b g is e = absurd (cc)
 
-ready_act : (a : Act) (s b : ℕ) (m : Thing) → is_part b (box_for a) ≡ true → made_for s a ≡ Some m
+ready_act : (a : Act) (s b : ℕ) (m : Thing) → is_index b (box_for a) ≡ true → made_for s a ≡ Some m
     → (link : ℕ) × (part : ℕ) × (a ≡ Act.Ready link part m.bytes) × (s ≡ m.stamp) × (box_number link part ≡ b)
 ready_act (Act.Ready link part bytes) s b m is e =
     let one : record { stamp = s; bytes = bytes } ≡ m = same_Some _ _ e in (
@@ -142,7 +142,7 @@ module _ (image : ImageParts) (r : ℕ) (ds : List Deed) (end : Rank) (run : IsA
   taken_in thing e = go (slice_get (filter_map got_of (own box_at b ds)) k) refl
       (sym (slice_get-map thing_of (filter_map got_of (own box_at b ds)) k) ∙ e)
     where
-      by_got : (g : Got) → IsAt (λ d. is_part b (box_at d)) got_of ds k g → thing_of g ≡ thing
+      by_got : (g : Got) → IsAt (λ d. is_index b (box_at d)) got_of ds k g → thing_of g ≡ thing
           → IsTakenIn k (loaded image r) ds link box thing
       by_got g h is =
           let d = h.deed in
@@ -183,12 +183,12 @@ module _ (image : ImageParts) (r : ℕ) (ds : List Deed) (end : Rank) (run : IsA
           → option_map thing_of o ≡ Some thing
           → IsTakenIn k (loaded image r) ds link box thing
       go None is e = absurd (cc)
-      go (Some g) is e = by_got g (at_place (λ d. is_part b (box_at d)) got_of ds k g is) (same_Some _ _ e)
+      go (Some g) is e = by_got g (at_place (λ d. is_index b (box_at d)) got_of ds k g is) (same_Some _ _ e)
 
   pub made_in : (thing : Thing) → slice_get (made_at b ds) k ≡ Some thing
       → IsMadeIn k (loaded image r) ds link box thing
   made_in thing e =
-      let h = at_place (λ d. is_part b (box_at d)) made_of ds k thing e in
+      let h = at_place (λ d. is_index b (box_at d)) made_of ds k thing e in
       let d = h.deed in
       let up = up_to h.before h.later d (loaded image r) end
       (subst (λ xs. IsAlone (loaded image r) xs end) h.there run) in

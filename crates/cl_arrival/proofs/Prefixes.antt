@@ -8,7 +8,7 @@ use Rattle.std.proofs.lemmas.Option.{same_Some}
 use Rattle.rv_image.specs.declared.images.Link.{Link}
 use Rattle.cl_rank.specs.Deeds.{Deed}
 use Rattle.cl_machine.specs.Boxes.{Box, Thing, box_number}
-use Rattle.cl_machine.specs.Joined.{BoxJoined, BoxJoinedAt, Got, link_of, thing_of}
+use Rattle.cl_machine.specs.Joined.{BoxJoined, BoxJoinedAt, Got, link_of_box, thing_of}
 use Rattle.cl_order.proofs.Joinings.{joined}
 use Rattle.cl_arrival.specs.Arrival.{BeginsWith, PrefixLaw, made_at, taken_at}
 
@@ -24,7 +24,7 @@ begins (g ∷ got) (m ∷ made) front =
     (rest.0, λ i. one i ∷ rest.1 i)
 
 -- of a box's link
-module _ (links : List Link) (b : ℕ) (deeds : ℕ → List Deed) (l : Link) (is : link_of links b ≡ Some l) where
+module _ (links : List Link) (b : ℕ) (deeds : ℕ → List Deed) (l : Link) (is : link_of_box links b ≡ Some l) where
   of_box : (new : Box) → BoxJoined links b deeds new → BeginsWith (made_at b (deeds l.from)) (taken_at b (deeds l.to))
   of_box new h =
       let same : h.link ≡ l = same_Some _ _ (sym h.link_is ∙ is) in
@@ -35,12 +35,12 @@ module _ (links : List Link) (b : ℕ) (deeds : ℕ → List Deed) (l : Link) (i
   of_boxes : (o p : Option Box) → BoxJoinedAt links b deeds o p
       → BeginsWith (made_at b (deeds l.from)) (taken_at b (deeds l.to))
   of_boxes (Some old) (Some new) h = of_box new h.1
-  of_boxes None None h = absurd (let none : link_of links b ≡ None = h in (cc))
+  of_boxes None None h = absurd (let none : link_of_box links b ≡ None = h in (cc))
   of_boxes None (Some new) h = absurd h
   of_boxes (Some old) None h = absurd h
 
 on_link : (links : List Link) (link part : ℕ) (l : Link) → slice_get links link ≡ Some l → part < 16
-    → link_of links (box_number link part) ≡ Some l
+    → link_of_box links (box_number link part) ≡ Some l
 on_link links link part l is low =
     let same : (16 * link + part) / 16 ≡ link = omega (arith, low) in ap (slice_get links) same ∙ is
 

@@ -9,14 +9,14 @@ use mathlib.Core.Logic.{inl, inr}
 use Rattle.rv_image.specs.declared.images.ImageParts.{ImageParts}
 use Rattle.part_phase.specs.declared.sending.SendPhase.{SendPhase}
 use Rattle.part_phase.specs.Phases.{sending_at}
-use Rattle.part_phase.specs.Sending.{all_freed, begun_sending, is_ready, none_marked, one_freed, readied}
+use Rattle.part_phase.specs.Sending.{all_freed, begun_sending, is_part_ready, none_marked, one_freed, readied}
 use Rattle.part_phase.specs.Sending.{shaped_sending, unshaped_sending}
 use Rattle.cl_state.specs.Asked.{asked}
 use Rattle.cl_state.specs.Rank.{Rank, loaded}
 use Rattle.cl_rank.specs.Deeds.{Act, Suits, Deed, RankMoves}
 use Rattle.cl_rank.specs.Alone.{IsAlone}
 use Rattle.cl_machine.specs.Boxes.{box_number}
-use Rattle.cl_machine.specs.Parts.{is_part}
+use Rattle.cl_machine.specs.Parts.{is_index}
 use Rattle.cl_machine.specs.Product.{box_for}
 use Rattle.cl_gates.specs.Gates.{MayAsk}
 use Rattle.cl_gates.proofs.Kept.{questions}
@@ -34,11 +34,11 @@ IsMine i p = 0 < p.parts → i < p.parts
 -- how the sender's side stands after n phases began, and partition i was made ready c times
 pub record Counts (i : ℕ) (p : SendPhase) (n c : ℕ) : Type 0 where
   -- in a phase it was made ready once more, or not yet; between phases as often as phases began
-  pub left : IsMine i p → p.freed < p.parts → is_ready p i ≡ false → c + 1 ≡ n
-  pub made : IsMine i p → p.freed < p.parts → is_ready p i ≡ true → c ≡ n
+  pub left : IsMine i p → p.freed < p.parts → is_part_ready p i ≡ false → c + 1 ≡ n
+  pub made : IsMine i p → p.freed < p.parts → is_part_ready p i ≡ true → c ≡ n
   pub idle : IsMine i p → p.parts ≤ p.freed → c ≡ n
   -- what is freed was ready
-  pub before : (j : ℕ) → j < p.freed → p.freed < p.parts → is_ready p j ≡ true
+  pub before : (j : ℕ) → j < p.freed → p.freed < p.parts → is_part_ready p j ≡ true
   pub marks : length p.ready ≡ 16
   pub most : p.parts ≤ 16
 
@@ -152,7 +152,7 @@ module _ (i : ℕ) (p : SendPhase) (n c : ℕ) (h : Counts i p n c) where
 
   -- a partition is made ready: this one, or another
   module _ (part : ℕ) (low : part < p.parts) (going : p.freed < p.parts) where
-    still_before : (j : ℕ) → j < p.freed → p.freed < p.parts → is_ready (readied part p) j ≡ true
+    still_before : (j : ℕ) → j < p.freed → p.freed < p.parts → is_part_ready (readied part p) j ≡ true
     still_before j lower up =
         elim (eqb_tells j part) [
           | inl e ↦ subst (λ x. get_or (set p.ready part true) x false ≡ true) (sym e.1)
@@ -161,13 +161,13 @@ module _ (i : ℕ) (p : SendPhase) (n c : ℕ) (h : Counts i p n c) where
           | inr e ↦ get_or-set_other p.ready part j true false e.1 ∙ h.before j lower up
         ]
 
-    here_counts : i ≡ part → is_ready p part ≡ false
+    here_counts : i ≡ part → is_part_ready p part ≡ false
         → Counts i (readied part p) (n + begun_of p (readied part p)) (c + 1)
     here_counts same unready =
         with_begun (readied part p) 0 n (c + 1) (none_going p (readied part p) going)
         (let e : n + 0 ≡ n = omega arith in e)
         (record {
-          left = λ mine lower e. absurd (not_both (is_ready (readied part p) i) marked e);
+          left = λ mine lower e. absurd (not_both (is_part_ready (readied part p) i) marked e);
           made = λ mine lower e. one_more;
           idle = λ mine up. absurd (omega (arith, up, going));
           before = still_before;
@@ -177,9 +177,9 @@ module _ (i : ℕ) (p : SendPhase) (n c : ℕ) (h : Counts i p n c) where
       where
         one_more : c + 1 ≡ n
         one_more = h.left (λ some. (let e : i < p.parts = omega (arith, same, low) in e)) going
-            (subst (λ j. is_ready p j ≡ false) (sym same) unready)
+            (subst (λ j. is_part_ready p j ≡ false) (sym same) unready)
 
-        marked : is_ready (readied part p) i ≡ true
+        marked : is_part_ready (readied part p) i ≡ true
         marked = subst (λ j. get_or (set p.ready part true) j false ≡ true) (sym same)
             (get_or-set_same p.ready part true false
             (let most = h.most in let all = h.marks in omega (arith, low, most, all)))
@@ -198,11 +198,11 @@ module _ (i : ℕ) (p : SendPhase) (n c : ℕ) (h : Counts i p n c) where
           most = h.most;
         }))
       where
-        is : is_ready (readied part p) i ≡ is_ready p i
+        is : is_part_ready (readied part p) i ≡ is_part_ready p i
         is = get_or-set_other p.ready part i true false other
 
   -- the lowest that isn't freed is freed
-  freed_counts : (part : ℕ) → part < p.parts → p.freed ≡ part → is_ready p part ≡ true
+  freed_counts : (part : ℕ) → part < p.parts → p.freed ≡ part → is_part_ready p part ≡ true
       → Counts i (one_freed p) (n + begun_of p (one_freed p)) c
   freed_counts part low next ready =
       with_begun (one_freed p) 0 n c (none_going p (one_freed p) going) (let e : n + 0 ≡ n = omega arith in e)
@@ -217,12 +217,12 @@ module _ (i : ℕ) (p : SendPhase) (n c : ℕ) (h : Counts i p n c) where
       freed_if : Bool → SendPhase
       freed_if b = record p { ready = if b then none_marked else p.ready; freed = p.freed + 1 }
 
-      all_ready : (j : ℕ) → j < p.freed + 1 → is_ready p j ≡ true
+      all_ready : (j : ℕ) → j < p.freed + 1 → is_part_ready p j ≡ true
       all_ready j lower =
           elim (cases_lt j p.freed) [
             | inl below ↦ h.before j below going
             | inr up ↦ (let same : j ≡ part = omega (arith, lower, up, next) in
-                subst (λ x. is_ready p x ≡ true) (sym same) ready)
+                subst (λ x. is_part_ready p x ≡ true) (sym same) ready)
           ]
 
       all_done : p.freed + 1 ≡ p.parts → Counts i (freed_if true) n c
@@ -298,17 +298,17 @@ module _ (k i : ℕ) (low : i < 16) where
         (same_counts i p n c h q m.1)
     by_act (Act.Freed link part gate) few (inl m) =
         none_then (Act.Freed link part gate)
-        (makes_nothing (is_part (box_number k i) (box_for (Act.Freed link part gate)))
+        (makes_nothing (is_index (box_number k i) (box_for (Act.Freed link part gate)))
         (deed r hart s (Act.Freed link part gate)) refl)
         (subst (λ x. Counts i x (n + begun_of p x) c) (sym m.1.3) (freed_counts i p n c h part m.1.0 m.1.1 m.1.2))
     by_act (Act.Freed link part gate) few (inr m) =
         none_then (Act.Freed link part gate)
-        (makes_nothing (is_part (box_number k i) (box_for (Act.Freed link part gate)))
+        (makes_nothing (is_index (box_number k i) (box_for (Act.Freed link part gate)))
         (deed r hart s (Act.Freed link part gate)) refl)
         (same_counts i p n c h q m.1)
     by_act (Act.Take link box gate bytes) few m =
         quiet (Act.Take link box gate bytes)
-        (makes_nothing (is_part (box_number k i) (box_for (Act.Take link box gate bytes)))
+        (makes_nothing (is_index (box_number k i) (box_for (Act.Take link box gate bytes)))
         (deed r hart s (Act.Take link box gate bytes)) refl) m
     by_act Act.Plain few m = quiet Act.Plain refl m
     by_act Act.Local few m = quiet Act.Local refl m

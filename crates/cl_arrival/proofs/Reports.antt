@@ -29,7 +29,7 @@ use Rattle.cl_state.specs.Asked.{Part, doing, no_hart, part_of}
 use Rattle.cl_state.specs.Partitions.{awaited_in, awaited_of_part, box_of}
 use Rattle.cl_state.specs.Rank.{Rank}
 use Rattle.cl_state.specs.Table.{row_arrived, row_of_part}
-use Rattle.cl_state.specs.Told.{ended, not_yet, returned, seen_one, told, told_in, told_row, with_box}
+use Rattle.cl_state.specs.Told.{ended, not_yet, returned, seen_one, told, told_in, told_row, with_taken_box}
 use Rattle.cl_state.proofs.Passed.{HasPassed, passed}
 use Rattle.cl_rank.specs.Deeds.{Deed, RankMoves, answer_of}
 use Rattle.cl_arrival.specs.Arrival.{ReportsArrived}
@@ -105,18 +105,18 @@ module _ (site : Site) (side : Partitions) (part : ℕ) (old : Part) (long : len
   box_says : (box : ℕ) → p.boxes ≢ 0 → Says (Box side.link box)
   unfolding seen_one
   box_says box some (answer.Taken bytes) flag =
-      go (next_box_of (receiving_at (with_box side box bytes old).phases side.link) part) refl
+      go (next_box_of (receiving_at (with_taken_box side box bytes old).phases side.link) part) refl
     where
       flag_for : Option ℕ → ℕ
       flag_for o = if is_some o then 0 else 1
 
-      value_is : flag_for (next_box_of (receiving_at (with_box side box bytes old).phases side.link) part) ≡ 1
+      value_is : flag_for (next_box_of (receiving_at (with_taken_box side box bytes old).phases side.link) part) ≡ 1
       value_is =
           sym (value_of code.Ok
-          (flag_for (next_box_of (receiving_at (with_box side box bytes old).phases side.link) part))
+          (flag_for (next_box_of (receiving_at (with_taken_box side box bytes old).phases side.link) part))
           old.hart long) ∙ flag
 
-      go : (o : Option ℕ) → next_box_of (receiving_at (with_box side box bytes old).phases side.link) part ≡ o
+      go : (o : Option ℕ) → next_box_of (receiving_at (with_taken_box side box bytes old).phases side.link) part ≡ o
           → WaitsForNone (seen_one side box part bytes old)
       go None is = inr (some, is)
       go (Some b) is =

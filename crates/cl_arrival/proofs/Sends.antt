@@ -13,7 +13,7 @@ use Rattle.part_phase.specs.declared.sending.SendPhase.{SendPhase}
 use Rattle.part_phase.specs.Phases.{begun, changed_at, is_unshaped_sending, on_receiving, on_sending}
 use Rattle.part_phase.specs.Phases.{sending_at, sending_in}
 use Rattle.part_phase.specs.Receiving.{cut_into, one_taken, shaped_receiving}
-use Rattle.part_phase.specs.Sending.{begun_sending, is_ready, one_freed, readied, shaped_sending, unshaped_sending}
+use Rattle.part_phase.specs.Sending.{begun_sending, is_part_ready, one_freed, readied, shaped_sending, unshaped_sending}
 use Rattle.cl_rank.specs.Deeds.{Act}
 use Rattle.cl_gates.proofs.Moves.{ActMoves, Begins, HubMoves, MayAskFreed, MayReady}
 use Rattle.cl_gates.proofs.Sides.{changed_other, changed_same, few_parts}
@@ -30,11 +30,11 @@ SideMoves p q = (q ≡ p) ⊎ ((q ≡ begun_sending p) ⊎ IsShaped p q)
 -- one of its own that isn't ready is made so while a phase is going on
 abbrev pub IsReadied : ℕ → SendPhase → SendPhase → Type 0
 IsReadied part p q =
-    (part < p.parts) × (p.freed < p.parts) × (is_ready p part ≡ false) × (q ≡ readied part p)
+    (part < p.parts) × (p.freed < p.parts) × (is_part_ready p part ≡ false) × (q ≡ readied part p)
 
 -- the lowest that isn't freed, which is ready
 abbrev pub IsFreed : ℕ → SendPhase → SendPhase → Type 0
-IsFreed part p q = (part < p.parts) × (p.freed ≡ part) × (is_ready p part ≡ true) × (q ≡ one_freed p)
+IsFreed part p q = (part < p.parts) × (p.freed ≡ part) × (is_part_ready p part ≡ true) × (q ≡ one_freed p)
 
 -- the side of link k, by what an act did
 abbrev pub ActDoes : ℕ → Act → SendPhase → SendPhase → Type 0

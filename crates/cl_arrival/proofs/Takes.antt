@@ -28,7 +28,7 @@ use Rattle.cl_state.specs.Rank.{Rank, loaded}
 use Rattle.cl_rank.specs.Deeds.{Act, Suits, Deed, RankMoves}
 use Rattle.cl_rank.specs.Alone.{IsAlone}
 use Rattle.cl_machine.specs.Boxes.{box_number}
-use Rattle.cl_machine.specs.Parts.{is_part}
+use Rattle.cl_machine.specs.Parts.{is_index}
 use Rattle.cl_machine.specs.Product.{box_for}
 use Rattle.cl_gates.specs.Gates.{MayAsk}
 use Rattle.cl_gates.proofs.Kept.{questions}
@@ -317,11 +317,11 @@ module _ (k i : ℕ) (low : i < 16) where
         (same_counts i p n c h q m.1)
     by_act (Act.Ready link part bytes) few m =
         quiet (Act.Ready link part bytes)
-        (takes_nothing (is_part (box_number k i) (box_for (Act.Ready link part bytes)))
+        (takes_nothing (is_index (box_number k i) (box_for (Act.Ready link part bytes)))
         (deed r hart s (Act.Ready link part bytes)) refl) m
     by_act (Act.Freed link part gate) few m =
         quiet (Act.Freed link part gate)
-        (takes_nothing (is_part (box_number k i) (box_for (Act.Freed link part gate)))
+        (takes_nothing (is_index (box_number k i) (box_for (Act.Freed link part gate)))
         (deed r hart s (Act.Freed link part gate)) refl) m
     by_act Act.Plain few m = quiet Act.Plain refl m
     by_act Act.Local few m = quiet Act.Local refl m

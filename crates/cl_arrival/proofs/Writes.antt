@@ -45,9 +45,9 @@ use Rattle.cl_state.specs.Partitions.{asked_arrived, asked_awaited, asked_ready,
 use Rattle.cl_state.specs.Partitions.{awaited_in, taking_of}
 use Rattle.cl_state.specs.Pending.{asked_pending, pending_of}
 use Rattle.cl_state.specs.Rank.{Rank}
-use Rattle.cl_state.specs.Several.{asked_all, pendings, posts_of}
+use Rattle.cl_state.specs.Several.{asked_all, pendings, posts_pending}
 use Rattle.cl_state.specs.Table.{completing, row_arrived, row_awaited, row_completing, row_in, row_of, row_of_part}
-use Rattle.cl_state.specs.Told.{arrived, arrived_from, not_yet, seen_one, taken_one, told, told_row, with_box}
+use Rattle.cl_state.specs.Told.{arrived, arrived_from, not_yet, seen_one, taken_one, told, told_row, with_taken_box}
 use Rattle.cl_state.specs.Told.{with_status}
 use Rattle.cl_state.specs.Transfers.{asked_transfer, receive_of, send_of, source_of, tag_of}
 use Rattle.cl_state.specs.Written.{written}
@@ -141,16 +141,16 @@ module _ (site : Site) (old : Part) (link box : ℕ) (bytes : List ℕ) where
       → Places side (taken_one site m side box target bytes old).memory
   unfolding taken_one arrived
   takes_one m side target =
-      go (receiving_at (with_box side box bytes old).phases side.link).active
+      go (receiving_at (with_taken_box side box bytes old).phases side.link).active
     where
       go : (b : Bool)
           → Places side
           (if b
-          then not_yet m (with_box side box bytes old)
+          then not_yet m (with_taken_box side box bytes old)
           else arrived_from (place_of side.peer (members site side.comm)) side target
-          (with_box side box bytes old)).memory
-      go true = inl (still m (with_box side box bytes old))
-      go false = arrives side target (place_of side.peer (members site side.comm)) (with_box side box bytes old) refl
+          (with_taken_box side box bytes old)).memory
+      go true = inl (still m (with_taken_box side box bytes old))
+      go false = arrives side target (place_of side.peer (members site side.comm)) (with_taken_box side box bytes old) refl
 
   says_takes : (m : Manner) (side : Partitions) (target : Target) (b : ℕ)
       → Says (transfer.ReceivePartitions side) (row_awaited m (transfer.ReceivePartitions side) target
@@ -292,10 +292,10 @@ module _ (site : Site) (old : Part) (link box : ℕ) (bytes : List ℕ) where
   writes_call hart (call.Start handle) = λ e. absurd (looked e (no_look_start old.memory
       (request_at old.requests handle)))
   writes_call hart (call.Testall s) =
-      λ e. absurd (looked e (no_look_all (posts_of (pendings old.requests (handles_in old.memory
+      λ e. absurd (looked e (no_look_all (posts_pending (pendings old.requests (handles_in old.memory
       (array_at s.array s.count))))))
   writes_call hart (call.Waitall s) =
-      λ e. absurd (looked e (no_look_all (posts_of (pendings old.requests (handles_in old.memory
+      λ e. absurd (looked e (no_look_all (posts_pending (pendings old.requests (handles_in old.memory
       (array_at s.array s.count))))))
   writes_call hart _ = λ e. absurd (looked e (λ look. look))
 

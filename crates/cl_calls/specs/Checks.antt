@@ -17,7 +17,7 @@ use Rattle.part_phase.specs.declared.receiving.RecvPhase.{RecvPhase}
 use Rattle.part_phase.specs.declared.sending.SendPhase.{SendPhase}
 use Rattle.part_phase.specs.Limits.{are_parts, is_size}
 use Rattle.part_phase.specs.Phases.{sending_at, receiving_at}
-use Rattle.part_phase.specs.Sending.{all_freed, is_ready}
+use Rattle.part_phase.specs.Sending.{all_freed, is_part_ready}
 use Rattle.rv_image.specs.declared.images.ImageVersion.{ImageVersion}
 use Rattle.cl_calls.specs.Handles.{handles_in}
 use Rattle.cl_calls.specs.declared.needs.Array.{Array}
@@ -94,7 +94,7 @@ is_going table phases _ = true
 
 abbrev pub is_unready : Table → List Phase → Named → Bool
 is_unready table phases (SendPart handle part) =
-    holds_of_sender (λ p. not (is_ready p part)) phases (sending_side (request_at table handle))
+    holds_of_sender (λ p. not (is_part_ready p part)) phases (sending_side (request_at table handle))
 is_unready table phases _ = true
 
 -- at most as many handles as a rank has

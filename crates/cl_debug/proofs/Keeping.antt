@@ -11,7 +11,7 @@ use Rattle.cl_machine.specs.declared.steps.Step.{Step}
 use Rattle.cl_replay.specs.declared.states.ClusterState.{ClusterState}
 use Rattle.cl_replay.specs.Kept.{Snapshot, snapshot}
 use Rattle.cl_replay.specs.Replaying.{IsReached}
-use Rattle.cl_replay.specs.States.{StandsFor}
+use Rattle.cl_replay.specs.States.{ClusterStandsFor}
 use Rattle.cl_debug.specs.Faults.{OpenFaultHolds}
 use Rattle.cl_debug.specs.Leads.{AreKept, IsKeptAt, LeadFaultHolds, LeadsTo}
 use Rattle.cl_debug.specs.Spacing.{IsSpacing, multiples}
@@ -31,7 +31,7 @@ no_steps cluster (step ∷ steps) = refl
 
 -- at first nothing is kept, and the state is the loaded one
 pub none_kept : (image : ImageParts) (steps : List Step) (spacing : ℕ) (kept : List Snapshot) (state : ClusterState)
-    → kept ≡ [] → StandsFor image state (loaded_cluster image) → KeptSoFar image steps spacing 0 kept state
+    → kept ≡ [] → ClusterStandsFor image state (loaded_cluster image) → KeptSoFar image steps spacing 0 kept state
 none_kept image steps spacing kept state none stands = subst (λ xs. KeptSoFar image steps spacing 0 xs state) (sym none)
     (record {
       count = refl;

@@ -18,7 +18,7 @@ use Rattle.mp_match.specs.declared.posts.Post.TheVariants as post
 use Rattle.mp_match.specs.declared.posts.Selection.{Selection}
 use Rattle.mp_match.specs.Board.{Board, collect, held_count, is_send_of, line_of, probed, receive_posted, send_posted}
 use Rattle.mp_probe.specs.declared.handles.Waiting.{Waiting}
-use Rattle.mp_probe.specs.Claims.{handle_if, is_claim, may_receive, next_number, received}
+use Rattle.mp_probe.specs.Claims.{handle_if, is_claim, may_receive, next_number, without_claim}
 use Rattle.mp_transfers.specs.declared.sides.Setup.{Setup}
 use Rattle.mp_transfers.specs.declared.sides.Side.{Side}
 use Rattle.mp_transfers.specs.Inits.{is_for, is_other_side, is_receiver, is_same_side, lowest_link, peer_of, same_total}
@@ -26,7 +26,7 @@ use Rattle.mp_transfers.specs.Inits.{sender_over}
 use Rattle.mp_hub.specs.Hub.{Call, HubView, all_collected, all_got, are_distinct, claim_found, claimed_now, cut_of}
 use Rattle.mp_hub.specs.Hub.{got_or, held, hub_after, init_first, init_with, is_complete, is_done, is_known, is_ready}
 use Rattle.mp_hub.specs.Hub.{may_collect, message_or, outcome, reply_of, seen, selecting, sending, setup_of, side_added}
-use Rattle.mp_hub.specs.Hub.{started, with_board, with_claims}
+use Rattle.mp_hub.specs.Hub.{hub_at_start, with_board, with_claims}
 use Rattle.mp_hub.specs.Laws.{SentAt}
 use Rattle.mp_hub.specs.Transfers.{SenderBegan}
 use Rattle.mp_hub.proofs.BoardKept.{board_law}
@@ -124,15 +124,15 @@ module _ (n : ℕ) (h : HubView) (low : length h.board.lines ≤ n) (old : Numbe
   }
 
   after_received : (now : Bool) (rank message : ℕ)
-      → Numbered (n + 1) (claimed_now (with_claims h (received h.claims rank message)) now message).1
+      → Numbered (n + 1) (claimed_now (with_claims h (without_claim h.claims rank message)) now message).1
   after_received now rank message = go now
     where
-      claims : AllByRecursion (λ (w : Waiting). w.message ≤ n + 1) (received h.claims rank message)
+      claims : AllByRecursion (λ (w : Waiting). w.message ≤ n + 1) (without_claim h.claims rank message)
       claims =
           all-filter (λ (w : Waiting). w.message ≤ n + 1) (λ (w : Waiting). not (is_claim rank message w)) h.claims
           (claims_later n h.claims old.claims)
 
-      go : (now : Bool) → Numbered (n + 1) (claimed_now (with_claims h (received h.claims rank message)) now message).1
+      go : (now : Bool) → Numbered (n + 1) (claimed_now (with_claims h (without_claim h.claims rank message)) now message).1
       go true = record { links = old.links; claims = claims; sides = old.sides }
       go false = record { links = old.links; claims = claims; sides = old.sides }
 
@@ -183,7 +183,7 @@ module _ (n : ℕ) (h : HubView) (low : length h.board.lines ≤ n) (old : Numbe
       after_claim (selecting rank comm source tag) (probed h.board (post.Claim (selecting rank comm source tag)))
   numbered_more rank (request.Claimed now message) =
       one_or (may_receive h.claims rank message)
-      (claimed_now (with_claims h (received h.claims rank message)) now message) (reply.Code BadMessage, h)
+      (claimed_now (with_claims h (without_claim h.claims rank message)) now message) (reply.Code BadMessage, h)
       (after_received now rank message) (later h.board)
   numbered_more rank (request.All posts) =
       let told = cond (list_all (λ p. is_ready h rank p) posts) (all_collected h (all_got rank h.board posts))
@@ -209,7 +209,7 @@ numbered_on links (c ∷ rest) calls old =
     let count : length calls + 1 ≡ length (calls ++ c ∷ []) = sym (length-append calls (c ∷ [])) in
     let next : Numbered (length (calls ++ c ∷ [])) (hub_after links (calls ++ c ∷ [])) =
     subst (λ k. Numbered k (hub_after links (calls ++ c ∷ []))) count
-    (subst (λ (k : HubView). Numbered (length calls + 1) k) (sym (hub_on-snoc calls (started links) c)) more) in
+    (subst (λ (k : HubView). Numbered (length calls + 1) k) (sym (hub_on-snoc calls (hub_at_start links) c)) more) in
     subst (λ cs. Numbered (length cs) (hub_after links cs)) (append_assoc calls (c ∷ []) rest)
     (numbered_on links rest (calls ++ c ∷ []) next)
 
@@ -322,11 +322,11 @@ module _ (links : List Link) (calls : List Call) (right : AreRight calls) (few :
       (λ i. told (is i) (from i))).1
 
   claimed_fits : (now : Bool) (message : ℕ) → may_receive hub.claims rank message ≡ true
-      → FitsReply (claimed_now (with_claims hub (received hub.claims rank message)) now message).0
+      → FitsReply (claimed_now (with_claims hub (without_claim hub.claims rank message)) now message).0
   claimed_fits true message may =
       message_or_fits reply.NotYet (collect hub.board message).0 tt
       (λ m is. message_fits (request.Claimed true message) m
-      (ap (λ c. (cond c (claimed_now (with_claims hub (received hub.claims rank message)) true message)
+      (ap (λ c. (cond c (claimed_now (with_claims hub (without_claim hub.claims rank message)) true message)
       (reply.Code BadMessage, hub)).0) may ∙ is))
   claimed_fits false message may =
       old_low message
@@ -373,7 +373,7 @@ module _ (links : List Link) (calls : List Call) (right : AreRight calls) (few :
       claim_fits comm source tag (probed hub.board (post.Claim (selecting rank comm source tag))) refl
   reply_fits (request.Claimed now message) q =
       fits_or (may_receive hub.claims rank message)
-      (claimed_now (with_claims hub (received hub.claims rank message)) now message) (reply.Code BadMessage, hub)
+      (claimed_now (with_claims hub (without_claim hub.claims rank message)) now message) (reply.Code BadMessage, hub)
       (claimed_fits now message) tt
   reply_fits (request.All posts) q =
       gathered_fits posts q (are_distinct posts && list_all (λ p. is_known hub rank p) posts)

@@ -44,7 +44,7 @@ use Rattle.cl_state.specs.Moves.{AsksShape, Known}
 use Rattle.cl_state.specs.Partitions.{asked_arrived, asked_awaited, asked_ready, awaited, awaited_of_part}
 use Rattle.cl_state.specs.Pending.{asked_pending, pending_of}
 use Rattle.cl_state.specs.Rank.{Rank}
-use Rattle.cl_state.specs.Several.{asked_all, pendings, posts_of}
+use Rattle.cl_state.specs.Several.{asked_all, pendings, posts_pending}
 use Rattle.cl_state.specs.Transfers.{asked_transfer, receive_of, send_of, source_of, tag_of}
 use Rattle.cl_state.proofs.Known.{known}
 use Rattle.cl_state.proofs.Passed.{HasPassed, passed}
@@ -196,9 +196,9 @@ module _ (site : Site) (part : Part) (few : HasFewComms site) (right : IsRightTa
   by_call (call.Start handle) passed =
       by_start part.memory (request_at part.requests handle) (open_at part.requests handle right)
   by_call (call.Testall s) passed =
-      by_all (posts_of (pendings part.requests (handles_in part.memory (array_at s.array s.count))))
+      by_all (posts_pending (pendings part.requests (handles_in part.memory (array_at s.array s.count))))
   by_call (call.Waitall s) passed =
-      by_all (posts_of (pendings part.requests (handles_in part.memory (array_at s.array s.count))))
+      by_all (posts_pending (pendings part.requests (handles_in part.memory (array_at s.array s.count))))
   by_call (call.Pready handle ready) passed =
       by_ready site part.memory ready (sending_side (request_at part.requests handle))
   by_call (call.Parrived handle asked) passed =

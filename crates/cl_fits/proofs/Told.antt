@@ -54,8 +54,8 @@ use Rattle.cl_state.specs.Asked.{Part, doing, part_of}
 use Rattle.cl_state.specs.Partitions.{awaited, awaited_of_part, side_on}
 use Rattle.cl_state.specs.Pending.{pending_of}
 use Rattle.cl_state.specs.Rank.{Rank}
-use Rattle.cl_state.specs.Several.{completed_each, pendings, posts_of}
-use Rattle.cl_state.specs.Table.{begins, begins_phase, begun, completes, concludes, gathers, holds, polled, row_arrived}
+use Rattle.cl_state.specs.Several.{completed_each, pendings, posts_pending}
+use Rattle.cl_state.specs.Table.{begins, begins_phase, begun_outcome, completes, concludes, gathers, holds_by, polled, row_arrived}
 use Rattle.cl_state.specs.Table.{row_awaited, row_completing, row_in, row_of, row_of_part, row_ready, starts, takes}
 use Rattle.cl_state.specs.Told.{arrived, arrived_from, completed_all, done, found, found_at, found_nothing, freed}
 use Rattle.cl_state.specs.Told.{freed_one, gathered_if, made_side_at, not_yet, opened_at, part_readied, phase_begun}
@@ -198,7 +198,7 @@ by_arrived site side target part right = go _
     go (Some place) = after_completion part.requests target.handle right
 
 by_begun : (site : Site) (why : Purpose) (t : Transfer) (p : Progress) (part : Part) → IsRightTransfer t
-    → IsRightPart part → IsRightPart (done site (begun why t p) part)
+    → IsRightPart part → IsRightPart (done site (begun_outcome why t p) part)
 by_begun site purpose.Send t progress.Finished part fits right = right
 by_begun site purpose.Send t (progress.OnPost post) part fits right = right
 by_begun site purpose.Send t progress.InPhase part fits right = right
@@ -355,7 +355,7 @@ row_or : (b : Bool) (x y : Row) → IsRightRow x → IsRightRow y → IsRightRow
 row_or true x y p q = p
 row_or false x y p q = q
 
-begun_right : (why : Purpose) (t : Transfer) (p : Progress) → IsRightTransfer t → OpensRight (begun why t p)
+begun_right : (why : Purpose) (t : Transfer) (p : Progress) → IsRightTransfer t → OpensRight (begun_outcome why t p)
 begun_right purpose.Send t progress.Finished fits = tt
 begun_right purpose.Send t (progress.OnPost post) fits = tt
 begun_right purpose.Send t progress.InPhase fits = tt
@@ -398,7 +398,7 @@ concludes_right : (t : Transfer) (target : Target) → OpensRight (concludes t t
 concludes_right (transfer.ReceivePartitions side) target = tt
 concludes_right _ target = tt
 
-holds_right : (m : Manner) → OpensRight (holds m)
+holds_right : (m : Manner) → OpensRight (holds_by m)
 holds_right Immediate = tt
 holds_right _ = tt
 
@@ -480,9 +480,9 @@ module _ (site : Site) (hart : ℕ) (part : Part) (few : HasFewComms site) (righ
   call_right (call.Start handle) passed =
       starts_right handle (request_at part.requests handle) (open_at part.requests handle right)
   call_right (call.Testall s) passed =
-      gathers_right Immediate s (posts_of (pendings part.requests (handles_in part.memory (array_at s.array s.count))))
+      gathers_right Immediate s (posts_pending (pendings part.requests (handles_in part.memory (array_at s.array s.count))))
   call_right (call.Waitall s) passed =
-      gathers_right Blocking s (posts_of (pendings part.requests (handles_in part.memory (array_at s.array s.count))))
+      gathers_right Blocking s (posts_pending (pendings part.requests (handles_in part.memory (array_at s.array s.count))))
   call_right (call.Pready handle ready) passed = ready_right ready (sending_side (request_at part.requests handle))
   call_right (call.Parrived handle asked) passed =
       arrived_right part.phases asked (receiving_side (request_at part.requests handle))

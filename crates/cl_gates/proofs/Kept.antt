@@ -23,7 +23,7 @@ use Rattle.cl_rank.specs.Deeds.{Act, Deed, RankMoves}
 use Rattle.cl_rank.specs.Alone.{IsAlone}
 use Rattle.cl_machine.specs.Boxes.{box_number}
 use Rattle.cl_machine.specs.Joined.{OnItsSide}
-use Rattle.cl_machine.specs.Parts.{is_part, own}
+use Rattle.cl_machine.specs.Parts.{is_index, own}
 use Rattle.cl_machine.specs.Product.{box_at, box_for}
 use Rattle.cl_gates.specs.Gates.{Gate, GatesKeptLaw, KeepsGate, MayAct, MayAsk, QuestionsLaw, gate_after, gate_along}
 use Rattle.cl_gates.specs.Gates.{gate_of}
@@ -46,7 +46,7 @@ module _ (links : List Link) (rank : ℕ) (version : ImageVersion) (old new : Li
     (sides : AreSides links rank old)
     (k i b : ℕ) (low : i < 16) (is : 16 * k + i ≡ b) (gate : Gate) (h : Stands i (sending_at old k) gate) where
   -- it moves the box
-  here : (a : Act) → ActMoves version a old new → is_part b (box_for a) ≡ true
+  here : (a : Act) → ActMoves version a old new → is_index b (box_for a) ≡ true
       → MayAct gate a × Stands i (sending_at new k) (gate_after gate a)
   here Act.Plain m e = absurd (cc)
   here Act.Local m e = absurd (cc)
@@ -72,7 +72,7 @@ module _ (links : List Link) (rank : ℕ) (version : ImageVersion) (old new : Li
       [ inl t ↦ absurd (let yes = t.0 in (cc)) | inr f ↦ absurd (f.1 (omega (arith, is, same, its))) ]
 
   -- it doesn't
-  there : (a : Act) → ActMoves version a old new → is_part b (box_for a) ≡ false → Stands i (sending_at new k) gate
+  there : (a : Act) → ActMoves version a old new → is_index b (box_for a) ≡ false → Stands i (sending_at new k) gate
   there Act.Plain m e = same_stands i k gate old new h m
   there Act.Local m e = local_stands i k gate old new h m
   there (Act.Hub clock request reply) m e = hub_stands i k gate old new h version m
@@ -107,13 +107,13 @@ module _ (links : List Link) (rank : ℕ) where
   -- of box b, which is box i of link k
   module _ (k i b : ℕ) (low : i < 16) (is : 16 * k + i ≡ b) where
     stands_here : (gate : Gate) (d : Deed) (old new : Rank) → RankMoves old d new → AreSides links rank old.phases
-        → Stands i (sending_at old.phases k) gate → is_part b (box_at d) ≡ true
+        → Stands i (sending_at old.phases k) gate → is_index b (box_at d) ≡ true
         → MayAct gate d.act × Stands i (sending_at new.phases k) (gate_after gate d.act)
     stands_here gate d old new move sides h =
         here links rank old.site.version old.phases new.phases sides k i b low is gate h d.act (moves old new d move)
 
     stands_there : (gate : Gate) (d : Deed) (old new : Rank) → RankMoves old d new → AreSides links rank old.phases
-        → Stands i (sending_at old.phases k) gate → is_part b (box_at d) ≡ false
+        → Stands i (sending_at old.phases k) gate → is_index b (box_at d) ≡ false
         → Stands i (sending_at new.phases k) gate
     stands_there gate d old new move sides h =
         there links rank old.site.version old.phases new.phases sides k i b low is gate h d.act (moves old new d move)
@@ -122,9 +122,9 @@ module _ (links : List Link) (rank : ℕ) where
         → Stands i (sending_at old.phases k) gate → IsAlone old ds new → KeepsGate gate (own box_at b ds)
     keeps gate [] old new sides h run = tt
     keeps gate (d ∷ ds) old new sides h run =
-        go (is_part b (box_at d)) refl (λ g s. keeps g ds run.0 new (sides_next d old run.0 run.1 sides) s run.2)
+        go (is_index b (box_at d)) refl (λ g s. keeps g ds run.0 new (sides_next d old run.0 run.1 sides) s run.2)
       where
-        go : (c : Bool) → is_part b (box_at d) ≡ c
+        go : (c : Bool) → is_index b (box_at d) ≡ c
             → ((g : Gate) → Stands i (sending_at (run.0).phases k) g → KeepsGate g (own box_at b ds))
             → KeepsGate gate (cond c (d ∷ own box_at b ds) (own box_at b ds))
         go true e rest =
@@ -136,10 +136,10 @@ module _ (links : List Link) (rank : ℕ) where
         → Stands i (sending_at new.phases k) (gate_along gate (own box_at b ds))
     stands_then gate [] old new sides h run = subst (λ (r : Rank). Stands i (sending_at r.phases k) gate) (sym run) h
     stands_then gate (d ∷ ds) old new sides h run =
-        go (is_part b (box_at d)) refl
+        go (is_index b (box_at d)) refl
         (λ g s. stands_then g ds run.0 new (sides_next d old run.0 run.1 sides) s run.2)
       where
-        go : (c : Bool) → is_part b (box_at d) ≡ c
+        go : (c : Bool) → is_index b (box_at d) ≡ c
             → ((g : Gate) → Stands i (sending_at (run.0).phases k) g
             → Stands i (sending_at new.phases k) (gate_along g (own box_at b ds)))
             → Stands i (sending_at new.phases k) (gate_along gate (cond c (d ∷ own box_at b ds) (own box_at b ds)))

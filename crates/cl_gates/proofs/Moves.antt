@@ -17,7 +17,7 @@ use Rattle.part_phase.specs.Limits.{are_parts}
 use Rattle.part_phase.specs.Phases.{begun, changed_at, is_unshaped_receiving, is_unshaped_sending, on_receiving}
 use Rattle.part_phase.specs.Phases.{on_sending, receiving_at, sending_at}
 use Rattle.part_phase.specs.Receiving.{cut_into, is_cut, one_taken, shaped_receiving}
-use Rattle.part_phase.specs.Sending.{all_freed, is_ready, one_freed, readied, shaped_sending}
+use Rattle.part_phase.specs.Sending.{all_freed, is_part_ready, one_freed, readied, shaped_sending}
 use Rattle.cl_calls.specs.declared.sites.Site.{Site}
 use Rattle.cl_state.specs.declared.asking.Answer.TheVariants as answer
 use Rattle.cl_state.specs.declared.asking.Ask.{Ask}
@@ -63,14 +63,14 @@ abbrev pub MayReady : List Phase → ℕ → ℕ → Type 0
 MayReady phases link part =
     (part < (sending_at phases link).parts)
     × ((sending_at phases link).freed < (sending_at phases link).parts)
-    × (is_ready (sending_at phases link) part ≡ false)
+    × (is_part_ready (sending_at phases link) part ≡ false)
 
 -- the sender asks only of the lowest partition that isn't freed, and only once that is ready
 abbrev pub MayAskFreed : List Phase → ℕ → ℕ → Type 0
 MayAskFreed phases link part =
     (part < (sending_at phases link).parts)
     × ((sending_at phases link).freed ≡ part)
-    × (is_ready (sending_at phases link) part ≡ true)
+    × (is_part_ready (sending_at phases link) part ≡ true)
 
 -- the receiver looks only at boxes of the sender's cut
 abbrev pub MayLook : List Phase → ℕ → ℕ → Type 0

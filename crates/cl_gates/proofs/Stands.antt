@@ -6,18 +6,18 @@ use Rattle.std.proofs.lemmas.Bool.{cases_lt, leb-true, eqb-true}
 use Rattle.std.proofs.lemmas.List.{get_or-replicate, get_or-set_other, get_or-set_same, get_or_past, length-set}
 use mathlib.Core.Logic.{inl, inr}
 use Rattle.part_phase.specs.declared.sending.SendPhase.{SendPhase}
-use Rattle.part_phase.specs.Sending.{all_freed, begun_sending, is_last, is_ready, none_marked, one_freed, readied}
+use Rattle.part_phase.specs.Sending.{all_freed, begun_sending, is_last, is_part_ready, none_marked, one_freed, readied}
 use Rattle.part_phase.specs.Sending.{shaped_sending, unshaped_sending}
 use Rattle.cl_gates.specs.Gates.{Gate}
 
 -- the gate of box i is shut only where its partition is ready and not freed, and unused only where it isn't ready
 pub record Stands (i : ℕ) (p : SendPhase) (gate : Gate) : Type 0 where
-  pub unready : is_ready p i ≡ false → gate ≢ Gate.Shut
+  pub unready : is_part_ready p i ≡ false → gate ≢ Gate.Shut
   pub freed : i < p.freed → gate ≢ Gate.Shut
-  pub used : is_ready p i ≡ true → gate ≢ Gate.Unused
+  pub used : is_part_ready p i ≡ true → gate ≢ Gate.Unused
   -- what is ready is one of the side's own, and what is freed in a phase was ready
-  pub within : is_ready p i ≡ true → i < p.parts
-  pub before : i < p.freed → p.freed < p.parts → is_ready p i ≡ true
+  pub within : is_part_ready p i ≡ true → i < p.parts
+  pub before : i < p.freed → p.freed < p.parts → is_part_ready p i ≡ true
   pub marks : length p.ready ≡ 16
   pub most : p.parts ≤ 16
 
@@ -59,17 +59,17 @@ stands_first i = record {
 }
 
 module _ (i : ℕ) (p : SendPhase) (gate : Gate) (h : Stands i p gate) where
-  pub open_where_unready : is_ready p i ≡ false → gate ≢ Gate.Shut
+  pub open_where_unready : is_part_ready p i ≡ false → gate ≢ Gate.Shut
   open_where_unready e = h.unready e
 
   -- its own partition is made ready
-  pub stands_made : i < p.parts → p.freed < p.parts → is_ready p i ≡ false → Stands i (readied i p) Gate.Shut
+  pub stands_made : i < p.parts → p.freed < p.parts → is_part_ready p i ≡ false → Stands i (readied i p) Gate.Shut
   stands_made low going not_ready =
       let is : get_or (set p.ready i true) i false ≡ true =
       get_or-set_same p.ready i true false (omega (arith, low, h.marks, h.most)) in
       record {
         unready = λ e. absurd (not_both (get_or (set p.ready i true) i false) is e);
-        freed = λ lower. absurd (not_both (is_ready p i) (h.before lower going) not_ready);
+        freed = λ lower. absurd (not_both (is_part_ready p i) (h.before lower going) not_ready);
         used = λ e. shut_used;
         within = λ e. low;
         before = λ lower up. is;
@@ -80,7 +80,7 @@ module _ (i : ℕ) (p : SendPhase) (gate : Gate) (h : Stands i p gate) where
   -- another is
   pub stands_beside : (j : ℕ) → j ≢ i → Stands i (readied j p) gate
   stands_beside j other =
-      let is : get_or (set p.ready j true) i false ≡ is_ready p i =
+      let is : get_or (set p.ready j true) i false ≡ is_part_ready p i =
       get_or-set_other p.ready j i true false (λ e. other (sym e)) in
       record {
         unready = λ e. h.unready (sym is ∙ e);
@@ -93,7 +93,7 @@ module _ (i : ℕ) (p : SendPhase) (gate : Gate) (h : Stands i p gate) where
       }
 
   -- its own partition is found taken, the lowest that isn't freed
-  pub stands_freed : p.freed ≡ i → is_ready p i ≡ true → Stands i (one_freed p) Gate.Free
+  pub stands_freed : p.freed ≡ i → is_part_ready p i ≡ true → Stands i (one_freed p) Gate.Free
   stands_freed at_it ready = go (is_last p) refl
     where
       go : (b : Bool) → is_last p ≡ b
@@ -126,7 +126,7 @@ module _ (i : ℕ) (p : SendPhase) (gate : Gate) (h : Stands i p gate) where
 
       still_open : p.freed + 1 ≡ p.parts → gate ≢ Gate.Shut
       still_open last =
-          elim (either (is_ready p i)) [
+          elim (either (is_part_ready p i)) [
             | inl ready ↦ h.freed (lower (let up = h.within ready in omega (arith, up, last)))
             | inr unready ↦ h.unready unready
           ]
@@ -158,7 +158,7 @@ module _ (i : ℕ) (p : SendPhase) (gate : Gate) (h : Stands i p gate) where
     where
       opened : p.parts ≤ p.freed → gate ≢ Gate.Shut
       opened all =
-          elim (either (is_ready p i)) [
+          elim (either (is_part_ready p i)) [
             | inl ready ↦ h.freed (let up = h.within ready in omega (arith, up, all))
             | inr unready ↦ h.unready unready
           ]
@@ -189,7 +189,7 @@ module _ (i : ℕ) (p : SendPhase) (gate : Gate) (h : Stands i p gate) where
     where
       opened : gate ≢ Gate.Shut
       opened =
-          elim (either (is_ready p i)) [
+          elim (either (is_part_ready p i)) [
             | inl ready ↦ absurd (let up = h.within ready in omega (arith, up, none))
             | inr unready ↦ h.unready unready
           ]

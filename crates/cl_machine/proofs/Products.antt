@@ -8,7 +8,7 @@ use Rattle.std.proofs.lemmas.Bool.{eq-eqb}
 use Rattle.std.proofs.lemmas.Bool.Decides.{eqb_tells}
 use mathlib.Core.Logic.{inl, inr}
 use Rattle.cl_machine.proofs.Lists.{same_by_index, get-set_same, get-set_other}
-use Rattle.cl_machine.specs.Parts.{PartRunAt, is_part, own}
+use Rattle.cl_machine.specs.Parts.{PartRunAt, is_index, own}
 use Rattle.cl_machine.specs.PartRuns.{EachPartRuns, PartsMove, PartsMoveAt}
 
 module _ {S D : Type 0} (Move : S → D → S → Type 0) (at : D → Option ℕ) where
@@ -33,7 +33,7 @@ module _ {S D : Type 0} (Move : S → D → S → Type 0) (at : D → Option ℕ
   -- the first event moves its part, and what is left is each part's again
   step_at : (k : Option ℕ) (old new : List S) (d : D) (ds : List D)
       → ((i : ℕ)
-      → PartRunAt Move (slice_get old i) (cond (is_part i k) (d ∷ own at i ds) (own at i ds)) (slice_get new i))
+      → PartRunAt Move (slice_get old i) (cond (is_index i k) (d ∷ own at i ds) (own at i ds)) (slice_get new i))
       → (mid : List S) × PartsMoveAt Move k old d mid × EachPartRuns Move at mid ds new
   step_at None old new d ds h = (old, refl, h)
   step_at (Some k) old new d ds h =

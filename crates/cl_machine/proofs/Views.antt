@@ -7,7 +7,7 @@ use mathlib.Core.Logic.{inl, inr}
 use Rattle.cl_machine.proofs.Meshes.{TakeOf, MeshFull, MeshAct, Meshed}
 use Rattle.cl_rank.specs.Deeds.{Act, Deed}
 use Rattle.cl_machine.specs.Boxes.{Thing}
-use Rattle.cl_machine.specs.Joined.{Got, ShowsTake, got_for, got_of, made_for, made_more, made_of, shown, shown_for}
+use Rattle.cl_machine.specs.Joined.{Got, ShowsTake, got_for, got_of, made_for, made_more, made_of, takes_shown, shown_for}
 use Rattle.cl_machine.specs.Joined.{thing_of}
 
 abbrev pub IsSending : Act → Type 0
@@ -33,13 +33,13 @@ abbrev pub FreedAsTaken : ℕ → List Deed → List Got → Type 0
 FreedAsTaken n [] got = ⊤
 FreedAsTaken n (d ∷ ds) got = FreedShows n got d.act × FreedAsTaken (made_more n d.act) ds got
 
-pub freed_from_shown : (ds : List Deed) (n : ℕ) (got : List Got) → AllByRecursion (ShowsTake got) (shown n ds)
+pub freed_from_shown : (ds : List Deed) (n : ℕ) (got : List Got) → AllByRecursion (ShowsTake got) (takes_shown n ds)
     → FreedAsTaken n ds got
 freed_from_shown [] n got h = tt
 freed_from_shown (d ∷ ds) n got h = go d.act h (λ m k. freed_from_shown ds m got k)
   where
-    go : (a : Act) → AllByRecursion (ShowsTake got) (cons_option (shown_for n a) (shown (made_more n a) ds))
-        → ((m : ℕ) → AllByRecursion (ShowsTake got) (shown m ds) → FreedAsTaken m ds got) → FreedShows n got a
+    go : (a : Act) → AllByRecursion (ShowsTake got) (cons_option (shown_for n a) (takes_shown (made_more n a) ds))
+        → ((m : ℕ) → AllByRecursion (ShowsTake got) (takes_shown m ds) → FreedAsTaken m ds got) → FreedShows n got a
         × FreedAsTaken (made_more n a) ds got
     go (Act.Freed link part gate) k rest = (k.0, rest n k.1)
     go (Act.Ready link part bytes) k rest = (tt, rest (n + 1) k)

@@ -35,8 +35,8 @@ abbrev pub got_of : Deed → Option Got
 got_of d = got_for d.stamp d.act
 
 -- the link of a box by its number
-abbrev pub link_of : List Link → ℕ → Option Link
-link_of links box = slice_get links (box / 16)
+abbrev pub link_of_box : List Link → ℕ → Option Link
+link_of_box links box = slice_get links (box / 16)
 
 -- a rank makes and sees freed only where it is the sender, and takes only where it is the receiver
 abbrev pub OnItsSide : List Link → ℕ → Act → Type 0
@@ -58,9 +58,9 @@ shown_for n (Act.Freed link part gate) = Some (n, gate)
 shown_for n _ = None
 
 -- what the gate showed at each Freed, with the number of things made by then; n are made already
-abbrev pub shown : ℕ → List Deed → List (ℕ × ℕ)
-shown n [] = []
-shown n (d ∷ ds) = cons_option (shown_for n d.act) (shown (made_more n d.act) ds)
+abbrev pub takes_shown : ℕ → List Deed → List (ℕ × ℕ)
+takes_shown n [] = []
+takes_shown n (d ∷ ds) = cons_option (shown_for n d.act) (takes_shown (made_more n d.act) ds)
 
 -- with k + 1 made by then the gate shows take stamp k
 abbrev pub ShowsTake : List Got → ℕ × ℕ → Type 0
@@ -75,14 +75,14 @@ gate_stamp s (m ∷ made) (g ∷ got) = gate_stamp g.take made got
 -- one box: what its two views hold after the join, and how they hang together
 pub record BoxJoined (links : List Link) (b : ℕ) (deeds : ℕ → List Deed) (final : Box) : Type 0 where
   pub link : Link
-  pub link_is : link_of links b ≡ Some link
+  pub link_is : link_of_box links b ≡ Some link
   -- the views are the two ranks' events
   pub made : List Thing
   pub got : List Got
   pub made_is : filter_map made_of (own box_at b (deeds link.from)) ≡ made
   pub got_is : filter_map got_of (own box_at b (deeds link.to)) ≡ got
   pub loaded : List (ℕ × ℕ)
-  pub loaded_is : shown 0 (own box_at b (deeds link.from)) ≡ loaded
+  pub loaded_is : takes_shown 0 (own box_at b (deeds link.from)) ≡ loaded
   -- the gate rule over the views
   pub one_more : (length made ≡ length got) ⊎ (length made ≡ length got + 1)
   pub front : (k : ℕ) (g : Got) → slice_get got k ≡ Some g → slice_get made k ≡ Some (thing_of g)
@@ -94,7 +94,7 @@ pub record BoxJoined (links : List Link) (b : ℕ) (deeds : ℕ → List Deed) (
   pub end : final ≡ record { made = made; taken = length got; stamp = gate_stamp 0 made got }
 
 abbrev pub BoxJoinedAt : List Link → ℕ → (ℕ → List Deed) → Option Box → Option Box → Type 0
-BoxJoinedAt links b deeds None None = link_of links b ≡ None
+BoxJoinedAt links b deeds None None = link_of_box links b ≡ None
 BoxJoinedAt links b deeds (Some old) (Some new) = (old ≡ empty_box) × BoxJoined links b deeds new
 BoxJoinedAt links b deeds None (Some new) = ⊥
 BoxJoinedAt links b deeds (Some old) None = ⊥

@@ -11,7 +11,7 @@ use Rattle.cl_rank.specs.Deeds.{Deed, PartRun, RankMoves}
 use Rattle.cl_machine.specs.declared.steps.Step.{Step}
 use Rattle.cl_machine.specs.Cluster.{Cluster, IsRun}
 use Rattle.cl_machine.specs.Journal.{Enters, Journal}
-use Rattle.cl_machine.specs.Parts.{PartRunAt, is_part, own}
+use Rattle.cl_machine.specs.Parts.{PartRunAt, is_index, own}
 use Rattle.cl_machine.specs.PartRuns.{EachPartRuns, PartsMove, PartsMoveAt}
 use Rattle.cl_machine.specs.Product.{box_at, entry_of}
 use Rattle.cl_machine.specs.ProductSteps.{BoxMoves, JournalMoves, rank_at, step_of}
@@ -35,7 +35,7 @@ module _ {S D : Type 0} (Move : S → D → S → Type 0) (at : D → Option ℕ
   back_at : (k : Option ℕ) (old mid new : List S) (d : D) (ds : List D) → PartsMoveAt Move k old d mid
       → EachPartRuns Move at mid ds new
       → (i : ℕ)
-      → PartRunAt Move (slice_get old i) (cond (is_part i k) (d ∷ own at i ds) (own at i ds)) (slice_get new i)
+      → PartRunAt Move (slice_get old i) (cond (is_index i k) (d ∷ own at i ds) (own at i ds)) (slice_get new i)
   back_at None old mid new d ds m h i =
       subst (λ xs. PartRunAt Move (slice_get xs i) (own at i ds) (slice_get new i)) m (h i)
   back_at (Some k) old mid new d ds m h i =

@@ -8,7 +8,7 @@ use Rattle.std.proofs.lemmas.Option.{same_Some, slice_get_past}
 use mathlib.Core.Logic.{inl, inr}
 use Rattle.cl_rank.specs.Deeds.{Act, Deed, PartRun}
 use Rattle.cl_machine.specs.Boxes.{Box, Thing}
-use Rattle.cl_machine.specs.Joined.{Got, ShowsTake, gate_stamp, got_of, made_of, shown, thing_of}
+use Rattle.cl_machine.specs.Joined.{Got, ShowsTake, gate_stamp, got_of, made_of, takes_shown, thing_of}
 use Rattle.cl_machine.specs.ProductSteps.{BoxMoves}
 use Rattle.cl_machine.proofs.Meshes.{ended}
 use Rattle.cl_machine.proofs.Views.{IsSending}
@@ -99,7 +99,7 @@ pub record Coming (n : ℕ) (gate : Gate) (K : List Deed) : Type 0 where
 pub record FromEmpty (n : ℕ) (K : List Deed) (whole : List Got) (old new : Box) : Type 0 where
   pub fits : Fits (filter_map made_of K) (filter_map got_of K)
   pub next : (m : Thing) → slice_get (filter_map made_of K) 0 ≡ Some m → old.stamp < m.stamp
-  pub freed : AllByRecursion (ShowsTake whole) (shown n K)
+  pub freed : AllByRecursion (ShowsTake whole) (takes_shown n K)
   pub end : new
       ≡ ended old (filter_map made_of K) (length (filter_map got_of K))
       (gate_stamp old.stamp (filter_map made_of K) (filter_map got_of K))
@@ -107,7 +107,7 @@ pub record FromEmpty (n : ℕ) (K : List Deed) (whole : List Got) (old new : Box
 -- from a box in which m stands
 record FromFull (n : ℕ) (K : List Deed) (whole : List Got) (m : Thing) (old new : Box) : Type 0 where
   fits : Fits (m ∷ filter_map made_of K) (filter_map got_of K)
-  freed : AllByRecursion (ShowsTake whole) (shown n K)
+  freed : AllByRecursion (ShowsTake whole) (takes_shown n K)
   end : new
       ≡ ended old (filter_map made_of K) (length (filter_map got_of K))
       (gate_stamp 0 (m ∷ filter_map made_of K) (filter_map got_of K))

@@ -19,10 +19,10 @@ use Rattle.cl_rank.specs.Deeds.{Act, Deed, PartRun}
 use Rattle.cl_machine.specs.declared.steps.Step.{Step}
 use Rattle.cl_machine.specs.Boxes.{Box, box_number, empty_box}
 use Rattle.cl_machine.specs.Cluster.{loaded_cluster}
-use Rattle.cl_machine.specs.Joined.{BoxJoined, BoxJoinedAt, OnItsSide, gate_stamp, got_of, link_of}
-use Rattle.cl_machine.specs.Joined.{made_of, shown}
+use Rattle.cl_machine.specs.Joined.{BoxJoined, BoxJoinedAt, OnItsSide, gate_stamp, got_of, link_of_box}
+use Rattle.cl_machine.specs.Joined.{made_of, takes_shown}
 use Rattle.cl_machine.specs.Order.{of_rank}
-use Rattle.cl_machine.specs.Parts.{PartRunAt, is_part, own}
+use Rattle.cl_machine.specs.Parts.{PartRunAt, is_index, own}
 use Rattle.cl_machine.specs.Product.{box_at, box_for, entry_for, entry_of}
 use Rattle.cl_machine.specs.ProductSteps.{BoxMoves, step_of}
 use Rattle.cl_machine.proofs.Lists.{filter-keeps, All-filter}
@@ -53,12 +53,12 @@ gather P (d ∷ ds) h = (
   gather P ds (λ r. uncond (P r) (eqb d.rank r) d (deeds_of r ds) (h r)),
 )
 
-All-own : (P Q : Deed → Type 0) (b : ℕ) → ((d : Deed) → P d → is_part b (box_at d) ≡ true → Q d) → (ds : List Deed)
+All-own : (P Q : Deed → Type 0) (b : ℕ) → ((d : Deed) → P d → is_index b (box_at d) ≡ true → Q d) → (ds : List Deed)
     → AllByRecursion P ds → AllByRecursion Q (own box_at b ds)
 All-own P Q b f [] h = tt
-All-own P Q b f (d ∷ ds) h = go (is_part b (box_at d)) refl (All-own P Q b f ds h.1)
+All-own P Q b f (d ∷ ds) h = go (is_index b (box_at d)) refl (All-own P Q b f ds h.1)
   where
-    go : (k : Bool) → is_part b (box_at d) ≡ k → AllByRecursion Q (own box_at b ds)
+    go : (k : Bool) → is_index b (box_at d) ≡ k → AllByRecursion Q (own box_at b ds)
         → AllByRecursion Q (cond k (d ∷ own box_at b ds) (own box_at b ds))
     go true e rest = (f d h.0 e, rest)
     go false e rest = rest
@@ -73,8 +73,8 @@ no-replicate n i x up = slice_get_past (replicate n x) i (omega (arith, up, leng
 
 -- ---- one box
 
-same_link : (links : List Link) (b link part : ℕ) (l k : Link) → link_of links b ≡ Some l
-    → is_part b (Some (box_number link part)) ≡ true
+same_link : (links : List Link) (b link part : ℕ) (l k : Link) → link_of_box links b ≡ Some l
+    → is_index b (Some (box_number link part)) ≡ true
     → slice_get links link ≡ Some k → part < 16 → l ≡ k
 same_link links b link part l k h e is small =
     let at : box_number link part ≡ b = eqb-true (box_number link part) b e in
@@ -91,12 +91,12 @@ module _ (links : List Link) (b : ℕ) (ds : List Deed)
   deeds r = deeds_of r ds
 
   own_is : (r : ℕ) → own box_at b (deeds r) ≡ deeds_of r K
-  own_is r = filter-filter (λ (d : Deed). is_part b (box_at d)) (λ (d : Deed). eqb d.rank r) ds
+  own_is r = filter-filter (λ (d : Deed). is_index b (box_at d)) (λ (d : Deed). eqb d.rank r) ds
 
   zero_plus : (k : ℕ) → 0 + k ≡ k
   zero_plus k = omega arith
 
-  joined_box : (l : Link) → link_of links b ≡ Some l → l.from ≢ l.to → (new : Box) → PartRun BoxMoves empty_box K new
+  joined_box : (l : Link) → link_of_box links b ≡ Some l → l.from ≢ l.to → (new : Box) → PartRun BoxMoves empty_box K new
       → BoxJoined links b deeds new
   joined_box l is differ new run = record {
     link = l;
@@ -105,8 +105,8 @@ module _ (links : List Link) (b : ℕ) (ds : List Deed)
     got = filter_map got_of K;
     made_is = ap (filter_map made_of) (own_is l.from) ∙ made_same l.from l.to differ K two;
     got_is = ap (filter_map got_of) (own_is l.to) ∙ got_same l.from l.to differ K two;
-    loaded = shown 0 K;
-    loaded_is = ap (shown 0) (own_is l.from) ∙ shown_same l.from l.to differ K 0 two;
+    loaded = takes_shown 0 K;
+    loaded_is = ap (takes_shown 0) (own_is l.from) ∙ shown_same l.from l.to differ K 0 two;
     one_more = e.fits.one_more;
     front = e.fits.front;
     taken_after = e.fits.taken_after;
@@ -119,10 +119,10 @@ module _ (links : List Link) (b : ℕ) (ds : List Deed)
     });
   }
     where
-      of_two : (d : Deed) → OnItsSide links d.rank d.act → is_part b (box_at d) ≡ true → OfTwo l.from l.to d
+      of_two : (d : Deed) → OnItsSide links d.rank d.act → is_index b (box_at d) ≡ true → OfTwo l.from l.to d
       of_two d s p = go d.act s p
         where
-          go : (a : Act) → OnItsSide links d.rank a → is_part b (box_for a) ≡ true
+          go : (a : Act) → OnItsSide links d.rank a → is_index b (box_for a) ≡ true
               → (IsSending a × (d.rank ≡ l.from)) ⊎ (IsTaking a × (d.rank ≡ l.to))
           go (Act.Ready link part bytes) s p =
               let x = same_link links b link part l s.0 is p s.1 s.2 in
@@ -147,28 +147,28 @@ module _ (links : List Link) (b : ℕ) (ds : List Deed)
                 (subst (KeepsGate Gate.Unused) (own_is l.from) ((each l.from).gates b));
             rise = rise_from l.from l.to differ K two
                 (subst Rises (own_is l.from)
-                (Rises-filter (λ (d : Deed). is_part b (box_at d)) (deeds l.from) (each l.from).rises));
-            passed = All-filter (λ (d : Deed). GatePassed d.stamp d.act) (λ (d : Deed). is_part b (box_at d)) ds
+                (Rises-filter (λ (d : Deed). is_index b (box_at d)) (deeds l.from) (each l.from).rises));
+            passed = All-filter (λ (d : Deed). GatePassed d.stamp d.act) (λ (d : Deed). is_index b (box_at d)) ds
                 (gather (λ r (d : Deed). GatePassed d.stamp d.act) ds (λ r. (each r).passes));
           })
           (λ t. above_from l.from l.to differ 0 K two
           (subst (AllByRecursion (λ (d : Deed). 0 < d.stamp)) (own_is l.from)
-          (All-filter (λ (d : Deed). 0 < d.stamp) (λ (d : Deed). is_part b (box_at d)) (deeds l.from)
+          (All-filter (λ (d : Deed). 0 < d.stamp) (λ (d : Deed). is_index b (box_at d)) (deeds l.from)
           (each l.from).above)))
           (λ k none. absurd (omega (arith, none)))
           (λ j. ap (slice_get (filter_map got_of K)) (zero_plus j))
 
-  some_box : (l : Link) → link_of links b ≡ Some l → l.from ≢ l.to → (p : Option Box)
+  some_box : (l : Link) → link_of_box links b ≡ Some l → l.from ≢ l.to → (p : Option Box)
       → PartRunAt BoxMoves (Some empty_box) K p
       → BoxJoinedAt links b deeds (Some empty_box) p
   some_box l is differ (Some new) h = (refl, joined_box l is differ new h)
   some_box l is differ None h = absurd h
 
-  none_box : link_of links b ≡ None → (p : Option Box) → PartRunAt BoxMoves None K p → BoxJoinedAt links b deeds None p
+  none_box : link_of_box links b ≡ None → (p : Option Box) → PartRunAt BoxMoves None K p → BoxJoinedAt links b deeds None p
   none_box is None h = is
   none_box is (Some new) h = absurd h
 
-  box_joined : ((l : Link) → link_of links b ≡ Some l → l.from ≢ l.to) → (p : Option Box)
+  box_joined : ((l : Link) → link_of_box links b ≡ Some l → l.from ≢ l.to) → (p : Option Box)
       → PartRunAt BoxMoves (slice_get (replicate (16 * length links) empty_box) b) K p
       → BoxJoinedAt links b deeds (slice_get (replicate (16 * length links) empty_box) b) p
   box_joined differ p run =

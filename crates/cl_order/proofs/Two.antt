@@ -8,7 +8,7 @@ use Rattle.std.proofs.lemmas.Bool.{eq-eqb, ne_eqb}
 use mathlib.Core.Logic.{inl, inr}
 use Rattle.cl_rank.specs.Deeds.{Act, Deed}
 use Rattle.cl_machine.specs.Joined.{got_for, got_of, made_for}
-use Rattle.cl_machine.specs.Joined.{made_more, made_of, shown, shown_for}
+use Rattle.cl_machine.specs.Joined.{made_more, made_of, takes_shown, shown_for}
 use Rattle.cl_machine.proofs.Lists.{filter-keeps, filter-skips}
 use Rattle.cl_machine.proofs.Views.{IsSending, IsTaking, Rises}
 use Rattle.cl_gates.specs.Gates.{Gate, KeepsGate, MayAct, gate_after}
@@ -29,7 +29,7 @@ no_got s (Act.Freed link part gate) h = refl
 no_got s _ h = absurd h
 
 no_show : (n : ℕ) (a : Act) (ds : List Deed) → IsTaking a
-    → cons_option (shown_for n a) (shown (made_more n a) ds) ≡ shown n ds
+    → cons_option (shown_for n a) (takes_shown (made_more n a) ds) ≡ takes_shown n ds
 no_show n (Act.Take link part gate bytes) ds h = refl
 no_show n _ ds h = absurd h
 
@@ -72,13 +72,13 @@ module _ (sender receiver : ℕ) (two : sender ≢ receiver) where
       ]
 
   pub shown_same : (K : List Deed) (n : ℕ) → AllByRecursion (OfTwo sender receiver) K
-      → shown n (deeds_of sender K) ≡ shown n K
+      → takes_shown n (deeds_of sender K) ≡ takes_shown n K
   shown_same [] n h = refl
   shown_same (d ∷ K) n h =
       elim h.0 [
-        | inl s ↦ ap (shown n) (its d K sender s.1)
+        | inl s ↦ ap (takes_shown n) (its d K sender s.1)
             ∙ ap (cons_option (shown_for n d.act)) (shown_same K (made_more n d.act) h.1)
-        | inr t ↦ ap (shown n) (skip d K sender (λ e. two (sym e ∙ t.1))) ∙ shown_same K n h.1
+        | inr t ↦ ap (takes_shown n) (skip d K sender (λ e. two (sym e ∙ t.1))) ∙ shown_same K n h.1
             ∙ sym (no_show n d.act K t.0)
       ]
 

@@ -48,7 +48,7 @@ use Rattle.cl_state.specs.declared.row.Wanted.{Wanted}
 use Rattle.cl_state.specs.declared.row.Wanted.TheVariants as wanted
 use Rattle.cl_state.specs.Asked.{Part}
 use Rattle.cl_state.specs.Several.{are_fit, pendings}
-use Rattle.cl_state.specs.Table.{begun}
+use Rattle.cl_state.specs.Table.{begun_outcome}
 use Rattle.cl_state.specs.Told.{arrived, arrived_from, completed_all, done, ended, found, found_at, found_nothing, freed}
 use Rattle.cl_state.specs.Told.{freed_one, gathered, gathered_if, not_yet, opened, opened_at, part_readied, phase_begun}
 use Rattle.cl_state.specs.Told.{received, received_from, received_message, replied, seen_one, taken_one, told_row, visited}
@@ -226,7 +226,7 @@ gathered_stays : (b : Bool) (site : Site) (value statuses : ℕ) (handles : List
 gathered_stays true site value statuses handles gots part = all_stays site value statuses handles gots part
 gathered_stays false site value statuses handles gots part = still part _ refl refl
 
-begun_starts : (why : Purpose) (t : Transfer) (p : Progress) → sends_in t ≡ None → StartsAs (begun why t p) None
+begun_starts : (why : Purpose) (t : Transfer) (p : Progress) → sends_in t ≡ None → StartsAs (begun_outcome why t p) None
 begun_starts purpose.Send t progress.Finished none = refl
 begun_starts purpose.Send t (progress.OnPost post) none = refl
 begun_starts purpose.Send t progress.InPhase none = refl

@@ -10,7 +10,7 @@ use Rattle.part_box.specs.Keys.{Sender}
 use Rattle.part_channel.specs.Channels.{ChannelView, receiver_box, sender_box}
 use Rattle.part_channel.specs.Receiving.{RecvView}
 use Rattle.part_channel.specs.Sending.{IsPast, IsSendSide, SendView, made_of, ready_refusal, readied}
-use Rattle.part_channel.specs.Words.{bytes_of}
+use Rattle.part_channel.specs.Words.{bytes_of_words}
 use Rattle.part_channel.specs.BoxWords.{words_of}
 use Rattle.part_channel.proofs.Words.{length-words_of}
 use Rattle.part_phase.specs.declared.phases.Phase.{Phase}
@@ -18,7 +18,7 @@ use Rattle.part_phase.specs.declared.phases.Phase.TheVariants.{Apart, Sending, R
 use Rattle.part_phase.specs.declared.sending.SendPhase.{SendPhase}
 use Rattle.part_phase.specs.Limits.{box_bytes, box_words, padded}
 use Rattle.part_phase.specs.Phases.{changed_at, on_sending, sending_at, sending_in}
-use Rattle.part_phase.specs.Sending.{all_freed, is_ready, readied as readied_phase}
+use Rattle.part_phase.specs.Sending.{all_freed, is_part_ready, readied as readied_phase}
 use Rattle.cl_state.specs.declared.asking.Answer.TheVariants as answer
 use Rattle.cl_state.specs.declared.asking.Ask.TheVariants as ask
 use Rattle.cl_state.specs.declared.row.Row.TheVariants.{OnBox}
@@ -225,9 +225,9 @@ module _ (old : Rank) (hart link part : ℕ) (full : List ℕ) (channels : List 
 
   -- the words spell what stands in the box
   spells : (words : List ℕ)
-      → bytes_of words ≡ take (sending_at old.phases link).size full
+      → bytes_of_words words ≡ take (sending_at old.phases link).size full
       ++ replicate (128 - length (take (sending_at old.phases link).size full)) 0
-      → full ≡ take (box_bytes old.site.version) (bytes_of words)
+      → full ≡ take (box_bytes old.site.version) (bytes_of_words words)
   spells words spelled =
       let raw = readying.of.raw in
       let size = (sending_at old.phases link).size in

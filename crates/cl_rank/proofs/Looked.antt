@@ -16,7 +16,7 @@ use Rattle.part_phase.specs.declared.phases.Phase.{Phase}
 use Rattle.part_phase.specs.declared.phases.Phase.TheVariants.{Apart, Sending, Receiving}
 use Rattle.part_phase.specs.declared.sending.SendPhase.{SendPhase}
 use Rattle.part_phase.specs.Phases.{changed_at, on_sending, sending_at}
-use Rattle.part_phase.specs.Sending.{all_freed, is_ready, next_to_free, one_freed}
+use Rattle.part_phase.specs.Sending.{all_freed, is_part_ready, next_to_free, one_freed}
 use Rattle.cl_state.specs.declared.asking.Answer.{Answer}
 use Rattle.cl_state.specs.declared.asking.Answer.TheVariants as answer
 use Rattle.cl_state.specs.declared.asking.Ask.TheVariants as ask
@@ -28,7 +28,7 @@ use Rattle.cl_state.specs.Rank.{Rank}
 use Rattle.cl_state.specs.Told.{told}
 use Rattle.cl_rank.specs.Deeds.{Act}
 use Rattle.cl_rank.specs.Fitting.{RequestsFit}
-use Rattle.cl_rank.specs.Sides.{ReceiverActs, SenderActs, is_place, place_of}
+use Rattle.cl_rank.specs.Sides.{ReceiverActs, SenderActs, is_place, box_place_of}
 use Rattle.cl_rank.specs.RankSides.{AreChannelsOf, AreSides, HasKey, HasSender, KeyMoves}
 use Rattle.cl_rank.specs.RankSides.{phase_of_sender, receiver_key, sender_key, sender_of, sender_view, side_of}
 use Rattle.cl_rank.specs.RankSides.{sides_in}
@@ -62,7 +62,7 @@ pub record SenderMoves (old new : Rank) (stamp : ℕ) (act : Act) (link part : �
   pub past : IsPast (f side) stamp
   pub keys : (f side).keys ≡ modified side.keys part change
   pub boxes : map sender_box (f side).keys ≡ map sender_box side.keys
-  pub place : place_of act ≡ Some (link, part)
+  pub place : box_place_of act ≡ Some (link, part)
   pub has : HasKey (sides_in sends recvs) act
   pub acts : (k : Sender) → slice_get side.keys part ≡ Some k
       → SenderActs old.site.version stamp act k.view (change k).view
@@ -180,7 +180,7 @@ module _ (old : Rank) (hart link part : ℕ) (channels : List ChannelView)
       let phase = there.2 in
       let freed : there.0.freed ≡ part = ap (λ (p : SendPhase). p.freed) (sym phase) ∙ going.1 in
       let off : nat_le there.0.parts there.0.freed ≡ false = subst (λ p. all_freed p ≡ false) phase going.0 in
-      let ready : get_or there.0.ready part false ≡ true = subst (λ p. is_ready p part ≡ true) phase can.1 in
+      let ready : get_or there.0.ready part false ≡ true = subst (λ p. is_part_ready p part ≡ true) phase can.1 in
       rw (off, freed) ready
 
   pub may_test : MayTest channels link old.clock sends
@@ -210,7 +210,7 @@ module _ (old : Rank) (hart link part : ℕ) (channels : List ChannelView)
 
     ready : get_or done.at.side.ready done.at.side.freed false ≡ true
     ready = rw freed_is (subst (λ (s : SendView). get_or s.ready part false ≡ true) (sym same)
-        (subst (λ p. is_ready p part ≡ true) there.2 can.1))
+        (subst (λ p. is_part_ready p part ≡ true) there.2 can.1))
 
     shows : found ≡ shown_progress old.clock (taken_stamp done.gate)
     shows = done.found ∙ rw (off, ready) refl

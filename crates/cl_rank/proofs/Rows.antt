@@ -25,7 +25,7 @@ use Rattle.part_phase.specs.declared.sending.SendPhase.{SendPhase}
 use Rattle.part_phase.specs.Limits.{are_parts, box_bytes, is_size, padded}
 use Rattle.part_phase.specs.Phases.{sending_at, receiving_at}
 use Rattle.part_phase.specs.Receiving.{next_box, next_box_of}
-use Rattle.part_phase.specs.Sending.{all_freed, is_ready, next_to_free}
+use Rattle.part_phase.specs.Sending.{all_freed, is_part_ready, next_to_free}
 use Rattle.cl_calls.specs.Calls.{call_named, no_rank, no_message}
 use Rattle.cl_calls.specs.Checks.{checks, first_fault, holds_of_sender, receiving_side, sending_side, sends_in}
 use Rattle.cl_calls.specs.Needs.{needs_of}
@@ -64,8 +64,8 @@ use Rattle.cl_state.specs.Asked.{go_or_refuse, asked_start}
 use Rattle.cl_state.specs.Partitions.{awaited, awaited_at, awaited_by, awaited_in, taking_of, box_of, awaited_of_part}
 use Rattle.cl_state.specs.Partitions.{asked_awaited, asked_ready, asked_arrived, awaited_by_receiver}
 use Rattle.cl_state.specs.Pending.{pending_of, pending_in, pending_at, asked_pending}
-use Rattle.cl_state.specs.Several.{pendings, posts_of, has_posts, asked_all}
-use Rattle.cl_state.specs.Table.{begins, comes, completes, gathers, holds, nothing_comes, polled, row_arrived, row_awaited}
+use Rattle.cl_state.specs.Several.{pendings, posts_pending, has_posts, asked_all}
+use Rattle.cl_state.specs.Table.{begins, comes, completes, gathers, holds_by, nothing_comes, polled, row_arrived, row_awaited}
 use Rattle.cl_state.specs.Table.{row_completing, row_in, row_of, row_of_part, row_ready, starts}
 use Rattle.cl_state.specs.Transfers.{asked_transfer, asked_claimed, send_of, receive_of, claimed_of}
 use Rattle.cl_rank.specs.Follows.{link_of, link_at, started_link}
@@ -101,7 +101,7 @@ HubRow version r (OnBox v) = ⊥
 pub record CanReady (p : SendPhase) (part : ℕ) : Type 0 where
   pub there : nat_lt part p.parts ≡ true
   pub going : all_freed p ≡ false
-  pub unready : is_ready p part ≡ false
+  pub unready : is_part_ready p part ≡ false
 
 -- the bytes are those of a request's partition, as they stand in a box
 pub record IsOfRequest (version : ImageVersion) (table : Table) (link : ℕ) (bytes : List ℕ) : Type 0 where
@@ -121,7 +121,7 @@ pub record IsReadying (version : ImageVersion) (table : Table) (phases : List Ph
 
 -- a partition can be found taken
 abbrev pub CanFree : SendPhase → ℕ → Type 0
-CanFree p part = (next_to_free p ≡ Some part) × (is_ready p part ≡ true)
+CanFree p part = (next_to_free p ≡ Some part) × (is_part_ready p part ≡ true)
 
 abbrev pub FreesAt : List Phase → ℕ → ℕ → Row → Type 0
 FreesAt phases link part (AtOnce o) = ⊥
@@ -228,7 +228,7 @@ module _ (v : ImageVersion) (table : Table) (phases : List Phase) where
 
   -- ---- partitions
 
-  unready_fits : (m : Manner) → RowFits v table phases None (asked_awaited m awaits.Unready) (AtOnce (holds m))
+  unready_fits : (m : Manner) → RowFits v table phases None (asked_awaited m awaits.Unready) (AtOnce (holds_by m))
   unready_fits Immediate = refl
   unready_fits Blocking = refl
   unready_fits Polling = refl
@@ -239,7 +239,7 @@ module _ (v : ImageVersion) (table : Table) (phases : List Phase) where
       RowFits v table phases None (asked_awaited m a) (row_awaited m (SendPartitions side) target a)
 
   taking_fits : (m : Manner) (side : Partitions) (target : Target) (part : ℕ) (b : Bool)
-      → next_to_free (sending_at phases side.link) ≡ Some part → is_ready (sending_at phases side.link) part ≡ b
+      → next_to_free (sending_at phases side.link) ≡ Some part → is_part_ready (sending_at phases side.link) part ≡ b
       → SenderFits m side target (if b then awaits.Taking side.link part else awaits.Unready)
   taking_fits m side target part true next ready = (refl, (next, ready))
   taking_fits m side target part false next ready = unready_fits m
@@ -411,7 +411,7 @@ module _ (site : Site) (hart : ℕ) (memory : Memory) (table : Table) (phases : 
     can = record {
       there = by (λ p. nat_lt part p.parts) ok.1.1.1.1.1.1.1.0;
       going = not_true _ (by (λ p. not (all_freed p)) ok.1.1.1.1.1.1.1.1.1.1.1.0);
-      unready = not_true _ (by (λ p. not (is_ready p part)) ok.1.1.1.1.1.1.1.1.1.1.1.1.0);
+      unready = not_true _ (by (λ p. not (is_part_ready p part)) ok.1.1.1.1.1.1.1.1.1.1.1.1.0);
     };
     of = record {
       handle = handle;

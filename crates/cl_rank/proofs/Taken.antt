@@ -16,7 +16,7 @@ use Rattle.part_channel.specs.declared.progress.Take.TheVariants as found
 use Rattle.part_channel.specs.Receiving.{RecvView, lane_shown, lane_took, lowest_from, marked, one_taken, shown_take}
 use Rattle.part_channel.specs.Receiving.{take_refusal, take_stamp, took}
 use Rattle.part_channel.specs.Sending.{SendView, modified}
-use Rattle.part_channel.specs.Words.{bytes_of, bytes_of_word}
+use Rattle.part_channel.specs.Words.{bytes_of_words, bytes_of_word}
 use Rattle.part_channel.proofs.Words.{length-bytes}
 use Rattle.part_phase.specs.Limits.{box_bytes, box_words, padded}
 use Rattle.part_phase.specs.declared.phases.Phase.{Phase}
@@ -41,7 +41,7 @@ use Rattle.cl_rank.specs.declared.ranks.Rank.{Rank as Running}
 use Rattle.cl_rank.specs.declared.turning.Turn.{Turn}
 use Rattle.cl_rank.specs.Deeds.{Act}
 use Rattle.cl_rank.specs.Fitting.{RequestsFit}
-use Rattle.cl_rank.specs.Sides.{ReceiverActs, SenderActs, is_place, place_of}
+use Rattle.cl_rank.specs.Sides.{ReceiverActs, SenderActs, is_place, box_place_of}
 use Rattle.cl_rank.specs.RankSides.{AreChannelsOf, AreSides, HasKey, HasReceiver, KeyMoves, PhaseFits}
 use Rattle.cl_rank.specs.RankSides.{phase_of_receiver, receiver_key, receiver_of}
 use Rattle.cl_rank.specs.RankSides.{receiver_view, sender_key, side_of, sides_in}
@@ -75,7 +75,7 @@ pub record ReceiverMoves (old new : Rank) (stamp : ℕ) (act : Act) (link part :
   pub cut : (f side).boxes ≡ side.boxes
   pub keys : (f side).keys ≡ modified side.keys part change
   pub boxes : map receiver_box (f side).keys ≡ map receiver_box side.keys
-  pub place : place_of act ≡ Some (link, part)
+  pub place : box_place_of act ≡ Some (link, part)
   pub has : HasKey (sides_in sends recvs) act
   pub acts : (k : Receiver) → slice_get side.keys part ≡ Some k
       → ReceiverActs old.site.version stamp act k.view (change k).view
@@ -280,19 +280,19 @@ length_zeros (suc n) = ap suc (length_zeros n)
 
 -- a whole box has nothing behind its bytes
 pub whole_box : (v : ImageVersion) (words : List ℕ)
-    → padded v (take (box_bytes v) (bytes_of words)) ≡ take (box_bytes v) (bytes_of words)
+    → padded v (take (box_bytes v) (bytes_of_words words)) ≡ take (box_bytes v) (bytes_of_words words)
 whole_box v words =
     let behind : length (zeros (128 - 8 * length words)) ≡ 128 - 8 * length words = length_zeros _ in
     let front : length (flat_map bytes_of_word words) ≡ 8 * length words = length-bytes words in
-    let both : length (bytes_of words)
+    let both : length (bytes_of_words words)
     ≡ length (flat_map bytes_of_word words) + length (zeros (128 - 8 * length words)) =
     length-append (flat_map bytes_of_word words) _ in
     let most : box_bytes v ≤ 128 = (box_limits v).0 in
-    let long : box_bytes v ≤ length (bytes_of words) = omega (arith, behind, front, both, most) in
-    let count : length (take (box_bytes v) (bytes_of words)) ≡ box_bytes v =
-    length_first (box_bytes v) (bytes_of words) long in
-    let none : box_bytes v - length (take (box_bytes v) (bytes_of words)) ≡ 0 = omega (arith, count) in
-    ap (λ n. take (box_bytes v) (bytes_of words) ++ zeros n) none ∙ append-nil _
+    let long : box_bytes v ≤ length (bytes_of_words words) = omega (arith, behind, front, both, most) in
+    let count : length (take (box_bytes v) (bytes_of_words words)) ≡ box_bytes v =
+    length_first (box_bytes v) (bytes_of_words words) long in
+    let none : box_bytes v - length (take (box_bytes v) (bytes_of_words words)) ≡ 0 = omega (arith, count) in
+    ap (λ n. take (box_bytes v) (bytes_of_words words) ++ zeros n) none ∙ append-nil _
 
 -- ---- a receiver looks whether a box is ready
 
@@ -387,9 +387,9 @@ module _ (old : Rank) (hart link part : ℕ) (channels : List ChannelView)
             × Moved old new (sides_in sends recvs) (sides_in sends got) stamp (Act.Take link part n full)
         go None shown h = absurd (cc)
         go (Some n) shown h =
-            let stamps : stamp ≡ max old.clock n + 1 = sym (same_taken (bytes_of done.words) raw _ stamp h) in
-            let bytes : bytes_of done.words ≡ raw = same_bytes (bytes_of done.words) raw _ stamp h in
-            let whole : full ≡ take (box_bytes old.site.version) (bytes_of done.words) =
+            let stamps : stamp ≡ max old.clock n + 1 = sym (same_taken (bytes_of_words done.words) raw _ stamp h) in
+            let bytes : bytes_of_words done.words ≡ raw = same_bytes (bytes_of_words done.words) raw _ stamp h in
+            let whole : full ≡ take (box_bytes old.site.version) (bytes_of_words done.words) =
             filled ∙ (ap (λ xs. padded old.site.version (take (box_bytes old.site.version) xs)) (sym bytes)
             ∙ whole_box old.site.version done.words) in
             let by = told_by old hart (answer.Taken full) stamp new tells in

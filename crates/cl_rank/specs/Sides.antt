@@ -5,19 +5,19 @@ use Rattle.part_box.specs.declared.view.Sending.{Sending}
 use Rattle.part_box.specs.declared.view.Receiving.{Receiving}
 use Rattle.part_box.specs.Gate.{ready_stamp, taken_stamp}
 use Rattle.part_box.specs.Steps.{with_made, with_freed, with_look, with_got}
-use Rattle.part_channel.specs.Words.{bytes_of}
+use Rattle.part_channel.specs.Words.{bytes_of_words}
 use Rattle.part_phase.specs.Limits.{box_bytes, box_words}
 use Rattle.cl_rank.specs.Deeds.{Act}
 
 -- ---- keys and deeds
 
 -- the box that an act asks: its link and its number there
-abbrev pub place_of : Act → Option (ℕ × ℕ)
-place_of (Act.Ready link part bytes) = Some (link, part)
-place_of (Act.Take link part gate bytes) = Some (link, part)
-place_of (Act.Miss link part) = Some (link, part)
-place_of (Act.Freed link part gate) = Some (link, part)
-place_of _ = None
+abbrev pub box_place_of : Act → Option (ℕ × ℕ)
+box_place_of (Act.Ready link part bytes) = Some (link, part)
+box_place_of (Act.Take link part gate bytes) = Some (link, part)
+box_place_of (Act.Miss link part) = Some (link, part)
+box_place_of (Act.Freed link part gate) = Some (link, part)
+box_place_of _ = None
 
 abbrev pub is_place : ℕ → ℕ → Option (ℕ × ℕ) → Bool
 is_place link part None = false
@@ -29,7 +29,7 @@ abbrev pub SenderActs : ImageVersion → ℕ → Act → Sending → Sending →
 SenderActs version stamp (Act.Ready link part bytes) old new =
     (words : List ℕ)
     × (length words ≡ box_words version)
-    × (bytes ≡ take (box_bytes version) (bytes_of words))
+    × (bytes ≡ take (box_bytes version) (bytes_of_words words))
     × (old.is_open ≡ true)
     × (old.front < stamp)
     × (new ≡ with_made (record old { filled = words }) stamp)
@@ -45,7 +45,7 @@ ReceiverActs version stamp (Act.Take link part gate bytes) old new =
     (word : ℕ) × (words : List ℕ)
     × (ready_stamp word ≡ Some gate)
     × (length words ≡ box_words version)
-    × (bytes ≡ take (box_bytes version) (bytes_of words))
+    × (bytes ≡ take (box_bytes version) (bytes_of_words words))
     × (new ≡ with_got (record (with_look old word) { copied = words }) stamp)
 ReceiverActs version stamp (Act.Miss link part) old new =
     (word : ℕ) × (ready_stamp word ≡ None) × (new ≡ with_look old word)

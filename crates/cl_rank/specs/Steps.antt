@@ -10,7 +10,7 @@ use Rattle.part_channel.specs.Receiving.{RecvView, IsRecvSide, awaited, shown_ta
 use Rattle.part_channel.specs.Sending.{SendView, IsSendSide, IsPast, begun, shaped, looks_at, ready_refusal, readied}
 use Rattle.part_channel.specs.Sending.{IsTold}
 use Rattle.part_channel.specs.Sending.{test_progress, tested}
-use Rattle.part_channel.specs.Words.{bytes_of}
+use Rattle.part_channel.specs.Words.{bytes_of_words}
 use Rattle.part_channel.specs.BoxWords.{words_of}
 use Rattle.part_phase.specs.declared.receiving.RecvPhase.{RecvPhase}
 use Rattle.part_phase.specs.declared.sending.SendPhase.{SendPhase}
@@ -69,7 +69,7 @@ pub record IsReadied (channels : List ChannelView) (link part : ℕ) (bytes : Li
   pub at : SenderAt channels link old
   pub kept : keeps_sending at.side
   -- the words spell the bytes
-  pub spelled : bytes_of (words_of bytes at.channel.width) ≡ bytes ++ replicate (128 - length bytes) 0
+  pub spelled : bytes_of_words (words_of bytes at.channel.width) ≡ bytes ++ replicate (128 - length bytes) 0
   pub made : new ≡ changed_side link (λ s. readied s part (words_of bytes at.channel.width) stamp) old
   pub own : map sender_box (readied at.side part (words_of bytes at.channel.width) stamp).keys ≡ at.channel.boxes
   pub past : IsPast (readied at.side part (words_of bytes at.channel.width) stamp) stamp

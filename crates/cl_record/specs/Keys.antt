@@ -3,13 +3,13 @@ use Rattle.std.specs.Prelude.{ℕ, ◌≡◌, ◌<◌, List, length, replicate, 
 use Rattle.rv_image.specs.declared.images.ImageParts.{ImageParts}
 use Rattle.rv_image.specs.declared.images.ImageVersion.{ImageVersion}
 use Rattle.part_box.specs.declared.settled.Settled.{Settled}
-use Rattle.part_channel.specs.Words.{bytes_of}
+use Rattle.part_channel.specs.Words.{bytes_of_words}
 use Rattle.part_phase.specs.Limits.{box_bytes}
 use Rattle.cl_machine.specs.Boxes.{Box, box_number, IsEmpty, Holds}
 
 -- the bytes that the words of a box spell
 abbrev pub bytes_in : ImageVersion → List ℕ → List ℕ
-bytes_in version words = take (box_bytes version) (bytes_of words)
+bytes_in version words = take (box_bytes version) (bytes_of_words words)
 
 -- what a box is left with shows it: full exactly where one thing that was made wasn't taken, and then with its stamp
 -- and its bytes; else with the stamp of the last take, 0 at first, and words 0

@@ -49,7 +49,7 @@ use Rattle.cl_state.specs.Partitions.{asked_arrived, asked_awaited, asked_ready,
 use Rattle.cl_state.specs.Pending.{asked_pending, pending_of}
 use Rattle.cl_state.specs.Rank.{Rank}
 use Rattle.cl_state.specs.Right.{growth_of}
-use Rattle.cl_state.specs.Several.{asked_all, pendings, posts_of}
+use Rattle.cl_state.specs.Several.{asked_all, pendings, posts_pending}
 use Rattle.cl_state.specs.Transfers.{asked_transfer, receive_of, send_of}
 use Rattle.cl_trace.specs.declared.events.Kind.{Kind}
 use Rattle.cl_replay.specs.Turns.{IsLook, quiet_ask}
@@ -132,9 +132,9 @@ module _ (site : Site) (memory : Memory) (table : Table) (phases : List Phase) w
   more_call (call.Mrecv m status) = more_if (m.message == no_message) _
   more_call (call.Start handle) = more_start memory (request_at table handle)
   more_call (call.Testall s) =
-      more_all (posts_of (pendings table (handles_in memory (array_at s.array s.count))))
+      more_all (posts_pending (pendings table (handles_in memory (array_at s.array s.count))))
   more_call (call.Waitall s) =
-      more_all (posts_of (pendings table (handles_in memory (array_at s.array s.count))))
+      more_all (posts_pending (pendings table (handles_in memory (array_at s.array s.count))))
   more_call (call.Pready handle part) = more_ready site memory part (sending_side (request_at table handle))
   more_call (call.Parrived handle part) = more_arrived phases part (receiving_side (request_at table handle))
   more_call _ = tt

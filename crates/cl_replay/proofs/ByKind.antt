@@ -31,7 +31,7 @@ use Rattle.cl_machine.specs.declared.steps.Step.{Step}
 use Rattle.cl_replay.specs.declared.faults.StepFault.{StepFault}
 use Rattle.cl_replay.specs.declared.states.ClusterState.{ClusterState}
 use Rattle.cl_replay.specs.Boxes.{ChangesBox, filled, vacant}
-use Rattle.cl_replay.specs.States.{StandsFor}
+use Rattle.cl_replay.specs.States.{ClusterStandsFor}
 use Rattle.cl_replay.specs.Steps.{KindTakesMemory, Leads, LeadsNowhere, StepFaultHolds, TakesMemory}
 use Rattle.cl_replay.specs.Turns.{AsksNext, CallFault, Calls, HasCalls, IsFreed, IsLook, IsMiss, IsQuiet, IsReady}
 use Rattle.cl_replay.specs.Turns.{AloneFault, LacksPages, QuietFault}
@@ -43,7 +43,7 @@ module _ (old : ClusterState) (e : Step) (s : RankState) (at : slice_get old.ran
   -- ---- steps that lead nowhere
 
   nowhere : (k : Kind) → e.kind ≡ k
-      → ((image : ImageParts) (cluster next : Cluster) → StandsFor image old cluster
+      → ((image : ImageParts) (cluster next : Cluster) → ClusterStandsFor image old cluster
       → CaseOf cluster e (rank_of s) k next → ⊥)
       → LeadsNowhere old e
   nowhere k is none = λ image cluster next stands step.
@@ -123,13 +123,13 @@ module _ (old : ClusterState) (e : Step) (s : RankState) (at : slice_get old.ran
 
   -- ---- calls
 
-  has_calls : (image : ImageParts) (cluster : Cluster) → StandsFor image old cluster
+  has_calls : (image : ImageParts) (cluster : Cluster) → ClusterStandsFor image old cluster
       → HasCalls old.hub old.clock image.links (calls_of cluster.journal.entries)
   has_calls image cluster stands =
       let count : length (calls_of cluster.journal.entries) ≡ length cluster.journal.entries = length-map _ _ in
       (stands.hub_stands, omega (arith, count, stands.of.calls, stands.clock_is))
 
-  reply_is : (image : ImageParts) (cluster : Cluster) → StandsFor image old cluster → (request : Request)
+  reply_is : (image : ImageParts) (cluster : Cluster) → ClusterStandsFor image old cluster → (request : Request)
       → reply_in cluster.journal e.rank request ≡ reply_of image.links (calls_of cluster.journal.entries) e.rank request
   unfolding reply_in
   reply_is image cluster stands request =

@@ -23,16 +23,16 @@ use Rattle.cl_journal.specs.Journal.{call_of, calls_of}
 use Rattle.cl_machine.specs.declared.steps.Step.{Step}
 use Rattle.cl_replay.specs.declared.states.ClusterState.{ClusterState}
 use Rattle.cl_replay.specs.Boxes.{ChangesBox, settled_at}
-use Rattle.cl_replay.specs.States.{StandsFor}
+use Rattle.cl_replay.specs.States.{ClusterStandsFor}
 use Rattle.cl_replay.specs.Turns.{IsTold}
 use Rattle.cl_replay.proofs.Boxed.{shows_changed}
 use Rattle.cl_replay.proofs.Clusters.{of_step}
 
 -- where a step leads
 abbrev pub LeadsFrom : ImageParts → Cluster → Step → ClusterState → Type 0
-LeadsFrom image cluster e new = (next : Cluster) × IsStep cluster e next × StandsFor image new next
+LeadsFrom image cluster e new = (next : Cluster) × IsStep cluster e next × ClusterStandsFor image new next
 
-module _ (image : ImageParts) (old : ClusterState) (cluster : Cluster) (stands : StandsFor image old cluster) (e : Step)
+module _ (image : ImageParts) (old : ClusterState) (cluster : Cluster) (stands : ClusterStandsFor image old cluster) (e : Step)
     (s : RankState) (at : slice_get old.ranks.items e.rank ≡ Some s) where
   pub rank_there : slice_get cluster.ranks e.rank ≡ Some (rank_of s)
   rank_there =

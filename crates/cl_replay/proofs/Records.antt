@@ -19,7 +19,7 @@ use Rattle.cl_record.specs.declared.records.Record.{Record}
 use Rattle.cl_replay.specs.declared.states.ClusterState.{ClusterState}
 use Rattle.cl_replay.specs.Boxes.{settled_at}
 use Rattle.cl_replay.specs.Records.{AreAlike, MergedReplaysLaw, ShowsRecord}
-use Rattle.cl_replay.specs.States.{StandsFor}
+use Rattle.cl_replay.specs.States.{ClusterStandsFor}
 use Rattle.cl_replay.proofs.Boxed.{held_is, shown_of_box, shown_of_settled}
 use Rattle.cl_replay.proofs.Runs.{run_law}
 
@@ -39,7 +39,7 @@ alike version a b box shown kept =
         (e ∙ sym f, ap (bytes_in version) ((shown.empty e).1 ∙ sym ((kept.empty f).1)))
 
 module _ (image : ImageParts) (left : Record) (state : ClusterState) (cluster : Cluster)
-    (stands : StandsFor image state cluster) (end : IsEndOf image left cluster) where
+    (stands : ClusterStandsFor image state cluster) (end : IsEndOf image left cluster) where
   box_alike : (number : ℕ) (shown : Settled) → settled_at state.boxes.items number ≡ Some shown
       → (kept : Settled) × (settled_at left.boxes.items number ≡ Some kept) × AreAlike image.version shown kept
   box_alike number shown at =
@@ -74,5 +74,5 @@ merged_replays image left steps merged sorted =
       shows = λ state reached.
           let whole = subst (λ es. IsRun start es reached.cluster) (take-length steps) reached.run in
           let one = one_end start reached.cluster merged.final steps whole run in
-          shows_record image left state merged.final (subst (StandsFor image state) one reached.stands) merged.end;
+          shows_record image left state merged.final (subst (ClusterStandsFor image state) one reached.stands) merged.end;
     }

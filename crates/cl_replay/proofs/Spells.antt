@@ -5,7 +5,7 @@ use Rattle.std.proofs.Common.{zero, suc, refl, sym, ap, ◌∙◌, subst, add-on
 use Rattle.std.proofs.lemmas.List.{length-take-le, take_all}
 use Rattle.rv_image.specs.declared.images.ImageVersion.{ImageVersion}
 use Rattle.rv_image.specs.declared.images.ImageVersion.TheVariants.{One, Two}
-use Rattle.part_channel.specs.Words.{bytes_of, bytes_of_word}
+use Rattle.part_channel.specs.Words.{bytes_of_words, bytes_of_word}
 use Rattle.part_channel.specs.BoxWords.{words_of}
 use Rattle.part_channel.proofs.Words.{more_bytes}
 use Rattle.part_phase.specs.Limits.{box_bytes}
@@ -35,7 +35,7 @@ module _ (r : Rank) (hart link part : ℕ) (bytes : List ℕ) (asks : asked r ha
   pub ready_fits : length bytes ≤ 128
   ready_fits = omega (arith, width, (wide r.site.version).0)
 
-  pub ready_spelled : (words now : List ℕ) → now ≡ bytes → bytes_of words ≡ now ++ replicate (128 - length now) 0
+  pub ready_spelled : (words now : List ℕ) → now ≡ bytes → bytes_of_words words ≡ now ++ replicate (128 - length now) 0
       → bytes ≡ bytes_in r.site.version words
   ready_spelled words now same is =
       sym (ap (take (box_bytes r.site.version)) is

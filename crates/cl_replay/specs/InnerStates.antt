@@ -4,7 +4,7 @@ use Rattle.rv_image.specs.declared.images.ImageParts.{ImageParts}
 use Rattle.cl_state.specs.Room.{rank_of}
 use Rattle.cl_machine.specs.Cluster.{Cluster}
 use Rattle.cl_replay.specs.declared.states.ClusterState.{ClusterState}
-use Rattle.cl_replay.specs.States.{StandsFor}
+use Rattle.cl_replay.specs.States.{ClusterStandsFor}
 
 -- both states have the same ranks, hub, clock and boxes
 pub record AreSame (one other : ClusterState) : Type 0 where
@@ -16,4 +16,4 @@ pub record AreSame (one other : ClusterState) : Type 0 where
 -- whichever cluster the one state is, the other is that too
 abbrev pub StandsAlike : ClusterState → ClusterState → Type 0
 StandsAlike one other =
-    (image : ImageParts) (cluster : Cluster) → StandsFor image one cluster → StandsFor image other cluster
+    (image : ImageParts) (cluster : Cluster) → ClusterStandsFor image one cluster → ClusterStandsFor image other cluster

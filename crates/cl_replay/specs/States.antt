@@ -21,7 +21,7 @@ pub record IsClusterOf (image : ImageParts) (cluster : Cluster) : Type 0 where
 
 -- the state is this cluster of the image: its ranks are the cluster's, its hub stands for the calls of the cluster's
 -- journal, its clock is the journal's, and its boxes show the cluster's
-pub record StandsFor (image : ImageParts) (state : ClusterState) (cluster : Cluster) : Type 0 where
+pub record ClusterStandsFor (image : ImageParts) (state : ClusterState) (cluster : Cluster) : Type 0 where
   pub of : IsClusterOf image cluster
   pub ranks_are : cluster.ranks ≡ map rank_of state.ranks.items
   pub hub_stands : HubStandsFor state.hub image.links (calls_of cluster.journal.entries)

@@ -14,19 +14,19 @@ use Rattle.cl_machine.specs.declared.steps.Step.{Step}
 use Rattle.cl_machine.specs.Journal.{reply_in}
 use Rattle.cl_replay.specs.declared.states.ClusterState.{ClusterState}
 use Rattle.cl_replay.specs.declared.faults.StepFault.{StepFault}
-use Rattle.cl_replay.specs.States.{StandsFor}
+use Rattle.cl_replay.specs.States.{ClusterStandsFor}
 use Rattle.cl_replay.specs.Turns.{LacksPages}
 
 -- whichever cluster the old state is, the step leads from it to one that the new state is
 abbrev pub Leads : ClusterState → Step → ClusterState → Type 0
 Leads old e new =
-    (image : ImageParts) (cluster : Cluster) → StandsFor image old cluster
-    → (next : Cluster) × IsStep cluster e next × StandsFor image new next
+    (image : ImageParts) (cluster : Cluster) → ClusterStandsFor image old cluster
+    → (next : Cluster) × IsStep cluster e next × ClusterStandsFor image new next
 
 -- whichever cluster the state is, the step leads nowhere from it
 abbrev pub LeadsNowhere : ClusterState → Step → Type 0
 LeadsNowhere old e =
-    (image : ImageParts) (cluster next : Cluster) → StandsFor image old cluster → ¬ IsStep cluster e next
+    (image : ImageParts) (cluster next : Cluster) → ClusterStandsFor image old cluster → ¬ IsStep cluster e next
 
 -- a step of a rank for which memory is taken: bytes are put behind the output, or the hub is asked by a request that
 -- carries bytes or posts, or is called to make a post, a claim, a side or a list of messages
@@ -40,7 +40,7 @@ KindTakesMemory cluster e rank _ = ⊥
 -- or a page is made that the turn may write
 abbrev pub TakesMemory : ClusterState → Step → Type 0
 TakesMemory old e =
-    (image : ImageParts) (cluster : Cluster) → StandsFor image old cluster
+    (image : ImageParts) (cluster : Cluster) → ClusterStandsFor image old cluster
     → (rank : Rank) × (slice_get cluster.ranks e.rank ≡ Some rank)
     × (LacksPages rank e.hart ⊎ KindTakesMemory cluster e rank e.kind)
 

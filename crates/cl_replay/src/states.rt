@@ -5,7 +5,7 @@ ghost use Rattle.cl_state.specs.Rank.{below, loaded};
 ghost use Rattle.cl_state.specs.Room.{rank_of};
 ghost use Rattle.cl_machine.specs.Cluster.{loaded_cluster};
 ghost use Rattle.cl_replay.specs.Boxes.{vacant};
-ghost use Rattle.cl_replay.specs.States.{StandsFor};
+ghost use Rattle.cl_replay.specs.States.{ClusterStandsFor};
 ghost use Rattle.cl_replay.specs.InnerStates.{AreSame, StandsAlike};
 
 use cl_state::RankState;
@@ -69,7 +69,7 @@ fn copy_ranks(alloc: Global, ranks: &[RankState]) -> Result<Vec<RankState>, Allo
 impl ClusterState {
     /// All ranks of the image as they are loaded, a hub that was never called, and all boxes empty.
     pub fn load(alloc: Global, image: &Image) -> Result<ClusterState, AllocError>
-        ensures { IfOk result (λ state. StandsFor image.now state (loaded_cluster image.now)) }
+        ensures { IfOk result (λ state. ClusterStandsFor image.now state (loaded_cluster image.now)) }
     {
         let parts = image.parts();
         let links = parts.links.as_slice().len();

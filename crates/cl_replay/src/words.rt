@@ -1,7 +1,7 @@
 //! The bytes of a partition as data words of a box, and back.
 
 ghost use Rattle.std.specs.Prelude.{◌≡◌, ◌%◌, ◌≤◌, ◌++◌, ◌-◌, length, replicate};
-ghost use Rattle.part_channel.specs.Words.{bytes_of};
+ghost use Rattle.part_channel.specs.Words.{bytes_of_words};
 ghost use Rattle.cl_record.specs.Keys.{bytes_in};
 
 use part_channel::{put_word, word};
@@ -12,7 +12,7 @@ use rv_image::ImageVersion;
 pub(crate) fn to_words(bytes: &[u8]) -> [u64; 16]
     requires whole { length bytes.now % 8 ≡ 0 }
     requires fits { length bytes.now ≤ 128 }
-    ensures { bytes_of result ≡ bytes.now ++ replicate (128 - length bytes.now) 0 }
+    ensures { bytes_of_words result ≡ bytes.now ++ replicate (128 - length bytes.now) 0 }
 {
     let mut words = [0; 16];
     for i in 0..16 {
@@ -23,7 +23,7 @@ pub(crate) fn to_words(bytes: &[u8]) -> [u64; 16]
 
 /// The bytes of sixteen words.
 fn to_bytes(words: &[u64; 16]) -> [u8; 128]
-    ensures { result ≡ bytes_of words.now }
+    ensures { result ≡ bytes_of_words words.now }
 {
     let mut out = [0; 128];
     for i in 0..16 {

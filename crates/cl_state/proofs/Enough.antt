@@ -7,7 +7,7 @@ use Rattle.cl_calls.specs.declared.sites.Site.{Site}
 use Rattle.cl_state.specs.declared.pending.Pending.{Pending}
 use Rattle.cl_state.specs.declared.pending.Pending.TheVariants.{Nothing, FromNull, Message as Awaited, Word}
 use Rattle.cl_state.specs.declared.writes.Range.{Range as Bytes}
-use Rattle.cl_state.specs.Several.{Given, dealt, given, given_one, got_of, left_of, post_of, status_of, statuses_of}
+use Rattle.cl_state.specs.Several.{Given, dealt, given, given_one, got_for_post, left_of, post_of, bytes_of_status, statuses_of}
 use Rattle.cl_state.specs.Pending.{pending_of}
 use Rattle.std.specs.Prelude.{max}
 use Rattle.cl_state.specs.TurnRoom.{HasRoom, HasRoomBehind, writes_of}
@@ -71,19 +71,19 @@ given_left site Nothing got m after spares left rs enough is same =
 given_left site FromNull got m after spares left rs enough is same =
     same_left m after spares left _ rs enough is same
 
-long_status : (g : Given) → length (status_of g) ≡ 24
-unfolding status_of
+long_status : (g : Given) → length (bytes_of_status g) ≡ 24
+unfolding bytes_of_status
 long_status g = refl
 
 pub long_statuses : (site : Site) (ps : List Pending) (gots : List (Option Message))
     → length (statuses_of (given site ps gots)) ≡ 24 * length ps
 long_statuses site [] gots = refl
 long_statuses site (p ∷ ps) gots =
-    let g = given_one site p (got_of (post_of p) gots) in
+    let g = given_one site p (got_for_post (post_of p) gots) in
     let rest = given site ps (left_of (post_of p) gots) in
     omega (
       arith,
-      length-append (status_of g) (statuses_of rest),
+      length-append (bytes_of_status g) (statuses_of rest),
       long_status g,
       long_statuses site ps (left_of (post_of p) gots),
     )

@@ -23,7 +23,7 @@ use Rattle.cl_state.specs.declared.row.Row.TheVariants.{OnReply}
 use Rattle.cl_state.specs.declared.row.Wanted.{Wanted}
 use Rattle.cl_state.specs.declared.row.Wanted.TheVariants as wanted
 use Rattle.cl_state.specs.Asked.{Part}
-use Rattle.cl_state.specs.Table.{begun}
+use Rattle.cl_state.specs.Table.{begun_outcome}
 use Rattle.cl_state.specs.Told.{arrived, arrived_from, completed_all, done, found, found_at, found_nothing, freed}
 use Rattle.cl_state.specs.Told.{gathered_if, not_yet}
 use Rattle.cl_state.specs.Told.{opened, opened_at, received, received_from, received_message, replied, told_row}
@@ -96,7 +96,7 @@ unfolding arrived
 kept_arrived site side target part = kept_arrived_from _ side target part
 
 pub kept_begun : (site : Site) (why : Purpose) (t : Transfer) (p : Progress) (part : Part)
-    → (done site (begun why t p) part).phases ≡ part.phases
+    → (done site (begun_outcome why t p) part).phases ≡ part.phases
 kept_begun site purpose.Send t Finished part = refl
 kept_begun site purpose.Send t (OnPost post) part = refl
 kept_begun site purpose.Send t InPhase part = refl

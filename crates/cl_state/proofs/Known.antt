@@ -17,7 +17,7 @@ use Rattle.part_phase.specs.declared.phases.Phase.{Phase}
 use Rattle.part_phase.specs.Limits.{are_parts, box_bytes, is_size}
 use Rattle.part_phase.specs.Phases.{receiving_at, sending_at}
 use Rattle.part_phase.specs.Receiving.{is_left, lowest_from, overlaps}
-use Rattle.part_phase.specs.Sending.{all_freed, is_ready, next_to_free}
+use Rattle.part_phase.specs.Sending.{all_freed, is_part_ready, next_to_free}
 use Rattle.rv_image.specs.declared.images.ImageVersion.{ImageVersion}
 use Rattle.cl_calls.specs.declared.calls.Call.{Call}
 use Rattle.cl_calls.specs.declared.calls.Call.TheVariants as call
@@ -40,7 +40,7 @@ use Rattle.cl_state.specs.Moves.{Known, KnownLaw}
 use Rattle.cl_state.specs.Partitions.{asked_arrived, asked_awaited, asked_ready, awaited, awaited_at, awaited_by}
 use Rattle.cl_state.specs.Partitions.{awaited_in, boxed, taking_of}
 use Rattle.cl_state.specs.Pending.{asked_pending, pending_in, pending_of}
-use Rattle.cl_state.specs.Several.{asked_all, pendings, posts_of}
+use Rattle.cl_state.specs.Several.{asked_all, pendings, posts_pending}
 use Rattle.cl_state.specs.Transfers.{asked_transfer, receive_of, send_of}
 use Rattle.cl_state.proofs.Moved.{by_awaited, by_taking}
 use Rattle.cl_state.proofs.Passed.{HasPassed, left_holds, passed}
@@ -157,13 +157,13 @@ not_true false is = refl
 known_ready : (site : Site) (memory : Memory) (phases : List Phase) (part : ℕ) (o : Option Partitions)
     → IsTrue (holds_of_sender (λ p. nat_lt part p.parts) phases o)
     → IsTrue (holds_of_sender (λ p. not (all_freed p)) phases o)
-    → IsTrue (holds_of_sender (λ p. not (is_ready p part)) phases o)
+    → IsTrue (holds_of_sender (λ p. not (is_part_ready p part)) phases o)
     → Known site memory phases (asked_ready site memory part o)
 known_ready site memory phases part None there going unready = tt
 known_ready site memory phases part (Some side) there going unready = record {
   going = going;
   there = ltb-true part (sending_at phases side.link).parts there;
-  unready = not_true (is_ready (sending_at phases side.link) part) unready;
+  unready = not_true (is_part_ready (sending_at phases side.link) part) unready;
   address = side.buffer + part * side.size;
   size = side.size;
   copied = refl;
@@ -239,10 +239,10 @@ known_call site part (call.Start handle) passed =
 known_call site part (call.RequestFree handle) passed = tt
 known_call site part (call.Testall s) passed =
     known_all site part.memory part.phases
-    (posts_of (pendings part.requests (handles_in part.memory (array_at s.array s.count))))
+    (posts_pending (pendings part.requests (handles_in part.memory (array_at s.array s.count))))
 known_call site part (call.Waitall s) passed =
     known_all site part.memory part.phases
-    (posts_of (pendings part.requests (handles_in part.memory (array_at s.array s.count))))
+    (posts_pending (pendings part.requests (handles_in part.memory (array_at s.array s.count))))
 known_call site part (call.PsendInit t) passed = record {
   count = left_holds (are_parts t.parts) true passed.1.1.1.1.1.1.1.0;
   bytes = left_holds (is_size site.version t.size) true passed.1.1.1.1.1.1.1.1.0;

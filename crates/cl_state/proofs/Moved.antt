@@ -20,7 +20,7 @@ use Rattle.part_phase.specs.declared.receiving.RecvPhase.{RecvPhase}
 use Rattle.part_phase.specs.declared.sending.SendPhase.{SendPhase}
 use Rattle.part_phase.specs.Phases.{changed_at, is_unshaped_receiving, is_unshaped_sending, receiving_at, sending_at}
 use Rattle.part_phase.specs.Receiving.{is_cut, next_box, next_box_of}
-use Rattle.part_phase.specs.Sending.{all_freed, is_ready, next_to_free}
+use Rattle.part_phase.specs.Sending.{all_freed, is_part_ready, next_to_free}
 use Rattle.cl_calls.specs.declared.calls.Completing.{Completing}
 use Rattle.cl_calls.specs.declared.calls.Partitioning.{Partitioning}
 use Rattle.cl_calls.specs.declared.calls.Several.{Several}
@@ -253,19 +253,19 @@ moves_sees site part side box asked _ = refl
 -- ---- what is awaited, by cases
 
 pub by_taking : (P : Awaited → Type 0) (link : ℕ) (p : SendPhase) → P Nothing → P Unready
-    → ((free : ℕ) → IsTrue (not (all_freed p)) → next_to_free p ≡ Some free → is_ready p free ≡ true
+    → ((free : ℕ) → IsTrue (not (all_freed p)) → next_to_free p ≡ Some free → is_part_ready p free ≡ true
     → P (Taking link free))
     → P (taking_of link p (next_to_free p))
 by_taking P link p nothing unready taking = go (all_freed p) refl
   where
-    ready : all_freed p ≡ false → (b : Bool) → is_ready p p.freed ≡ b → P (if b then Taking link p.freed else Unready)
+    ready : all_freed p ≡ false → (b : Bool) → is_part_ready p p.freed ≡ b → P (if b then Taking link p.freed else Unready)
     ready going true is =
         taking p.freed (ap not going) (ap (λ (b : Bool). if b then None else Some p.freed) going) is
     ready going false is = unready
 
     go : (b : Bool) → all_freed p ≡ b → P (taking_of link p (if b then None else Some p.freed))
     go true is = nothing
-    go false is = ready is (is_ready p p.freed) refl
+    go false is = ready is (is_part_ready p p.freed) refl
 
 pub by_awaited : (P : Awaited → Type 0) (link : ℕ) (p : RecvPhase) (next : Option ℕ) → P Nothing
     → (p.active ≡ true → p.boxes ≡ 0 → P (Cut link))

@@ -18,7 +18,7 @@ use Rattle.cl_state.specs.declared.row.Row.TheVariants.{AtOnce, OnReply}
 use Rattle.cl_state.specs.declared.row.Wanted.TheVariants as wanted
 use Rattle.cl_state.specs.Asked.{Part, asked, asked_by, asked_in, asked_poll, doing, part_of}
 use Rattle.cl_state.specs.Moves.{MovedLaw, started_by, started_in}
-use Rattle.cl_state.specs.Several.{pendings, posts_of}
+use Rattle.cl_state.specs.Several.{pendings, posts_pending}
 use Rattle.cl_state.specs.Table.{comes, into, nothing_comes, polled, probes, row_in, row_of}
 use Rattle.cl_state.specs.Told.{told}
 use Rattle.cl_state.specs.Transfers.{receive_of, send_of, source_of, tag_of}
@@ -31,7 +31,7 @@ use Rattle.cl_state.specs.declared.asking.Ask.TheVariants as ask
 use Rattle.cl_state.specs.declared.pending.Manner.{Manner}
 use Rattle.cl_state.specs.declared.row.Outcome.TheVariants.{FindsNothing}
 use Rattle.cl_state.specs.declared.row.Wanted.{Wanted}
-use Rattle.cl_state.specs.Pending.{flag}
+use Rattle.cl_state.specs.Pending.{immediate_flag}
 use Rattle.cl_state.proofs.Kept.{IsPlain, kept_freed, kept_nothing, kept_opened, kept_received}
 use Rattle.cl_state.proofs.Moved.{IsQuiet, MovesSo, moves_arrived, moves_begins, moves_claimed, moves_completing}
 use Rattle.cl_state.proofs.Moved.{moves_gathers, moves_hub}
@@ -78,10 +78,10 @@ moves_call site hart part (call.Test c) passed =
 moves_call site hart part (call.Wait c) passed =
     moves_completing site part Blocking c part.phases (request_at part.requests c.handle)
 moves_call site hart part (call.Iprobe p) passed =
-    moves_probes site part Immediate p (flag Immediate) (wanted.Sight (flag Immediate) p.status)
+    moves_probes site part Immediate p (immediate_flag Immediate) (wanted.Sight (immediate_flag Immediate) p.status)
     (request.Probe p.comm (source_of site p.comm p.source) (tag_of p.tag)) tt tt
 moves_call site hart part (call.Probe p) passed =
-    moves_probes site part Blocking p (flag Blocking) (wanted.Sight (flag Blocking) p.status)
+    moves_probes site part Blocking p (immediate_flag Blocking) (wanted.Sight (immediate_flag Blocking) p.status)
     (request.Probe p.comm (source_of site p.comm p.source) (tag_of p.tag)) tt tt
 moves_call site hart part (call.Improbe p) passed =
     moves_probes site part Immediate p no_message (wanted.Claim p.status)
@@ -105,10 +105,10 @@ moves_call site hart part (call.Start handle) passed =
 moves_call site hart part (call.RequestFree handle) passed = λ a. kept_freed handle part
 moves_call site hart part (call.Testall s) passed =
     moves_gathers site part Immediate s
-    (posts_of (pendings part.requests (handles_in part.memory (array_at s.array s.count))))
+    (posts_pending (pendings part.requests (handles_in part.memory (array_at s.array s.count))))
 moves_call site hart part (call.Waitall s) passed =
     moves_gathers site part Blocking s
-    (posts_of (pendings part.requests (handles_in part.memory (array_at s.array s.count))))
+    (posts_pending (pendings part.requests (handles_in part.memory (array_at s.array s.count))))
 moves_call site hart part (call.PsendInit t) passed =
     moves_sending site part t t.comm (member site t.comm t.peer) t.tag
     (right_holds (has_room (length part.out) 0) (is_some (lowest_free part.requests))

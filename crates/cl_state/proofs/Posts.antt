@@ -3,7 +3,7 @@ use Rattle.std.proofs.Common.{◌≡◌, ◌<◌, ◌++◌, ℕ, refl, subst, Li
 use Rattle.std.specs.List.{cons_option}
 use Rattle.cl_state.specs.declared.pending.Pending.{Pending}
 use Rattle.cl_state.specs.TurnRoom.{carried}
-use Rattle.cl_state.specs.Several.{asked_all, has_posts, post_of, posts_of}
+use Rattle.cl_state.specs.Several.{asked_all, has_posts, post_of, posts_pending}
 
 with_post : (before : List ℕ) (o : Option ℕ) (post : ℕ) (after : List ℕ) → o ≡ Some post
     → IsTrue (has_posts (before ++ cons_option o after))
@@ -12,9 +12,9 @@ with_post [] (Some p) post after is = refl
 with_post (x ∷ xs) o post after is = refl
 
 pub posts_asked : (before : List ℕ) (post : ℕ) (p : Pending) (ps : List Pending) (all : List ℕ) → post_of p ≡ Some post
-    → before ++ posts_of (p ∷ ps) ≡ all → IsTrue (has_posts all)
+    → before ++ posts_pending (p ∷ ps) ≡ all → IsTrue (has_posts all)
 posts_asked before post p ps all is same =
-    subst (λ (l : List ℕ). IsTrue (has_posts l)) same (with_post before (post_of p) post (posts_of ps) is)
+    subst (λ (l : List ℕ). IsTrue (has_posts l)) same (with_post before (post_of p) post (posts_pending ps) is)
 
 pub carries_posts : (posts : List ℕ) → IsTrue (has_posts posts) → 0 < carried (asked_all posts)
 carries_posts [] there = cc

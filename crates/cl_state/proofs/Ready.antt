@@ -34,7 +34,7 @@ use Rattle.cl_calls.specs.Checks.{receiving_side, sending_side}
 use Rattle.cl_state.specs.declared.pending.Target.{Target}
 use Rattle.cl_state.specs.Partitions.{awaited, awaited_at, awaited_by, awaited_by_sender, awaited_in}
 use Rattle.cl_state.specs.Pending.{pending_of}
-use Rattle.cl_state.specs.Table.{begins, begins_phase, begun, completes, completing, gathers, holds, polled}
+use Rattle.cl_state.specs.Table.{begins, begins_phase, begun_outcome, completes, completing, gathers, holds_by, polled}
 use Rattle.cl_state.specs.Table.{row_arrived}
 use Rattle.cl_state.specs.Table.{row_awaited, row_completing, row_of_part, row_ready, starts}
 use Rattle.cl_state.proofs.Moved.{by_awaited, by_taking, row_by, row_is}
@@ -48,7 +48,7 @@ IsMeant turn (purpose.Start handle) = IsInactive turn.requests.now handle
 IsMeant turn _ = Unit {0}
 
 pub able_begun : (turn : Turn) (why : Purpose) (t : Transfer) (p : Progress) → IsMeant turn why
-    → IsAble turn (begun why t p)
+    → IsAble turn (begun_outcome why t p)
 able_begun turn purpose.Send t Finished meant = tt
 able_begun turn purpose.Send t (OnPost post) meant = tt
 able_begun turn purpose.Send t InPhase meant = tt
@@ -69,7 +69,7 @@ meant_wantable turn (purpose.Start handle) t meant = meant
 
 -- a reply leads on to what the row leaned on
 pub able_wantable : (turn : Turn) (why : Purpose) (t : Transfer) (p : Progress) → IsWantable turn (wanted.Post why t)
-    → IsAble turn (begun why t p)
+    → IsAble turn (begun_outcome why t p)
 able_wantable turn why t p meant = able_begun turn why t p (meant_wantable turn why t meant)
 
 phase_row : (turn : Turn) (why : Purpose) (link : ℕ) → IsMeant turn why → IsRow turn (begins_phase why link)
@@ -103,7 +103,7 @@ completes_row turn m c (pending.Word post) = tt
 
 -- ---- partitioned requests
 
-unready_row : (turn : Turn) (m : Manner) → IsAble turn (holds m)
+unready_row : (turn : Turn) (m : Manner) → IsAble turn (holds_by m)
 unready_row turn Immediate = tt
 unready_row turn Blocking = tt
 unready_row turn Polling = tt

@@ -13,7 +13,7 @@ use Rattle.rv_memory.specs.Pages.{touches, written_from, written_pages}
 use Rattle.rv_memory.specs.declared.fault.Cause.{Cause}
 use Rattle.rv_memory.specs.declared.fault.Cause.TheVariants.{InstructionMisaligned}
 use Rattle.rv_memory.proofs.Marked.{bytes_low_first-length}
-use Rattle.rv_hart.specs.Effect.{After, after, branches, gives, jumps, loads, next, offset, plain, stores, trapped}
+use Rattle.rv_hart.specs.Effect.{After, after, after_branch, gives, jumps, after_load, next, offset, plain, after_store, trapped}
 use Rattle.rv_hart.specs.Results.{is_taken, store_width}
 use Rattle.rv_hart.specs.State.{State, at_pc, read, write}
 use Rattle.rv_hart.specs.Stepped.{after_decoded, after_fetched, stepped}
@@ -24,7 +24,7 @@ none_from page [] a = refl
 none_from page (p ∷ ps) a = rw (none_from (suc page) ps a, or-false p) refl
 
 pages_unless : (o : Option Cause) (m : Memory) (s : State) (a n v : ℕ) → length (bytes_of v n) ≡ n
-    → (stores o (stored m a n v) s m).memory.pages ≡ written_pages m.pages (unless o a n).address (unless o a n).count
+    → (after_store o (stored m a n v) s m).memory.pages ≡ written_pages m.pages (unless o a n).address (unless o a n).count
 pages_unless None m s a n v long = ap (written_pages m.pages a) long
 pages_unless (Some cause) m s a n v long = sym (none_from 0 m.pages 0)
 
@@ -36,8 +36,8 @@ same_jump d target s m = go (target % 4 == 0)
     go true = refl
     go false = refl
 
-same_branch : (target : ℕ) (s : State) (m : Memory) → (branches target s m).memory ≡ m
-unfolding branches
+same_branch : (target : ℕ) (s : State) (m : Memory) → (after_branch target s m).memory ≡ m
+unfolding after_branch
 same_branch target s m = go (target % 4 == 0)
   where
     go : (b : Bool) → (if b then plain (at_pc s target) m else trapped InstructionMisaligned s m).memory ≡ m
@@ -48,7 +48,7 @@ same_give : (d value : ℕ) (s : State) (m : Memory) → (gives d value s m).mem
 unfolding gives
 same_give d value s m = refl
 
-same_load : (o : Option Cause) (op : LoadOp) (d a : ℕ) (s : State) (m : Memory) → (loads o op d a s m).memory ≡ m
+same_load : (o : Option Cause) (op : LoadOp) (d a : ℕ) (s : State) (m : Memory) → (after_load o op d a s m).memory ≡ m
 same_load None op d a s m = same_give d _ s m
 same_load (Some cause) op d a s m = refl
 

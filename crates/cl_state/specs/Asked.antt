@@ -33,7 +33,7 @@ use Rattle.cl_state.specs.Transfers.{source_of, tag_of, send_of, receive_of, ask
 use Rattle.cl_state.specs.Pending.{pending_of, asked_pending}
 use Rattle.cl_state.specs.Partitions.{awaited, asked_awaited, asked_ready, asked_arrived, asked_sending}
 use Rattle.cl_state.specs.Partitions.{asked_receiving}
-use Rattle.cl_state.specs.Several.{pendings, posts_of, asked_all}
+use Rattle.cl_state.specs.Several.{pendings, posts_pending, asked_all}
 
 -- what one hart's turn may change of its rank, but for the clock
 pub record Part : Type 0 where
@@ -102,7 +102,7 @@ asked_start memory None = ask.Local
 asked_start memory (Some r) = asked_transfer memory false r.transfer
 
 abbrev pub asked_several : Memory → Table → Several → Ask
-asked_several memory table s = asked_all (posts_of (pendings table (handles_in memory (array_at s.array s.count))))
+asked_several memory table s = asked_all (posts_pending (pendings table (handles_in memory (array_at s.array s.count))))
 
 -- a partitioned request asks for what it awaits in its phase (4.2), any other for what it needs
 abbrev pub asked_completing : Manner → Option Awaited → Pending → Ask

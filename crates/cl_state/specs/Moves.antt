@@ -16,7 +16,7 @@ use Rattle.part_phase.specs.Limits.{are_parts, box_bytes, is_size}
 use Rattle.part_phase.specs.Phases.{begun, changed_at, is_unshaped_receiving, is_unshaped_sending, on_receiving}
 use Rattle.part_phase.specs.Phases.{on_sending, receiving_at, sending_at}
 use Rattle.part_phase.specs.Receiving.{cut_into, is_cut, is_left, one_taken, shaped_receiving}
-use Rattle.part_phase.specs.Sending.{all_freed, is_ready, next_to_free, one_freed, readied, shaped_sending}
+use Rattle.part_phase.specs.Sending.{all_freed, is_part_ready, next_to_free, one_freed, readied, shaped_sending}
 use Rattle.cl_calls.specs.declared.calls.Call.TheVariants as call
 use Rattle.cl_calls.specs.declared.sites.Site.{Site}
 use Rattle.cl_state.specs.declared.asking.Answer.{Answer}
@@ -114,7 +114,7 @@ moved site begins _ a phases = phases
 pub record AsksReady (site : Site) (memory : Memory) (p : SendPhase) (part : ℕ) (bytes : List ℕ) : Type 0 where
   pub going : IsTrue (not (all_freed p))
   pub there : part < p.parts
-  pub unready : is_ready p part ≡ false
+  pub unready : is_part_ready p part ≡ false
   pub address : ℕ
   pub size : ℕ
   pub copied : bytes ≡ boxed site.version (bytes_at memory address size)
@@ -124,7 +124,7 @@ pub record AsksReady (site : Site) (memory : Memory) (p : SendPhase) (part : ℕ
 pub record AsksFreed (p : SendPhase) (part : ℕ) : Type 0 where
   pub going : IsTrue (not (all_freed p))
   pub next : next_to_free p ≡ Some part
-  pub ready : is_ready p part ≡ true
+  pub ready : is_part_ready p part ≡ true
 
 -- a box that isn't taken, of a phase that is going on, once the sender's cut is known
 pub record AsksLook (p : RecvPhase) (box : ℕ) : Type 0 where

@@ -15,7 +15,7 @@ use Rattle.rv_image.specs.declared.images.ImageVersion.{ImageVersion}
 use Rattle.part_phase.specs.Limits.{box_bytes, padded}
 use Rattle.part_phase.specs.Phases.{sending_at, receiving_at}
 use Rattle.part_phase.specs.Receiving.{next_box, next_box_of}
-use Rattle.part_phase.specs.Sending.{is_ready, next_to_free}
+use Rattle.part_phase.specs.Sending.{is_part_ready, next_to_free}
 use Rattle.cl_calls.specs.declared.calls.Partitioning.{Partitioning}
 use Rattle.cl_calls.specs.declared.sites.Site.{Site}
 use Rattle.cl_calls.specs.Site.{member}
@@ -31,7 +31,7 @@ use Rattle.cl_state.specs.declared.pending.Manner.TheVariants.{Immediate}
 -- the lowest partition that isn't freed decides: it has to be made ready first, and then to be taken
 abbrev pub taking_of : ℕ → SendPhase → Option ℕ → Awaited
 taking_of link p None = Nothing
-taking_of link p (Some part) = if is_ready p part then Taking link part else Unready
+taking_of link p (Some part) = if is_part_ready p part then Taking link part else Unready
 
 abbrev pub awaited_by_sender : ℕ → SendPhase → Awaited
 awaited_by_sender link p = taking_of link p (next_to_free p)

@@ -17,9 +17,9 @@ use Rattle.cl_state.specs.declared.pending.Pending.{Pending}
 use Rattle.cl_state.specs.declared.pending.Pending.TheVariants.{Nothing, FromNull, Message, Word}
 
 -- the flag of an immediate call that completes; no other gives one
-abbrev pub flag : Manner → ℕ
-flag Immediate = 1
-flag _ = 0
+abbrev pub immediate_flag : Manner → ℕ
+immediate_flag Immediate = 1
+immediate_flag _ = 0
 
 -- a receive needs its message, and a send word that it is complete
 abbrev pub pending_on : ℕ → Transfer → Pending

@@ -31,8 +31,8 @@ post_of (Awaited post buffer capacity) = Some post
 post_of (Word post) = Some post
 
 -- the posts of those that need the hub, in the array's order
-abbrev pub posts_of : List Pending → List ℕ
-posts_of ps = filter_map post_of ps
+abbrev pub posts_pending : List Pending → List ℕ
+posts_pending ps = filter_map post_of ps
 
 abbrev pub has_posts : List ℕ → Bool
 has_posts [] = false
@@ -46,10 +46,10 @@ asked_all (post ∷ posts) = ask.Hub (request.All (post ∷ posts))
 -- ---- what the hub gave: one thing for each request that it was asked for, in the array's order
 
 -- what is there for this request, and what is left for those behind it
-abbrev pub got_of : Option ℕ → List (Option Message) → Option Message
-got_of None gots = None
-got_of (Some post) [] = None
-got_of (Some post) (got ∷ gots) = got
+abbrev pub got_for_post : Option ℕ → List (Option Message) → Option Message
+got_for_post None gots = None
+got_for_post (Some post) [] = None
+got_for_post (Some post) (got ∷ gots) = got
 
 abbrev pub left_of : Option ℕ → List (Option Message) → List (Option Message)
 left_of None gots = gots
@@ -59,15 +59,15 @@ left_of (Some post) (got ∷ gots) = gots
 -- each request beside what the hub gave for it
 abbrev pub dealt : List Pending → List (Option Message) → List (Pending × Option Message)
 dealt [] gots = []
-dealt (p ∷ ps) gots = (p, got_of (post_of p) gots) ∷ dealt ps (left_of (post_of p) gots)
+dealt (p ∷ ps) gots = (p, got_for_post (post_of p) gots) ∷ dealt ps (left_of (post_of p) gots)
 
-abbrev pub is_member : Site → Message → Bool
-is_member site message = is_some (place_of message.envelope.source (members site message.envelope.comm))
+abbrev pub is_from_member : Site → Message → Bool
+is_from_member site message = is_some (place_of message.envelope.source (members site message.envelope.comm))
 
 -- a receive got a message whose source is a member, and a send got none
 abbrev pub fits_one : Site → Pending → Option Message → Bool
 fits_one site (Awaited post buffer capacity) None = false
-fits_one site (Awaited post buffer capacity) (Some message) = is_member site message
+fits_one site (Awaited post buffer capacity) (Some message) = is_from_member site message
 fits_one site (Word post) None = true
 fits_one site (Word post) (Some message) = false
 fits_one site Nothing got = true
@@ -75,7 +75,7 @@ fits_one site FromNull got = true
 
 -- as many as were asked for, and each of the right kind
 abbrev pub are_fit : Site → List Pending → List (Option Message) → Bool
-are_fit site ps gots = (length gots == length (posts_of ps)) && list_all (λ d. fits_one site d.0 d.1) (dealt ps gots)
+are_fit site ps gots = (length gots == length (posts_pending ps)) && list_all (λ d. fits_one site d.0 d.1) (dealt ps gots)
 
 -- ---- what each request writes
 
@@ -116,12 +116,12 @@ abbrev pub with_all_bytes : Memory → List Given → Memory
 with_all_bytes memory gs = fold (λ m (g : Given). written m g.buffer g.bytes) memory gs
 
 -- a status: source, tag and count (3.2.5)
-unfoldable pub status_of : Given → List ℕ
-status_of g = bytes_of g.source 8 ++ bytes_of g.tag 8 ++ bytes_of (length g.bytes) 8
+unfoldable pub bytes_of_status : Given → List ℕ
+bytes_of_status g = bytes_of g.source 8 ++ bytes_of g.tag 8 ++ bytes_of (length g.bytes) 8
 
 -- one status after the other
 abbrev pub statuses_of : List Given → List ℕ
-statuses_of gs = flat_map status_of gs
+statuses_of gs = flat_map bytes_of_status gs
 
 -- at address 0 none is wanted
 abbrev pub with_statuses : Memory → ℕ → List Given → Memory

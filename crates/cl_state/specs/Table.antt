@@ -49,19 +49,19 @@ use Rattle.part_phase.specs.declared.phases.Phase.{Phase}
 use Rattle.part_phase.specs.Phases.{receiving_at}
 use Rattle.cl_calls.specs.Checks.{sending_side, receiving_side}
 use Rattle.cl_state.specs.Partitions.{awaited, awaited_of_part}
-use Rattle.cl_state.specs.Pending.{flag, pending_of}
-use Rattle.cl_state.specs.Several.{pendings, posts_of, has_posts}
+use Rattle.cl_state.specs.Pending.{immediate_flag, pending_of}
+use Rattle.cl_state.specs.Several.{pendings, posts_pending, has_posts}
 
 -- ---- transfers
 
 -- how a call goes on once its transfer has begun: a send that isn't complete waits for
 -- its post, a request is opened as an ordinary one (MPI 4.1, 3.7.2) or started (3.9)
-abbrev pub begun : Purpose → Transfer → Progress → Outcome
-begun purpose.Send t progress.Finished = Ends code.Ok 0
-begun purpose.Send t (progress.OnPost post) = Waits post
-begun purpose.Send t progress.InPhase = Ends code.BadRequest 0
-begun purpose.Open t p = Opens (record { transfer = t; state = state.Ordinary p })
-begun (purpose.Start handle) t p = Starts handle p
+abbrev pub begun_outcome : Purpose → Transfer → Progress → Outcome
+begun_outcome purpose.Send t progress.Finished = Ends code.Ok 0
+begun_outcome purpose.Send t (progress.OnPost post) = Waits post
+begun_outcome purpose.Send t progress.InPhase = Ends code.BadRequest 0
+begun_outcome purpose.Open t p = Opens (record { transfer = t; state = state.Ordinary p })
+begun_outcome (purpose.Start handle) t p = Starts handle p
 
 -- a partitioned transfer begins a phase, by a start alone (4.2.1)
 abbrev pub begins_phase : Purpose → ℕ → Row
@@ -70,8 +70,8 @@ begins_phase _ link = AtOnce (Ends code.BadRequest 0)
 
 -- a transfer with the null process begins and is finished at once (3.11), any other by a post
 abbrev pub begins : Purpose → Transfer → Row
-begins why transfer.SendToNull = AtOnce (begun why transfer.SendToNull progress.Finished)
-begins why transfer.ReceiveFromNull = AtOnce (begun why transfer.ReceiveFromNull progress.Finished)
+begins why transfer.SendToNull = AtOnce (begun_outcome why transfer.SendToNull progress.Finished)
+begins why transfer.ReceiveFromNull = AtOnce (begun_outcome why transfer.ReceiveFromNull progress.Finished)
 begins why (transfer.SendPartitions side) = begins_phase why side.link
 begins why (transfer.ReceivePartitions side) = begins_phase why side.link
 begins why t = OnReply Posting (wanted.Post why t)
@@ -113,7 +113,7 @@ receives_claimed m status =
 -- what completes a request goes where its receive said, and its status where the call says
 abbrev pub completing : Manner → Completing → ℕ → ℕ → Target
 completing m c buffer capacity =
-    record { buffer = buffer; capacity = capacity; status = c.status; handle = c.handle; value = flag m }
+    record { buffer = buffer; capacity = capacity; status = c.status; handle = c.handle; value = immediate_flag m }
 
 -- a test or a wait, by what its request needs (3.7.3)
 abbrev pub completes : Manner → Completing → Pending → Row
@@ -130,9 +130,9 @@ concludes (transfer.ReceivePartitions side) target = Arrives side target
 concludes _ target = Completes any target
 
 -- a test or a wait that is held up by its own rank
-abbrev pub holds : Manner → Outcome
-holds Immediate = Ends code.Ok 0
-holds _ = Holds
+abbrev pub holds_by : Manner → Outcome
+holds_by Immediate = Ends code.Ok 0
+holds_by _ = Holds
 
 -- a box may be taken for the receiver's side alone
 abbrev pub takes : Manner → Transfer → ℕ → Target → Row
@@ -142,7 +142,7 @@ takes m _ box target = AtOnce (Ends code.BadRequest 0)
 -- a test or a wait of a partitioned request that is active, by what it awaits in its phase (4.2)
 abbrev pub row_awaited : Manner → Transfer → Target → Awaited → Row
 row_awaited m t target awaited_word.Nothing = AtOnce (concludes t target)
-row_awaited m t target awaited_word.Unready = AtOnce (holds m)
+row_awaited m t target awaited_word.Unready = AtOnce (holds_by m)
 row_awaited m t target (awaited_word.Taking link part) = OnBox (Frees m link target)
 row_awaited m t target (awaited_word.Cut link) = OnReply m (wanted.Cut m link)
 row_awaited m t target (awaited_word.Box link box) = takes m t box target
@@ -169,7 +169,7 @@ row_arrived phases part (Some side) =
 -- where no post is asked for all complete at once, and else all or none (3.7.5)
 abbrev pub gathers : Manner → Several → List ℕ → Row
 gathers m s posts =
-    if has_posts posts then OnReply m (wanted.All (flag m) s) else AtOnce (CompletesAll (flag m) s)
+    if has_posts posts then OnReply m (wanted.All (immediate_flag m) s) else AtOnce (CompletesAll (immediate_flag m) s)
 
 -- ---- probes
 
@@ -179,7 +179,7 @@ probes m p value w = if (p.source == no_rank) then AtOnce (FindsNothing value p.
 
 -- a probe tells the envelope of a message that is there
 abbrev pub sees : Manner → Probing → Row
-sees m p = probes m p (flag m) (wanted.Sight (flag m) p.status)
+sees m p = probes m p (immediate_flag m) (wanted.Sight (immediate_flag m) p.status)
 
 -- a matched one gives the handle of the message that it claimed
 abbrev pub claims : Manner → Probing → Row
@@ -187,15 +187,15 @@ claims m p = probes m p no_message (wanted.Claim p.status)
 
 -- ---- the table
 
-abbrev pub gives : ℕ → Row
-gives value = AtOnce (Ends code.Ok value)
+abbrev pub gives_at_once : ℕ → Row
+gives_at_once value = AtOnce (Ends code.Ok value)
 
 abbrev pub row_of : Site → ℕ → Memory → Table → List Phase → Call → Row
 row_of site hart memory table phases (call.Exit value) = AtOnce (Exits value)
 row_of site hart memory table phases (call.Put buffer count) = AtOnce (Puts buffer count)
-row_of site hart memory table phases (call.Rank comm) = gives (unwrap_or (place_of site.number (members site comm)) 0)
-row_of site hart memory table phases (call.Size comm) = gives (length (members site comm))
-row_of site hart memory table phases call.Hart = gives hart
+row_of site hart memory table phases (call.Rank comm) = gives_at_once (unwrap_or (place_of site.number (members site comm)) 0)
+row_of site hart memory table phases (call.Size comm) = gives_at_once (length (members site comm))
+row_of site hart memory table phases call.Hart = gives_at_once hart
 row_of site hart memory table phases (call.Send s) = begins purpose.Send (send_of site false s)
 row_of site hart memory table phases (call.Ssend s) = begins purpose.Send (send_of site true s)
 row_of site hart memory table phases (call.Recv r status) = receives r status
@@ -217,9 +217,9 @@ row_of site hart memory table phases (call.RecvInit r) = makes (receive_of site 
 row_of site hart memory table phases (call.Start handle) = starts handle (request_at table handle)
 row_of site hart memory table phases (call.RequestFree handle) = AtOnce (FreesHandle handle)
 row_of site hart memory table phases (call.Testall s) =
-    gathers Immediate s (posts_of (pendings table (handles_in memory (array_at s.array s.count))))
+    gathers Immediate s (posts_pending (pendings table (handles_in memory (array_at s.array s.count))))
 row_of site hart memory table phases (call.Waitall s) =
-    gathers Blocking s (posts_of (pendings table (handles_in memory (array_at s.array s.count))))
+    gathers Blocking s (posts_pending (pendings table (handles_in memory (array_at s.array s.count))))
 row_of site hart memory table phases (call.PsendInit t) = OnReply Posting (wanted.SendingLink t)
 row_of site hart memory table phases (call.PrecvInit t) = OnReply Posting (wanted.ReceivingLink t)
 row_of site hart memory table phases (call.Pready handle part) = row_ready part (sending_side (request_at table handle))

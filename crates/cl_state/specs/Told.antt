@@ -56,7 +56,7 @@ use Rattle.cl_state.specs.Transfers.{posted}
 use Rattle.cl_state.specs.Several.{pendings, are_fit, given, with_all_bytes, with_statuses, code_of, completed_each}
 use Rattle.cl_state.specs.Written.{written}
 use Rattle.cl_state.specs.Asked.{Part, part_of, doing}
-use Rattle.cl_state.specs.Table.{begun, row_in}
+use Rattle.cl_state.specs.Table.{begun_outcome, row_in}
 
 -- ---- how a call ends
 
@@ -72,8 +72,8 @@ abbrev pub waiting : ℕ → Part → Part
 waiting post part = record part { hart = in_mode part.hart (Waiting (Post post)) }
 
 -- the hart makes its call anew in its next turn
-abbrev pub again : Part → Part
-again part = record part { hart = in_mode part.hart (Waiting Again) }
+abbrev pub asking_again : Part → Part
+asking_again part = record part { hart = in_mode part.hart (Waiting Again) }
 
 -- ---- what is written
 
@@ -161,7 +161,7 @@ found_nothing value status part =
 -- blocking one is made anew, a poll waits on; no post is told so
 abbrev pub not_yet : Manner → Part → Part
 not_yet Immediate part = ended code.Ok 0 part
-not_yet Blocking part = again part
+not_yet Blocking part = asking_again part
 not_yet Polling part = part
 not_yet Posting part = ended code.BadRequest 0 part
 
@@ -230,8 +230,8 @@ freed_one m link target part =
     if all_freed (sending_at after.phases link) then received target any any [] after else not_yet m after
 
 -- a box was taken: its bytes stand at its number times the sender's size behind the buffer
-abbrev pub with_box : Partitions → ℕ → List ℕ → Part → Part
-with_box side box bytes part =
+abbrev pub with_taken_box : Partitions → ℕ → List ℕ → Part → Part
+with_taken_box side box bytes part =
     let size = (receiving_at part.phases side.link).bytes in
     record part {
       memory = written part.memory (side.buffer + box * size) (take size bytes);
@@ -241,13 +241,13 @@ with_box side box bytes part =
 -- with the last one the receive completes
 unfoldable pub taken_one : Site → Manner → Partitions → ℕ → Target → List ℕ → Part → Part
 taken_one site m side box target bytes part =
-    let after = with_box side box bytes part in
+    let after = with_taken_box side box bytes part in
     if (receiving_at after.phases side.link).active then not_yet m after else arrived site side target after
 
 -- a partition has arrived where none of the boxes that it overlaps is left
 unfoldable pub seen_one : Partitions → ℕ → ℕ → List ℕ → Part → Part
 seen_one side box asked bytes part =
-    let after = with_box side box bytes part in
+    let after = with_taken_box side box bytes part in
     ended code.Ok (if is_some (next_box_of (receiving_at after.phases side.link) asked) then 0 else 1) after
 
 -- ---- a turn
@@ -269,14 +269,14 @@ done site (FreesHandle handle) part = freed handle part
 done site (Completes source target) part = received target source any [] part
 done site (FindsNothing value status) part = found_nothing value status part
 done site (BeginsPhase handle link) part = phase_begun handle link part
-done site Holds part = again part
+done site Holds part = asking_again part
 done site (Arrives side target) part = arrived site side target part
 done site (CompletesAll value s) part =
     completed_all site value s.statuses (handles_in part.memory (array_at s.array s.count)) [] part
 
 -- what a reply does where it is wanted; any other doesn't fit
 abbrev pub replied : Site → Wanted → Reply → Part → Part
-replied site (wanted.Post why t) (reply.Posted post paired) part = done site (begun why t (posted t post paired)) part
+replied site (wanted.Post why t) (reply.Posted post paired) part = done site (begun_outcome why t (posted t post paired)) part
 replied site (wanted.MessageOrPost target) (reply.Posted post paired) part = waiting post part
 replied site (wanted.MessageOrPost target) (reply.Got message) part = received_message site target message part
 replied site (wanted.Message target) (reply.Got message) part = received_message site target message part

@@ -29,7 +29,7 @@ use Rattle.part_phase.specs.Phases.{sending_at}
 use Rattle.part_phase.specs.Sending.{all_freed}
 use Rattle.cl_calls.specs.declared.calls.Call.TheVariants as call
 use Rattle.cl_calls.specs.Needs.{needs_of}
-use Rattle.cl_state.specs.Several.{pendings, posts_of}
+use Rattle.cl_state.specs.Several.{pendings, posts_pending}
 use Rattle.cl_state.specs.Table.{row_in}
 use Rattle.cl_state.specs.Told.{told_in}
 use Rattle.cl_state.specs.Writes.{IsEnough, how_many}
@@ -113,7 +113,7 @@ abbrev pub handles_of : Turn → Several → List ℕ
 handles_of turn s = handles_in turn.memory.now (array_at s.array s.count)
 
 abbrev pub posts_wanted : Turn → Several → List ℕ
-posts_wanted turn s = posts_of (pendings turn.requests.now (handles_of turn s))
+posts_wanted turn s = posts_pending (pendings turn.requests.now (handles_of turn s))
 
 -- what an outcome leans on: an instruction is a running hart's, the bytes lie ready and there is
 -- room for them, a request that is opened is a new one, one that is started or freed is inactive

@@ -2,7 +2,7 @@
 
 ghost use Rattle.std.specs.Prelude.{◌≡◌};
 ghost use Rattle.cl_state.specs.Several.{post_of};
-ghost use Rattle.cl_state.specs.Pending.{asked_pending, flag as flag_of, pending_at};
+ghost use Rattle.cl_state.specs.Pending.{asked_pending, immediate_flag as flag_of, pending_at};
 ghost use Rattle.cl_state.specs.Blocking.{is_blocking as is_blocking_of};
 ghost use Rattle.cl_state.specs.Pending.{pending_of, pending_on};
 

@@ -9,8 +9,8 @@ ghost use Rattle.cl_state.specs.TurnRoom.{carried};
 ghost use Rattle.cl_state.specs.Deals.{given_by, given_in};
 ghost use Rattle.cl_state.specs.Pending.{pending_of};
 ghost use Rattle.cl_state.specs.Several.{Given, are_fit, completed_each, fits_one, given_message, given_nothing};
-ghost use Rattle.cl_state.specs.Several.{given_one, got_of, has_posts};
-ghost use Rattle.cl_state.specs.Several.{left_of, pendings, post_of, posts_of, status_of, statuses_of, with_all_bytes};
+ghost use Rattle.cl_state.specs.Several.{given_one, got_for_post, has_posts};
+ghost use Rattle.cl_state.specs.Several.{left_of, pendings, post_of, posts_pending, bytes_of_status, statuses_of, with_all_bytes};
 ghost use Rattle.cl_state.specs.Told.{completed_all, done, gathered};
 ghost use Rattle.cl_state.specs.Turn.{Becomes, HasArray, HasPages, handles_of, part_in};
 ghost use Rattle.cl_state.specs.Writes.{IsEnough, how_many, messages_into, several_into, statuses_from};
@@ -40,8 +40,8 @@ pub(crate) fn pending(requests: &Requests, handle: u64) -> Pending
 /// The posts of those that need the hub, in the array's order. Their list takes memory where there is one.
 #[tactic(auto, using(crate::proofs::Posts::posts_asked))]
 fn posts(alloc: Global, requests: &Requests, handles: &[u64]) -> Result<Vec<u64>, AllocError>
-    ensures { MatchResult result (λ posts. posts.items ≡ posts_of (pendings requests.now handles.now))
-        (λ e. IsTrue (has_posts (posts_of (pendings requests.now handles.now)))) }
+    ensures { MatchResult result (λ posts. posts.items ≡ posts_pending (pendings requests.now handles.now))
+        (λ e. IsTrue (has_posts (posts_pending (pendings requests.now handles.now)))) }
 {
     let mut posts = Vec::new(alloc);
     let mut rest = handles;
@@ -57,7 +57,7 @@ fn posts(alloc: Global, requests: &Requests, handles: &[u64]) -> Result<Vec<u64>
 
 /// Whether these are the posts of those that need the hub, in the array's order.
 fn are_posts(known: &[u64], requests: &Requests, handles: &[u64]) -> bool
-    ensures { IsTrue result ↔ (known.now ≡ posts_of (pendings requests.now handles.now)) }
+    ensures { IsTrue result ↔ (known.now ≡ posts_pending (pendings requests.now handles.now)) }
 {
     let mut left = known;
     let mut rest = handles;
@@ -81,8 +81,8 @@ fn posts_like(
     handles: &[u64],
     known: Option<&Posts>,
 ) -> Result<Posts, AllocError>
-    ensures { MatchResult result (λ posts. posts ≡ posts_of (pendings requests.now handles.now))
-        (λ e. IsTrue (has_posts (posts_of (pendings requests.now handles.now)))) }
+    ensures { MatchResult result (λ posts. posts ≡ posts_pending (pendings requests.now handles.now))
+        (λ e. IsTrue (has_posts (posts_pending (pendings requests.now handles.now)))) }
 {
     if let Some(known) = known {
         if are_posts(known.as_slice(), requests, handles) {
@@ -130,7 +130,7 @@ fn left(pending: Pending, gots: &[Option<Message>]) -> &[Option<Message>]
 
 /// Whether a request got what it needs.
 fn fits(site: &Site, pending: Pending, gots: &[Option<Message>]) -> bool
-    ensures { result ≡ fits_one site.now pending (got_of (post_of pending) gots.now) }
+    ensures { result ≡ fits_one site.now pending (got_for_post (post_of pending) gots.now) }
 {
     match pending {
         Pending::Nothing => true,
@@ -158,7 +158,7 @@ fn fits(site: &Site, pending: Pending, gots: &[Option<Message>]) -> bool
 
 /// How many requests need the hub.
 fn count_posts(requests: &Requests, handles: &[u64]) -> usize
-    ensures { result ≡ length (posts_of (pendings requests.now handles.now)) }
+    ensures { result ≡ length (posts_pending (pendings requests.now handles.now)) }
 {
     let mut count = 0;
     let mut rest = handles;
@@ -233,7 +233,7 @@ impl<'a> Giving<'a> {
 
     /// What a request gives, by what the hub gave for it.
     fn one(site: &Site, pending: Pending, gots: &'a [Option<Message>]) -> Giving<'a>
-        ensures { given_by result ≡ given_one site.now pending (got_of (post_of pending) gots.now) }
+        ensures { given_by result ≡ given_one site.now pending (got_for_post (post_of pending) gots.now) }
     {
         match pending {
             Pending::Message {
@@ -253,9 +253,9 @@ impl<'a> Giving<'a> {
     }
 
     /// The status of what is given.
-    #[tactic(auto, unfolding(crate::specs::Several::status_of))]
+    #[tactic(auto, unfolding(crate::specs::Several::bytes_of_status))]
     fn status(&self) -> [u8; 24]
-        ensures { result ≡ status_of (given_by self.now) }
+        ensures { result ≡ bytes_of_status (given_by self.now) }
     {
         status_bytes(self.source, self.tag, self.bytes.len() as u64)
     }
@@ -320,7 +320,7 @@ fn close_all(requests: &mut Requests, handles: &[u64])
 
 /// Whether one of several requests needs the hub.
 pub(crate) fn needs_hub(requests: &Requests, handles: &[u64]) -> bool
-    ensures { result ≡ has_posts (posts_of (pendings requests.now handles.now)) }
+    ensures { result ≡ has_posts (posts_pending (pendings requests.now handles.now)) }
 {
     let mut rest = handles;
     while let Some((handle, after)) = rest.split_first() {

@@ -8,7 +8,7 @@ ghost use Rattle.cl_calls.specs.Needs.{needs_of};
 ghost use Rattle.cl_calls.specs.declared.calls.Call.TheVariants as call;
 ghost use Rattle.cl_state.specs.Right.{IsRight};
 ghost use Rattle.cl_state.specs.Told.{arrived, cut_known, freed_one, made_receiving, made_sending, part_readied};
-ghost use Rattle.cl_state.specs.Told.{phase_begun, seen_one, taken_one, with_box};
+ghost use Rattle.cl_state.specs.Told.{phase_begun, seen_one, taken_one, with_taken_box};
 ghost use Rattle.cl_state.specs.Turn.{Becomes, HasPages, part_in};
 ghost use Rattle.cl_state.specs.declared.writes.Range.{Range};
 ghost use Rattle.cl_state.specs.Writes.{box_into, message_into, statuses_from};
@@ -153,7 +153,7 @@ impl<'a> Turn<'a> {
     fn put_box(&mut self, taken: &Taken)
         requires { HasPages self.old (box_into self.old.phases.now taken.now.side taken.now.part ∷ []) }
         ensures becomes { Becomes self.old self.new
-            (with_box taken.now.side taken.now.part taken.now.bytes.now (part_in self.old)) }
+            (with_taken_box taken.now.side taken.now.part taken.now.bytes.now (part_in self.old)) }
         ensures left { (rs : List Range)
             → HasPages self.old (box_into self.old.phases.now taken.now.side taken.now.part ∷ rs)
             → HasPages self.new rs }

@@ -6,7 +6,7 @@ ghost use Rattle.rv_memory.specs.Memory.{bytes_of};
 ghost use Rattle.mp_request.specs.Awaited.{is_new};
 ghost use Rattle.mp_request.specs.Handles.{IsInactive};
 ghost use Rattle.cl_state.specs.declared.row.Outcome.TheVariants as outcome;
-ghost use Rattle.cl_state.specs.Told.{again, done, ended, found as found_by, found_nothing, freed};
+ghost use Rattle.cl_state.specs.Told.{asking_again, done, ended, found as found_by, found_nothing, freed};
 ghost use Rattle.cl_state.specs.Told.{not_yet as not_yet_of};
 ghost use Rattle.cl_state.specs.Told.{opened, received, received_message, returned, waiting, with_status};
 ghost use Rattle.cl_state.specs.Turn.{Becomes, HasPages, IsAble, part_in, with_memory};
@@ -128,7 +128,7 @@ impl<'a> Turn<'a> {
 
     /// The hart makes its call anew in its next turn.
     pub(crate) fn hold(&mut self)
-        ensures { Becomes self.old self.new (again (part_in self.old)) }
+        ensures { Becomes self.old self.new (asking_again (part_in self.old)) }
     {
         self.hart.set_mode(Mode::Waiting(Wait::Again));
     }

@@ -39,7 +39,7 @@ use Rattle.part_phase.specs.declared.phases.Phase.{Phase}
 use Rattle.part_phase.specs.Phases.{receiving_at}
 use Rattle.cl_state_laws.specs.Laws.{PostsLaw}
 use Rattle.cl_state.specs.Pending.{asked_pending, pending_of}
-use Rattle.cl_state.specs.Several.{asked_all, pendings, post_of, posts_of}
+use Rattle.cl_state.specs.Several.{asked_all, pendings, post_of, posts_pending}
 use Rattle.cl_state.specs.Transfers.{asked_transfer, receive_of, send_of}
 
 words_count : (memory : Memory) (address n : ℕ) → length (words_at memory address n) ≡ n
@@ -52,9 +52,9 @@ one_more : (post : Option ℕ) (posts : List ℕ) (n : ℕ) → length posts ≤
 one_more None posts n few = omega (arith, few)
 one_more (Some post) posts n few = omega (arith, few)
 
-posts_few : (ps : List Pending) → length (posts_of ps) ≤ length ps
+posts_few : (ps : List Pending) → length (posts_pending ps) ≤ length ps
 posts_few [] = omega arith
-posts_few (p ∷ ps) = one_more (post_of p) (posts_of ps) (length ps) (posts_few ps)
+posts_few (p ∷ ps) = one_more (post_of p) (posts_pending ps) (length ps) (posts_few ps)
 
 -- ---- a call that goes on has few handles
 
@@ -105,7 +105,7 @@ few_several : (memory : Memory) (table : Table) (s : Several) (posts : List ℕ)
     → asked_several memory table s ≡ ask.Hub (request.All posts) → length posts ≤ 255
 few_several memory table s posts few hub =
     let handles : List ℕ = handles_in memory (array_at s.array s.count) in
-    let same : posts_of (pendings table handles) ≡ posts = same_posts _ posts hub in
+    let same : posts_pending (pendings table handles) ≡ posts = same_posts _ posts hub in
     let most = posts_few (pendings table handles) in
     let all = length-map handles (λ (handle : ℕ). pending_of (request_at table handle)) in
     let count = words_count memory s.array s.count in

@@ -44,7 +44,7 @@ use Rattle.cl_state.specs.Asked.{Part, no_hart, part_of, doing, asked, asked_in}
 use Rattle.cl_state.specs.Partitions.{awaited_of_part}
 use Rattle.cl_state.specs.Pending.{pending_of}
 use Rattle.cl_state.specs.Rank.{Rank}
-use Rattle.cl_state.specs.Several.{pendings, posts_of}
+use Rattle.cl_state.specs.Several.{pendings, posts_pending}
 use Rattle.cl_state.specs.Table.{begins, begins_phase, starts, completes, completing, takes, row_awaited, row_completing, row_ready, row_of_part, row_arrived, gathers, row_of}
 use Rattle.cl_state.specs.Told.{returned, told, told_in, told_row}
 use Rattle.cl_state.specs.Transfers.{send_of, receive_of, claimed_of}
@@ -176,10 +176,10 @@ call_delayed site hart memory table phases (call.Start handle) part waits =
     told_by Posting site _ part waits (starts_manner handle (request_at table handle))
 call_delayed site hart memory table phases (call.Testall s) part waits =
     told_by Immediate site _ part waits
-    (gathers_manner Immediate s (posts_of (pendings table (handles_in memory (array_at s.array s.count)))))
+    (gathers_manner Immediate s (posts_pending (pendings table (handles_in memory (array_at s.array s.count)))))
 call_delayed site hart memory table phases (call.Waitall s) part waits =
     told_by Blocking site _ part waits
-    (gathers_manner Blocking s (posts_of (pendings table (handles_in memory (array_at s.array s.count)))))
+    (gathers_manner Blocking s (posts_pending (pendings table (handles_in memory (array_at s.array s.count)))))
 call_delayed site hart memory table phases (call.PsendInit t) part waits = refl
 call_delayed site hart memory table phases (call.PrecvInit t) part waits = refl
 call_delayed site hart memory table phases (call.Pready handle part_number) part waits =

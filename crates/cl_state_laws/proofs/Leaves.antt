@@ -53,8 +53,8 @@ use Rattle.cl_state.specs.declared.row.Visit.TheVariants.{Readies, Frees, Takes,
 use Rattle.cl_state.specs.declared.row.Wanted.{Wanted}
 use Rattle.cl_state.specs.declared.row.Wanted.TheVariants as wanted
 use Rattle.cl_state.specs.Asked.{Part, no_hart, part_of, doing}
-use Rattle.cl_state.specs.Several.{post_of, posts_of, pendings, are_fit, got_of, left_of, given_one, given, with_all_bytes, with_statuses, status_of, statuses_of}
-use Rattle.cl_state.specs.Table.{begun, begins, begins_phase, starts, completes, completing, concludes, holds, takes, row_awaited, row_completing, row_ready, row_of_part, row_arrived, gathers, row_of, row_in}
+use Rattle.cl_state.specs.Several.{post_of, posts_pending, pendings, are_fit, got_for_post, left_of, given_one, given, with_all_bytes, with_statuses, bytes_of_status, statuses_of}
+use Rattle.cl_state.specs.Table.{begun_outcome, begins, begins_phase, starts, completes, completing, concludes, holds_by, takes, row_awaited, row_completing, row_ready, row_of_part, row_arrived, gathers, row_of, row_in}
 use Rattle.cl_state.specs.Pending.{pending_of}
 use Rattle.cl_state.specs.Rank.{Rank}
 use Rattle.cl_state.specs.Transfers.{send_of, receive_of, claimed_of}
@@ -62,7 +62,7 @@ use Rattle.cl_state.specs.declared.partitions.Awaited.{Awaited}
 use Rattle.cl_state.specs.declared.partitions.Awaited.TheVariants as awaits
 use Rattle.cl_state.specs.declared.asking.Doing.TheVariants.{Step, Refused, Go, Poll, Stopped}
 use Rattle.cl_state.specs.Partitions.{awaited_of_part}
-use Rattle.cl_state.specs.Told.{arrived, arrived_from, completed_all, cut_known, done, ended, found, found_at, found_nothing, freed, freed_one, gathered, gathered_if, made_side_at, not_yet, opened_at, part_readied, phase_begun, received, received_from, received_message, replied, returned, seen_one, taken_one, told, told_in, told_row, visited, with_box, with_status}
+use Rattle.cl_state.specs.Told.{arrived, arrived_from, completed_all, cut_known, done, ended, found, found_at, found_nothing, freed, freed_one, gathered, gathered_if, made_side_at, not_yet, opened_at, part_readied, phase_begun, received, received_from, received_message, replied, returned, seen_one, taken_one, told, told_in, told_row, visited, with_taken_box, with_status}
 use Rattle.cl_state.specs.Written.{written}
 use Rattle.cl_state_laws.specs.Leaves.{IsLeft, has_returned, is_waiting, has_ended, is_kept, Range, IsOutside, IsOutsideAll, status_range, target_ranges, box_range, buffers_of, statuses_range, several_ranges, ranges_of, IsNoStep, HartLaw, BytesLaw}
 
@@ -176,7 +176,7 @@ other_given : (site : Site) (ps : List Pending) (gots : List (Option Message)) (
 other_given site [] gots memory i past = refl
 other_given site (pending.Message post buffer capacity ∷ ps) gots memory i past =
     other_given site ps (left_of (Some post) gots) _ i past.1
-    ∙ one (got_of (Some post) gots)
+    ∙ one (got_for_post (Some post) gots)
   where
     one : (o : Option Message)
         → at (written memory (given_one site (pending.Message post buffer capacity) o).buffer
@@ -192,13 +192,13 @@ other_given site (pending.Word post ∷ ps) gots memory i past =
 
 statuses_length : (site : Site) (ps : List Pending) (gots : List (Option Message))
     → length (statuses_of (given site ps gots)) ≡ 24 * length ps
-unfolding status_of
+unfolding bytes_of_status
 statuses_length site [] gots = refl
 statuses_length site (p ∷ ps) gots =
     (let rest = statuses_length site ps (left_of (post_of p) gots) in
-    let both = length-append (status_of (given_one site p (got_of (post_of p) gots)))
+    let both = length-append (bytes_of_status (given_one site p (got_for_post (post_of p) gots)))
     (statuses_of (given site ps (left_of (post_of p) gots))) in
-    let one : length (status_of (given_one site p (got_of (post_of p) gots))) ≡ 24 = refl in
+    let one : length (bytes_of_status (given_one site p (got_for_post (post_of p) gots))) ≡ 24 = refl in
     omega (arith, rest, both, one))
 
 other_statuses : (site : Site) (ps : List Pending) (gots : List (Option Message)) (memory : Memory) (address i : ℕ)
@@ -372,7 +372,7 @@ left_freed_one i m link target part =
 
 -- a box is written into its place
 other_box : (side : Partitions) (box : ℕ) (bytes : List ℕ) (part : Part) (i : ℕ)
-    → IsOutside i (box_range part.phases side box) → at (with_box side box bytes part).memory i ≡ at part.memory i
+    → IsOutside i (box_range part.phases side box) → at (with_taken_box side box bytes part).memory i ≡ at part.memory i
 other_box side box bytes part i past =
     other_taken part.memory (side.buffer + box * (receiving_at part.phases side.link).bytes)
     (receiving_at part.phases side.link).bytes bytes i past
@@ -383,7 +383,7 @@ left_taken : (i : ℕ) (site : Site) (m : Manner) (side : Partitions) (box : ℕ
     (taken_one site m side box target bytes part)
 unfolding taken_one
 left_taken i site m side box target bytes part =
-    left_if i _ (receiving_at (with_box side box bytes part).phases side.link).active part _ _
+    left_if i _ (receiving_at (with_taken_box side box bytes part).phases side.link).active part _ _
     (left_not_yet i _ m part _ refl (λ past. other_box side box bytes part i past.0))
     (left_arrived i _ site side target part _ refl (λ past. (other_box side box bytes part i past.0, past.1)))
 
@@ -424,7 +424,7 @@ left_done i site (outcome.Arrives side target) part call =
 
 -- what is begun writes no memory
 left_begun : (i : ℕ) (site : Site) (why : Purpose) (t : Transfer) (p : Progress) (part : Part)
-    → Leaves i [] part (done site (begun why t p) part)
+    → Leaves i [] part (done site (begun_outcome why t p) part)
 left_begun i site purpose.Send t progress.Finished part = ends_so i [] code.Ok 0 part
 left_begun i site purpose.Send t (progress.OnPost post) part =
     record { hart = is_waiting (Post post) refl; byte = λ past. refl }
@@ -486,7 +486,7 @@ if_no_step : (b : Bool) (x y : Row) → IsNoStepRow x → IsNoStepRow y → IsNo
 if_no_step true x y p q = p
 if_no_step false x y p q = q
 
-begun_no_step : (why : Purpose) (t : Transfer) (p : Progress) → IsNoStepRow (AtOnce (begun why t p))
+begun_no_step : (why : Purpose) (t : Transfer) (p : Progress) → IsNoStepRow (AtOnce (begun_outcome why t p))
 begun_no_step purpose.Send t progress.Finished = tt
 begun_no_step purpose.Send t (progress.OnPost post) = tt
 begun_no_step purpose.Send t progress.InPhase = tt
@@ -519,7 +519,7 @@ concludes_no_step : (t : Transfer) (target : Target) → IsNoStepRow (AtOnce (co
 concludes_no_step (transfer.ReceivePartitions side) target = tt
 concludes_no_step _ target = tt
 
-holds_no_step : (m : Manner) → IsNoStepRow (AtOnce (holds m))
+holds_no_step : (m : Manner) → IsNoStepRow (AtOnce (holds_by m))
 holds_no_step Immediate = tt
 holds_no_step _ = tt
 
@@ -576,9 +576,9 @@ call_no_step site hart memory table phases (call.Imrecv m) = begins_no_step purp
 call_no_step site hart memory table phases (call.Mrecv m status) = if_no_step (m.message == no_message) _ _ tt tt
 call_no_step site hart memory table phases (call.Start handle) = starts_no_step handle (request_at table handle)
 call_no_step site hart memory table phases (call.Testall s) =
-    gathers_no_step Immediate s (posts_of (pendings table (handles_in memory (array_at s.array s.count))))
+    gathers_no_step Immediate s (posts_pending (pendings table (handles_in memory (array_at s.array s.count))))
 call_no_step site hart memory table phases (call.Waitall s) =
-    gathers_no_step Blocking s (posts_of (pendings table (handles_in memory (array_at s.array s.count))))
+    gathers_no_step Blocking s (posts_pending (pendings table (handles_in memory (array_at s.array s.count))))
 call_no_step site hart memory table phases (call.Pready handle part) =
     ready_no_step part (sending_side (request_at table handle))
 call_no_step site hart memory table phases (call.Parrived handle part) =

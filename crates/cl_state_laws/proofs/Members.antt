@@ -42,7 +42,7 @@ use Rattle.cl_state.specs.declared.row.Visit.TheVariants.{Readies, Frees, Takes,
 use Rattle.cl_state.specs.declared.row.Wanted.{Wanted}
 use Rattle.cl_state.specs.declared.row.Wanted.TheVariants as wanted
 use Rattle.cl_state.specs.Asked.{Part, asked, asked_by, asked_completing, asked_in, asked_poll, asked_start, doing, part_of}
-use Rattle.cl_state.specs.Table.{begins, begins_phase, begun, completes, completing, concludes, gathers, holds, polled, row_arrived, row_awaited, row_completing, row_in, row_of, row_of_part, row_ready, starts, takes}
+use Rattle.cl_state.specs.Table.{begins, begins_phase, begun_outcome, completes, completing, concludes, gathers, holds_by, polled, row_arrived, row_awaited, row_completing, row_in, row_of, row_of_part, row_ready, starts, takes}
 use Rattle.cl_state.specs.Told.{arrived, arrived_from, completed_all, cut_known, done, found, found_at, found_nothing, freed, freed_one, gathered_if, made_receiving, made_sending, made_side_at, not_yet, opened_at, part_readied, phase_begun, received, received_from, received_message, replied, seen_one, taken_one, told, told_row, visited}
 use Rattle.cl_state.specs.Several.{asked_all, completed_each}
 use Rattle.cl_state.specs.declared.asking.Ask.{Ask}
@@ -217,7 +217,7 @@ module _ (site : Site) where
   keeps_done (outcome.Arrives side target) part fits inside = keeps_arrived side target part inside
   keeps_done (outcome.CompletesAll value s) part fits inside = keeps_all value s.statuses _ _ part inside
 
-  opens_begun : (why : Purpose) (t : Transfer) (p : Progress) → IsInside site t → Opens (begun why t p)
+  opens_begun : (why : Purpose) (t : Transfer) (p : Progress) → IsInside site t → Opens (begun_outcome why t p)
   opens_begun purpose.Send t Finished fits = tt
   opens_begun purpose.Send t (OnPost post) fits = tt
   opens_begun purpose.Send t InPhase fits = tt
@@ -257,7 +257,7 @@ module _ (site : Site) where
   keeps_replied (wanted.Post why t) r part fits = go r
     where
       go : (r : Reply) → Keeps part (replied site (wanted.Post why t) r part)
-      go (reply.Posted post paired) = keeps_done (begun why t _) part (opens_begun why t _ fits)
+      go (reply.Posted post paired) = keeps_done (begun_outcome why t _) part (opens_begun why t _ fits)
       go _ = λ inside. inside
   keeps_replied (wanted.MessageOrPost target) r part fits = go r
     where
@@ -422,7 +422,7 @@ module _ (site : Site) where
   concludes_fits (transfer.ReceivePartitions side) target = tt
   concludes_fits _ target = tt
 
-  holds_fits : (m : Manner) → Opens (holds m)
+  holds_fits : (m : Manner) → Opens (holds_by m)
   holds_fits Immediate = tt
   holds_fits _ = tt
 

@@ -43,7 +43,7 @@ use Rattle.cl_state.specs.Partitions.{asked_arrived, asked_awaited, asked_ready,
 use Rattle.cl_state.specs.Partitions.{awaited_in, taking_of}
 use Rattle.cl_state.proofs.Moved.{by_awaited, by_taking, row_by, row_is}
 use Rattle.cl_state.specs.Pending.{asked_pending, pending_of}
-use Rattle.cl_state.specs.Several.{asked_all, pendings, posts_of}
+use Rattle.cl_state.specs.Several.{asked_all, pendings, posts_pending}
 use Rattle.cl_state.specs.Table.{completing, row_arrived, row_awaited, row_completing, row_in, row_of, row_of_part}
 use Rattle.cl_state.specs.Told.{not_yet, told, told_row, with_part}
 use Rattle.cl_state.specs.Transfers.{asked_transfer, receive_of, send_of, source_of, tag_of}
@@ -188,9 +188,9 @@ looks_call site hart part (call.Mrecv m status) look =
 looks_call site hart part (call.Start handle) look =
     absurd (no_look_start part.memory (request_at part.requests handle) look)
 looks_call site hart part (call.Testall s) look =
-    absurd (no_look_all (posts_of (pendings part.requests (handles_in part.memory (array_at s.array s.count)))) look)
+    absurd (no_look_all (posts_pending (pendings part.requests (handles_in part.memory (array_at s.array s.count)))) look)
 looks_call site hart part (call.Waitall s) look =
-    absurd (no_look_all (posts_of (pendings part.requests (handles_in part.memory (array_at s.array s.count)))) look)
+    absurd (no_look_all (posts_pending (pendings part.requests (handles_in part.memory (array_at s.array s.count)))) look)
 looks_call site hart part _ look = absurd look
 
 pub no_look_poll : (c : Call) (post : ℕ) → IsLook (asked_poll c post) → ⊥

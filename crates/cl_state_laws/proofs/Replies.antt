@@ -40,7 +40,7 @@ use Rattle.part_phase.specs.declared.phases.Phase.{Phase}
 use Rattle.part_phase.specs.Phases.{receiving_at}
 use Rattle.cl_calls.specs.Checks.{receiving_side, sending_side}
 use Rattle.cl_state.specs.Pending.{asked_pending, pending_of}
-use Rattle.cl_state.specs.Several.{asked_all, pendings, posts_of}
+use Rattle.cl_state.specs.Several.{asked_all, pendings, posts_pending}
 use Rattle.cl_state.specs.Table.{begins, completes, completing, gathers, row_arrived, row_awaited, row_completing}
 use Rattle.cl_state.specs.Table.{row_in, row_of, row_of_part, row_ready, starts}
 use Rattle.cl_state.specs.Told.{ended, told, told_row, with_part}
@@ -165,9 +165,9 @@ call_waits site hart memory table phases (call.Mrecv m status) r hub =
 call_waits site hart memory table phases (call.Start handle) r hub =
     starts_waits memory handle (request_at table handle) r hub
 call_waits site hart memory table phases (call.Testall s) r hub =
-    gathers_waits Immediate s (posts_of (pendings table (handles_in memory (array_at s.array s.count)))) r hub
+    gathers_waits Immediate s (posts_pending (pendings table (handles_in memory (array_at s.array s.count)))) r hub
 call_waits site hart memory table phases (call.Waitall s) r hub =
-    gathers_waits Blocking s (posts_of (pendings table (handles_in memory (array_at s.array s.count)))) r hub
+    gathers_waits Blocking s (posts_pending (pendings table (handles_in memory (array_at s.array s.count)))) r hub
 call_waits site hart memory table phases (call.PsendInit t) r hub = tt
 call_waits site hart memory table phases (call.PrecvInit t) r hub = tt
 call_waits site hart memory table phases (call.Pready handle part) r hub =

@@ -39,7 +39,7 @@ use Rattle.cl_state.specs.Asked.{Part, part_of, doing, doing_in, go_or_refuse, a
 use Rattle.cl_state.specs.Partitions.{awaited}
 use Rattle.cl_state.specs.Pending.{asked_pending, pending_of}
 use Rattle.cl_state.specs.Rank.{Rank}
-use Rattle.cl_state.specs.Several.{asked_all, pendings, posts_of}
+use Rattle.cl_state.specs.Several.{asked_all, pendings, posts_pending}
 use Rattle.cl_state.specs.Table.{row_completing, row_of}
 use Rattle.cl_state.specs.Told.{told, told_in, told_row, with_part}
 use Rattle.cl_state.specs.Transfers.{source_of, tag_of}
@@ -86,7 +86,7 @@ missed_call site part (call.Mprobe p) on look =
     absurd (no_look_if (p.source == no_rank)
     (request.Claim p.comm (source_of site p.comm p.source) (tag_of p.tag)) look)
 missed_call site part (call.Waitall s) on look =
-    absurd (no_look_all (posts_of (pendings part.requests (handles_in part.memory (array_at s.array s.count)))) look)
+    absurd (no_look_all (posts_pending (pendings part.requests (handles_in part.memory (array_at s.array s.count)))) look)
 missed_call site part _ on look = absurd (cc)
 
 -- ---- a call that is held up by its own rank
@@ -130,7 +130,7 @@ held_call site hart part (call.Wait c) on held = go (request_at part.requests c.
 held_call site hart part (call.Probe p) on held = absurd (not_held_if (p.source == no_rank) _ held)
 held_call site hart part (call.Mprobe p) on held = absurd (not_held_if (p.source == no_rank) _ held)
 held_call site hart part (call.Waitall s) on held =
-    absurd (not_held_all (posts_of (pendings part.requests (handles_in part.memory (array_at s.array s.count)))) held)
+    absurd (not_held_all (posts_pending (pendings part.requests (handles_in part.memory (array_at s.array s.count)))) held)
 held_call site hart part _ on held = absurd (cc)
 
 poll_asks_hub : (c : Call) (post : ℕ) (site : Site) (part : Part)

@@ -25,7 +25,7 @@ use Rattle.cl_machine.specs.Journal.{Journal, reply_in}
 use Rattle.cl_journal.specs.Journal.{calls_of, call_of}
 use Rattle.cl_machine.specs.Product.{entry_for}
 use Rattle.cl_machine.specs.ProductSteps.{JournalMoves}
-use Rattle.cl_stuck.specs.Stuck.{AsksInVain, IsEmptyAt, IsFullAt, IsHeld, is_among, is_member}
+use Rattle.cl_stuck.specs.Stuck.{AsksInVain, IsEmptyAt, IsFullAt, IsStuckHart, is_among, is_member}
 use Rattle.cl_stuck.proofs.Boxes.{BoxesMove, not_held}
 
 -- ---- the hub of a journal
@@ -160,7 +160,7 @@ module _ (ranks : List ℕ) (old new : Cluster) (d : Deed) (s t : Rank) where
   held_held asks patient (Act.Freed link part gate) answers does = absurd (cc)
   held_held asks patient Act.Idle answers does = absurd (cc)
 
-  held : IsHeld ranks old d.rank s d.hart → (act : Act) → Suits (asked s d.hart) act → Does act
+  held : IsStuckHart ranks old d.rank s d.hart → (act : Act) → Suits (asked s d.hart) act → Does act
       → Passed old new d.stamp s t
   held is act answers does = go (asked s d.hart) refl is.in_vain answers
     where
@@ -172,7 +172,7 @@ module _ (ranks : List ℕ) (old new : Cluster) (d : Deed) (s t : Rank) where
       go ask.Held asks vain answers = held_held asks is.patient act answers does
       go _ asks vain answers = absurd vain
 
-  pub passed : (IsStopped (mode_of s d.hart) ⊎ IsHeld ranks old d.rank s d.hart) → (act : Act)
+  pub passed : (IsStopped (mode_of s d.hart) ⊎ IsStuckHart ranks old d.rank s d.hart) → (act : Act)
       → Suits (asked s d.hart) act → Does act → Passed old new d.stamp s t
   passed (inl is) act answers does =
       stopped is act

@@ -23,7 +23,7 @@ use Rattle.cl_machine.specs.Cluster.{Cluster, IsRun, IsStep}
 use Rattle.cl_machine.specs.Product.{entry_of}
 use Rattle.cl_machine.specs.ProductSteps.{Goes}
 use Rattle.cl_machine.proofs.Lists.{get-set_same, get-set_other}
-use Rattle.cl_stuck.specs.Stuck.{AreAsTheyWere, AreStuck, AsksInVain, IsAsItWas, IsHeld, is_among, is_member}
+use Rattle.cl_stuck.specs.Stuck.{AreAsTheyWere, AreStuck, AsksInVain, IsAsItWas, IsStuckHart, is_among, is_member}
 use Rattle.cl_stuck.specs.Laws.{DeadlockLaw}
 use Rattle.cl_stuck.proofs.Boxes.{boxes_move}
 use Rattle.cl_stuck.proofs.Others.{in_vain_still}
@@ -33,7 +33,7 @@ use Rattle.cl_stuck.proofs.Reached.{Comes, comes_on, comes_reached, deed_of, sam
 module _ (ranks : List ℕ) where
   -- stopped, or held
   abbrev IsStuck : Cluster → ℕ → Rank → ℕ → Type 0
-  IsStuck cluster r rank hart = IsStopped (mode_of rank hart) ⊎ IsHeld ranks cluster r rank hart
+  IsStuck cluster r rank hart = IsStopped (mode_of rank hart) ⊎ IsStuckHart ranks cluster r rank hart
 
   -- where links, hub and boxes are the same, what was asked in vain is asked in vain
   same_vain : (old new : Cluster) (r : ℕ) (rank : Rank) (a : Ask) → new.journal.links ≡ old.journal.links

@@ -14,7 +14,7 @@ use Rattle.cl_state.specs.Asked.{asked}
 use Rattle.cl_state.specs.Rank.{Rank}
 use Rattle.cl_state_laws.specs.Vain.{IsStopped, mode_of}
 use Rattle.cl_machine.specs.Cluster.{Cluster}
-use Rattle.cl_stuck.specs.Stuck.{AsksInVain, IsHeld, is_among, is_member}
+use Rattle.cl_stuck.specs.Stuck.{AsksInVain, IsStuckHart, is_among, is_member}
 use Rattle.cl_stuck.specs.Laws.{NarrowLaw, UnionLaw}
 use Rattle.cl_stuck.proofs.Own.{hub_of}
 
@@ -47,8 +47,8 @@ module _ (some all : List ℕ) (within : Within some all) where
 
   -- who is stuck beside some is stuck beside more
   pub wider : (cluster : Cluster) (r : ℕ) (rank : Rank) (hart : ℕ)
-      → IsStopped (mode_of rank hart) ⊎ IsHeld some cluster r rank hart
-      → IsStopped (mode_of rank hart) ⊎ IsHeld all cluster r rank hart
+      → IsStopped (mode_of rank hart) ⊎ IsStuckHart some cluster r rank hart
+      → IsStopped (mode_of rank hart) ⊎ IsStuckHart all cluster r rank hart
   wider cluster r rank hart (inl stopped) = inl stopped
   wider cluster r rank hart (inr held) = inr (record {
     patient = held.patient;

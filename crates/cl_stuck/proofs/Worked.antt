@@ -18,7 +18,7 @@ use Rattle.cl_machine.specs.Journal.{Journal, reply_in}
 use Rattle.cl_stuck.specs.Rows.{AnySource, FromItself, SentBefore, WaitForSecond, waitall}
 use Rattle.cl_stuck.specs.Rows.{NobodyLeft, NoneReady, NoneTakes, OneAlone, OneRuns, ReceiveFirst, SendFirst, ended}
 use Rattle.cl_stuck.specs.Rows.{left_there, recv, ssend, waits_for_it, waits_to_be_taken, waits_unready}
-use Rattle.cl_stuck.specs.Stuck.{AreStuck, IsHeld, is_among, is_member}
+use Rattle.cl_stuck.specs.Stuck.{AreStuck, IsStuckHart, is_among, is_member}
 
 -- two ranks with a hart each
 module _ (ranks : List ℕ) (a b : Rank) (j : Journal) (bs : List Box) (one_a : length a.harts ≡ 1)
@@ -27,7 +27,7 @@ module _ (ranks : List ℕ) (a b : Rank) (j : Journal) (bs : List Box) (one_a : 
   two = record { ranks = a ∷ b ∷ []; journal = j; boxes = bs }
 
   abbrev Rest : ℕ → Rank → ℕ → Type 0
-  Rest r rank hart = IsStopped (mode_of rank hart) ⊎ IsHeld ranks two r rank hart
+  Rest r rank hart = IsStopped (mode_of rank hart) ⊎ IsStuckHart ranks two r rank hart
 
   of_rank : (r : ℕ) (rank x : Rank) (hart : ℕ) → length rank.harts ≡ 1 → rank ≡ x → Rest r rank 0
       → hart < length x.harts → Rest r x hart

@@ -5,12 +5,12 @@ use Rattle.mp_waits.specs.Waits.{OnlyOf}
 use Rattle.cl_state.specs.Rank.{Rank}
 use Rattle.cl_state_laws.specs.Vain.{IsStopped, mode_of}
 use Rattle.cl_machine.specs.Cluster.{Cluster}
-use Rattle.cl_stuck.specs.Stuck.{is_among, SomeWaits, IsDeadlock, IsHeld, AreStuck, IsReached}
+use Rattle.cl_stuck.specs.Stuck.{is_among, SomeWaits, IsDeadlock, IsStuckHart, AreStuck, IsReachable}
 
 -- ranks of which the rule holds are stuck for good: a deadlock, if one of their harts waits
 abbrev pub DeadlockLaw : Type 0
 DeadlockLaw =
-    (image : ImageParts) (cluster : Cluster) (ranks : List ℕ) → IsReached image cluster → AreStuck ranks cluster
+    (image : ImageParts) (cluster : Cluster) (ranks : List ℕ) → IsReachable image cluster → AreStuck ranks cluster
     → SomeWaits ranks cluster → IsDeadlock ranks cluster
 
 -- ranks that are stuck together with some, or with others, are stuck together with all: so there are the most that are
@@ -23,7 +23,7 @@ UnionLaw =
 abbrev pub IsStuckBeside : List ℕ → Cluster → ℕ → Type 0
 IsStuckBeside ranks cluster r =
     (rank : Rank) (hart : ℕ) → slice_get cluster.ranks r ≡ Some rank → hart < length rank.harts
-    → IsStopped (mode_of rank hart) ⊎ IsHeld ranks cluster r rank hart
+    → IsStopped (mode_of rank hart) ⊎ IsStuckHart ranks cluster r rank hart
 
 -- who isn't stuck beside a company is stuck in no part of it: so the most are found by leaving out whoever isn't stuck
 -- beside the rest, until nobody is left out

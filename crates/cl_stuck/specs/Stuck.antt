@@ -74,7 +74,7 @@ AsksInVain ranks cluster r site Ask.Held = Unit {0}
 AsksInVain ranks cluster r site _ = ⊥
 
 -- the hart waits in a blocking call, in vain
-pub record IsHeld (ranks : List ℕ) (cluster : Cluster) (r : ℕ) (rank : Rank) (hart : ℕ) : Type 0 where
+pub record IsStuckHart (ranks : List ℕ) (cluster : Cluster) (r : ℕ) (rank : Rank) (hart : ℕ) : Type 0 where
   pub patient : IsPatient rank hart
   pub in_vain : AsksInVain ranks cluster r rank.site (asked rank hart)
 
@@ -82,10 +82,10 @@ pub record IsHeld (ranks : List ℕ) (cluster : Cluster) (r : ℕ) (rank : Rank)
 abbrev pub AreStuck : List ℕ → Cluster → Type 0
 AreStuck ranks cluster =
     (r : ℕ) (rank : Rank) (hart : ℕ) → IsTrue (is_among ranks r) → slice_get cluster.ranks r ≡ Some rank
-    → hart < length rank.harts → IsStopped (mode_of rank hart) ⊎ IsHeld ranks cluster r rank hart
+    → hart < length rank.harts → IsStopped (mode_of rank hart) ⊎ IsStuckHart ranks cluster r rank hart
 
 -- ---- the law
 
 -- the cluster was reached from an image
-abbrev pub IsReached : ImageParts → Cluster → Type 0
-IsReached image cluster = (steps : List Step) × IsRun (loaded_cluster image) steps cluster
+abbrev pub IsReachable : ImageParts → Cluster → Type 0
+IsReachable image cluster = (steps : List Step) × IsRun (loaded_cluster image) steps cluster

@@ -16,10 +16,10 @@ use Rattle.part_box.specs.declared.view.Sending.{Sending}
 use Rattle.part_box.specs.Gate.{ready_stamp, taken_stamp}
 use Rattle.part_box.specs.Steps.{with_freed, with_got, with_look, with_made}
 use Rattle.cl_rank.specs.Deeds.{Act, Deed}
-use Rattle.cl_rank.specs.Sides.{ReceiverActs, SenderActs, is_place, place_of}
+use Rattle.cl_rank.specs.Sides.{ReceiverActs, SenderActs, is_place, box_place_of}
 use Rattle.cl_machine.specs.Boxes.{box_number}
-use Rattle.cl_machine.specs.Joined.{Got, OnItsSide, got_of, made_of, shown}
-use Rattle.cl_machine.specs.Parts.{is_part, own}
+use Rattle.cl_machine.specs.Joined.{Got, OnItsSide, got_of, made_of, takes_shown}
+use Rattle.cl_machine.specs.Parts.{is_index, own}
 use Rattle.cl_machine.specs.Product.{box_at, box_for}
 use Rattle.cl_record.specs.Keys.{bytes_in}
 use Rattle.cl_record.specs.BoxKeys.{thing_of}
@@ -64,7 +64,7 @@ module _ (version : ImageVersion) where
   pub record SenderTells (was is : Sending) (K : List Deed) : Type 0 where
     pub made : map (thing_of version) is.made ≡ map (thing_of version) was.made ++ filter_map made_of K
     pub kept : (n : ℕ) (load : Loaded) → slice_get was.loads n ≡ Some load → slice_get is.loads n ≡ Some load
-    pub loaded : AllByRecursion (IsLoaded is.loads) (shown (length was.made) K)
+    pub loaded : AllByRecursion (IsLoaded is.loads) (takes_shown (length was.made) K)
 
   tells_nothing : (s : Sending) → SenderTells s s []
   tells_nothing s = record {
@@ -91,7 +91,7 @@ module _ (version : ImageVersion) where
             ∙ append_assoc (map (thing_of version) was.made) (thing_of version m ∷ []) (filter_map made_of K)
             ∙ ap (λ x. map (thing_of version) was.made ++ (x ∷ filter_map made_of K)) same;
         kept = tells.kept;
-        loaded = subst (λ n. AllByRecursion (IsLoaded is.loads) (shown n K)) (length-append was.made (m ∷ []))
+        loaded = subst (λ n. AllByRecursion (IsLoaded is.loads) (takes_shown n K)) (length-append was.made (m ∷ []))
             tells.loaded;
       }
 
@@ -132,8 +132,8 @@ module _ (version : ImageVersion) where
 
   module _ (links : List Link) (rank link part : ℕ) (low : part < 16) where
     sender_step : (r h s : ℕ) (act : Act) (was mid is : Sending) (K : List Deed) → OnItsSide links rank act
-        → OnBox (SenderActs version) (is_place link part (place_of act)) was (deed r h s act) mid → SenderTells mid is K
-        → SenderTells was is (cond (is_part (box_number link part) (box_for act)) (deed r h s act ∷ K) K)
+        → OnBox (SenderActs version) (is_place link part (box_place_of act)) was (deed r h s act) mid → SenderTells mid is K
+        → SenderTells was is (cond (is_index (box_number link part) (box_for act)) (deed r h s act ∷ K) K)
     sender_step r h s Act.Plain was mid is K side on tells = tells_same was mid is K on tells
     sender_step r h s Act.Local was mid is K side on tells = tells_same was mid is K on tells
     sender_step r h s (Act.Hub clock request reply) was mid is K side on tells = tells_same was mid is K on tells
@@ -210,9 +210,9 @@ module _ (version : ImageVersion) where
 
   module _ (links : List Link) (rank link part : ℕ) (low : part < 16) where
     receiver_step : (r h s : ℕ) (act : Act) (was mid is : Receiving) (K : List Deed) → OnItsSide links rank act
-        → OnBox (ReceiverActs version) (is_place link part (place_of act)) was (deed r h s act) mid
+        → OnBox (ReceiverActs version) (is_place link part (box_place_of act)) was (deed r h s act) mid
         → ReceiverTells mid is K
-        → ReceiverTells was is (cond (is_part (box_number link part) (box_for act)) (deed r h s act ∷ K) K)
+        → ReceiverTells was is (cond (is_index (box_number link part) (box_for act)) (deed r h s act ∷ K) K)
     receiver_step r h s Act.Plain was mid is K side on tells = took_same was mid is K on tells
     receiver_step r h s Act.Local was mid is K side on tells = took_same was mid is K on tells
     receiver_step r h s (Act.Hub clock request reply) was mid is K side on tells = took_same was mid is K on tells

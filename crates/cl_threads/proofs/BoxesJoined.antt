@@ -20,7 +20,7 @@ use Rattle.part_box.proofs.GateKept.{taken_shown}
 use Rattle.part_phase.specs.Limits.{box_words}
 use Rattle.cl_rank.specs.Deeds.{Deed}
 use Rattle.cl_machine.specs.Boxes.{Thing, box_number}
-use Rattle.cl_machine.specs.Joined.{BoxJoined, Got, OnItsSide, ShowsTake, gate_stamp, link_of, shown}
+use Rattle.cl_machine.specs.Joined.{BoxJoined, Got, OnItsSide, ShowsTake, gate_stamp, link_of_box, takes_shown}
 use Rattle.cl_machine.specs.Joined as law
 use Rattle.cl_machine.specs.Parts.{own}
 use Rattle.cl_machine.specs.Product.{box_at}
@@ -163,12 +163,12 @@ module _ (version : ImageVersion) where
           got = got;
           made_is = sym sender.made;
           got_is = sym receiver;
-          loaded = shown 0 (own box_at (box_number link part) (deeds l.from));
+          loaded = takes_shown 0 (own box_at (box_number link part) (deeds l.from));
           loaded_is = refl;
           one_more = one_more;
           front = front;
           taken_after = taken_after;
           made_after = made_after;
-          freed = all_show (shown 0 (own box_at (box_number link part) (deeds l.from))) sender.loaded;
+          freed = all_show (takes_shown 0 (own box_at (box_number link part) (deeds l.from))) sender.loaded;
           end = end;
         }

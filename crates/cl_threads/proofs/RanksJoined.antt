@@ -17,7 +17,7 @@ use Rattle.cl_record.specs.declared.plans.Plan.{Plan}
 use Rattle.cl_record.proofs.Wires.{new_keys}
 use Rattle.cl_threads.specs.OnThreads.{AreDone, KeysGo, WentBy}
 use Rattle.cl_threads.specs.Loading.{AreLoaded}
-use Rattle.cl_threads.specs.Runs.{IsRankOf}
+use Rattle.cl_threads.specs.Runs.{IsTracedRank}
 use Rattle.cl_threads.specs.declared.turns.Done.{Done}
 use Rattle.cl_threads.proofs.KeyRuns.{all_on_side}
 
@@ -30,7 +30,7 @@ pub record RankWent (image : ImageParts) (channels : List ChannelView) (r : ℕ)
   pub first : Sides
   pub new : AreNewEnds image.version image.links channels r first
   pub keys : KeysGo image.version first deeds (view_of done.rank).sides
-  pub left : IsRankOf plan deeds (view_of done.rank).events (view_of done.rank).rank done.stop
+  pub left : IsTracedRank plan deeds (view_of done.rank).events (view_of done.rank).rank done.stop
 
 -- so each deed is on the rank's own side of a link
 pub on_its_side : (image : ImageParts) (channels : List ChannelView) (r : ℕ) (plan : Plan) (deeds : List Deed)

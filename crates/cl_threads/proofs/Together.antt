@@ -37,7 +37,7 @@ use Rattle.cl_record.proofs.Leaves.{shows}
 use Rattle.cl_threads.specs.OnThreads.{AreDone}
 use Rattle.cl_threads.specs.Leaving.{IsRecordOf}
 use Rattle.cl_threads.specs.Loading.{IsCluster}
-use Rattle.cl_threads.specs.Runs.{IsBoxOf, IsRankOf, IsThreadRun}
+use Rattle.cl_threads.specs.Runs.{IsBoxOf, IsTracedRank, IsThreadRun}
 use Rattle.cl_threads.specs.Ties.{AreOf, AreTied}
 use Rattle.cl_threads.specs.declared.loading.Cluster.{Cluster}
 use Rattle.cl_threads.specs.declared.turns.Done.{Done}
@@ -214,7 +214,7 @@ module _ (image : ImageParts) (channels : List ChannelView) (plans : List Plan) 
     rank_left : (r : ℕ) (plan : Plan) (trace : TraceView) (state : RankState) (stop : Stop)
         → slice_get plans r ≡ Some plan → slice_get left.traces.items r ≡ Some trace
         → slice_get left.ranks.items r ≡ Some state → slice_get left.stops.items r ≡ Some stop
-        → IsRankOf plan (ran.deeds r) trace.events (rank_of state) stop
+        → IsTracedRank plan (ran.deeds r) trace.events (rank_of state) stop
     rank_left r plan trace state stop at_plan at_trace at_state at_stop =
         let done = from_map (λ (x : Done). x.rank.trace) all r trace
         (ap (λ xs. slice_get xs r) (sym record_is.traces_are) ∙ at_trace) in
@@ -229,10 +229,10 @@ module _ (image : ImageParts) (channels : List ChannelView) (plans : List Plan) 
         same_Some done.0.stop stop
         (sym (to_map (λ (x : Done). x.stop) all r done.0 done.1) ∙ ap (λ xs. slice_get xs r) (sym record_is.stops_are)
         ∙ at_stop) in
-        subst (λ p. IsRankOf p (ran.deeds r) trace.events (rank_of state) stop) plan_is
-        (subst (λ es. IsRankOf w.0 (ran.deeds r) es (rank_of state) stop) events_are
-        (subst (λ s. IsRankOf w.0 (ran.deeds r) done.0.rank.trace.events (rank_of s) stop) state_is
-        (subst (λ s. IsRankOf w.0 (ran.deeds r) done.0.rank.trace.events (rank_of done.0.rank.state) s) stop_is
+        subst (λ p. IsTracedRank p (ran.deeds r) trace.events (rank_of state) stop) plan_is
+        (subst (λ es. IsTracedRank w.0 (ran.deeds r) es (rank_of state) stop) events_are
+        (subst (λ s. IsTracedRank w.0 (ran.deeds r) done.0.rank.trace.events (rank_of s) stop) state_is
+        (subst (λ s. IsTracedRank w.0 (ran.deeds r) done.0.rank.trace.events (rank_of done.0.rank.state) s) stop_is
         w.2.left)))
 
     box_by_keys : (link part : ℕ) (l : Link) (settled : List Settled) (b : Settled) → part < 16

@@ -16,7 +16,7 @@ use Rattle.cl_state.specs.Rank.{Rank}
 use Rattle.cl_state.specs.Room.{rank_of}
 use Rattle.cl_state.specs.declared.state.RankState.{RankState}
 use Rattle.cl_rank.specs.Deeds.{Act, Deed, PartRun, event_of}
-use Rattle.cl_rank.specs.Sides.{ReceiverActs, SenderActs, is_place, place_of}
+use Rattle.cl_rank.specs.Sides.{ReceiverActs, SenderActs, is_place, box_place_of}
 use Rattle.cl_rank.specs.declared.stops.Stop.{Stop}
 use Rattle.cl_machine.specs.Cluster.{Cluster, loaded_cluster}
 use Rattle.cl_machine.specs.Joined.{Joined}
@@ -29,7 +29,7 @@ use Rattle.cl_record.specs.declared.records.RunFault.TheVariants as fault
 use Rattle.cl_threads.specs.Alone.{StopsFor}
 
 -- what a thread left of a rank: its events are its deeds, by its plan, and it stopped for a cause
-pub record IsRankOf (plan : Plan) (deeds : List Deed) (events : List Event) (rank : Rank) (stop : Stop) : Type 0 where
+pub record IsTracedRank (plan : Plan) (deeds : List Deed) (events : List Event) (rank : Rank) (stop : Stop) : Type 0 where
   pub traced : events ≡ map event_of deeds
   pub follows_plan : FollowsPlan plan events
   pub in_budget : length events ≤ plan.budget
@@ -45,12 +45,12 @@ OnBox Acts false old d new = new ≡ old
 abbrev pub SenderWent : ImageVersion → ℕ → ℕ → List Deed → Sending → Type 0
 SenderWent version link part deeds key =
     PartRun (λ (a : Sending) (d : Deed) (b : Sending).
-    OnBox (SenderActs version) (is_place link part (place_of d.act)) a d b) nothing_sent deeds key
+    OnBox (SenderActs version) (is_place link part (box_place_of d.act)) a d b) nothing_sent deeds key
 
 abbrev pub ReceiverWent : ImageVersion → ℕ → ℕ → List Deed → Receiving → Type 0
 ReceiverWent version link part deeds key =
     PartRun (λ (a : Receiving) (d : Deed) (b : Receiving).
-    OnBox (ReceiverActs version) (is_place link part (place_of d.act)) a d b) nothing_received deeds key
+    OnBox (ReceiverActs version) (is_place link part (box_place_of d.act)) a d b) nothing_received deeds key
 
 -- box number `part` of a link: its two keys went by the deeds of the link's two ranks, and this is what they left of it
 pub record IsBoxOf (version : ImageVersion) (deeds : ℕ → List Deed) (link part : ℕ) (l : Link) (left : Settled)
@@ -79,7 +79,7 @@ pub record IsThreadRun (image : ImageParts) (plans : List Plan) (left : Record) 
       → slice_get plans r ≡ Some plan → slice_get left.traces.items r ≡ Some trace
       → slice_get left.ranks.items r ≡ Some state
       → slice_get left.stops.items r ≡ Some stop
-      → IsRankOf plan (deeds r) trace.events (rank_of state) stop
+      → IsTracedRank plan (deeds r) trace.events (rank_of state) stop
   -- the boxes by the keys of their two sides
   pub boxes : (link part : ℕ) (l : Link) (settled : List Settled) (b : Settled) → part < 16
       → slice_get image.links link ≡ Some l → slice_get left.boxes.items link ≡ Some settled

@@ -8,7 +8,7 @@ use Rattle.rv_image.specs.declared.images.ImageParts.{ImageParts}
 use Rattle.rv_image.specs.declared.images.Link.{Link}
 use Rattle.part_box.specs.declared.settled.Settled.{Settled}
 use Rattle.mp_types.specs.declared.requests.Request.{Request}
-use Rattle.mp_hub.specs.Hub.{HubView, started}
+use Rattle.mp_hub.specs.Hub.{HubView, hub_at_start}
 use Rattle.mp_hub.proofs.Transfers.{links_on}
 use Rattle.mp_hub.specs.Vain.{asks_in_vain}
 use Rattle.mp_transfers.specs.Inits.{is_receiver}
@@ -23,12 +23,12 @@ use Rattle.cl_machine.specs.Boxes.{box_number}
 use Rattle.cl_machine.specs.Cluster.{Cluster}
 use Rattle.cl_replay.specs.declared.states.ClusterState.{ClusterState}
 use Rattle.cl_replay.specs.Boxes.{settled_at}
-use Rattle.cl_replay.specs.States.{StandsFor}
+use Rattle.cl_replay.specs.States.{ClusterStandsFor}
 use Rattle.cl_replay.proofs.Boxed.{empty_is, shown_of_box, shown_of_settled}
-use Rattle.cl_stuck.specs.Stuck.{IsEmptyAt, IsFullAt, IsHeld}
+use Rattle.cl_stuck.specs.Stuck.{IsEmptyAt, IsFullAt, IsStuckHart}
 use Rattle.cl_stuck.specs.Laws.{IsStuckBeside}
 
-module _ (image : ImageParts) (state : ClusterState) (cluster : Cluster) (stands : StandsFor image state cluster) where
+module _ (image : ImageParts) (state : ClusterState) (cluster : Cluster) (stands : ClusterStandsFor image state cluster) where
   -- the hub's answer is that of the journal's calls
   pub waits : (member : ℕ → ℕ → Bool) (among : ℕ → Bool) (rank : ℕ) (q : Request)
       → ((asks_in_vain state.hub rank q ≡ true) × IsUpTo member among state.hub rank q)
@@ -45,7 +45,7 @@ module _ (image : ImageParts) (state : ClusterState) (cluster : Cluster) (stands
   links_are : state.hub.links ≡ cluster.journal.links
   links_are =
       ap (λ (h : HubView). h.links) stands.hub_stands
-      ∙ (links_on (calls_of cluster.journal.entries) (started image.links) ∙ sym stands.of.links)
+      ∙ (links_on (calls_of cluster.journal.entries) (hub_at_start image.links) ∙ sym stands.of.links)
 
   -- what stands in a box of the state stands in the cluster's
   is_empty : (n : ℕ) → ((s : Settled) → settled_at state.boxes.items n ≡ Some s → s.full ≡ false)
@@ -121,10 +121,10 @@ module _ (image : ImageParts) (state : ClusterState) (cluster : Cluster) (stands
   -- a rank is stuck of which each hart is stopped or held
   pub by_harts : (among : List ℕ) (r : ℕ) (own : RankState) → slice_get state.ranks.items r ≡ Some own
       → ((hart : ℕ) → hart < length own.harts.items
-      → IsStopped (mode_of (rank_of own) hart) ⊎ IsHeld among cluster r (rank_of own) hart)
+      → IsStopped (mode_of (rank_of own) hart) ⊎ IsStuckHart among cluster r (rank_of own) hart)
       → IsStuckBeside among cluster r
   by_harts among r own here each rank hart there =
-      subst (λ (x : Rank). hart < length x.harts → IsStopped (mode_of x hart) ⊎ IsHeld among cluster r x hart)
+      subst (λ (x : Rank). hart < length x.harts → IsStopped (mode_of x hart) ⊎ IsStuckHart among cluster r x hart)
       (sym (rank_is r own rank here there)) (each hart)
 
   -- the state's rank is the cluster's
@@ -137,7 +137,7 @@ module _ (image : ImageParts) (state : ClusterState) (cluster : Cluster) (stands
   -- of a rank that is stuck each hart is stopped or held
   pub each_hart : (among : List ℕ) (r : ℕ) (own : RankState) → slice_get state.ranks.items r ≡ Some own
       → IsStuckBeside among cluster r → (hart : ℕ) → hart < length own.harts.items
-      → IsStopped (mode_of (rank_of own) hart) ⊎ IsHeld among cluster r (rank_of own) hart
+      → IsStopped (mode_of (rank_of own) hart) ⊎ IsStuckHart among cluster r (rank_of own) hart
   each_hart among r own here stuck hart low = stuck (rank_of own) hart (own_at r own here) low
 
   pub count_is : length cluster.ranks ≡ length state.ranks.items

@@ -14,7 +14,7 @@ use Rattle.cl_state.specs.Room.{rank_of}
 use Rattle.cl_state_laws.specs.Vain.{IsWaiting, mode_of}
 use Rattle.cl_machine.specs.Cluster.{Cluster}
 use Rattle.cl_replay.specs.declared.states.ClusterState.{ClusterState}
-use Rattle.cl_replay.specs.States.{StandsFor}
+use Rattle.cl_replay.specs.States.{ClusterStandsFor}
 use Rattle.cl_stuck.specs.Stuck.{SomeWaits, is_among}
 use Rattle.cl_why.proofs.Told.{own_at, rank_is}
 
@@ -38,7 +38,7 @@ Waits cluster r = (own : Rank) × (hart : ℕ) × (slice_get cluster.ranks r ≡
 abbrev pub HasWaiting : RankState → Type 0
 HasWaiting own = (hart : ℕ) × IsWaiting (mode_of (rank_of own) hart)
 
-module _ (image : ImageParts) (state : ClusterState) (cluster : Cluster) (stands : StandsFor image state cluster) where
+module _ (image : ImageParts) (state : ClusterState) (cluster : Cluster) (stands : ClusterStandsFor image state cluster) where
   pub there : (r : ℕ) (own : RankState) → slice_get state.ranks.items r ≡ Some own → HasWaiting own
       → Waits cluster r
   there r own here has = (rank_of own, has.0, own_at image state cluster stands r own here, has.1)

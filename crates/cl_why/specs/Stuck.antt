@@ -7,15 +7,15 @@ use Rattle.cl_state.specs.Room.{rank_of}
 use Rattle.cl_state.specs.declared.state.RankState.{RankState}
 use Rattle.cl_machine.specs.Cluster.{Cluster}
 use Rattle.cl_replay.specs.declared.states.ClusterState.{ClusterState}
-use Rattle.cl_replay.specs.States.{StandsFor}
-use Rattle.cl_stuck.specs.Stuck.{AreStuck, IsDeadlock, IsReached, SomeWaits}
+use Rattle.cl_replay.specs.States.{ClusterStandsFor}
+use Rattle.cl_stuck.specs.Stuck.{AreStuck, IsDeadlock, IsReachable, SomeWaits}
 use Rattle.cl_stuck.specs.Laws.{IsStuckBeside}
 use Rattle.cl_why.specs.Why.{HasStuck, IsStateOf}
 
 -- each hart of the rank is stopped, or held beside these
 abbrev pub IsStuckIn : List ℕ → ClusterState → ℕ → Type 0
 IsStuckIn among state rank =
-    (image : ImageParts) (cluster : Cluster) → StandsFor image state cluster → IsStuckBeside among cluster rank
+    (image : ImageParts) (cluster : Cluster) → ClusterStandsFor image state cluster → IsStuckBeside among cluster rank
 
 -- a hart of the rank is neither stopped nor held beside these
 abbrev pub IsFreeIn : List ℕ → ClusterState → ℕ → Type 0
@@ -32,7 +32,7 @@ TakesMemory state rank =
 -- each hart of each of these ranks is stopped or held beside them
 abbrev pub AreStuckIn : List ℕ → ClusterState → Type 0
 AreStuckIn among state =
-    (image : ImageParts) (cluster : Cluster) → StandsFor image state cluster → AreStuck among cluster
+    (image : ImageParts) (cluster : Cluster) → ClusterStandsFor image state cluster → AreStuck among cluster
 
 -- whichever ranks are stuck together are among these
 abbrev pub HasStuckIn : List ℕ → ClusterState → Type 0
@@ -43,5 +43,5 @@ HasStuckIn among state =
 -- on
 abbrev pub IsDeadlockIn : List ℕ → ClusterState → Type 0
 IsDeadlockIn among state =
-    (image : ImageParts) (cluster : Cluster) → StandsFor image state cluster → IsReached image cluster
+    (image : ImageParts) (cluster : Cluster) → ClusterStandsFor image state cluster → IsReachable image cluster
     → SomeWaits among cluster → IsDeadlock among cluster

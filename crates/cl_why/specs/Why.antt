@@ -6,14 +6,14 @@ use Rattle.rv_image.specs.declared.images.ImageParts.{ImageParts}
 use Rattle.mp_waits.specs.Waits.{OnlyOf}
 use Rattle.cl_machine.specs.Cluster.{Cluster}
 use Rattle.cl_replay.specs.declared.states.ClusterState.{ClusterState}
-use Rattle.cl_replay.specs.States.{StandsFor}
-use Rattle.cl_stuck.specs.Stuck.{AreStuck, IsDeadlock, IsReached, SomeWaits, is_among}
+use Rattle.cl_replay.specs.States.{ClusterStandsFor}
+use Rattle.cl_stuck.specs.Stuck.{AreStuck, IsDeadlock, IsReachable, SomeWaits, is_among}
 
 -- the state is this cluster, which was reached from this image
 pub record IsStateOf (image : ImageParts) (state : ClusterState) (cluster : Cluster) : Type 0 where
   pub right : IsImage image
-  pub reached : IsReached image cluster
-  pub stands : StandsFor image state cluster
+  pub reached : IsReachable image cluster
+  pub stands : ClusterStandsFor image state cluster
 
 -- each of these is below the count
 abbrev pub AreBelow : List ℕ → ℕ → Type 0
@@ -47,6 +47,6 @@ IsVerdictOf cluster (Some ranks) = IsFound ranks cluster
 IsVerdictOf cluster None = IsNoneFound cluster
 
 -- what is told of a state that was reached from an image
-abbrev pub IsVerdict : ClusterState → Option (List ℕ) → Type 0
-IsVerdict state found =
+abbrev pub IsDeadlockVerdict : ClusterState → Option (List ℕ) → Type 0
+IsDeadlockVerdict state found =
     (image : ImageParts) (cluster : Cluster) → IsStateOf image state cluster → IsVerdictOf cluster found

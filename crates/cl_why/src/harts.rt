@@ -12,8 +12,8 @@ ghost use Rattle.cl_state_laws.specs.Vain.{IsStopped, IsWaiting, mode_of, waits_
 ghost use Rattle.cl_machine.specs.Boxes.{box_number};
 ghost use Rattle.cl_machine.specs.Cluster.{Cluster};
 ghost use Rattle.cl_replay.specs.Boxes.{settled_at};
-ghost use Rattle.cl_replay.specs.States.{StandsFor};
-ghost use Rattle.cl_stuck.specs.Stuck.{AsksInVain, IsHeld, is_among};
+ghost use Rattle.cl_replay.specs.States.{ClusterStandsFor};
+ghost use Rattle.cl_stuck.specs.Stuck.{AsksInVain, IsStuckHart, is_among};
 
 use crate::among::{has_receiver, has_sender};
 use crate::boxes::{is_empty, is_full};
@@ -83,7 +83,7 @@ fn is_untaken(among: &[u8], state: &ClusterState, link: u8, part: u8) -> bool
 
 /// Whether what a hart of the rank asks isn't there in this state, and could come from these alone.
 fn asks_in_vain(among: &[u8], state: &ClusterState, rank: u8, site: &Site, ask: &Ask) -> bool
-    ensures { (image : ImageParts) (cluster : Cluster) → StandsFor image state.now cluster
+    ensures { (image : ImageParts) (cluster : Cluster) → ClusterStandsFor image state.now cluster
         → ((result ≡ true) ↔ AsksInVain among.now cluster rank site.now ask.now) }
 {
     match ask {
@@ -105,9 +105,9 @@ pub(crate) fn is_held(
     number: u8,
 ) -> Result<bool, AllocError>
     requires { number < vec_len own.now.harts }
-    ensures held { IfOk result (λ held. (image : ImageParts) (cluster : Cluster) → StandsFor image state.now cluster
+    ensures held { IfOk result (λ held. (image : ImageParts) (cluster : Cluster) → ClusterStandsFor image state.now cluster
         → ((held ≡ true)
-        ↔ (IsStopped (mode_of (rank_of own.now) number) ⊎ IsHeld among.now cluster rank (rank_of own.now) number))) }
+        ↔ (IsStopped (mode_of (rank_of own.now) number) ⊎ IsStuckHart among.now cluster rank (rank_of own.now) number))) }
     ensures memory { OnErr result (0 < carried (asked (rank_of own.now) number)) }
 {
     let now = mode(own, number);

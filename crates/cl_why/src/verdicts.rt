@@ -7,9 +7,9 @@ ghost use Rattle.cl_state.specs.Rank.{Rank};
 ghost use Rattle.cl_state.specs.Room.{rank_of};
 ghost use Rattle.cl_state_laws.specs.Vain.{IsWaiting, mode_of};
 ghost use Rattle.cl_machine.specs.Cluster.{Cluster};
-ghost use Rattle.cl_replay.specs.States.{StandsFor};
+ghost use Rattle.cl_replay.specs.States.{ClusterStandsFor};
 ghost use Rattle.cl_stuck.specs.Stuck.{SomeWaits};
-ghost use Rattle.cl_why.specs.Why.{IsVerdict};
+ghost use Rattle.cl_why.specs.Why.{IsDeadlockVerdict};
 
 use crate::companies::stuck;
 use crate::harts::is_waiting;
@@ -31,7 +31,7 @@ fn has_waiting(own: &RankState) -> bool
 
 /// Whether there is this rank, and a hart of it waits.
 fn waits(state: &ClusterState, rank: u8) -> bool
-    ensures { (image : ImageParts) (cluster : Cluster) → StandsFor image state.now cluster
+    ensures { (image : ImageParts) (cluster : Cluster) → ClusterStandsFor image state.now cluster
         → ((result ≡ true) ↔ ((own : Rank) × (hart : ℕ)
         × (slice_get cluster.ranks rank ≡ Some own) × IsWaiting (mode_of own hart))) }
 {
@@ -45,7 +45,7 @@ fn waits(state: &ClusterState, rank: u8) -> bool
 
 /// Whether a hart of these ranks waits.
 fn some_waits(among: &[u8], state: &ClusterState) -> bool
-    ensures { (image : ImageParts) (cluster : Cluster) → StandsFor image state.now cluster
+    ensures { (image : ImageParts) (cluster : Cluster) → ClusterStandsFor image state.now cluster
         → ((result ≡ true) ↔ SomeWaits among.now cluster) }
 {
     for place in 0..among.len() {
@@ -60,7 +60,7 @@ fn some_waits(among: &[u8], state: &ClusterState) -> bool
 /// have ended are among them. None where of no ranks that are stuck together a hart waits. The only error is want of
 /// memory.
 pub fn deadlock(alloc: Global, state: &ClusterState) -> Result<Option<Vec<u8>>, AllocError>
-    ensures { IfOk result (λ found. IsVerdict state.now (option_map (λ ranks. ranks.items) found)) }
+    ensures { IfOk result (λ found. IsDeadlockVerdict state.now (option_map (λ ranks. ranks.items) found)) }
 {
     let ranks = stuck(alloc, state)?;
     if some_waits(ranks.as_slice(), state) {

@@ -7,7 +7,7 @@ use Rattle.cl_machine.specs.Cluster.{loaded_cluster}
 use Rattle.cl_replay.specs.declared.states.ClusterState.{ClusterState}
 use Rattle.cl_replay.specs.Replaying.{IsReached}
 use Rattle.cl_replay.specs.InnerReplaying.{BreaksAt}
-use Rattle.cl_replay.specs.States.{StandsFor}
+use Rattle.cl_replay.specs.States.{ClusterStandsFor}
 use Rattle.cl_replay.proofs.Runs.{run_law}
 
 -- what holds of a refusal holds of the one that is known
@@ -23,5 +23,5 @@ one_break image steps j k at_j at_k =
     omega (arith, not_before, not_behind)
 
 pub reached_none : (image : ImageParts) (steps : List Step) (state : ClusterState) → IsReached image steps 0 state
-    → StandsFor image state (loaded_cluster image)
-reached_none image steps state reached = subst (StandsFor image state) reached.run reached.stands
+    → ClusterStandsFor image state (loaded_cluster image)
+reached_none image steps state reached = subst (ClusterStandsFor image state) reached.run reached.stands

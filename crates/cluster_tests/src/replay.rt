@@ -3,7 +3,7 @@
 ghost use Rattle.std.specs.Prelude.{◌≡◌, ℕ, Err, IfOk, length};
 ghost use Rattle.cl_machine.specs.Cluster.{loaded_cluster};
 ghost use Rattle.cl_replay.specs.InnerReplaying.{BreaksAt};
-ghost use Rattle.cl_replay.specs.States.{StandsFor};
+ghost use Rattle.cl_replay.specs.States.{ClusterStandsFor};
 ghost use Rattle.cl_replay.specs.declared.replaying.ReplayFault.TheVariants as fault;
 
 use cl_machine::Step;
@@ -28,7 +28,7 @@ pub fn no_steps_leave_the_loaded_cluster(
     image: &Image,
     steps: &[Step],
 ) -> Result<ClusterState, ReplayFault>
-    ensures { IfOk result (λ state. StandsFor image.now state (loaded_cluster image.now)) }
+    ensures { IfOk result (λ state. ClusterStandsFor image.now state (loaded_cluster image.now)) }
 {
     replay(alloc, image, steps, 0)
 }

@@ -2,7 +2,7 @@
 
 ghost use Rattle.std.specs.Prelude.{◌≡◌, ◌≢◌, ◌<◌, ◌≤◌, ◌^◌, ◌-◌, ◌∷◌, [], false, length};
 ghost use Rattle.mp_match.specs.Board.{held_count};
-ghost use Rattle.mp_hub.specs.Hub.{started};
+ghost use Rattle.mp_hub.specs.Hub.{hub_at_start};
 ghost use Rattle.messages_tests.specs.Calls.{MoreWorkedCalls};
 ghost use Rattle.messages_tests.specs.Held.{FullLaw};
 ghost use Rattle.messages_tests.specs.Premises.{HubPremises};
@@ -56,7 +56,7 @@ pub fn send_to_the_last_place(
 
 /// A hub that was never called knows no post 5, and says so whatever memory there is.
 pub fn unknown_post_collected(hub: &mut HubState, rank: u8) -> Result<Reply, CallFault>
-    requires { hub.old ≡ started [] }
+    requires { hub.old ≡ hub_at_start [] }
     ensures { result ≡ Ok (Reply.Code Code.BadRequest) }
 {
     hub.answer(rank, &Request::Collect { post: 5 })
@@ -68,7 +68,7 @@ pub fn unknown_post_among_several(
     rank: u8,
     request: &Request,
 ) -> Result<Reply, CallFault>
-    requires new { hub.old ≡ started [] }
+    requires new { hub.old ≡ hub_at_start [] }
     requires all { request.now ≡ Request.All (5 ∷ []) }
     ensures { result ≡ Ok (Reply.Code Code.BadRequest) }
 {

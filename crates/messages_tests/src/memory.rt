@@ -1,7 +1,7 @@
 //! Calls of the hub that aren't refused memory, each proved from the contract alone.
 
 ghost use Rattle.std.specs.Prelude.{◌≡◌, ◌≢◌, ◌+◌, ◌-◌, ◌<◌, ◌^◌, ◌∷◌, [], length, max};
-ghost use Rattle.mp_hub.specs.Hub.{reply_of, started};
+ghost use Rattle.mp_hub.specs.Hub.{reply_of, hub_at_start};
 ghost use Rattle.cl_journal.specs.Journal.{calls_of, entries_by};
 ghost use Rattle.cl_journal.specs.Replaying.{clock_of};
 
@@ -86,7 +86,7 @@ pub fn full_before_memory(hub: &mut Hub, rank: u8) -> Result<(Reply, Stamp), Hub
 
 /// A hub that was never called knows no post 5, and tells it twice whatever memory there is.
 pub fn unknown_post_told_twice(hub: &mut HubState, rank: u8) -> Result<(Reply, Reply), CallFault>
-    requires { hub.old ≡ started [] }
+    requires { hub.old ≡ hub_at_start [] }
     ensures { result ≡ Ok (Reply.Code Code.BadRequest, Reply.Code Code.BadRequest) }
 {
     hub.answer_twice(rank, &Request::Collect { post: 5 })

@@ -12,7 +12,7 @@ use Rattle.mp_match.specs.PostPairs.{pairs, posts_of}
 use Rattle.mp_match.specs.Board.{Board, collect, collect_from, partner_of, is_send_of, line_of}
 use Rattle.mp_match.proofs.Lines.{add_length}
 use Rattle.mp_match.proofs.OrderKept.{posts_add, pairs_more}
-use Rattle.mp_hub.specs.Hub.{HubView, Call, outcome, all_got, one_got, hub_on, hub_after, started, sending}
+use Rattle.mp_hub.specs.Hub.{HubView, Call, outcome, all_got, one_got, hub_on, hub_after, hub_at_start, sending}
 use Rattle.mp_hub.specs.Laws.{IsBoardOf}
 use Rattle.mp_hub.proofs.Outcomes.{Comes, is_nothing, is_full, is_sent, is_posted, is_got, is_gathered, comes}
 
@@ -77,5 +77,5 @@ fair_on (c ∷ cs) h n f =
 
 pub board_law : (links : List Link) (calls : List Call) → IsBoardOf calls (hub_after links calls).board
 board_law links calls =
-    let r = fair_on calls (started links) 0 (refl, omega arith) in
+    let r = fair_on calls (hub_at_start links) 0 (refl, omega arith) in
     record { pairs = r.0; few = (let b = r.1 in omega (arith, b)) }

@@ -8,7 +8,7 @@ use Rattle.mp_hub.specs.Made.{TakesNothing}
 use Rattle.mp_types.specs.declared.requests.Request.TheVariants.{Recv}
 use Rattle.mp_match.specs.declared.posts.Selection.{Selection}
 use Rattle.std.proofs.Common.{Bool, true, Option}
-use Rattle.mp_hub.specs.Hub.{HubView, Call, outcome, recv_outcome, selecting, hub_on, started, reply_of}
+use Rattle.mp_hub.specs.Hub.{HubView, Call, outcome, recv_outcome, selecting, hub_on, hub_at_start, reply_of}
 use Rattle.mp_hub.specs.Outcomes.{StandsFor}
 use Rattle.mp_hub.specs.InnerOutcomes.{IsOutcome, IsOutcomeTwice}
 
@@ -30,7 +30,7 @@ pub stands : (old new : HubView) (rank : ℕ) (q : Request) (r : Result Reply Ca
     → OnOk r (StandsFor new links (calls ++ (rank, q) ∷ []))
 stands old new rank q (Err f) g links calls s = tt
 stands old new rank q (Ok x) g links calls s =
-    g.1 ∙ ap (λ (k : HubView). (outcome k rank q).1) s ∙ sym (hub_on-snoc calls (started links) (rank, q))
+    g.1 ∙ ap (λ (k : HubView). (outcome k rank q).1) s ∙ sym (hub_on-snoc calls (hub_at_start links) (rank, q))
 
 pub replied_twice : (old new : HubView) (rank : ℕ) (q : Request) (r : Result (Reply × Reply) CallFault)
     → IfOk r (λ x. IsOutcomeTwice (outcome old rank q) x new)
@@ -46,7 +46,7 @@ pub stands_twice : (old new : HubView) (rank : ℕ) (q : Request) (r : Result (R
     → OnOk r (StandsFor new links (calls ++ (rank, q) ∷ []))
 stands_twice old new rank q (Err f) g links calls s = tt
 stands_twice old new rank q (Ok x) g links calls s =
-    g.1 ∙ ap (λ (k : HubView). (outcome k rank q).1) s ∙ sym (hub_on-snoc calls (started links) (rank, q))
+    g.1 ∙ ap (λ (k : HubView). (outcome k rank q).1) s ∙ sym (hub_on-snoc calls (hub_at_start links) (rank, q))
 
 pub spared_twice : (old : HubView) (rank : ℕ) (q : Request) (r : Result (Reply × Reply) CallFault)
     → (TakesNothing q (outcome old rank q).0 → IsOk r)

@@ -24,11 +24,11 @@ use Rattle.mp_match.proofs.Places.{get_front, get_snoc, get_last, get_within}
 use Rattle.mp_match.proofs.Lines.{add_new}
 use Rattle.mp_match.proofs.OrderKept.{posts_add, stays_add, partner_line}
 use Rattle.mp_probe.specs.declared.handles.Waiting.{Waiting}
-use Rattle.mp_probe.specs.Claims.{next_number, is_claim, may_receive, is_waiting, received}
+use Rattle.mp_probe.specs.Claims.{next_number, is_claim, may_receive, is_waiting, without_claim}
 use Rattle.mp_transfers.specs.declared.sides.Setup.{Setup}
 use Rattle.mp_transfers.specs.declared.sides.Side.{Side}
 use Rattle.mp_transfers.specs.Inits.{peer_of, lowest_link, same_total, sender_over, is_receiver}
-use Rattle.mp_hub.specs.Hub.{HubView, Call, outcome, message_or, got_or, claim_found, claimed_now, is_complete, may_collect, init_with, init_first, cut_of, setup_of, side_added, all_got, one_got, all_collected, are_distinct, is_known, is_ready, sending, selecting, with_board, with_claims, is_done, hub_after, reply_of, started}
+use Rattle.mp_hub.specs.Hub.{HubView, Call, outcome, message_or, got_or, claim_found, claimed_now, is_complete, may_collect, init_with, init_first, cut_of, setup_of, side_added, all_got, one_got, all_collected, are_distinct, is_known, is_ready, sending, selecting, with_board, with_claims, is_done, hub_after, reply_of, hub_at_start}
 use Rattle.mp_hub.specs.Histories.{got_of, got_by, got_after, received_by, received_after, number_after}
 use Rattle.mp_hub.proofs.BoardKept.{collect_lines, one_lines, all_lines}
 use Rattle.mp_hub.proofs.HeldKept.{Stock, stock}
@@ -124,7 +124,7 @@ one_claim ps r s n c d =
 
 -- a message that its rank receives waits no longer
 pub waits_no_longer : (ps : List Post) (ws : List Waiting) (rank n : ℕ) → Owned ps ws → ClaimOf ps rank n
-    → is_waiting (received ws rank n) n ≡ false
+    → is_waiting (without_claim ws rank n) n ≡ false
 waits_no_longer ps [] rank n owned c = refl
 waits_no_longer ps (w ∷ ws) rank n owned c = go (is_claim rank n w) refl (waits_no_longer ps ws rank n owned.1 c)
   where
@@ -137,37 +137,37 @@ waits_no_longer ps (w ∷ ws) rank n owned c = go (is_claim rank n w) refl (wait
         (λ i. eq-eqb w.rank rank own i && here i) in
         (let no : true ≡ false = sym both ∙ may_not in cc)
 
-    go : (b : Bool) → is_claim rank n w ≡ b → is_waiting (received ws rank n) n ≡ false
-        → is_waiting (cond (not b) (w ∷ received ws rank n) (received ws rank n)) n ≡ false
+    go : (b : Bool) → is_claim rank n w ≡ b → is_waiting (without_claim ws rank n) n ≡ false
+        → is_waiting (cond (not b) (w ∷ without_claim ws rank n) (without_claim ws rank n)) n ≡ false
     go true e rest = rest
     go false e rest =
-        or_false (w.message == n) (is_waiting (received ws rank n) n) (not_true (w.message == n) (other e)) rest
+        or_false (w.message == n) (is_waiting (without_claim ws rank n) n) (not_true (w.message == n) (other e)) rest
 
 -- any other message waits on
 waits_on : (ws : List Waiting) (rank n r m : ℕ) → (n ≡ m → ⊥) → may_receive ws r m ≡ true
-    → may_receive (received ws rank n) r m ≡ true
+    → may_receive (without_claim ws rank n) r m ≡ true
 waits_on [] rank n r m apart h = absurd (cc)
 waits_on (w ∷ ws) rank n r m apart h =
     go (is_claim rank n w) refl (λ g. waits_on ws rank n r m apart g) (or_cases (is_claim r m w) (may_receive ws r m) h)
   where
     go : (b : Bool) → is_claim rank n w ≡ b
-        → (may_receive ws r m ≡ true → may_receive (received ws rank n) r m ≡ true)
+        → (may_receive ws r m ≡ true → may_receive (without_claim ws rank n) r m ≡ true)
         → (is_claim r m w ≡ true) ⊎ (may_receive ws r m ≡ true)
-        → may_receive (cond (not b) (w ∷ received ws rank n) (received ws rank n)) r m ≡ true
+        → may_receive (cond (not b) (w ∷ without_claim ws rank n) (without_claim ws rank n)) r m ≡ true
     go true e rest (inl here) =
         let p = eqb-true w.message n (and_parts (w.rank == rank) (w.message == n) e).1 in
         let q = eqb-true w.message m (and_parts (w.rank == r) (w.message == m) here).1 in
         absurd (apart (sym p ∙ q))
     go true e rest (inr there) = rest there
-    go false e rest (inl here) = ap (λ b. b || may_receive (received ws rank n) r m) here
-    go false e rest (inr there) = or_right (is_claim r m w) (may_receive (received ws rank n) r m) (rest there)
+    go false e rest (inl here) = ap (λ b. b || may_receive (without_claim ws rank n) r m) here
+    go false e rest (inr there) = or_right (is_claim r m w) (may_receive (without_claim ws rank n) r m) (rest there)
 
-owned_left : (ps : List Post) (ws : List Waiting) (rank n : ℕ) → Owned ps ws → Owned ps (received ws rank n)
+owned_left : (ps : List Post) (ws : List Waiting) (rank n : ℕ) → Owned ps ws → Owned ps (without_claim ws rank n)
 owned_left ps [] rank n owned = tt
 owned_left ps (w ∷ ws) rank n owned = go (is_claim rank n w) (owned_left ps ws rank n owned.1)
   where
-    go : (b : Bool) → Owned ps (received ws rank n)
-        → Owned ps (cond (not b) (w ∷ received ws rank n) (received ws rank n))
+    go : (b : Bool) → Owned ps (without_claim ws rank n)
+        → Owned ps (cond (not b) (w ∷ without_claim ws rank n) (without_claim ws rank n))
     go true rest = rest
     go false rest = (owned.0, rest)
 
@@ -208,7 +208,7 @@ data Deals (h : HubView) (new taken : List ℕ) (k : HubView) : Type 0 where
       → k.claims ≡ h.claims ++ record { message = suc (length h.board.lines); rank = a.rank } ∷ []
       → taken ≡ [] → new ≡ [] → Deals h new taken k
   is_received : (rank n : ℕ) → may_receive h.claims rank n ≡ true → k.board.lines ≡ h.board.lines
-      → k.claims ≡ received h.claims rank n → taken ≡ n ∷ [] → ((m : ℕ) → Contains new m → m ≡ n) → Deals h new taken k
+      → k.claims ≡ without_claim h.claims rank n → taken ≡ n ∷ [] → ((m : ℕ) → Contains new m → m ≡ n) → Deals h new taken k
 
 abbrev DealsTo : HubView → ℕ → Request → Reply × HubView → Type 0
 DealsTo h rank q o = Deals h (got_by (next_number h.board) q o.0) (received_by q o.0) o.1
@@ -345,7 +345,7 @@ deals h rank (Claimed now k) = go (may_receive h.claims rank k) refl now
 
     go : (c : Bool) → may_receive h.claims rank k ≡ c → (now : Bool)
         → DealsTo h rank (Claimed now k)
-        (cond c (claimed_now (with_claims h (received h.claims rank k)) now k) (reply.Code BadMessage, h))
+        (cond c (claimed_now (with_claims h (without_claim h.claims rank k)) now k) (reply.Code BadMessage, h))
     go true e true =
         is_received rank k e (collect_lines h.board k) refl (taken (collect h.board k).0)
         (λ n c. one (collect h.board k).0 n c)
@@ -582,11 +582,11 @@ handles_claimed h k got new taken more a j hs few for e f t g = record {
 
 handles_received : (h k : HubView) (got new taken more : List ℕ) (rank n : ℕ) → Handles h got taken
     → may_receive h.claims rank n ≡ true → k.board.lines ≡ h.board.lines
-    → k.claims ≡ received h.claims rank n → more ≡ n ∷ []
+    → k.claims ≡ without_claim h.claims rank n → more ≡ n ∷ []
     → ((m : ℕ) → Contains new m → m ≡ n) → Handles k (got ++ new) (taken ++ more)
 handles_received h k got new taken more rank n hs may e f t only = record {
   owned = subst (λ ws. Owned (posts_of k.board.lines) ws) (sym f)
-      (subst (λ ps. Owned ps (received h.claims rank n)) same
+      (subst (λ ps. Owned ps (without_claim h.claims rank n)) same
       (owned_left (posts_of h.board.lines) h.claims rank n hs.owned));
   waits = waits;
   past = λ m c. ap (λ ws. is_waiting ws m) f ∙ past m (before m c);
@@ -624,11 +624,11 @@ handles_received h k got new taken more rank n hs may e f t only = record {
       | inr now ↦ inr (one_of n m (subst (λ ns. Contains ns m) t now))
     ]
 
-    past : (m : ℕ) → Contains taken m ⊎ (m ≡ n) → is_waiting (received h.claims rank n) m ≡ false
+    past : (m : ℕ) → Contains taken m ⊎ (m ≡ n) → is_waiting (without_claim h.claims rank n) m ≡ false
     past m (inl was) =
         any_left (λ (v : Waiting). v.message == m) (λ (v : Waiting). not (is_claim rank n v)) h.claims (hs.past m was)
     past m (inr is) =
-        ap (is_waiting (received h.claims rank n)) is
+        ap (is_waiting (without_claim h.claims rank n)) is
         ∙ waits_no_longer (posts_of h.board.lines) h.claims rank n hs.owned own
 
     waits : (place : ℕ) (a : Selection) → slice_get (posts_of k.board.lines) place ≡ Some (post.Claim a)
@@ -676,7 +676,7 @@ handles links =
     call_by_call (λ calls. Handles (hub_after links calls) (got_after links calls) (received_after links calls))
     none more
   where
-    none : Handles (started links) [] []
+    none : Handles (hub_at_start links) [] []
     none = record {
       owned = tt;
       waits = λ place a at. absurd (cc);

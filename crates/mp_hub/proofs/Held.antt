@@ -26,7 +26,7 @@ use Rattle.std.specs.Result.{is_err}
 use Rattle.mp_probe.specs.declared.handles.Waiting.{Waiting}
 use Rattle.mp_probe.specs.declared.handles.ClaimFault.{ClaimFault}
 use Rattle.mp_probe.specs.declared.handles.ClaimFault.TheVariants.{BadMessage}
-use Rattle.mp_probe.specs.Claims.{is_claim, is_waiting, may_receive, next_number, received, waiting_if}
+use Rattle.mp_probe.specs.Claims.{is_claim, is_waiting, may_receive, next_number, without_claim, waiting_if}
 use Rattle.mp_hub.specs.Hub.{HubView, all_got, is_complete, is_known, may_collect, one_got, was_received}
 use Rattle.mp_hub.specs.Held.{IsHeldFor, AreHeld}
 use Rattle.mp_hub.proofs.BoardKept.{one_lines, pairs_snoc}
@@ -242,7 +242,7 @@ held_gathered h rank (n ∷ ns) b same known held =
 
 -- ---- claims
 
-pub held_fewer : (b : Board) (ws : List Waiting) (rank n : ℕ) → AreHeld b ws → AreHeld b (received ws rank n)
+pub held_fewer : (b : Board) (ws : List Waiting) (rank n : ℕ) → AreHeld b ws → AreHeld b (without_claim ws rank n)
 held_fewer b ws rank n h = record {
   paired = h.paired;
   even = h.even;
@@ -258,10 +258,10 @@ owned b (w ∷ ws) a =
 
 -- a claimed message that is received and collected at once
 pub held_taken : (b : Board) (ws : List Waiting) (rank n : ℕ) → AreHeld b ws → may_receive ws rank n ≡ true
-    → AreHeld (collect b n).1 (received ws rank n)
+    → AreHeld (collect b n).1 (without_claim ws rank n)
 held_taken b ws rank n h may =
     let own = owned b ws h.claims in
-    held_collected b (received ws rank n) n (held_fewer b ws rank n h)
+    held_collected b (without_claim ws rank n) n (held_fewer b ws rank n h)
     (waits_no_longer (posts_of b.lines) ws rank n own (receiving_claim (posts_of b.lines) ws rank n own may))
 
 -- the send that a claim finds holds its message
@@ -402,15 +402,15 @@ held_after_claim (Err e) b c ws vs a posted waits same still h = both_held b c w
 
 -- a claim that was received, and perhaps collected
 pub held_when_received : {A : Type 0} (r : Result A ClaimFault) (b : Board) (ws vs : List Waiting) (rank n : ℕ)
-    → OnOk r (vs ≡ received ws rank n) → OnErr r (vs ≡ ws) → AreHeld b ws → AreHeld b vs
-held_when_received (Ok x) b ws vs rank n good bad h = both_held b b (received ws rank n) vs refl good (held_fewer b ws rank n h)
+    → OnOk r (vs ≡ without_claim ws rank n) → OnErr r (vs ≡ ws) → AreHeld b ws → AreHeld b vs
+held_when_received (Ok x) b ws vs rank n good bad h = both_held b b (without_claim ws rank n) vs refl good (held_fewer b ws rank n h)
 held_when_received (Err e) b ws vs rank n good bad h = both_held b b ws vs refl bad h
 
 pub held_when_taken : {A : Type 0} (r : Result A ClaimFault) (b c : Board) (ws vs : List Waiting) (rank n : ℕ)
-    → is_err r ≡ false → ((r ≡ Err BadMessage) ↔ (may_receive ws rank n ≡ false)) → OnOk r (vs ≡ received ws rank n)
+    → is_err r ≡ false → ((r ≡ Err BadMessage) ↔ (may_receive ws rank n ≡ false)) → OnOk r (vs ≡ without_claim ws rank n)
     → c ≡ (collect b n).1 → AreHeld b ws → AreHeld c vs
 held_when_taken (Ok x) b c ws vs rank n done asked good after h =
-    both_held (collect b n).1 c (received ws rank n) vs after good
+    both_held (collect b n).1 c (without_claim ws rank n) vs after good
     (held_taken b ws rank n h (may (may_receive ws rank n) asked.1))
   where
     may : (m : Bool) → (m ≡ false → Ok x ≡ Err BadMessage) → m ≡ true
@@ -419,6 +419,6 @@ held_when_taken (Ok x) b c ws vs rank n done asked good after h =
 held_when_taken (Err e) b c ws vs rank n done asked good after h = absurd (cc)
 
 pub held_when_may : (b c : Board) (ws vs : List Waiting) (rank n : ℕ) → may_receive ws rank n ≡ true
-    → vs ≡ received ws rank n → c ≡ (collect b n).1 → AreHeld b ws → AreHeld c vs
+    → vs ≡ without_claim ws rank n → c ≡ (collect b n).1 → AreHeld b ws → AreHeld c vs
 held_when_may b c ws vs rank n may good after h =
-    both_held (collect b n).1 c (received ws rank n) vs after good (held_taken b ws rank n h may)
+    both_held (collect b n).1 c (without_claim ws rank n) vs after good (held_taken b ws rank n h may)

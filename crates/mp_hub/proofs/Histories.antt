@@ -15,11 +15,11 @@ use Rattle.mp_match.specs.declared.posts.Line.{Line}
 use Rattle.mp_match.specs.PostPairs.{pairs, pairs_on, posts_of}
 use Rattle.mp_match.specs.Board.{collect, receive_posted, send_posted, held_count, probed, is_send_of, line_of}
 use Rattle.mp_match.proofs.OrderKept.{posts_pairs, pairs_more}
-use Rattle.mp_probe.specs.Claims.{next_number, may_receive, received}
+use Rattle.mp_probe.specs.Claims.{next_number, may_receive, without_claim}
 use Rattle.mp_transfers.specs.declared.sides.Setup.{Setup}
 use Rattle.mp_transfers.specs.declared.sides.Side.{Side}
 use Rattle.mp_transfers.specs.Inits.{peer_of, lowest_link, same_total, sender_over, is_receiver}
-use Rattle.mp_hub.specs.Hub.{HubView, Call, outcome, message_or, got_or, claim_found, claimed_now, is_complete, may_collect, init_with, init_first, cut_of, setup_of, side_added, all_got, all_collected, are_distinct, is_known, is_ready, sending, selecting, with_board, with_claims, is_done, hub_after, reply_of, started}
+use Rattle.mp_hub.specs.Hub.{HubView, Call, outcome, message_or, got_or, claim_found, claimed_now, is_complete, may_collect, init_with, init_first, cut_of, setup_of, side_added, all_got, all_collected, are_distinct, is_known, is_ready, sending, selecting, with_board, with_claims, is_done, hub_after, reply_of, hub_at_start}
 use Rattle.mp_hub.specs.Histories.{each_behind, post_made, posts_after, number_after}
 use Rattle.mp_hub.specs.Posts.{PostsLaw}
 use Rattle.mp_hub.proofs.CallsSoFar.{hub_on-snoc}
@@ -53,7 +53,7 @@ call_by_call P none more calls = on calls [] none
 
 pub hub_more : (links : List Link) (calls : List Call) (c : Call)
     → hub_after links (calls ++ c ∷ []) ≡ (outcome (hub_after links calls) c.0 c.1).1
-hub_more links calls c = hub_on-snoc calls (started links) c
+hub_more links calls c = hub_on-snoc calls (hub_at_start links) c
 
 -- ---- the post that a call makes
 
@@ -90,9 +90,9 @@ adds h rank (Claim comm source tag) = go (probed h.board (post.Claim (selecting 
     go (Some e) = refl
 adds h rank (Claimed now n) =
     either h rank (Claimed now n) (may_receive h.claims rank n)
-    (claimed_now (with_claims h (received h.claims rank n)) now n) (reply.Code BadMessage, h) (go now) refl
+    (claimed_now (with_claims h (without_claim h.claims rank n)) now n) (reply.Code BadMessage, h) (go now) refl
   where
-    go : (now : Bool) → Adds h rank (Claimed now n) (claimed_now (with_claims h (received h.claims rank n)) now n)
+    go : (now : Bool) → Adds h rank (Claimed now n) (claimed_now (with_claims h (without_claim h.claims rank n)) now n)
     go true = collect_lines h.board n
     go false = refl
 adds h rank (All ns) =

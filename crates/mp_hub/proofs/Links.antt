@@ -14,7 +14,7 @@ use Rattle.mp_match.proofs.Places.{get_snoc, get_within}
 use Rattle.mp_transfers.specs.declared.sides.Setup.{Setup}
 use Rattle.mp_transfers.specs.declared.sides.Side.{Side}
 use Rattle.mp_transfers.specs.Inits.{peer_of, is_other_side, same_transfer, is_reserved, is_for, lowest_link, same_total}
-use Rattle.mp_hub.specs.Hub.{HubView, Call, outcome, init_outcome, init_with, init_first, side_added, setup_of, hub_after, started}
+use Rattle.mp_hub.specs.Hub.{HubView, Call, outcome, init_outcome, init_with, init_first, side_added, setup_of, hub_after, hub_at_start}
 use Rattle.mp_hub.specs.Transfers.{begun, begun_after, is_of, sides_of}
 use Rattle.mp_hub.specs.Links.{GoesFrom, IsTaken, IsOneTransfer, LinksLaw}
 use Rattle.mp_hub.proofs.Histories.{call_by_call, hub_more}
@@ -305,7 +305,7 @@ init_refused h s link e goes = go (peer_of h.sides s) e
 
 module _ (links : List Link) (calls : List Call) where
   links_are : (hub_after links calls).links ≡ links
-  links_are = links_on calls (started links)
+  links_are = links_on calls (hub_at_start links)
 
   goes : (s : Setup) (link : ℕ) → (init_outcome (hub_after links calls) s).0 ≡ reply.Link link
       → GoesFrom links s.from s.to link

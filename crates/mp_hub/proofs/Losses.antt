@@ -26,7 +26,7 @@ use Rattle.mp_match.proofs.Lines.{add_new}
 use Rattle.mp_match.proofs.OrderKept.{order_laws, posts_add, chosen}
 use Rattle.mp_match.specs.Matches.{Matches}
 use Rattle.mp_match.proofs.Matched.{accepting, line_at, pairing_laws}
-use Rattle.mp_probe.specs.Claims.{next_number, may_receive, is_waiting, received}
+use Rattle.mp_probe.specs.Claims.{next_number, may_receive, is_waiting, without_claim}
 use Rattle.mp_hub.specs.Hub.{HubView, Call, message_or, got_or, may_collect, claimed_now, claim_found, selecting, with_claims, is_complete, is_known, is_ready, are_distinct, all_got, one_got, all_collected, hub_after, reply_of, seen}
 use Rattle.mp_hub.specs.Histories.{posts_after, partner_after, got_after, received_after}
 use Rattle.mp_hub.specs.Losses.{ClaimsOf, CollectsOf, IsThere, LossLaw}
@@ -50,7 +50,7 @@ module _ (links : List Link) (calls : List Call) where
       → reply_of links calls rank (Claimed true n) ≡ message_or reply.NotYet (collect (hub).board n).0
   claimed_reply rank n e =
       ap (λ b. (let o : Reply × HubView =
-      cond b (claimed_now (with_claims (hub) (received (hub).claims rank n)) true n) (reply.Code BadMessage, hub) in
+      cond b (claimed_now (with_claims (hub) (without_claim (hub).claims rank n)) true n) (reply.Code BadMessage, hub) in
       o.0)) e
 
   -- the board's partners are those of the posts

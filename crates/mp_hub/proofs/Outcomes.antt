@@ -14,7 +14,7 @@ use Rattle.mp_match.specs.declared.posts.Selection.{Selection}
 use Rattle.mp_match.specs.declared.posts.Post.{Post}
 use Rattle.mp_match.specs.declared.posts.Post.TheVariants as post
 use Rattle.mp_match.specs.Board.{Board, collect, board_with, receive_posted, send_posted, held_count, probed, is_send_of, line_of, envelope_in}
-use Rattle.mp_probe.specs.Claims.{next_number, may_receive, received}
+use Rattle.mp_probe.specs.Claims.{next_number, may_receive, without_claim}
 use Rattle.mp_transfers.specs.declared.sides.Setup.{Setup}
 use Rattle.mp_transfers.specs.declared.sides.Side.{Side}
 use Rattle.mp_transfers.specs.Inits.{peer_of, lowest_link, same_total, sender_over, is_receiver}
@@ -103,10 +103,10 @@ comes h rank (Claim comm source tag) = go (probed h.board (post.Claim (selecting
     go (Some e) = is_posted (post.Claim (selecting rank comm source tag)) refl refl refl
 comes h rank (Claimed now n) =
     either h rank (Claimed now n) (may_receive h.claims rank n)
-    (claimed_now (with_claims h (received h.claims rank n)) now n) (reply.Code BadMessage, h)
+    (claimed_now (with_claims h (without_claim h.claims rank n)) now n) (reply.Code BadMessage, h)
     (go now) (is_nothing refl refl)
   where
-    go : (now : Bool) → ComesTo h rank (Claimed now n) (claimed_now (with_claims h (received h.claims rank n)) now n)
+    go : (now : Bool) → ComesTo h rank (Claimed now n) (claimed_now (with_claims h (without_claim h.claims rank n)) now n)
     go true = is_got h.board n reply.NotYet (inl refl) refl refl refl refl refl
     go false = is_nothing refl refl
 comes h rank (All ns) =

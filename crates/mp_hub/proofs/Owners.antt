@@ -17,7 +17,7 @@ use Rattle.mp_match.specs.declared.posts.Post.TheVariants as post
 use Rattle.mp_match.specs.declared.posts.Line.{Line}
 use Rattle.mp_match.specs.PostPairs.{posts_of}
 use Rattle.mp_match.specs.Board.{collect, receive_posted, send_posted, held_count, probed, partner_of, line_of, is_send_of, is_receive_of, is_gone, is_held, is_collected}
-use Rattle.mp_probe.specs.Claims.{next_number, may_receive, is_waiting, received}
+use Rattle.mp_probe.specs.Claims.{next_number, may_receive, is_waiting, without_claim}
 use Rattle.mp_transfers.specs.declared.sides.Setup.{Setup}
 use Rattle.mp_transfers.specs.declared.sides.Side.{Side}
 use Rattle.mp_transfers.specs.Inits.{peer_of, lowest_link, same_total, sender_over, is_receiver}
@@ -134,7 +134,7 @@ module _ (links : List Link) (calls : List Call) where
       → reply_of links calls rank (Claimed at_once n) ≡ reply.Code BadMessage
   claimed_refused rank n at_once may_not =
       ap (λ b. (let o : Reply × HubView =
-      cond b (claimed_now (with_claims (now) (received (now).claims rank n)) at_once n) (reply.Code BadMessage, now) in
+      cond b (claimed_now (with_claims (now) (without_claim (now).claims rank n)) at_once n) (reply.Code BadMessage, now) in
       o.0))
       (not_true (may_receive (now).claims rank n) may_not)
 
@@ -195,10 +195,10 @@ unchanged h rank (Claim comm source tag) = go (probed h.board (post.Claim (selec
     go (Some k) c e = absurd (cc)
 unchanged h rank (Claimed at_once n) =
     either h (may_receive h.claims rank n)
-    (claimed_now (with_claims h (received h.claims rank n)) at_once n) (reply.Code BadMessage, h)
+    (claimed_now (with_claims h (without_claim h.claims rank n)) at_once n) (reply.Code BadMessage, h)
     (go at_once) (λ c e. refl)
   where
-    go : (at_once : Bool) → Unchanged h (claimed_now (with_claims h (received h.claims rank n)) at_once n)
+    go : (at_once : Bool) → Unchanged h (claimed_now (with_claims h (without_claim h.claims rank n)) at_once n)
     go true c e = absurd (no_code reply.NotYet (collect h.board n).0 c (λ d f. cc) e)
     go false c e = absurd (cc)
 unchanged h rank (All ns) =
@@ -327,7 +327,7 @@ replies links calls rank (Claimed true n) =
 replies links calls rank (Claimed false n) =
     let h = hub_after links calls in
     either_fits (Claimed false n) (may_receive h.claims rank n)
-    (claimed_now (with_claims h (received h.claims rank n)) false n) (reply.Code BadMessage, h)
+    (claimed_now (with_claims h (without_claim h.claims rank n)) false n) (reply.Code BadMessage, h)
     (refl, refl, refl) refl
 replies links calls rank (All ns) =
     let h = hub_after links calls in

@@ -21,7 +21,7 @@ use Rattle.mp_match.specs.Board.{Board, board_with, send_posted, claim_posted, l
 use Rattle.mp_match.proofs.Places.{get_snoc, get_within}
 use Rattle.mp_match.proofs.Lines.{Look, is_new, is_old, is_given, look, add_new, add_length}
 use Rattle.mp_probe.specs.Claims.{next_number}
-use Rattle.mp_hub.specs.Hub.{HubView, Call, outcome, message_or, claim_found, all_got, one_got, all_collected, are_distinct, is_known, is_ready, hub_after, reply_of, started, sending, selecting, seen}
+use Rattle.mp_hub.specs.Hub.{HubView, Call, outcome, message_or, claim_found, all_got, one_got, all_collected, are_distinct, is_known, is_ready, hub_after, reply_of, hub_at_start, sending, selecting, seen}
 use Rattle.mp_hub.specs.Laws.{SentAt, PairedWith, collecting, GotIsSent, SeenIsSent, HeldIsSent, AllGotIsSent, SentLaw}
 use Rattle.mp_hub.proofs.CallsSoFar.{hub_on-snoc}
 use Rattle.mp_hub.proofs.BoardKept.{collect_lines, one_lines}
@@ -283,7 +283,7 @@ mail_on links (c ∷ rest) calls mail =
     let more = mail_call links calls (hub_after links calls) c.0 c.1 _ refl mail
     (comes (hub_after links calls) c.0 c.1) in
     let next : Mail links (calls ++ c ∷ []) (hub_after links (calls ++ c ∷ [])).board =
-    subst (λ (k : HubView). Mail links (calls ++ c ∷ []) k.board) (sym (hub_on-snoc calls (started links) c)) more in
+    subst (λ (k : HubView). Mail links (calls ++ c ∷ []) k.board) (sym (hub_on-snoc calls (hub_at_start links) c)) more in
     subst (λ cs. Mail links cs (hub_after links cs).board) (append_assoc calls (c ∷ []) rest)
     (mail_on links rest (calls ++ c ∷ []) next)
 
@@ -350,7 +350,7 @@ got_call links calls h rank q r b m mail (is_gathered ns asked f e) g = absurd (
 -- the board after one more call
 board_next : (links : List Link) (calls : List Call) (rank : ℕ) (q : Request)
     → ((outcome (hub_after links calls) rank q).1).board ≡ (hub_after links (calls ++ (rank, q) ∷ [])).board
-board_next links calls rank q = ap (λ (k : HubView). k.board) (sym (hub_on-snoc calls (started links) (rank, q)))
+board_next links calls rank q = ap (λ (k : HubView). k.board) (sym (hub_on-snoc calls (hub_at_start links) (rank, q)))
 
 got_law : (links : List Link) (calls : List Call) (rank : ℕ) (q : Request) → GotIsSent links calls rank q
 got_law links calls rank q m e =

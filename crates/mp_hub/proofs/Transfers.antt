@@ -13,11 +13,11 @@ use Rattle.mp_types.specs.declared.requests.Request.{Request}
 use Rattle.mp_types.specs.declared.requests.Request.TheVariants.{Send, Recv, Collect, Finished, Probe, Claim, Claimed, All, Init, Cut}
 use Rattle.mp_match.specs.Board.{collect, send_posted, held_count, is_send_of, line_of}
 use Rattle.mp_match.proofs.Places.{get_snoc}
-use Rattle.mp_probe.specs.Claims.{next_number, may_receive, received}
+use Rattle.mp_probe.specs.Claims.{next_number, may_receive, without_claim}
 use Rattle.mp_transfers.specs.declared.sides.Setup.{Setup}
 use Rattle.mp_transfers.specs.declared.sides.Side.{Side}
 use Rattle.mp_transfers.specs.Inits.{peer_of, is_same_side, is_other_side, is_reserved, is_for, lowest_link, same_total, is_sender_over, sender_over, is_to, is_receiver}
-use Rattle.mp_hub.specs.Hub.{HubView, Call, outcome, got_or, claimed_now, is_complete, may_collect, init_with, init_first, cut_of, setup_of, side_added, all_got, all_collected, are_distinct, is_known, is_ready, sending, with_board, with_claims, is_done, hub_on, hub_after, reply_of, started}
+use Rattle.mp_hub.specs.Hub.{HubView, Call, outcome, got_or, claimed_now, is_complete, may_collect, init_with, init_first, cut_of, setup_of, side_added, all_got, all_collected, are_distinct, is_known, is_ready, sending, with_board, with_claims, is_done, hub_on, hub_after, reply_of, hub_at_start}
 use Rattle.mp_hub.specs.Transfers.{begun, begun_behind, begun_after, Transfer, is_of, sides_of, ArePairs, HaveOwnLinks, PairsLaw, ReceivesOver, SenderBegan, NoSenderBegan, CutLaw}
 use Rattle.mp_hub.proofs.CallsSoFar.{hub_on-snoc}
 
@@ -91,10 +91,10 @@ steps h rank (Probe comm source tag) = is_none refl refl refl
 steps h rank (Claim comm source tag) = is_none refl refl refl
 steps h rank (Claimed now n) =
     either h rank (Claimed now n) (may_receive h.claims rank n)
-    (claimed_now (with_claims h (received h.claims rank n)) now n) (reply.Code BadMessage, h)
+    (claimed_now (with_claims h (without_claim h.claims rank n)) now n) (reply.Code BadMessage, h)
     (go now) (is_none refl refl refl)
   where
-    go : (now : Bool) → StepsTo h rank (Claimed now n) (claimed_now (with_claims h (received h.claims rank n)) now n)
+    go : (now : Bool) → StepsTo h rank (Claimed now n) (claimed_now (with_claims h (without_claim h.claims rank n)) now n)
     go true = is_none refl refl refl
     go false = is_none refl refl refl
 steps h rank (All ns) =
@@ -319,7 +319,7 @@ begun_more links [] before =
     ap (λ cs. (hub_after links cs).sides) (append-nil before) ∙ sym (append-nil (hub_after links before).sides)
 begun_more links (c ∷ calls) before =
     let h = hub_after links before in
-    let next : hub_after links (before ++ c ∷ []) ≡ (outcome h c.0 c.1).1 = hub_on-snoc before (started links) c in
+    let next : hub_after links (before ++ c ∷ []) ≡ (outcome h c.0 c.1).1 = hub_on-snoc before (hub_at_start links) c in
     let one : (hub_after links (before ++ c ∷ [])).sides ≡ h.sides ++ begun c.0 c.1 (reply_of links before c.0 c.1) =
     ap (λ (k : HubView). k.sides) next ∙ added h c.0 c.1 _ _ (steps h c.0 c.1) in
     ap (λ cs. (hub_after links cs).sides) (sym (append_assoc before (c ∷ []) calls))
@@ -331,7 +331,7 @@ pub sides_are : (links : List Link) (calls : List Call) → (hub_after links cal
 sides_are links calls = begun_more links calls []
 
 pub paired : (links : List Link) (calls : List Call) → Paired (begun_after links calls)
-paired links calls = subst (λ ts. Paired ts) (sides_are links calls) (paired_on calls (started links) paired_none)
+paired links calls = subst (λ ts. Paired ts) (sides_are links calls) (paired_on calls (hub_at_start links) paired_none)
 
 pub pairs_law : PairsLaw
 pairs_law = record { pairs = λ links calls. (paired links calls).pairs; own = λ links calls. (paired links calls).own }
@@ -496,7 +496,7 @@ cuts : (links : List Link) (calls : List Call) (rank link : ℕ)
 cuts links calls rank link =
     go (hub_after links calls) (is_receiver links rank link) (sender_over (begun_after links calls) link) refl refl
     (λ i. answer (hub_after links calls)
-    (is_receiver (links_on calls (started links) i) rank link) (sender_over (sides_are links calls i) link))
+    (is_receiver (links_on calls (hub_at_start links) i) rank link) (sender_over (sides_are links calls i) link))
   where
     go : (h : HubView) (c : Bool) (o : Option Side) → is_receiver links rank link ≡ c
         → sender_over (begun_after links calls) link ≡ o

@@ -20,7 +20,7 @@ use Rattle.mp_match.specs.Board.{Board, no_posts, held_count, send_posted, recei
 use Rattle.mp_match.specs.Board.{partner_of, claim_of, is_send_of, is_receive_of, is_finished, is_collected, probed}
 use Rattle.mp_match.specs.Board.{collect}
 use Rattle.mp_probe.specs.declared.handles.Waiting.{Waiting}
-use Rattle.mp_probe.specs.Claims.{next_number, may_receive, is_waiting, received, waiting_if, handle_if}
+use Rattle.mp_probe.specs.Claims.{next_number, may_receive, is_waiting, without_claim, waiting_if, handle_if}
 use Rattle.mp_transfers.specs.declared.sides.Setup.{Setup}
 use Rattle.mp_transfers.specs.declared.sides.Side.{Side}
 use Rattle.mp_transfers.specs.Inits.{peer_of, lowest_link, same_total, sender_over, is_receiver}
@@ -32,8 +32,8 @@ pub record HubView : Type 0 where
   pub claims : List Waiting
   pub sides : List Side
 
-abbrev pub started : List Link → HubView
-started links = record { links = links; board = no_posts; claims = []; sides = [] }
+abbrev pub hub_at_start : List Link → HubView
+hub_at_start links = record { links = links; board = no_posts; claims = []; sides = [] }
 
 abbrev pub with_board : HubView → Board → HubView
 with_board h b = record { links = h.links; board = b; claims = h.claims; sides = h.sides }
@@ -131,7 +131,7 @@ claimed_now h false message = (Posted message false, h)
 abbrev pub claimed_outcome : HubView → ℕ → Bool → ℕ → Reply × HubView
 claimed_outcome h rank now message =
     cond (may_receive h.claims rank message)
-    (claimed_now (with_claims h (received h.claims rank message)) now message)
+    (claimed_now (with_claims h (without_claim h.claims rank message)) now message)
     (Code BadMessage, h)
 
 -- ---- several posts (chapter 3.7.5)
@@ -231,7 +231,7 @@ hub_on h [] = h
 hub_on h (c ∷ cs) = hub_on (outcome h c.0 c.1).1 cs
 
 abbrev pub hub_after : List Link → List Call → HubView
-hub_after links calls = hub_on (started links) calls
+hub_after links calls = hub_on (hub_at_start links) calls
 
 -- the reply to a call, as a function of the links and the calls before
 abbrev pub reply_of : List Link → List Call → ℕ → Request → Reply

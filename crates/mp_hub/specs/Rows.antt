@@ -8,7 +8,7 @@ use Rattle.mp_types.specs.declared.codes.Code.TheVariants.{BadRequest, NoChannel
 use Rattle.mp_types.specs.declared.replies.Reply.{Reply}
 use Rattle.mp_types.specs.declared.replies.Reply.TheVariants.{Code, Posted, Got, NotYet, Done, Held, AllGot}
 use Rattle.mp_types.specs.declared.replies.Reply.TheVariants.{Link as OnLink, Cut}
-use Rattle.mp_hub.specs.Hub.{HubView, Call, outcome, started}
+use Rattle.mp_hub.specs.Hub.{HubView, Call, outcome, hub_at_start}
 
 -- the replies to some calls, in their order
 abbrev pub replies_on : HubView → List Call → List Reply
@@ -16,7 +16,7 @@ replies_on h [] = []
 replies_on h (c ∷ cs) = (outcome h c.0 c.1).0 ∷ replies_on (outcome h c.0 c.1).1 cs
 
 abbrev pub replies : List Link → List Call → List Reply
-replies links calls = replies_on (started links) calls
+replies links calls = replies_on (hub_at_start links) calls
 
 -- ---- ranks 0 and 1 in communicator 0; a message has one byte
 

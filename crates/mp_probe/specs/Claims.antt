@@ -21,8 +21,8 @@ abbrev pub is_waiting : List Waiting → ℕ → Bool
 is_waiting ws message = list_any (λ (w : Waiting). w.message == message) ws
 
 -- a message that was received waits no longer
-abbrev pub received : List Waiting → ℕ → ℕ → List Waiting
-received ws rank message = filter (λ (w : Waiting). not (is_claim rank message w)) ws
+abbrev pub without_claim : List Waiting → ℕ → ℕ → List Waiting
+without_claim ws rank message = filter (λ (w : Waiting). not (is_claim rank message w)) ws
 
 -- a claim that found a message waits under the number of its post
 abbrev pub waiting_if : List Waiting → ℕ → ℕ → Option Envelope → List Waiting

@@ -3,7 +3,7 @@
 ghost use Rattle.std.specs.Prelude.{◌≡◌, ◌+◌, ◌-◌, ◌<◌, ◌^◌, ◌↔◌, [], length, false, IfOk, IfErr, IsOk, OnErr, OnOk};
 ghost use Rattle.std.specs.Prelude.{Err, None};
 ghost use Rattle.mp_match.specs.Board.{claimed_if, probed};
-ghost use Rattle.mp_probe.specs.Claims.{handle_if, is_claim, is_waiting, may_receive, next_number, received};
+ghost use Rattle.mp_probe.specs.Claims.{handle_if, is_claim, is_waiting, may_receive, next_number, without_claim};
 ghost use Rattle.mp_probe.specs.Claims.{waiting_if};
 ghost use Rattle.mp_match.specs.declared.posts.Post.TheVariants as post;
 
@@ -113,7 +113,7 @@ impl Claims {
     /// then nothing changes. Takes no memory.
     pub fn receive_claimed(&mut self, rank: u8, message: u64) -> Result<(), ClaimFault>
         ensures bad_message { (result ≡ Err ClaimFault.BadMessage) ↔ (may_receive self.old rank message ≡ false) }
-        ensures ok { OnOk result (self.new ≡ received self.old rank message) }
+        ensures ok { OnOk result (self.new ≡ without_claim self.old rank message) }
         ensures refusal { IfErr result (λ fault. fault ≡ ClaimFault.BadMessage) }
         ensures err { OnErr result (self.new ≡ self.old) }
     {

@@ -20,7 +20,7 @@ use Rattle.mp_match.specs.Board.{collect, collect_from, envelope_at, envelope_in
 use Rattle.mp_match.proofs.Places.{get_within}
 use Rattle.mp_match.proofs.OrderKept.{Good, Takes, Together}
 use Rattle.mp_probe.specs.declared.handles.Waiting.{Waiting}
-use Rattle.mp_probe.specs.Claims.{is_claim, is_waiting, next_number, received}
+use Rattle.mp_probe.specs.Claims.{is_claim, is_waiting, next_number, without_claim}
 use Rattle.mp_hub.specs.Hub.{HubView, got_or, may_collect, outcome}
 use Rattle.mp_waits.specs.Waits.{OnlyOf, could_pair, could_send}
 use Rattle.mp_waits.proofs.Lines.{could, free_stays}
@@ -28,14 +28,14 @@ use Rattle.mp_waits.proofs.Moves.{ClaimsBy, GrowsBy, IsBy, Moves, stay, less, mo
 
 -- ---- claimed messages that wait
 
-fewer_none : (ws : List Waiting) (r n m : ℕ) → is_waiting ws m ≡ false → is_waiting (received ws r n) m ≡ false
+fewer_none : (ws : List Waiting) (r n m : ℕ) → is_waiting ws m ≡ false → is_waiting (without_claim ws r n) m ≡ false
 fewer_none [] r n m none = refl
 fewer_none (w ∷ ws) r n m none =
     let parts = or_parts (w.message == m) (is_waiting ws m) none in
     go (not (is_claim r n w)) parts.0 (fewer_none ws r n m parts.1)
   where
-    go : (b : Bool) → (w.message == m) ≡ false → is_waiting (received ws r n) m ≡ false
-        → is_waiting (cond b (w ∷ received ws r n) (received ws r n)) m ≡ false
+    go : (b : Bool) → (w.message == m) ≡ false → is_waiting (without_claim ws r n) m ≡ false
+        → is_waiting (cond b (w ∷ without_claim ws r n) (without_claim ws r n)) m ≡ false
     go true one rest = or_from _ _ one rest
     go false one rest = rest
 

@@ -13,7 +13,7 @@ use Rattle.mp_types.specs.declared.requests.Request.{Request}
 use Rattle.mp_types.specs.declared.requests.Request.TheVariants.{Init, Cut}
 use Rattle.mp_transfers.specs.declared.sides.Side.{Side}
 use Rattle.mp_transfers.specs.Inits.{is_receiver, is_sender_over, sender_over}
-use Rattle.mp_hub.specs.Hub.{Call, HubView, cut_of, hub_after, outcome, reply_of, setup_of, started}
+use Rattle.mp_hub.specs.Hub.{Call, HubView, cut_of, hub_after, outcome, reply_of, setup_of, hub_at_start}
 use Rattle.mp_hub.specs.Transfers.{begun}
 use Rattle.mp_hub.proofs.Links.{links_law}
 use Rattle.mp_hub.proofs.Transfers.{Steps, is_none, is_one, links_on, numbered, steps}
@@ -79,7 +79,7 @@ module _ (among : ℕ → Bool) (links : List Link) (calls : List Call) where
       apart n b its =
           let parts = and_parts (n.link == link) n.setup.sending its in
           let over = began links calls other call n link b (eqb-true n.link link parts.0) parts.1 in
-          let inside = w.only other (ap (λ ls. sends_over ls link other) (links_on calls (started links)) ∙ over) in
+          let inside = w.only other (ap (λ ls. sends_over ls link other) (links_on calls (hub_at_start links)) ∙ over) in
           absurd (cc)
 
       go : Steps h other call (reply_of links calls other call) k → NoCut among k r link

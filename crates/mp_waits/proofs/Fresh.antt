@@ -21,7 +21,7 @@ use Rattle.mp_match.specs.Board.{Board, collect, collect_from, held_count, is_he
 use Rattle.mp_match.proofs.Lines.{add_given, add_new, add_old, given}
 use Rattle.mp_match.proofs.OrderKept.{Good, Takes, chosen, good_more}
 use Rattle.mp_match.proofs.Places.{get_front, get_last}
-use Rattle.mp_probe.specs.Claims.{may_receive, next_number, received}
+use Rattle.mp_probe.specs.Claims.{may_receive, next_number, without_claim}
 use Rattle.mp_transfers.specs.declared.sides.Setup.{Setup}
 use Rattle.mp_transfers.specs.declared.sides.Side.{Side}
 use Rattle.mp_transfers.specs.Inits.{is_receiver, lowest_link, peer_of, same_total, sender_over}
@@ -271,11 +271,11 @@ module _ (r other place : ℕ) (apart : other ≡ r → ⊥) where
           fresh_posted h.board (post.Claim (selecting other comm source tag)) None r place laid.even
           (λ t same. absurd (cc)) f
   fresh_stays h (Claimed now n) laid f =
-      let k = with_claims h (received h.claims other n) in
+      let k = with_claims h (without_claim h.claims other n) in
       either (may_receive h.claims other n) (claimed_now k now n) (reply.Code BadMessage, h) (go now) f
     where
       go : (now : Bool) → may_receive h.claims other n ≡ true
-          → Then (claimed_now (with_claims h (received h.claims other n)) now n)
+          → Then (claimed_now (with_claims h (without_claim h.claims other n)) now n)
       go true may =
           let c = laid.owned other n may in
           let its : is_receive_of other (line_of h.board n) ≡ true =
@@ -283,7 +283,7 @@ module _ (r other place : ℕ) (apart : other ≡ r → ⊥) where
           (ap (is_receive_of other) c.here
           ∙ ap (λ (p : Post). is_receive_of other (Some (record { post = p; partner = (c.line).partner }))) c.claims
           ∙ eq-eqb (c.what).rank other c.mine) in
-          got_then (with_claims h (received h.claims other n)) reply.NotYet (collect h.board n)
+          got_then (with_claims h (without_claim h.claims other n)) reply.NotYet (collect h.board n)
           (fresh_collected h.board r other place n laid.good apart its f)
       go false may = f
   fresh_stays h (All ns) laid f =

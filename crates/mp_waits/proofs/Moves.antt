@@ -15,7 +15,7 @@ use Rattle.mp_match.specs.declared.posts.Post.TheVariants as post
 use Rattle.mp_match.specs.declared.posts.Line.{Line}
 use Rattle.mp_match.specs.Pairs.{add}
 use Rattle.mp_match.specs.Board.{Board, collect, receive_posted, send_posted, held_count, probed, is_send_of, line_of}
-use Rattle.mp_probe.specs.Claims.{next_number, may_receive, received}
+use Rattle.mp_probe.specs.Claims.{next_number, may_receive, without_claim}
 use Rattle.mp_transfers.specs.declared.sides.Setup.{Setup}
 use Rattle.mp_transfers.specs.declared.sides.Side.{Side}
 use Rattle.mp_transfers.specs.Inits.{is_receiver, lowest_link, peer_of, same_total, sender_over}
@@ -36,7 +36,7 @@ GrowsBy member r old new = (new ≡ old) ⊎ ((p : Post) × IsBy member r p × (
 -- the claimed messages stay, or one that this rank claimed was received, or this rank claimed one more
 pub data ClaimsBy (r : ℕ) (h new : HubView) : Type 0 where
   stay : new.claims ≡ h.claims → ClaimsBy r h new
-  less : (n : ℕ) → new.claims ≡ received h.claims r n → ClaimsBy r h new
+  less : (n : ℕ) → new.claims ≡ without_claim h.claims r n → ClaimsBy r h new
   more : (a : Selection) → a.rank ≡ r → new.board.lines ≡ add h.board.lines (post.Claim a)
       → new.claims ≡ h.claims ++ record { message = next_number h.board; rank = r } ∷ [] → ClaimsBy r h new
 
@@ -122,13 +122,13 @@ module _ (member : ℕ → ℕ → Bool) where
                 (selecting r comm source tag) refl refl refl;
           }
   moves h r (Claimed now n) fits =
-      let k = with_claims h (received h.claims r n) in
+      let k = with_claims h (without_claim h.claims r n) in
       either r h (may_receive h.claims r n) (claimed_now k now n) (reply.Code BadMessage, h) (go now)
       (still r h h refl refl)
     where
-      go : (now : Bool) → Moves member r h (after (claimed_now (with_claims h (received h.claims r n)) now n))
+      go : (now : Bool) → Moves member r h (after (claimed_now (with_claims h (without_claim h.claims r n)) now n))
       go true =
-          got_moves r h (with_claims h (received h.claims r n)) reply.NotYet (collect h.board n)
+          got_moves r h (with_claims h (without_claim h.claims r n)) reply.NotYet (collect h.board n)
           (record { lines = inl (collect_lines h.board n); claims = less n refl })
       go false = record { lines = inl refl; claims = less n refl }
   moves h r (All ns) fits =

@@ -11,8 +11,8 @@ use Rattle.mp_match.specs.declared.posts.Line.{Line}
 use Rattle.mp_match.specs.Pairs.{partner_for}
 use Rattle.mp_match.proofs.Lines.{add_new}
 use Rattle.mp_probe.specs.declared.handles.Waiting.{Waiting}
-use Rattle.mp_probe.specs.Claims.{is_claim, is_waiting, may_receive, next_number, received}
-use Rattle.mp_hub.specs.Hub.{Call, HubView, hub_after, hub_on, outcome, started}
+use Rattle.mp_probe.specs.Claims.{is_claim, is_waiting, may_receive, next_number, without_claim}
+use Rattle.mp_hub.specs.Hub.{Call, HubView, hub_after, hub_on, outcome, hub_at_start}
 use Rattle.mp_waits.proofs.Lines.{post_stays}
 use Rattle.mp_waits.proofs.Moves.{ClaimsBy, GrowsBy, Moves, all, fits_all, moves, stay, less, more}
 
@@ -70,15 +70,15 @@ grown r old new rank number (inr g) c =
     })
 
 -- what is received leaves no more than was there
-fewer : (ws : List Waiting) (r n rank number : ℕ) → may_receive (received ws r n) rank number ≡ true
+fewer : (ws : List Waiting) (r n rank number : ℕ) → may_receive (without_claim ws r n) rank number ≡ true
     → may_receive ws rank number ≡ true
 fewer [] r n rank number h = h
 fewer (w ∷ ws) r n rank number h = go (not (is_claim r n w)) (fewer ws r n rank number) h
   where
-    go : (b : Bool) → (may_receive (received ws r n) rank number ≡ true → may_receive ws rank number ≡ true)
-        → may_receive (cond b (w ∷ received ws r n) (received ws r n)) rank number ≡ true
+    go : (b : Bool) → (may_receive (without_claim ws r n) rank number ≡ true → may_receive ws rank number ≡ true)
+        → may_receive (cond b (w ∷ without_claim ws r n) (without_claim ws r n)) rank number ≡ true
         → (is_claim rank number w || may_receive ws rank number) ≡ true
-    go true rest h = elim (or_cases (is_claim rank number w) (may_receive (received ws r n) rank number) h) [
+    go true rest h = elim (or_cases (is_claim rank number w) (may_receive (without_claim ws r n) rank number) h) [
       | inl here ↦ or_left (is_claim rank number w) _ here
       | inr there ↦ or_right (is_claim rank number w) _ (rest there)
     ]
@@ -86,16 +86,16 @@ fewer (w ∷ ws) r n rank number h = go (not (is_claim r n w)) (fewer ws r n ran
 
 -- what another rank receives leaves this rank's
 pub others_receive : (ws : List Waiting) (r n rank number : ℕ) → (r ≡ rank → ⊥) → may_receive ws rank number ≡ true
-    → may_receive (received ws r n) rank number ≡ true
+    → may_receive (without_claim ws r n) rank number ≡ true
 others_receive [] r n rank number apart h = h
 others_receive (w ∷ ws) r n rank number apart h =
     go (is_claim r n w) refl (others_receive ws r n rank number apart)
     (or_cases (is_claim rank number w) (may_receive ws rank number) h)
   where
     go : (b : Bool) → is_claim r n w ≡ b
-        → (may_receive ws rank number ≡ true → may_receive (received ws r n) rank number ≡ true)
+        → (may_receive ws rank number ≡ true → may_receive (without_claim ws r n) rank number ≡ true)
         → (is_claim rank number w ≡ true) ⊎ (may_receive ws rank number ≡ true)
-        → may_receive (cond (not b) (w ∷ received ws r n) (received ws r n)) rank number ≡ true
+        → may_receive (cond (not b) (w ∷ without_claim ws r n) (without_claim ws r n)) rank number ≡ true
     go true theirs rest (inl here) =
         absurd (apart (sym (eqb-true w.rank r (and_parts (w.rank == r) (w.message == n) theirs).0)
         ∙ eqb-true w.rank rank (and_parts (w.rank == rank) (w.message == number) here).0))
@@ -141,4 +141,4 @@ owned_on (c ∷ cs) h owned =
     (owned_more h (outcome h c.0 c.1).1 c.0 (moves all h c.0 c.1 (fits_all c.0 c.1)) owned)
 
 pub owned_after : (links : List Link) (calls : List Call) → AreOwned (hub_after links calls)
-owned_after links calls = owned_on calls (started links) (λ rank number may. absurd (cc))
+owned_after links calls = owned_on calls (hub_at_start links) (λ rank number may. absurd (cc))

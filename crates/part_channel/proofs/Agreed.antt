@@ -12,7 +12,7 @@ use Rattle.part_box.specs.Rule.{GateRule}
 use Rattle.part_box.proofs.Agreed.{ready_now, freed_now, empty_now}
 use Rattle.part_channel.specs.declared.progress.Progress.TheVariants.{AllFreed, NotReady, Freed}
 use Rattle.part_channel.specs.declared.progress.Take.TheVariants as take
-use Rattle.part_channel.specs.Words.{bytes_of}
+use Rattle.part_channel.specs.Words.{bytes_of_words}
 use Rattle.part_channel.specs.Sending.{SendView, is_ready, all_freed, made_of, readied, looks_at, looked, shown, tested}
 use Rattle.part_channel.specs.Sending.{modified, shown_progress, test_progress}
 use Rattle.part_channel.specs.Receiving.{RecvView, got_of, shown_take, lane_shown, lane_took, marked, took}
@@ -140,15 +140,15 @@ pub take_agrees : (width : ℕ) (words : List ℕ) (side : RecvView) (box gate c
     → GateRule width words s r'.view → length s.made ≤ length r.view.got + 1
     → (t : ℕ) × (length s.made ≡ length r.view.got + 1)
     × (slice_get s.made (length r.view.got) ≡ Some (record { stamp = t; words = given }))
-    × (bytes ≡ bytes_of given) × (stamp ≡ max clock t + 1)
+    × (bytes ≡ bytes_of_words given) × (stamp ≡ max clock t + 1)
     × (r'.view.got ≡ r.view.got ++ record { stamp = t; words = given; taken = stamp } ∷ [])
 take_agrees width words side box gate clock given bytes stamp s r r' answer old new g before =
     let found = taken clock given (ready_stamp gate) bytes stamp answer in
     let t = found.0 in
-    let both : take.Taken bytes stamp ≡ take.Taken (bytes_of given) (max clock t + 1) =
+    let both : take.Taken bytes stamp ≡ take.Taken (bytes_of_words given) (max clock t + 1) =
     answer ∙ ap (shown_take clock given) found.1 in
     let told : stamp ≡ max clock t + 1 = cc in
-    let spelled : bytes ≡ bytes_of given = cc in
+    let spelled : bytes ≡ bytes_of_words given = cc in
     let key : got_of given (max clock t + 1) (after_look r gate) ≡ r' =
     sym (ap (lane_shown gate given clock r) found.1) ∙ took_key side box gate clock given r r' old new in
     let seen : unwrap_or (ready_stamp gate) 0 ≡ t = ap (λ (o : Option ℕ). unwrap_or o 0) found.1 in

@@ -10,7 +10,7 @@ use Rattle.std.proofs.lemmas.Grind.{flat_map-append}
 use Rattle.std.proofs.lemmas.List.{append-nil, drop-replicate, get_or-take, get_or-drop, get_or_past, length-take-le}
 use Rattle.std.proofs.lemmas.List.{length-drop, replicate-append-replicate, take_all}
 use Rattle.std.proofs.lemmas.Nat.{le_bytes_8}
-use Rattle.part_channel.specs.Words.{bytes_of_word, bytes_of}
+use Rattle.part_channel.specs.Words.{bytes_of_word, bytes_of_words}
 use Rattle.part_channel.specs.BoxWords.{word_at, words_of}
 
 pub length-words_of : (bytes : List ℕ) (n : ℕ) → length (words_of bytes n) ≡ n
@@ -130,7 +130,7 @@ module _ (bytes : List ℕ) (small : (i : ℕ) → get_or bytes i 0 < 256) (whol
 
   -- what went into a box of this width comes out of it
   pub bytes_back : (width : ℕ) → length bytes ≤ 8 * width → width ≤ 16
-      → bytes_of (words_of bytes width) ≡ bytes ++ replicate (128 - length bytes) 0
+      → bytes_of_words (words_of bytes width) ≡ bytes ++ replicate (128 - length bytes) 0
   bytes_back width fits wide =
       let count : length (words_of bytes width) ≡ width = length-words_of bytes width in
       let zeros : 8 * width - length bytes + (128 - 8 * width) ≡ 128 - length bytes = omega arith in

@@ -11,7 +11,7 @@ use Rattle.part_box.specs.Keys.{BoxId, Receiver, new_receiver, after_look, after
 use Rattle.part_channel.specs.declared.progress.Take.{Take}
 use Rattle.part_channel.specs.declared.progress.Take.TheVariants as take
 use Rattle.part_channel.specs.Shapes.{IsShape, IsCut}
-use Rattle.part_channel.specs.Words.{bytes_of}
+use Rattle.part_channel.specs.Words.{bytes_of_words}
 use Rattle.part_channel.specs.Sending.{one_if, modified, none_marked}
 
 -- The key of each box; this side's shape; the sender's cut, of 0 boxes until it is known; the number of this phase,
@@ -125,7 +125,7 @@ one_taken side box = record side {
 -- what a take answers by the word that it found in the gate
 abbrev pub shown_take : ℕ → List ℕ → Option ℕ → Take
 shown_take clock words None = take.Missed (clock + 1)
-shown_take clock words (Some stamp) = take.Taken (bytes_of words) (max clock stamp + 1)
+shown_take clock words (Some stamp) = take.Taken (bytes_of_words words) (max clock stamp + 1)
 
 -- what a take makes of the key of its box, where the gate showed this
 abbrev pub lane_shown : ℕ → List ℕ → ℕ → Receiver → Option ℕ → Receiver
@@ -155,4 +155,4 @@ abbrev pub HasGot : RecvView → RecvView → ℕ → Take → Type 0
 HasGot old new box (take.Missed stamp) = Unit
 HasGot old new box (take.Taken bytes stamp) =
     (key : Receiver) × (got : Got) × (slice_get new.keys box ≡ Some key) × (slice_get key.view.got old.phase ≡ Some got)
-    × (bytes ≡ bytes_of got.words) × (stamp ≡ got.taken)
+    × (bytes ≡ bytes_of_words got.words) × (stamp ≡ got.taken)

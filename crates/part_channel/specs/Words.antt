@@ -8,5 +8,5 @@ abbrev pub bytes_of_word : ℕ → List ℕ
 bytes_of_word word = to_le_bytes w64 word
 
 -- the bytes of words, and 0 up to 128
-abbrev pub bytes_of : List ℕ → List ℕ
-bytes_of words = flat_map bytes_of_word words ++ replicate (128 - 8 * length words) 0
+abbrev pub bytes_of_words : List ℕ → List ℕ
+bytes_of_words words = flat_map bytes_of_word words ++ replicate (128 - 8 * length words) 0

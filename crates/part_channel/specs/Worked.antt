@@ -2,7 +2,7 @@
 use Rattle.std.specs.Prelude.{◌≡◌, [], ◌∷◌, set, Some, None, true, false, refl}
 use Rattle.part_channel.specs.declared.progress.Progress.TheVariants.{Missed, Freed}
 use Rattle.part_channel.specs.declared.progress.Take.TheVariants as take
-use Rattle.part_channel.specs.Words.{bytes_of}
+use Rattle.part_channel.specs.Words.{bytes_of_words}
 use Rattle.part_channel.specs.BoxWords.{words_of}
 use Rattle.part_channel.specs.Sending.{SendView, one_freed, shown_progress, next_to_free, none_marked}
 use Rattle.part_channel.specs.Receiving.{RecvView, one_taken, shown_take, next_box, next_box_of}
@@ -14,10 +14,10 @@ two_words_and_none = refl
 
 -- The stamp is above the clock and above the stamp in the gate
 
-pub take_above_the_thing : shown_take 1 [] (Some 5) ≡ take.Taken (bytes_of []) 6
+pub take_above_the_thing : shown_take 1 [] (Some 5) ≡ take.Taken (bytes_of_words []) 6
 take_above_the_thing = refl
 
-pub take_above_the_clock : shown_take 8 [] (Some 5) ≡ take.Taken (bytes_of []) 9
+pub take_above_the_clock : shown_take 8 [] (Some 5) ≡ take.Taken (bytes_of_words []) 9
 take_above_the_clock = refl
 
 pub miss_is_next : shown_take 8 [] None ≡ take.Missed 9

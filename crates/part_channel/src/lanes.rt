@@ -2,7 +2,7 @@
 ghost use Rattle.std.specs.Prelude.{◌≡◌, ℕ, ◌+◌, ◌*◌, ◌%◌, ◌^◌, ◌<◌, ◌≤◌, ◌++◌, [], length, take, drop, replicate};
 ghost use Rattle.std.specs.Prelude.{IsTrue, Some, None, List, max, ◌-◌};
 ghost use Rattle.std.specs.Int.{w64, to_le_bytes};
-ghost use Rattle.part_channel.specs.Words.{bytes_of};
+ghost use Rattle.part_channel.specs.Words.{bytes_of_words};
 ghost use Rattle.part_channel.specs.BoxWords.{word_at, words_of};
 ghost use Rattle.part_channel.specs.Sending.{made_of};
 ghost use Rattle.part_channel.specs.Receiving.{got_of, lane_took, shown_take};
@@ -58,7 +58,7 @@ pub(crate) fn take_out(place: &PartBox, key: &mut RecvKey, width: usize, stamp: 
     requires fresh { key.old.view.copied ≡ [] }
     requires low { stamp < 2 ^ 62 }
     ensures { (words : List ℕ) × (length words ≡ width) × (key.new ≡ got_of words stamp key.old)
-        × (result ≡ bytes_of words) }
+        × (result ≡ bytes_of_words words) }
 {
     let mut out = [0; 128];
     for i in 0..width {

@@ -8,7 +8,7 @@ use Rattle.part_phase.specs.declared.sending.SendPhase.{SendPhase}
 use Rattle.part_phase.specs.Laws.{BegunReceivingLaw, BegunSendingLaw, LastFreedLaw, LastTakenLaw, NextToFreeLaw}
 use Rattle.part_phase.specs.Laws.{OneTakenLaw}
 use Rattle.part_phase.specs.Receiving.{lowest_from, is_left, are_left, one_taken, next_box, begun_receiving}
-use Rattle.part_phase.specs.Sending.{none_marked, all_freed, begun_sending, is_last, is_ready, next_to_free, one_freed}
+use Rattle.part_phase.specs.Sending.{none_marked, all_freed, begun_sending, is_last, is_part_ready, next_to_free, one_freed}
 use Rattle.part_phase.proofs.Lowest.{none_of, some_of, first_passes}
 
 none_at : (n i : ℕ) → get_or (replicate n false) i false ≡ false
@@ -37,7 +37,7 @@ begun_send p ended some =
     let is : begun_sending p ≡ new = ap (λ (b : Bool). if b then new else p) ended in
     let going : all_freed new ≡ false = not_le p.parts 0 some in
     let next = ap next_to_free is ∙ ap (λ (b : Bool). if b then None else Some 0) going in
-    (next, λ part. ap (λ q. is_ready q part) is ∙ unmarked part)
+    (next, λ part. ap (λ q. is_part_ready q part) is ∙ unmarked part)
 
 pub begun_receive : BegunReceivingLaw
 begun_receive p idle some =

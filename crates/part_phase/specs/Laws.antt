@@ -11,7 +11,7 @@ use Rattle.part_phase.specs.Phases.{changed_at, first_phases}
 use Rattle.part_phase.specs.Receiving.{unshaped_receiving}
 use Rattle.part_phase.specs.Receiving.{is_cut, cut_into, next_box, next_box_of, one_taken, begun_receiving}
 use Rattle.part_phase.specs.Sending.{readied, unshaped_sending}
-use Rattle.part_phase.specs.Sending.{all_freed, begun_sending, is_ready, next_to_free, one_freed}
+use Rattle.part_phase.specs.Sending.{all_freed, begun_sending, is_part_ready, next_to_free, one_freed}
 
 -- a byte of the whole lies in a box, as the sender cut it, and in a partition, as the receiver did
 abbrev pub IsInBox : RecvPhase → ℕ → ℕ → Type 0
@@ -67,7 +67,7 @@ OneTakenLaw = (p : RecvPhase) (box other : ℕ) → box < length p.taken → oth
 -- a phase that begins is going on: no partition is ready, and none is freed (4.2.1)
 abbrev pub BegunSendingLaw : Type 0
 BegunSendingLaw = (p : SendPhase) → all_freed p ≡ true → 0 < p.parts →
-    (next_to_free (begun_sending p) ≡ Some 0) × ((part : ℕ) → is_ready (begun_sending p) part ≡ false)
+    (next_to_free (begun_sending p) ≡ Some 0) × ((part : ℕ) → is_part_ready (begun_sending p) part ≡ false)
 
 -- or no box is taken
 abbrev pub BegunReceivingLaw : Type 0
@@ -82,7 +82,7 @@ NextToFreeLaw = (p : SendPhase) (part : ℕ) → next_to_free p ≡ Some part �
 -- the last partition that is freed ends the phase
 abbrev pub LastFreedLaw : Type 0
 LastFreedLaw = (p : SendPhase) → p.freed + 1 ≡ p.parts →
-    (next_to_free (one_freed p) ≡ None) × ((part : ℕ) → is_ready (one_freed p) part ≡ false)
+    (next_to_free (one_freed p) ≡ None) × ((part : ℕ) → is_part_ready (one_freed p) part ≡ false)
 
 -- ---- the sides of a rank
 
@@ -102,5 +102,5 @@ OneSideLaw = (phases : List Phase) (link : ℕ) (change : Phase → Phase) →
 -- a partition that is made ready is ready in this phase, and no other is
 abbrev pub ReadiedLaw : Type 0
 ReadiedLaw = (p : SendPhase) (part : ℕ) → part < length p.ready →
-    (is_ready (readied part p) part ≡ true) ×
-    ((other : ℕ) → other ≢ part → is_ready (readied part p) other ≡ is_ready p other)
+    (is_part_ready (readied part p) part ≡ true) ×
+    ((other : ℕ) → other ≢ part → is_part_ready (readied part p) other ≡ is_part_ready p other)

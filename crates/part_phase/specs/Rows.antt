@@ -7,7 +7,7 @@ use Rattle.part_phase.specs.Limits.{are_parts, is_size, padded}
 use Rattle.part_phase.specs.Receiving.{shaped_receiving, unshaped_receiving, is_cut, cut_into, begun_receiving}
 use Rattle.part_phase.specs.Receiving.{next_box}
 use Rattle.part_phase.specs.Receiving.{next_box_of, one_taken}
-use Rattle.part_phase.specs.Sending.{shaped_sending, unshaped_sending, begun_sending, readied, is_ready, next_to_free}
+use Rattle.part_phase.specs.Sending.{shaped_sending, unshaped_sending, begun_sending, readied, is_part_ready, next_to_free}
 use Rattle.part_phase.specs.Sending.{one_freed}
 
 -- 1 to 16 partitions of 8 to 64 bytes in version 1 and to 128 in version 2, in whole 8s
@@ -34,7 +34,7 @@ SendingRows =
     (next_to_free (shaped_sending 2 8 unshaped_sending) ≡ None)
     × (map next_to_free (two_begun ∷ both_ready ∷ one_freed both_ready ∷ one_freed (one_freed both_ready) ∷ [])
     ≡ Some 0 ∷ Some 0 ∷ Some 1 ∷ None ∷ [])
-    × (map (is_ready (readied 1 two_begun)) (0 ∷ 1 ∷ 2 ∷ []) ≡ false ∷ true ∷ false ∷ [])
+    × (map (is_part_ready (readied 1 two_begun)) (0 ∷ 1 ∷ 2 ∷ []) ≡ false ∷ true ∷ false ∷ [])
     × (one_freed (one_freed both_ready) ≡ shaped_sending 2 8 unshaped_sending)
     -- a phase that is going on goes on
     × (begun_sending both_ready ≡ both_ready)

@@ -35,8 +35,8 @@ begun_sending p = if all_freed p then record p { ready = none_marked; freed = 0 
 abbrev pub next_to_free : SendPhase → Option ℕ
 next_to_free p = if all_freed p then None else Some p.freed
 
-abbrev pub is_ready : SendPhase → ℕ → Bool
-is_ready p part = get_or p.ready part false
+abbrev pub is_part_ready : SendPhase → ℕ → Bool
+is_part_ready p part = get_or p.ready part false
 
 -- a partition is made ready
 abbrev pub readied : ℕ → SendPhase → SendPhase

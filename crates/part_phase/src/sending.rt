@@ -1,7 +1,7 @@
 //! The sender's side of a link.
 
 ghost use Rattle.std.specs.Prelude.{◌≡◌, ◌≤◌, IsTrue, not};
-ghost use Rattle.part_phase.specs.Sending.{all_freed as all_freed_in, begun_sending, is_ready as is_ready_in};
+ghost use Rattle.part_phase.specs.Sending.{all_freed as all_freed_in, begun_sending, is_part_ready as is_ready_in};
 ghost use Rattle.part_phase.specs.Sending.{next_to_free, one_freed as one_freed_of, readied as readied_of};
 ghost use Rattle.part_phase.specs.Sending.{shaped_sending, unshaped_sending};
 

@@ -2,7 +2,7 @@
 
 ghost use Rattle.std.specs.Prelude.{◌≡◌, [], ◌∷◌, IfErr, IfOk, IsErr, None, Ok, Some, false, true};
 ghost use Rattle.clap.specs.declared.error.kind.ErrorKind.TheVariants.{DisplayVersion};
-ghost use Rattle.rvmc_cli.specs.Meaning.{IsRefusal};
+ghost use Rattle.rvmc_cli.specs.Meaning.{IsParseFault};
 ghost use Rattle.rvmc_line.specs.declared.line.CommandLine.TheVariants.{Asm, Check, Dis, One, Run, Why};
 ghost use Rattle.rvmc_line.specs.declared.line.ParseFault.TheVariants as faults;
 ghost use Rattle.rvmc_line.specs.declared.line.Written.TheVariants as written;
@@ -101,7 +101,7 @@ pub fn right_words_are_taken(alloc: Global) -> Result<CommandLine, ParseFault>
 /// Who asks for the version is told it, or that memory is wanting, and isn't refused.
 #[tactic(auto, unfolding(rvmc_cli::specs::Meaning::faults_in, rvmc_cli::specs::Meaning::command_in, rvmc_cli::specs::Meaning::line_in, clap::proofs::OnLiterals::clap_on_literals))]
 pub fn version_is_no_refusal(alloc: Global) -> Result<CommandLine, ParseFault>
-    ensures { IfErr result (IsRefusal DisplayVersion) }
+    ensures { IfErr result (IsParseFault DisplayVersion) }
 {
     parse(alloc, &["--version"])
 }

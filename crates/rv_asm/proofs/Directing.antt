@@ -17,11 +17,11 @@ use Rattle.rv_asm_lines.specs.Item.{Item}
 use Rattle.rv_asm_lines.specs.declared.parts.Part.{Part}
 use Rattle.rv_asm_lines.specs.declared.parts.Part.TheVariants.{Text, Data}
 use Rattle.rv_asm_lines.specs.declared.parts.Place.{Place}
-use Rattle.rv_asm_lines.specs.Data.{directive_bytes, link_of, members_from, members_of, new_rank}
+use Rattle.rv_asm_lines.specs.Data.{directive_bytes, link_between, members_from, members_of, new_rank}
 use Rattle.rv_asm_lines.specs.Fields.{ranks_of}
 use Rattle.rv_asm_lines.specs.Layout.{Labels, Layout, addresses, place_in}
 use Rattle.rv_asm_lines.specs.Places.{label_place, stated_label}
-use Rattle.rv_asm_lines.specs.Output.{Output, directive_step, empty_output, is_text_address, items_from, label_step, stated_step, with_bytes, with_entry, with_use}
+use Rattle.rv_asm_lines.specs.Output.{Output, directive_step, empty_output, is_text_address, items_from, label_step, stated_step, with_part_bytes, with_entry_point, with_use}
 use Rattle.rv_asm_lines.specs.Parts.{address}
 use Rattle.rv_asm_lines.specs.Resolved.{address_in}
 use Rattle.rv_asm.specs.Directed.{comm_said, ends_of, entry_said, if_directed, link_said, said_by}
@@ -55,8 +55,8 @@ members_are ranks zs made h =
     let a = then_ok (is_within 1 8 (length zs)) kinds.Directive (members_from ranks [] zs) made h in
     members_from-are ranks [] zs made a.1
 
-link_is : (ranks : ℕ) (from to : ℤ) (made : Link) → link_of ranks from to ≡ Ok made → ends_of made ≡ (from, to)
-unfolding link_of
+link_is : (ranks : ℕ) (from to : ℤ) (made : Link) → link_between ranks from to ≡ Ok made → ends_of made ≡ (from, to)
+unfolding link_between
 link_is ranks from to made h =
     let a = bind_ok (new_rank ranks [] from) (λ f. new_rank ranks (f ∷ []) to >>= λ t. ok (linked f t)) made h in
     let b = bind_ok (new_rank ranks (a.value ∷ []) to) (λ t. ok (linked a.value t)) made a.second in
@@ -85,8 +85,8 @@ record Stepped (s : Layout) (p : Place) (stated : Statement) (o q : Output) : Ty
   links : map ends_of q.links ≡ map ends_of o.links ++ option_to_list (if_directed link_said stated)
   entry : Enters s p stated o.entry q.entry
 
-entered : (end at : ℕ) (o q : Output) → with_entry end at o ≡ Ok q → (let next : Output = record o { entry = Some at } in next ≡ q)
-unfolding with_entry
+entered : (end at : ℕ) (o q : Output) → with_entry_point end at o ≡ Ok q → (let next : Output = record o { entry = Some at } in next ≡ q)
+unfolding with_entry_point
 entered end at o q h =
     let a = then_ok (is_text_address end at) kinds.Directive (ok (record o { entry = Some at })) q h in
     ok_is (record o { entry = Some at }) q a.1
@@ -95,7 +95,7 @@ label_stepped : (s : Layout) (w : List ℕ) (p : Place) (o q : Output) → label
 unfolding label_step
 label_stepped s w p o q h = go (is_start w && not s.fields.has_entry) refl h
   where
-    go : (b : Bool) → (is_start w && not s.fields.has_entry) ≡ b → (if b then with_entry s.text (address s.text p.part p.at) o else ok o) ≡ Ok q → Stepped s p (Label w) o q
+    go : (b : Bool) → (is_start w && not s.fields.has_entry) ≡ b → (if b then with_entry_point s.text (address s.text p.part p.at) o else ok o) ≡ Ok q → Stepped s p (Label w) o q
     go true is h =
         subst (λ (r : Output). Stepped s p (Label w) o r) (entered s.text (address s.text p.part p.at) o q h)
         (record { comms = with_none (map (map pos) o.comms); links = with_none (map ends_of o.links); entry = rw is refl })
@@ -104,12 +104,12 @@ label_stepped s w p o q h = go (is_start w && not s.fields.has_entry) refl h
         (record { comms = with_none (map (map pos) o.comms); links = with_none (map ends_of o.links); entry = rw is refl })
 
 data_stepped : (s : Layout) (p : Place) (d : Directive) (o q : Output) → comm_said d ≡ None → link_said d ≡ None → ((e : Option ℕ) → DirectiveEnters (addresses s.text s.labels) d e e)
-    → (directive_bytes (addresses s.text s.labels) p.at d >>= λ bytes. ok (with_bytes p.part bytes o)) ≡ Ok q → Stepped s p (Directed d) o q
+    → (directive_bytes (addresses s.text s.labels) p.at d >>= λ bytes. ok (with_part_bytes p.part bytes o)) ≡ Ok q → Stepped s p (Directed d) o q
 data_stepped s p d o q c l e h =
-    let a = bind_ok (directive_bytes (addresses s.text s.labels) p.at d) (λ bytes. ok (with_bytes p.part bytes o)) q h in
-    subst (λ (r : Output). Stepped s p (Directed d) o r) (ok_is (with_bytes p.part a.value o) q a.second) (in_part p.part a.value)
+    let a = bind_ok (directive_bytes (addresses s.text s.labels) p.at d) (λ bytes. ok (with_part_bytes p.part bytes o)) q h in
+    subst (λ (r : Output). Stepped s p (Directed d) o r) (ok_is (with_part_bytes p.part a.value o) q a.second) (in_part p.part a.value)
   where
-    in_part : (part : Part) (bytes : List ℕ) → Stepped s p (Directed d) o (with_bytes part bytes o)
+    in_part : (part : Part) (bytes : List ℕ) → Stepped s p (Directed d) o (with_part_bytes part bytes o)
     in_part Text bytes = record { comms = rw c (with_none (map (map pos) o.comms)); links = rw l (with_none (map ends_of o.links)); entry = e o.entry }
     in_part Data bytes = record { comms = rw c (with_none (map (map pos) o.comms)); links = rw l (with_none (map ends_of o.links)); entry = e o.entry }
 
@@ -120,7 +120,7 @@ wanted_is (Some b) at h = ap Some (ok_is b at h)
 directive_stepped : (s : Layout) (p : Place) (d : Directive) (o q : Output) → directive_step s p d o ≡ Ok q → Stepped s p (Directed d) o q
 unfolding directive_step
 directive_stepped s p (directive.Entry w) o q h =
-    let a = bind_ok (wanted (address_in w (addresses s.text s.labels)) kinds.LabelMissing) (λ at. with_entry s.text at o) q h in
+    let a = bind_ok (wanted (address_in w (addresses s.text s.labels)) kinds.LabelMissing) (λ at. with_entry_point s.text at o) q h in
     subst (λ (r : Output). Stepped s p (Directed (directive.Entry w)) o r) (entered s.text a.value o q a.second)
     (record { comms = with_none (map (map pos) o.comms); links = with_none (map ends_of o.links); entry = (a.value, wanted_is (address_in w (addresses s.text s.labels)) a.value a.first, refl) })
 directive_stepped s p (directive.Global w) o q h =
@@ -132,7 +132,7 @@ directive_stepped s p (directive.Comm zs) o q h =
     subst (λ (r : Output). Stepped s p (Directed (directive.Comm zs)) o r) (ok_is (record o { comms = o.comms ++ a.value ∷ [] }) q a.second)
     (record { comms = map_push (map pos) o.comms a.value ∙ ap (λ y. map (map pos) o.comms ++ y ∷ []) (members_are (ranks_of s.fields) zs a.value a.first); links = with_none (map ends_of o.links); entry = refl })
 directive_stepped s p (directive.Link from to) o q h =
-    let a = bind_ok (link_of (ranks_of s.fields) from to) (λ l. ok (record o { links = o.links ++ l ∷ [] })) q h in
+    let a = bind_ok (link_between (ranks_of s.fields) from to) (λ l. ok (record o { links = o.links ++ l ∷ [] })) q h in
     subst (λ (r : Output). Stepped s p (Directed (directive.Link from to)) o r) (ok_is (record o { links = o.links ++ a.value ∷ [] }) q a.second)
     (record { links = map_push ends_of o.links a.value ∙ ap (λ y. map ends_of o.links ++ y ∷ []) (link_is (ranks_of s.fields) from to a.value a.first); comms = with_none (map (map pos) o.comms); entry = refl })
 directive_stepped s p (directive.Ranks n) o q h = data_stepped s p (directive.Ranks n) o q refl refl (λ e. refl) h

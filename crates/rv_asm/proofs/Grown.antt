@@ -16,10 +16,10 @@ use Rattle.rv_asm_lines.specs.Item.{Item}
 use Rattle.rv_asm_lines.specs.declared.parts.Part.{Part}
 use Rattle.rv_asm_lines.specs.declared.parts.Part.TheVariants.{Text, Data}
 use Rattle.rv_asm_lines.specs.declared.parts.Place.{Place}
-use Rattle.rv_asm_lines.specs.Data.{link_of, members_of, directive_bytes}
+use Rattle.rv_asm_lines.specs.Data.{link_between, members_of, directive_bytes}
 use Rattle.rv_asm_lines.specs.Fields.{ranks_of}
 use Rattle.rv_asm_lines.specs.Layout.{Layout, added, addresses}
-use Rattle.rv_asm_lines.specs.Output.{Output, is_text_address, items_from, label_step, directive_step, stated_step, with_bytes, with_entry, with_use, word_bytes}
+use Rattle.rv_asm_lines.specs.Output.{Output, is_text_address, items_from, label_step, directive_step, stated_step, with_part_bytes, with_entry_point, with_use, word_bytes}
 use Rattle.rv_asm_lines.specs.Parts.{address, length_of, may_stand, directive_length}
 use Rattle.rv_asm_lines.specs.Places.{Follow, length_in, total}
 use Rattle.rv_asm_lines.specs.Resolved.{address_in, use_length, words_of}
@@ -85,13 +85,13 @@ same_grown s o = grown_by s o o 0 0 (unchanged o.text o.text refl) (unchanged o.
 text_address : (end at : ℕ) → is_text_address end at ≡ true → EntryAt end (Some at)
 text_address end at h = search (rules, tests)
 
-with_entry-grows : (s : Layout) (at : ℕ) (o q : Output) → with_entry s.text at o ≡ Ok q → Grown s o q 0 0 0 0
-unfolding with_entry
+with_entry-grows : (s : Layout) (at : ℕ) (o q : Output) → with_entry_point s.text at o ≡ Ok q → Grown s o q 0 0 0 0
+unfolding with_entry_point
 with_entry-grows s at o q h =
     let a = then_ok (is_text_address s.text at) kinds.Directive (ok (record o { entry = Some at })) q h in
     subst (λ (p : Output). Grown s o p 0 0 0 0) (ok_is (record o { entry = Some at }) q a.1) (grown_by s o (record o { entry = Some at }) 0 0 (unchanged o.text o.text refl) (unchanged o.init o.init refl) (λ e. text_address s.text at a.0) refl refl)
 
-label_cases : (s : Layout) (b : Bool) (at : ℕ) (o q : Output) → (if b then with_entry s.text at o else ok o) ≡ Ok q → Grown s o q 0 0 0 0
+label_cases : (s : Layout) (b : Bool) (at : ℕ) (o q : Output) → (if b then with_entry_point s.text at o else ok o) ≡ Ok q → Grown s o q 0 0 0 0
 label_cases s true at o q h = with_entry-grows s at o q h
 label_cases s false at o q h = subst (λ (p : Output). Grown s o p 0 0 0 0) (ok_is o q h) (same_grown s o)
 
@@ -122,15 +122,15 @@ instruction-grows s p u o q in_text h =
 
 -- ---- directives
 
-bytes-grow : (s : Layout) (part : Part) (bytes : List ℕ) (o : Output) (by : ℕ) → length bytes ≡ by → Grown s o (with_bytes part bytes o) (added Text part by) (added Data part by) 0 0
-bytes-grow s Text bytes o by many = grown_by s o (with_bytes Text bytes o) by 0 (longer_by o.text bytes (o.text ++ bytes) by refl many) (unchanged o.init o.init refl) (λ e. e) refl refl
-bytes-grow s Data bytes o by many = grown_by s o (with_bytes Data bytes o) 0 by (unchanged o.text o.text refl) (longer_by o.init bytes (o.init ++ bytes) by refl many) (λ e. e) refl refl
+bytes-grow : (s : Layout) (part : Part) (bytes : List ℕ) (o : Output) (by : ℕ) → length bytes ≡ by → Grown s o (with_part_bytes part bytes o) (added Text part by) (added Data part by) 0 0
+bytes-grow s Text bytes o by many = grown_by s o (with_part_bytes Text bytes o) by 0 (longer_by o.text bytes (o.text ++ bytes) by refl many) (unchanged o.init o.init refl) (λ e. e) refl refl
+bytes-grow s Data bytes o by many = grown_by s o (with_part_bytes Data bytes o) 0 by (unchanged o.text o.text refl) (longer_by o.init bytes (o.init ++ bytes) by refl many) (λ e. e) refl refl
 
-data-grows : (s : Layout) (p : Place) (d : Directive) (o q : Output) → (directive_bytes (addresses s.text s.labels) p.at d >>= λ bytes. ok (with_bytes p.part bytes o)) ≡ Ok q
+data-grows : (s : Layout) (p : Place) (d : Directive) (o q : Output) → (directive_bytes (addresses s.text s.labels) p.at d >>= λ bytes. ok (with_part_bytes p.part bytes o)) ≡ Ok q
     → Grown s o q (added Text p.part (directive_length p.at d)) (added Data p.part (directive_length p.at d)) 0 0
 data-grows s p d o q h =
-    let a = bind_ok (directive_bytes (addresses s.text s.labels) p.at d) (λ bytes. ok (with_bytes p.part bytes o)) q h in
-    subst (λ (r : Output). Grown s o r (added Text p.part (directive_length p.at d)) (added Data p.part (directive_length p.at d)) 0 0) (ok_is (with_bytes p.part a.value o) q a.second) (bytes-grow s p.part a.value o (directive_length p.at d) (directive_bytes-length (addresses s.text s.labels) p.at d a.value a.first))
+    let a = bind_ok (directive_bytes (addresses s.text s.labels) p.at d) (λ bytes. ok (with_part_bytes p.part bytes o)) q h in
+    subst (λ (r : Output). Grown s o r (added Text p.part (directive_length p.at d)) (added Data p.part (directive_length p.at d)) 0 0) (ok_is (with_part_bytes p.part a.value o) q a.second) (bytes-grow s p.part a.value o (directive_length p.at d) (directive_bytes-length (addresses s.text s.labels) p.at d a.value a.first))
 
 -- nothing is added to either part
 nothing_added : (s : Layout) (part : Part) (o q : Output) (comms links : ℕ) → Grown s o q 0 0 comms links → Grown s o q (added Text part 0) (added Data part 0) comms links
@@ -144,7 +144,7 @@ directive-grows : (s : Layout) (p : Place) (d : Directive) (o q : Output) → di
     → Grown s o q (added Text p.part (directive_length p.at d)) (added Data p.part (directive_length p.at d)) (comms_of (Directed d)) (links_of (Directed d))
 unfolding directive_step
 directive-grows s p (directive.Entry w) o q h =
-    let a = bind_ok (wanted (address_in w (addresses s.text s.labels)) kinds.LabelMissing) (λ at. with_entry s.text at o) q h in
+    let a = bind_ok (wanted (address_in w (addresses s.text s.labels)) kinds.LabelMissing) (λ at. with_entry_point s.text at o) q h in
     nothing_added s p.part o q 0 0 (with_entry-grows s a.value o q a.second)
 directive-grows s p (directive.Global w) o q h =
     let a = bind_ok (wanted (address_in w (addresses s.text s.labels)) kinds.LabelMissing) (λ at. ok o) q h in
@@ -161,7 +161,7 @@ directive-grows s p (directive.Comm zs) o q h =
       comms = one-more (IsCommunicator (ranks_of s.fields)) o.comms a.value (members_of-are (ranks_of s.fields) zs a.value a.first);
     }))
 directive-grows s p (directive.Link from to) o q h =
-    let a = bind_ok (link_of (ranks_of s.fields) from to) (λ l. ok (record o { links = o.links ++ l ∷ [] })) q h in
+    let a = bind_ok (link_between (ranks_of s.fields) from to) (λ l. ok (record o { links = o.links ++ l ∷ [] })) q h in
     nothing_added s p.part o q 0 1 (subst (λ (r : Output). Grown s o r 0 0 0 1) (ok_is (record o { links = o.links ++ a.value ∷ [] }) q a.second) (record {
       text = unchanged o.text o.text refl;
       init = unchanged o.init o.init refl;

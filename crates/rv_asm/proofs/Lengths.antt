@@ -21,7 +21,7 @@ use Rattle.rv_asm_statements.specs.declared.rows.Template.TheVariants as templat
 use Rattle.rv_asm_lines.specs.Data.{low_bytes, item_ranged, item_bytes, items_bytes, directive_bytes}
 use Rattle.rv_asm_lines.specs.Output.{word_bytes, with_use}
 use Rattle.rv_asm_lines.specs.Parts.{alignment_bytes, directive_length, padding, width_bytes}
-use Rattle.rv_asm_lines.specs.Resolved.{ranged, imm_32, offset_of, is_between, low_part, load_immediate, load_address, register_at, one, single, jal_of, branch_of, instrs_of, words_of, count_of, use_length}
+use Rattle.rv_asm_lines.specs.Resolved.{ranged, imm_32, goal_offset, is_between, low_part, load_immediate, load_address, register_at, one, single, jal_of, branch_of, instrs_of, words_of, count_of, use_length}
 use Rattle.rv_asm.proofs.Right.{bind_ok, ok, ok_is}
 
 -- ---- instructions
@@ -72,7 +72,7 @@ instrs_of-length labels at (template.LoadImmediate d) o is h =
     let made : length is ≡ length (load_immediate 0 o.target.number) = ap length (sym (ok_is _ is a.second)) ∙ load_immediate-length (register_at d o) a.value ∙ ap (λ z. length (load_immediate 0 z)) b.1 in
     made ∙ rw (b.0) refl
 instrs_of-length labels at (template.LoadAddress d) o is h =
-    let a = bind_ok (offset_of labels 0 o.target) (λ z. ok (load_address (register_at d o) z)) is h in
+    let a = bind_ok (goal_offset labels 0 o.target) (λ z. ok (load_address (register_at d o) z)) is h in
     ap length (sym (ok_is _ is a.second))
 
 word_bytes-length : (words : List ℕ) → length (word_bytes words) ≡ 4 * length words
@@ -100,7 +100,7 @@ low_bytes-length Double z = refl
 item_bytes-length : (labels : List (List ℕ × ℕ)) (w : Width) (item : Target) (made : List ℕ) → item_bytes labels w item ≡ Ok made → length made ≡ width_bytes w
 unfolding item_bytes
 item_bytes-length labels w item made h =
-    let a = bind_ok (offset_of labels 0 item) (λ z. item_ranged (width_bytes w) z >>= λ y. ok (low_bytes (width_bytes w) y)) made h in
+    let a = bind_ok (goal_offset labels 0 item) (λ z. item_ranged (width_bytes w) z >>= λ y. ok (low_bytes (width_bytes w) y)) made h in
     let b = bind_ok (item_ranged (width_bytes w) a.value) (λ y. ok (low_bytes (width_bytes w) y)) made a.second in
     ap length (sym (ok_is (low_bytes (width_bytes w) b.value) made b.second)) ∙ low_bytes-length w b.value
 

@@ -8,7 +8,7 @@ use Rattle.rv_image.specs.Reading.{is_new_rank, is_within}
 use Rattle.rv_image.proofs.Distinct.{AllAfter, AllAfter-distinct, AllAfter-there, IsNewRank, not_true, nothing_distinct}
 use Rattle.rv_asm_tokens.specs.declared.fault.AsmFaultKind.TheVariants as kinds
 use Rattle.rv_asm_tokens.specs.Fault.{◌>>=◌}
-use Rattle.rv_asm_lines.specs.Data.{link_of, members_from, members_of, new_rank}
+use Rattle.rv_asm_lines.specs.Data.{link_between, members_from, members_of, new_rank}
 use Rattle.rv_asm.proofs.Right.{bind_ok, ok, ok_is, then_ok}
 
 new_rank-is : (ranks : ℕ) (named : List ℕ) (z : ℤ) (rank : ℕ) → new_rank ranks named z ≡ Ok rank → is_new_rank ranks named rank ≡ true
@@ -50,8 +50,8 @@ members_of-are ranks zs made h =
       distinct = AllAfter-distinct ranks [] n.more nothing_distinct n.new;
     })
 
-pub link_of-is : (ranks : ℕ) (from to : ℤ) (made : Link) → link_of ranks from to ≡ Ok made → IsLink ranks made
-unfolding link_of
+pub link_of-is : (ranks : ℕ) (from to : ℤ) (made : Link) → link_between ranks from to ≡ Ok made → IsLink ranks made
+unfolding link_between
 link_of-is ranks from to made h =
     let a = bind_ok (new_rank ranks [] from) (λ f. new_rank ranks (f ∷ []) to >>= λ t. ok (linked f t)) made h in
     let b = bind_ok (new_rank ranks (a.value ∷ []) to) (λ t. ok (linked a.value t)) made a.second in

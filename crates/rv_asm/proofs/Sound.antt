@@ -20,7 +20,7 @@ use Rattle.rv_asm_lines.specs.declared.parts.Place.{Place}
 use Rattle.rv_asm_lines.specs.Data.{directive_bytes}
 use Rattle.rv_asm_lines.specs.Resolved.{instrs_of}
 use Rattle.rv_asm_lines.specs.Layout.{Layout, addresses, end_of}
-use Rattle.rv_asm_lines.specs.Output.{Output, items_from, directive_step, stated_step, with_bytes, with_use, word_bytes}
+use Rattle.rv_asm_lines.specs.Output.{Output, items_from, directive_step, stated_step, with_part_bytes, with_use, word_bytes}
 use Rattle.rv_asm_lines.specs.Parts.{may_stand}
 use Rattle.rv_asm_lines.specs.Places.{AllWritten, AreSound, Decodes, Follow, HoldCode, IfRight, IsSound, StandsIn, length_in, part_of}
 use Rattle.rv_asm.proofs.Grown.{in_text, items_from-grows, longer_length, stated_step-grows}
@@ -69,14 +69,14 @@ bytes_stand old bytes after at same =
 abbrev EndsAt : Part → Output → ℕ → Type 0
 EndsAt part o at = at ≡ end_of part (length o.text) (length o.init)
 
-bytes_placed : (labels : List (List ℕ × ℕ)) (p : Place) (d : Directive) (o q : Output) (text_after init_after : List ℕ) → EndsAt p.part o p.at → (directive_bytes labels p.at d >>= λ bytes. ok (with_bytes p.part bytes o)) ≡ Ok q
+bytes_placed : (labels : List (List ℕ × ℕ)) (p : Place) (d : Directive) (o q : Output) (text_after init_after : List ℕ) → EndsAt p.part o p.at → (directive_bytes labels p.at d >>= λ bytes. ok (with_part_bytes p.part bytes o)) ≡ Ok q
     → StandsIn labels (q.text ++ text_after) (q.init ++ init_after) p (Directed d)
 bytes_placed labels p d o q text_after init_after same h = go p.part (directive_bytes labels p.at d) same h
   where
-    go : (part : Part) (r : Result (List ℕ) AsmFaultKind) → EndsAt part o p.at → (r >>= λ bytes. ok (with_bytes part bytes o)) ≡ Ok q
+    go : (part : Part) (r : Result (List ℕ) AsmFaultKind) → EndsAt part o p.at → (r >>= λ bytes. ok (with_part_bytes part bytes o)) ≡ Ok q
         → IfRight r (λ bytes. take (length bytes) (drop p.at (part_of part (q.text ++ text_after) (q.init ++ init_after))) ≡ bytes)
-    go Text (Ok bytes) same h = subst (λ (r : Output). take (length bytes) (drop p.at (r.text ++ text_after)) ≡ bytes) (ok_is (with_bytes Text bytes o) q h) (bytes_stand o.text bytes text_after p.at (sym same))
-    go Data (Ok bytes) same h = subst (λ (r : Output). take (length bytes) (drop p.at (r.init ++ init_after)) ≡ bytes) (ok_is (with_bytes Data bytes o) q h) (bytes_stand o.init bytes init_after p.at (sym same))
+    go Text (Ok bytes) same h = subst (λ (r : Output). take (length bytes) (drop p.at (r.text ++ text_after)) ≡ bytes) (ok_is (with_part_bytes Text bytes o) q h) (bytes_stand o.text bytes text_after p.at (sym same))
+    go Data (Ok bytes) same h = subst (λ (r : Output). take (length bytes) (drop p.at (r.init ++ init_after)) ≡ bytes) (ok_is (with_part_bytes Data bytes o) q h) (bytes_stand o.init bytes init_after p.at (sym same))
     go part (Err e) same h = tt
 
 directive_stands : (s : Layout) (p : Place) (d : Directive) (o q : Output) (text_after init_after : List ℕ) → EndsAt p.part o p.at → directive_step s p d o ≡ Ok q → StandsIn (addresses s.text s.labels) (q.text ++ text_after) (q.init ++ init_after) p (Directed d)

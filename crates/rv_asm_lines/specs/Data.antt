@@ -12,7 +12,7 @@ use Rattle.rv_asm_statements.specs.declared.directives.Directive.TheVariants as 
 use Rattle.rv_asm_statements.specs.declared.directives.Width.{Width}
 use Rattle.rv_asm_statements.specs.declared.filled.Target.{Target as Goal}
 use Rattle.rv_asm_lines.specs.Parts.{width_bytes, alignment_bytes, padding}
-use Rattle.rv_asm_lines.specs.Resolved.{ranged, offset_of}
+use Rattle.rv_asm_lines.specs.Resolved.{ranged, goal_offset}
 
 -- ---- bytes
 
@@ -27,7 +27,7 @@ low_bytes n z = take n (to_le_bytes w128 (cast_unsigned w128 z))
 -- an item: its number, or the address of its label
 unfoldable pub item_bytes : List (List ℕ × ℕ) → Width → Goal → Result (List ℕ) AsmFaultKind
 item_bytes labels width item =
-    offset_of labels 0 item >>= λ z. item_ranged (width_bytes width) z >>= λ y. Ok (low_bytes (width_bytes width) y)
+    goal_offset labels 0 item >>= λ z. item_ranged (width_bytes width) z >>= λ y. Ok (low_bytes (width_bytes width) y)
 
 -- items, from left to right
 unfoldable pub items_bytes : List (List ℕ × ℕ) → Width → List Goal → Result (List ℕ) AsmFaultKind
@@ -60,6 +60,6 @@ unfoldable pub members_of : ℕ → List ℤ → Result (List ℕ) AsmFaultKind
 members_of ranks zs = if is_within 1 8 (length zs) then members_from ranks [] zs else Err kinds.Directive
 
 -- a link: two ranks, one not the other
-unfoldable pub link_of : ℕ → ℤ → ℤ → Result Link AsmFaultKind
-link_of ranks a b =
+unfoldable pub link_between : ℕ → ℤ → ℤ → Result Link AsmFaultKind
+link_between ranks a b =
     new_rank ranks [] a >>= λ from. new_rank ranks (from ∷ []) b >>= λ to. Ok (record { from = from; to = to })

@@ -44,9 +44,9 @@ abbrev pub globals_behind : Statement → List (List ℕ) → Result (List (List
 globals_behind stated names = if_some (global_of stated) (Ok names) (λ w. with_global w names)
 
 -- a name with the address of its label
-abbrev pub symbol_at : List (List ℕ × ℕ) → List ℕ → Option Symbol
-symbol_at labels w = option_map (λ at. record { name = w; address = at }) (address_in w labels)
+abbrev pub symbol_of_label : List (List ℕ × ℕ) → List ℕ → Option Symbol
+symbol_of_label labels w = option_map (λ at. record { name = w; address = at }) (address_in w labels)
 
 -- the symbols of names, in their order
 abbrev pub symbols_of : List (List ℕ × ℕ) → List (List ℕ) → List Symbol
-symbols_of labels names = filter_map (symbol_at labels) names
+symbols_of labels names = filter_map (symbol_of_label labels) names

@@ -21,7 +21,7 @@ use Rattle.rv_asm_lines.specs.declared.parts.Place.{Place}
 use Rattle.rv_asm_lines.specs.Fields.{ranks_of}
 use Rattle.rv_asm_lines.specs.Parts.{address}
 use Rattle.rv_asm_lines.specs.Resolved.{address_in, words_of}
-use Rattle.rv_asm_lines.specs.Data.{directive_bytes, members_of, link_of}
+use Rattle.rv_asm_lines.specs.Data.{directive_bytes, members_of, link_between}
 use Rattle.rv_asm_lines.specs.Layout.{Layout, addresses, at_line}
 
 -- what is made so far: the parts' bytes, where every hart begins, the communicators and the links
@@ -44,13 +44,13 @@ abbrev pub is_text_address : ℕ → ℕ → Bool
 is_text_address end at = nat_lt at end && (at % 4 == 0)
 
 -- every hart begins at an address
-unfoldable pub with_entry : ℕ → ℕ → Output → Result Output AsmFaultKind
-with_entry end at o = if is_text_address end at then Ok (record o { entry = Some at }) else Err kinds.Directive
+unfoldable pub with_entry_point : ℕ → ℕ → Output → Result Output AsmFaultKind
+with_entry_point end at o = if is_text_address end at then Ok (record o { entry = Some at }) else Err kinds.Directive
 
 -- the label `_start` is the entry where no `.entry` is
 unfoldable pub label_step : Layout → List ℕ → Place → Output → Result Output AsmFaultKind
 label_step s w p o =
-    if bytes_eq w (codes "_start") && not s.fields.has_entry then with_entry s.text (address s.text p.part p.at) o
+    if bytes_eq w (codes "_start") && not s.fields.has_entry then with_entry_point s.text (address s.text p.part p.at) o
     else Ok o
 
 -- the text with the instructions of a mnemonic and its operands at an address
@@ -58,21 +58,21 @@ unfoldable pub with_use : List (List ℕ × ℕ) → ℕ → Use → List ℕ �
 with_use labels at u text = words_of labels at u.template u.filled >>= λ words. Ok (text ++ word_bytes words)
 
 -- bytes behind those of a part
-abbrev pub with_bytes : Part → List ℕ → Output → Output
-with_bytes Text bytes o = record o { text = o.text ++ bytes }
-with_bytes Data bytes o = record o { init = o.init ++ bytes }
+abbrev pub with_part_bytes : Part → List ℕ → Output → Output
+with_part_bytes Text bytes o = record o { text = o.text ++ bytes }
+with_part_bytes Data bytes o = record o { init = o.init ++ bytes }
 
 -- the entry, a symbol, whose label has to be there, a communicator, a link, or bytes
 unfoldable pub directive_step : Layout → Place → Directive → Output → Result Output AsmFaultKind
 directive_step s p (directive.Entry w) o =
-    wanted (address_in w (addresses s.text s.labels)) kinds.LabelMissing >>= λ at. with_entry s.text at o
+    wanted (address_in w (addresses s.text s.labels)) kinds.LabelMissing >>= λ at. with_entry_point s.text at o
 directive_step s p (directive.Global w) o =
     wanted (address_in w (addresses s.text s.labels)) kinds.LabelMissing >>= λ at. Ok o
 directive_step s p (directive.Comm ranks) o =
     members_of (ranks_of s.fields) ranks >>= λ members. Ok (record o { comms = o.comms ++ members ∷ [] })
 directive_step s p (directive.Link from to) o =
-    link_of (ranks_of s.fields) from to >>= λ link. Ok (record o { links = o.links ++ link ∷ [] })
-directive_step s p d o = directive_bytes (addresses s.text s.labels) p.at d >>= λ bytes. Ok (with_bytes p.part bytes o)
+    link_between (ranks_of s.fields) from to >>= λ link. Ok (record o { links = o.links ++ link ∷ [] })
+directive_step s p d o = directive_bytes (addresses s.text s.labels) p.at d >>= λ bytes. Ok (with_part_bytes p.part bytes o)
 
 -- one more statement, with the layout that the first pass ended with
 unfoldable pub stated_step : Layout → Place → Statement → Output → Result Output AsmFaultKind

@@ -56,8 +56,8 @@ unfoldable pub label_offset : List (List ℕ × ℕ) → ℕ → ℤ → Option 
 label_offset labels at z None = Ok z
 label_offset labels at z (Some w) = wanted (address_in w labels) kinds.LabelMissing >>= λ a. Ok ((pos a +ℤ z) -ℤ pos at)
 
-abbrev pub offset_of : List (List ℕ × ℕ) → ℕ → Goal → Result ℤ AsmFaultKind
-offset_of labels at goal = label_offset labels at goal.number goal.label
+abbrev pub goal_offset : List (List ℕ × ℕ) → ℕ → Goal → Result ℤ AsmFaultKind
+goal_offset labels at goal = label_offset labels at goal.number goal.label
 
 -- the immediate of lui and auipc, as it is added: the number's 20 bits, above 12 bits that are 0
 unfoldable pub upper_immediate : ℤ → ℤ
@@ -79,9 +79,9 @@ register_at Third o = o.third
 register_at Zero o = 0
 register_at Link o = 1
 
-abbrev pub number_at : Amount → Filled → ℤ
-number_at Written o = o.target.number
-number_at (Given z) o = z
+abbrev pub number_given : Amount → Filled → ℤ
+number_given Written o = o.target.number
+number_given (Given z) o = z
 
 -- a shift amount, which is not negative
 abbrev pub amount_of : ℤ → ℕ
@@ -153,13 +153,13 @@ single r = r >>= λ i. Ok (one i)
 -- the instructions of a template and its operands, at an address
 unfoldable pub instrs_of : List (List ℕ × ℕ) → ℕ → Template → Filled → Result (List Instr) AsmFaultKind
 instrs_of labels at (template.Upper op d) o = single (upper_of op (register_at d o) o.target.number)
-instrs_of labels at (template.Jal d) o = offset_of labels at o.target >>= λ n. single (jal_of (register_at d o) n)
-instrs_of labels at (template.Jalr d s n) o = single (jalr_of (register_at d o) (register_at s o) (number_at n o))
+instrs_of labels at (template.Jal d) o = goal_offset labels at o.target >>= λ n. single (jal_of (register_at d o) n)
+instrs_of labels at (template.Jalr d s n) o = single (jalr_of (register_at d o) (register_at s o) (number_given n o))
 instrs_of labels at (template.Branch op s t) o =
-    offset_of labels at o.target >>= λ n. single (branch_of op (register_at s o) (register_at t o) n)
+    goal_offset labels at o.target >>= λ n. single (branch_of op (register_at s o) (register_at t o) n)
 instrs_of labels at (template.Load op d s) o = single (load_of op (register_at d o) (register_at s o) o.target.number)
 instrs_of labels at (template.Store op s t) o = single (store_of op (register_at s o) (register_at t o) o.target.number)
-instrs_of labels at (template.Imm op d s n) o = single (imm_of op (register_at d o) (register_at s o) (number_at n o))
+instrs_of labels at (template.Imm op d s n) o = single (imm_of op (register_at d o) (register_at s o) (number_given n o))
 instrs_of labels at (template.Shift op d s) o = single (shift_of op (register_at d o) (register_at s o) o.target.number)
 instrs_of labels at (template.Arith op d s t) o =
     Ok (one (instr.Arith op (register_at d o) (register_at s o) (register_at t o)))
@@ -168,7 +168,7 @@ instrs_of labels at template.Ecall o = Ok (one instr.Ecall)
 instrs_of labels at template.Ebreak o = Ok (one instr.Ebreak)
 instrs_of labels at (template.LoadImmediate d) o = load_number (register_at d o) o.target.number
 instrs_of labels at (template.LoadAddress d) o =
-    offset_of labels 0 o.target >>= λ a. Ok (load_address (register_at d o) a)
+    goal_offset labels 0 o.target >>= λ a. Ok (load_address (register_at d o) a)
 
 -- the words of instructions
 abbrev pub all_words : Result (List Instr) AsmFaultKind → Result (List ℕ) AsmFaultKind

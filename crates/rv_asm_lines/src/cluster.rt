@@ -4,7 +4,7 @@ ghost use Rattle.std.specs.Prelude.{◌≡◌, ◌≤◌};
 ghost use Rattle.rv_asm_tokens.specs.Returned.{Gives, Is};
 ghost use Rattle.rv_image.specs.Reading.{is_new_rank};
 ghost use Rattle.rv_asm_lines.specs.Data.{new_rank as rank_meant, members_from, members_of as members_meant};
-ghost use Rattle.rv_asm_lines.specs.Data.{link_of as link_meant};
+ghost use Rattle.rv_asm_lines.specs.Data.{link_between as link_meant};
 
 use rv_asm_statements::Integer;
 use rv_asm_tokens::AsmFaultKind;
@@ -45,7 +45,7 @@ pub fn members_of(alloc: Global, ranks: u8, numbers: &[Integer]) -> Result<Vec<u
 }
 
 /// A link between two ranks of the image, one not the other, else `Directive`.
-#[tactic(auto, unfolding(crate::specs::Data::link_of))]
+#[tactic(auto, unfolding(crate::specs::Data::link_between))]
 pub fn link_of(ranks: u8, from: &Integer, to: &Integer) -> Result<Link, AsmFaultKind>
     ensures { Is (λ link. link) result (link_meant ranks from.now to.now) }
 {

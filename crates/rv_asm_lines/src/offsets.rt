@@ -3,7 +3,7 @@
 ghost use Rattle.std.specs.Prelude.{◌≡◌, ◌≤ℤ◌, ◌^◌, pos, neg_ℤ, IfOk, int_rem};
 ghost use Rattle.rv_asm_tokens.specs.Returned.{Is};
 ghost use Rattle.rv_asm_lines.specs.LayoutView.{addresses_view};
-ghost use Rattle.rv_asm_lines.specs.Resolved.{ranged, even_ranged, offset_of, upper_immediate as upper_meant};
+ghost use Rattle.rv_asm_lines.specs.Resolved.{ranged, even_ranged, goal_offset, upper_immediate as upper_meant};
 
 use crate::labels::find_label;
 use crate::layout::Layout;
@@ -44,7 +44,7 @@ pub fn even_within(low: i32, high: i32, value: i128) -> Result<i32, AsmFaultKind
 /// What a target adds to an address: a number, or how far a label is.
 #[tactic(auto, unfolding(crate::specs::Resolved::label_offset))]
 pub fn offset(layout: &Layout<'_>, at: u64, target: &Target) -> Result<i128, AsmFaultKind>
-    ensures value { Is (λ x. x) result (offset_of (addresses_view layout.now) at target.now) }
+    ensures value { Is (λ x. x) result (goal_offset (addresses_view layout.now) at target.now) }
     ensures low { IfOk result (λ x. neg_ℤ (pos (2 ^ 70)) ≤ℤ x) }
     ensures high { IfOk result (λ x. x ≤ℤ pos (2 ^ 70)) }
 {

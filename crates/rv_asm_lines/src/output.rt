@@ -2,7 +2,7 @@
 
 ghost use Rattle.std.specs.Prelude.{◌≡◌, ◌<◌, MatchResult, OnOk, Ok, Err};
 ghost use Rattle.rv_asm_tokens.specs.Returned.{Fails};
-ghost use Rattle.rv_asm_lines.specs.Output.{is_text_address, with_entry, label_step, directive_step, stated_step};
+ghost use Rattle.rv_asm_lines.specs.Output.{is_text_address, with_entry_point, label_step, directive_step, stated_step};
 ghost use Rattle.rv_asm_lines.specs.LayoutView.{addresses_view, layout_view};
 ghost use Rattle.rv_asm_lines.specs.Places.{IsSound};
 ghost use Rattle.rv_asm_lines.specs.OutputView.{output_view};
@@ -31,11 +31,11 @@ pub struct Output {
 }
 
 /// Makes an address the entry: that of a word of the text, else `Directive`.
-#[tactic(auto, unfolding(crate::specs::Output::with_entry))]
+#[tactic(auto, unfolding(crate::specs::Output::with_entry_point))]
 fn take_entry(end: u32, at: u64, output: &mut Output) -> Result<(), AsmFaultKind>
     ensures { MatchResult result
-        (λ _. with_entry end at (output_view output.old) ≡ Ok (output_view output.new))
-        (λ e. with_entry end at (output_view output.old) ≡ Err e) }
+        (λ _. with_entry_point end at (output_view output.old) ≡ Ok (output_view output.new))
+        (λ e. with_entry_point end at (output_view output.old) ≡ Err e) }
 {
     if at < u64::from(end) && at % 4 == 0 {
         output.entry = Some(at as u32);

@@ -7,7 +7,7 @@ ghost use Rattle.rv_asm_tokens.specs.Returned.{Is};
 ghost use Rattle.rv_asm_lines.specs.LayoutView.{addresses_view};
 ghost use Rattle.rv_asm_lines.specs.Places.{AllWritten, IfRight};
 ghost use Rattle.rv_asm_lines.specs.WordsView.{words_list};
-ghost use Rattle.rv_asm_lines.specs.Resolved.{register_at, number_at, lui_high, low_part, high_part, load_immediate};
+ghost use Rattle.rv_asm_lines.specs.Resolved.{register_at, number_given, lui_high, low_part, high_part, load_immediate};
 ghost use Rattle.rv_asm_lines.specs.Resolved.{all_words, load_address, load_number as load_meant, use_length};
 ghost use Rattle.rv_asm_lines.specs.Resolved.{instrs_of, words_of as resolved_words};
 
@@ -32,7 +32,7 @@ fn register(slot: Slot, o: &Filled) -> Reg
 }
 
 fn number(amount: Amount, o: &Filled) -> i128
-    ensures { result ≡ number_at amount o.now }
+    ensures { result ≡ number_given amount o.now }
 {
     match amount {
         Amount::Written => o.target.number.value(),

@@ -12,7 +12,7 @@ use Rattle.rv_memory.specs.declared.fault.Cause.{Cause}
 use Rattle.rv_memory.proofs.Marked.{with_no_pages, stored-with_pages, missing_from-written}
 use Rattle.rv_hart.specs.Results.{store_width}
 use Rattle.rv_hart.specs.State.{State, read}
-use Rattle.rv_hart.specs.Effect.{After, after, stores, offset, trapped}
+use Rattle.rv_hart.specs.Effect.{After, after, after_store, offset, trapped}
 use Rattle.rv_hart.specs.Stepped.{stepped, after_decoded, after_fetched}
 use Rattle.rv_hart.specs.Stores.{unless, store_at, stored_by, range_decoded, range_fetched, store_range, nothing, IsThere}
 use Rattle.rv_hart.specs.declared.stores.StoreRange.{StoreRange}
@@ -22,8 +22,8 @@ abbrev pub placed : Memory → StoreRange → Memory
 placed m range = with_pages m range.address range.count
 
 store-placed : (trap : Option Cause) (address size value : ℕ) (s : State) (m : Memory) → store_trap m address size ≡ trap
-    → stores (store_trap m address size) (stored (placed m (unless trap address size)) address size value) s (placed m (unless trap address size))
-    ≡ stores (store_trap m address size) (stored m address size value) s m
+    → after_store (store_trap m address size) (stored (placed m (unless trap address size)) address size value) s (placed m (unless trap address size))
+    ≡ after_store (store_trap m address size) (stored m address size value) s m
 store-placed None address size value s m e = rw (e, stored-with_pages m address size value) refl
 store-placed (Some cause) address size value s m e = rw e (ap (trapped cause s) (with_no_pages m 0))
 

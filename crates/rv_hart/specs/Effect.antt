@@ -53,18 +53,18 @@ jumps d target s m =
     if (target % 4 == 0) then plain (at_pc (write s d (next s)) target) m else trapped InstructionMisaligned s m
 
 -- a branch that is taken (2.5)
-unfoldable pub branches : ℕ → State → Memory → After
-branches target s m = if (target % 4 == 0) then plain (at_pc s target) m else trapped InstructionMisaligned s m
+unfoldable pub after_branch : ℕ → State → Memory → After
+after_branch target s m = if (target % 4 == 0) then plain (at_pc s target) m else trapped InstructionMisaligned s m
 
 -- a load from an address, by its trap
-abbrev pub loads : Option Cause → LoadOp → ℕ → ℕ → State → Memory → After
-loads None op d address s m = gives d (load_result op (value_at m.bytes address (size_of (load_width op)))) s m
-loads (Some cause) op d address s m = trapped cause s m
+abbrev pub after_load : Option Cause → LoadOp → ℕ → ℕ → State → Memory → After
+after_load None op d address s m = gives d (load_result op (value_at m.bytes address (size_of (load_width op)))) s m
+after_load (Some cause) op d address s m = trapped cause s m
 
 -- a store that leaves this memory, by its trap
-abbrev pub stores : Option Cause → Memory → State → Memory → After
-stores None new s m = plain (at_pc s (next s)) new
-stores (Some cause) new s m = trapped cause s m
+abbrev pub after_store : Option Cause → Memory → State → Memory → After
+after_store None new s m = plain (at_pc s (next s)) new
+after_store (Some cause) new s m = trapped cause s m
 
 -- the effect of an instruction: computations 2.4 and 5.2, jumps and branches 2.5, loads and stores 2.6 and 5.3, fence
 -- 2.7, ecall (left to the caller) and ebreak 2.8
@@ -73,14 +73,14 @@ after (Upper op d imm) s m = gives d (upper_result op s.pc imm) s m
 after (Jal d off) s m = jumps d (offset s.pc off) s m
 after (Jalr d r off) s m = jumps d (even (offset (read s r) off)) s m
 after (Branch op r t off) s m =
-    if is_taken op (read s r) (read s t) then branches (offset s.pc off) s m else plain (at_pc s (next s)) m
+    if is_taken op (read s r) (read s t) then after_branch (offset s.pc off) s m else plain (at_pc s (next s)) m
 after (Load op d r off) s m =
     let address = offset (read s r) off in
-    loads (load_trap m address (size_of (load_width op))) op d address s m
+    after_load (load_trap m address (size_of (load_width op))) op d address s m
 after (Store op r t off) s m =
     let address = offset (read s r) off in
     let size = size_of (store_width op) in
-    stores (store_trap m address size) (stored m address size (read s t)) s m
+    after_store (store_trap m address size) (stored m address size (read s t)) s m
 after (Imm op d r imm) s m = gives d (imm_result op (read s r) imm) s m
 after (Shift op d r amount) s m = gives d (shift_result op (read s r) amount) s m
 after (Arith op d r t) s m = gives d (arith_result op (read s r) (read s t)) s m

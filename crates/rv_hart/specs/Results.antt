@@ -24,16 +24,16 @@ use Rattle.rv_memory.specs.declared.memory.Width.{Width}
 use Rattle.rv_memory.specs.declared.memory.Width.TheVariants.{Byte, Half, Word, Double}
 use Rattle.rv_hart.specs.Numbers.{floor, signed_64, low_32, signed_32, in_64, in_32}
 
-abbrev pub one_if : Bool → ℕ
-one_if test = if test then 1 else 0
+abbrev pub one_if_true : Bool → ℕ
+one_if_true test = if test then 1 else 0
 
 -- two registers: 2.4 and 5.2, of M 7.1 (products) and 7.2 (quotients, rounded toward zero)
 unfoldable pub arith_result : ArithOp → ℕ → ℕ → ℕ
 arith_result Add a b = in_64 (pos (a + b))
 arith_result Sub a b = in_64 (pos a -ℤ pos b)
 arith_result Sll a b = in_64 (pos (a * 2 ^ (b % 64)))
-arith_result Slt a b = one_if (int_lt (signed_64 a) (signed_64 b))
-arith_result Sltu a b = one_if (nat_lt a b)
+arith_result Slt a b = one_if_true (int_lt (signed_64 a) (signed_64 b))
+arith_result Sltu a b = one_if_true (nat_lt a b)
 arith_result Xor a b = bit_xor a b
 arith_result Srl a b = a / 2 ^ (b % 64)
 arith_result Sra a b = in_64 (floor (signed_64 a) (2 ^ (b % 64)))
@@ -61,8 +61,8 @@ arith_result Remuw a b = if (low_32 b == 0) then in_32 (pos (low_32 a)) else in_
 -- a register and an immediate: 2.4 and 5.2
 unfoldable pub imm_result : ImmOp → ℕ → ℤ → ℕ
 imm_result Addi a imm = in_64 (pos a +ℤ imm)
-imm_result Slti a imm = one_if (int_lt (signed_64 a) imm)
-imm_result Sltiu a imm = one_if (nat_lt a (in_64 imm))
+imm_result Slti a imm = one_if_true (int_lt (signed_64 a) imm)
+imm_result Sltiu a imm = one_if_true (nat_lt a (in_64 imm))
 imm_result Xori a imm = bit_xor a (in_64 imm)
 imm_result Ori a imm = bit_or a (in_64 imm)
 imm_result Andi a imm = bit_and a (in_64 imm)

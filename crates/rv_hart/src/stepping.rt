@@ -2,7 +2,7 @@
 ghost use Rattle.std.specs.Prelude.{◌≡◌, ◌+◌, ◌≤◌, IsOk, IfOk, OnOk, OnErr};
 ghost use Rattle.rv_decode.specs.WordOf.{Fits};
 ghost use Rattle.rv_decode.specs.declared.instruction.Instr.TheVariants.{Branch, Load, Store};
-ghost use Rattle.rv_hart.specs.Effect.{After, after, gives, jumps, branches, next as next_of};
+ghost use Rattle.rv_hart.specs.Effect.{After, after, gives, jumps, after_branch, next as next_of};
 ghost use Rattle.rv_hart.specs.Relation.{IsStep};
 ghost use Rattle.rv_hart.specs.Effect.{offset as offset_of};
 ghost use Rattle.rv_hart.specs.State.{at_pc, in_mode};
@@ -82,9 +82,9 @@ fn jump(hart: &mut Hart, rd: Reg, target: u64) -> Did
 
 /// Takes a branch to a target.
 #[inline(always)]
-#[tactic(auto, unfolding(crate::specs::Effect::branches))]
+#[tactic(auto, unfolding(crate::specs::Effect::after_branch))]
 fn branch(hart: &mut Hart, target: u64) -> Did
-    ensures { (m : Memory) → record { did = result; state = hart.new; memory = m } ≡ branches target hart.old m }
+    ensures { (m : Memory) → record { did = result; state = hart.new; memory = m } ≡ after_branch target hart.old m }
 {
     if target % 4 != 0 {
         return trap(hart, Cause::InstructionMisaligned);

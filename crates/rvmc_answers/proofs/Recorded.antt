@@ -13,7 +13,7 @@ use Rattle.cl_text.proofs.ReadAgain.{read_again}
 use Rattle.cl_text.specs.Reading.{reading_record}
 use Rattle.cl_text.specs.declared.faults.RecordFault.{RecordFault}
 use Rattle.rv_image.specs.declared.images.ImageParts.{ImageParts}
-use Rattle.rvmc_answers.specs.Answers.{IsChecked, IsDone, IsFaulty, IsOne, IsRecordOf, IsRun, IsRunBy, IsTextOf}
+use Rattle.rvmc_answers.specs.Answers.{IsChecked, IsDone, IsFaulty, IsOne, IsRecordOf, IsRunAnswer, IsRunBy, IsTextOf}
 use Rattle.rvmc_answers.specs.Answers.{SaysOfRecord}
 use Rattle.rvmc_answers.specs.Images.{image_in}
 use Rattle.rvmc_answers.specs.Laws.{RecordedIsGoodLaw}
@@ -85,7 +85,7 @@ told_by Right Leaves image text status merged some by none =
 
 run_text : (meant : Result ImageParts Fault) (budget : ℕ) (harts : Option (List ℕ)) (text : List ℕ) (status : ℕ)
     → text ≢ []
-    → MatchResult meant (λ image. IsRun image budget harts written.Record text status) (λ _. IsFaulty text status)
+    → MatchResult meant (λ image. IsRunAnswer image budget harts written.Record text status) (λ _. IsFaulty text status)
     → ¬ (¬ (IsMergedText text))
 run_text (Ok image) budget harts text status some (plans, of, by) =
     told_by _ _ image text status (λ left is. is.merged) some by

@@ -20,7 +20,7 @@ use Rattle.cl_threads.specs.Runs.{IsThreadRun}
 use Rattle.rv_image.specs.Image.{IsImage, in_version_two}
 use Rattle.rv_image.specs.Text.{image_text}
 use Rattle.rv_image.specs.declared.images.ImageParts.{ImageParts}
-use Rattle.rvmc_debug.specs.Words.{IsTold as HasTold}
+use Rattle.rvmc_debug.specs.Words.{IsTextOfWords as HasTold}
 use Rattle.rvmc_line.specs.declared.debug.DebugWord.{DebugWord}
 use Rattle.rvmc_line.specs.declared.line.CommandLine.{CommandLine}
 use Rattle.rvmc_line.specs.declared.line.CommandLine.TheVariants.{Asm, Check, Debug, Dis, One, Run, Why}
@@ -118,8 +118,8 @@ pub record IsLeftByOne (image : ImageParts) (plans : List Plan) (order : List �
   pub merged : IsMergedRun image left
 
 -- `run`: each rank on a thread of its own
-abbrev pub IsRun : ImageParts → ℕ → Option (List ℕ) → Written → List ℕ → ℕ → Type 0
-IsRun image budget harts written text status =
+abbrev pub IsRunAnswer : ImageParts → ℕ → Option (List ℕ) → Written → List ℕ → ℕ → Type 0
+IsRunAnswer image budget harts written text status =
     ByPlans image budget harts (λ plans.
     IsRunBy (HasPlans image plans) (IsLeftByThreads image plans) (IsTextOf written image) text status)
 
@@ -135,7 +135,7 @@ abbrev pub Makes : CommandLine → ImageParts → List ℕ → ℕ → Type 0
 Makes (Asm false) image text status = IsDone (image_text image) text status
 Makes (Asm true) image text status = IsDone (image_text (in_version_two image)) text status
 Makes Dis image text status = IsDone (listing image) text status
-Makes (Run source budget plan lead written) image text status = IsRun image budget plan written text status
+Makes (Run source budget plan lead written) image text status = IsRunAnswer image budget plan written text status
 Makes (One source budget plan order written) image text status = IsOne image budget plan order written text status
 Makes Check image text status = ⊥
 Makes (Debug words) image text status = ⊥
@@ -159,9 +159,9 @@ SaysOfRecord bytes text status =
     MatchResult (reading_record bytes) (λ read. IsChecked read.0 read.1 text status) (λ _. IsFaulty text status)
 
 -- the words end: all are done, or one is refused for this
-abbrev pub end_of : Option DebugFault → End
-end_of None = Status 0
-end_of (Some fault) = Cut (fault_of_debug fault)
+abbrev pub end_after : Option DebugFault → End
+end_after None = Status 0
+end_after (Some fault) = Cut (fault_of_debug fault)
 
 -- what the words of `debug` tell of steps, which are a run of the image, from the start of the run on
 pub record IsDebugged (image : ImageParts) (steps : List Step) (words : List DebugWord) (text : List ℕ) (end : End)
@@ -169,7 +169,7 @@ pub record IsDebugged (image : ImageParts) (steps : List Step) (words : List Deb
   pub run : IsRunUpTo image steps (length steps)
   pub fault : Option DebugFault
   pub told : HasTold (record { image = image; steps = steps; place = 0; breaks = [] }) words text fault
-  pub end_is : end ≡ end_of fault
+  pub end_is : end ≡ end_after fault
 
 -- steps that are no run of the image are a fault of the input: no word is done
 abbrev pub SaysOfSteps : ImageParts → List Step → List DebugWord → List ℕ → ℕ → Type 0
@@ -184,9 +184,9 @@ SaysOfWords words bytes text status =
     (λ _. IsFaulty text status)
 
 -- the place of which `why` tells: so many steps are done, or all
-abbrev pub place_in : Option ℕ → List Step → ℕ
-place_in (Some n) steps = n
-place_in None steps = length steps
+abbrev pub place_asked : Option ℕ → List Step → ℕ
+place_asked (Some n) steps = n
+place_asked None steps = length steps
 
 -- there are so many steps, and they are a run of the image
 pub record HasPlace (image : ImageParts) (steps : List Step) (n : ℕ) : Type 0 where
@@ -201,7 +201,7 @@ SaysOfPlace image steps n text status =
 -- what `why` says of the record that the bytes spell
 abbrev pub SaysWhy : Option ℕ → List ℕ → List ℕ → ℕ → Type 0
 SaysWhy at bytes text status =
-    MatchResult (reading_record bytes) (λ read. SaysOfPlace read.0 read.1 (place_in at read.1) text status)
+    MatchResult (reading_record bytes) (λ read. SaysOfPlace read.0 read.1 (place_asked at read.1) text status)
     (λ _. IsFaulty text status)
 
 -- what a command line says of the bytes that are read

@@ -24,7 +24,7 @@ use Rattle.rvmc_answers.specs.Images.{image_in}
 use Rattle.rvmc_answers.specs.Plans.{listed}
 use Rattle.rvmc_answers.specs.declared.answers.End.{End}
 use Rattle.rvmc_answers.specs.declared.answers.End.TheVariants.{Cut, Status}
-use Rattle.rvmc_answers.specs.Answers.{ByPlans, IsDebugged, HasThreads, place_in}
+use Rattle.rvmc_answers.specs.Answers.{ByPlans, IsDebugged, HasThreads, place_asked}
 
 -- ---- how an answer ends
 
@@ -104,7 +104,7 @@ IsNoPlace image steps n (place.NotARun k) = (k < n) × (n ≤ length steps) × B
 -- of bytes that are read as a record that has the place
 abbrev pub IsPlaceFault : Option ℕ → List ℕ → Fault → Type 0
 IsPlaceFault at bytes (faults.Why fault) =
-    MatchResult (reading_record bytes) (λ read. IsNoPlace read.0 read.1 (place_in at read.1) fault) (λ _. ⊥)
+    MatchResult (reading_record bytes) (λ read. IsNoPlace read.0 read.1 (place_asked at read.1) fault) (λ _. ⊥)
 IsPlaceFault at bytes fault = IsRecordFault bytes fault
 
 -- of what a command takes from the bytes

@@ -1,7 +1,7 @@
 //! Records that are walked through, word by word.
 
 ghost use Rattle.std.specs.Prelude.{◌≡◌, IfErr, IfOk};
-ghost use Rattle.rvmc_answers.specs.Answers.{end_of};
+ghost use Rattle.rvmc_answers.specs.Answers.{end_after};
 ghost use Rattle.rvmc_answers.specs.Making.{HasDebugged, IsDebugFault};
 ghost use Rattle.rvmc_answers.specs.Outputs.{output_bytes};
 
@@ -16,7 +16,7 @@ use std::alloc::Global;
 
 /// How words end: all of them are done, or one is refused.
 fn end_of(fault: Option<DebugFault>) -> End
-    ensures { result ≡ end_of fault }
+    ensures { result ≡ end_after fault }
 {
     match fault {
         Some(fault) => End::Cut(Fault::from(fault)),

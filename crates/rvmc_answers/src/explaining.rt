@@ -2,7 +2,7 @@
 
 ghost use Rattle.std.specs.Prelude.{◌≡◌, IfErr, IfOk};
 ghost use Rattle.cl_replay.specs.InnerReplaying.{ReplayFaultHolds};
-ghost use Rattle.rvmc_answers.specs.Answers.{IsReportWithWhy, IsWhyAt, IsWhyOf, SaysWhy, end_status, place_in};
+ghost use Rattle.rvmc_answers.specs.Answers.{IsReportWithWhy, IsWhyAt, IsWhyOf, SaysWhy, end_status, place_asked};
 ghost use Rattle.rvmc_answers.specs.Making.{IsLeft, IsPlaceFault, IsWhole};
 ghost use Rattle.rvmc_answers.specs.Outputs.{output_bytes};
 
@@ -21,7 +21,7 @@ use std::alloc::{AllocError, Global};
 
 /// The place of which `why` tells: so many steps are done, or all.
 fn place_in(at: Option<u64>, steps: &[Step]) -> u64
-    ensures { result ≡ place_in at steps.now }
+    ensures { result ≡ place_asked at steps.now }
 {
     match at {
         Some(number) => number,

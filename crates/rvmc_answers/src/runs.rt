@@ -5,7 +5,7 @@ ghost use Rattle.cl_record.specs.Plans.{ArePlans, HasPlans};
 ghost use Rattle.rv_image.specs.Image.{IsImage};
 ghost use Rattle.rvmc_answers.specs.Answers.{ByPlans, IsLeftByOne, IsLeftByThreads, IsOne, IsRecordOf};
 ghost use Rattle.rvmc_answers.specs.Making.{IsLeft};
-ghost use Rattle.rvmc_answers.specs.Answers.{IsRun, IsRunBy, IsTextOf, end_status};
+ghost use Rattle.rvmc_answers.specs.Answers.{IsRunAnswer, IsRunBy, IsTextOf, end_status};
 ghost use Rattle.rvmc_answers.specs.Making.{IsRunFault, IsWhole};
 ghost use Rattle.rvmc_answers.specs.Outputs.{output_bytes};
 ghost use Rattle.rvmc_answers.specs.Plans.{listed};
@@ -139,7 +139,7 @@ pub(crate) fn run<R: Threads + Wait + Sync>(
     written: Written,
 ) -> Result<Answer, Fault>
     ensures says { IfOk result (λ answer.
-        IsRun image.now budget harts.now written (output_bytes answer.output) (end_status answer.end)) }
+        IsRunAnswer image.now budget harts.now written (output_bytes answer.output) (end_status answer.end)) }
     ensures whole { IfOk result (λ answer. IsWhole answer.end) }
     ensures fault { IfErr result (IsRunFault
         (ByPlans image.now budget harts.now (λ plans. ¬ (HasPlans image.now plans)))

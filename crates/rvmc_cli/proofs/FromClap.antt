@@ -10,7 +10,7 @@ use Rattle.clap.specs.declared.error.kind.ErrorKind.{ErrorKind}
 use Rattle.clap.specs.declared.error.kind.ErrorKind.TheVariants as kind
 use Rattle.clap.proofs.OnLiterals.{clap_on_literals}
 use Rattle.rvmc_cli.specs.App.{rvmc_app}
-use Rattle.rvmc_cli.specs.Meaning.{IsRefusal, Parses, command_in, faults_in, is_request, line_in, meaning_of}
+use Rattle.rvmc_cli.specs.Meaning.{IsParseFault, Parses, command_in, faults_in, is_request, line_in, meaning_of}
 use Rattle.rvmc_cli.specs.Meaning.{refusals_of}
 use Rattle.rvmc_cli.specs.Parsing.{Finds, IsTold, Tells}
 use Rattle.rvmc_line.specs.declared.line.ParseFault.{ParseFault}
@@ -67,19 +67,19 @@ among_refusals k [] among = absurd among
 among_refusals k (x ∷ xs) among = among
 
 -- a refusal, of words that mean nothing
-pub refusal : (ws : List (Bor Text)) (k : ErrorKind) (r : ParseFault) → meaning_of (texts ws) ≡ None → IsAmong k (refusals_of (texts ws)) → IsRefusal k r → Parses (texts ws) (Err r)
+pub refusal : (ws : List (Bor Text)) (k : ErrorKind) (r : ParseFault) → meaning_of (texts ws) ≡ None → IsAmong k (refusals_of (texts ws)) → IsParseFault k r → Parses (texts ws) (Err r)
 refusal ws k parse.Memory none among is = tt
 refusal ws k (parse.Asked text) none among is = (none, (k, among, is))
 refusal ws k (parse.Refused text) none among is = (none, (k, among, is))
 
 -- memory was wanting, or a fault was found
-memory_or : (k : ErrorKind) (r : ParseFault) → k ≡ kind.OutOfMemory → IsRefusal k r → r ≡ parse.Memory
+memory_or : (k : ErrorKind) (r : ParseFault) → k ≡ kind.OutOfMemory → IsParseFault k r → r ≡ parse.Memory
 memory_or k parse.Memory memory is = refl
 memory_or k (parse.Asked text) memory is = absurd (true≢false (sym is ∙ ap is_request memory))
 memory_or k (parse.Refused text) memory is = absurd (is.1 memory)
 
 -- clap refused the words
-pub refused_words : (ws : List (Bor Text)) (e : Error) (app : App) (r : ParseFault) → 0 < length ws → app ≡ rvmc_app → IsRefusal (kind_of e) r → HasKind (fault_of app (texts ws)) e
+pub refused_words : (ws : List (Bor Text)) (e : Error) (app : App) (r : ParseFault) → 0 < length ws → app ≡ rvmc_app → IsParseFault (kind_of e) r → HasKind (fault_of app (texts ws)) e
     → Parses (texts ws) (Err r)
 refused_words ws e app r lt is shown (inl memory) =
     subst (λ (x : ParseFault). Parses (texts ws) (Err x)) (sym (memory_or (kind_of e) r memory shown)) tt
@@ -88,13 +88,13 @@ refused_words ws e app r lt is shown (inr among) =
     refusal ws (kind_of e) r (not_taken ws (kind_of e) lt found) (among_refusals (kind_of e) (faults_in (texts ws)) found) shown
 
 -- clap took the words, and a value is none
-refused_value : (ws : List (Bor Text)) (r : ParseFault) → meaning_of (texts ws) ≡ None → faults_in (texts ws) ≡ [] → IsRefusal kind.ValueValidation r
+refused_value : (ws : List (Bor Text)) (r : ParseFault) → meaning_of (texts ws) ≡ None → faults_in (texts ws) ≡ [] → IsParseFault kind.ValueValidation r
     → Parses (texts ws) (Err r)
 refused_value ws r none nothing is =
     refusal ws kind.ValueValidation r none (subst (λ ks. IsAmong kind.ValueValidation (or_else ks (kind.ValueValidation ∷ []))) (sym nothing) (inl refl)) is
 
 -- what is told of a value that isn't one
-tells_none : (r : ParseFault) (meant : Option CommandLine) → meant ≡ None → IsRefusal kind.ValueValidation r → Tells meant (Err r)
+tells_none : (r : ParseFault) (meant : Option CommandLine) → meant ≡ None → IsParseFault kind.ValueValidation r → Tells meant (Err r)
 tells_none parse.Memory meant none is = tt
 tells_none (parse.Asked text) meant none is = absurd cc
 tells_none (parse.Refused text) meant none is = none

@@ -119,14 +119,14 @@ is_request kind.DisplayVersion = true
 is_request other = false
 
 -- clap's error of a kind, as `parse` answers it; memory may be wanting for its text
-abbrev pub IsRefusal : ErrorKind → ParseFault → Type 0
-IsRefusal k parse.Memory = ⊤
-IsRefusal k (parse.Asked text) = is_request k ≡ true
-IsRefusal k (parse.Refused text) = (is_request k ≡ false) × (k ≢ kind.OutOfMemory)
+abbrev pub IsParseFault : ErrorKind → ParseFault → Type 0
+IsParseFault k parse.Memory = ⊤
+IsParseFault k (parse.Asked text) = is_request k ≡ true
+IsParseFault k (parse.Refused text) = (is_request k ≡ false) × (k ≢ kind.OutOfMemory)
 
 -- one of the refusals of the words
 abbrev pub IsRefusalOf : List Text → ParseFault → Type 0
-IsRefusalOf words fault = (k : ErrorKind) × IsAmong k (refusals_of words) × IsRefusal k fault
+IsRefusalOf words fault = (k : ErrorKind) × IsAmong k (refusals_of words) × IsParseFault k fault
 
 -- what `parse` answers
 abbrev pub Parses : List Text → Result CommandLine ParseFault → Type 0

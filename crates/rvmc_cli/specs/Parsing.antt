@@ -6,7 +6,7 @@ use Rattle.rvmc_line.specs.declared.line.ParseFault.{ParseFault}
 use Rattle.rvmc_line.specs.declared.line.ParseFault.TheVariants as parse
 use Rattle.rvmc_cli.specs.declared.parsing.Wrong.{Wrong}
 use Rattle.rvmc_cli.specs.declared.parsing.Wrong.TheVariants as wrong
-use Rattle.rvmc_cli.specs.Meaning.{IsRefusal}
+use Rattle.rvmc_cli.specs.Meaning.{IsParseFault}
 
 -- what was found is what is meant, unless memory was refused
 abbrev pub Finds : {X : Type 0} → Option X → Result X Wrong → Type 0
@@ -30,4 +30,4 @@ Tells meant (Err (parse.Refused text)) = meant ≡ None
 -- what is told of words that clap took, whose value isn't one
 abbrev pub IsTold : Wrong → ParseFault → Type 0
 IsTold wrong.Memory fault = fault ≡ parse.Memory
-IsTold other fault = IsRefusal kind.ValueValidation fault
+IsTold other fault = IsParseFault kind.ValueValidation fault

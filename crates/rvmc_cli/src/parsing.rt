@@ -4,7 +4,7 @@ ghost use Rattle.std.specs.Prelude.{◌≡◌, IfOk, None, Ok, [], false, map, o
 ghost use Rattle.std.specs.Prelude.{true};
 ghost use Rattle.clap.specs.Walk.{rows_of};
 ghost use Rattle.clap.specs.Words.{all_of, first_of, found_of, kind_of, subcommand_rows_of};
-ghost use Rattle.rvmc_cli.specs.Meaning.{IsRefusal, Parses, at_in, budget_in, debug_in, flag_in};
+ghost use Rattle.rvmc_cli.specs.Meaning.{IsParseFault, Parses, at_in, budget_in, debug_in, flag_in};
 ghost use Rattle.rvmc_cli.specs.Parsing.{Finds, IsTold, Reads, Tells};
 ghost use Rattle.rvmc_cli.specs.Meaning.{lead_in, line_in, list_option, number_option, one_in, run_in};
 ghost use Rattle.rvmc_cli.specs.Meaning.{why_in, written_in};
@@ -296,7 +296,7 @@ fn line<'a>(alloc: Global, name: &str, matches: &ArgMatches<'a>) -> Result<Comma
 
 /// What clap says in place of what it found.
 fn shown(alloc: Global, error: clap::Error) -> ParseFault
-    ensures { IsRefusal (kind_of error) result }
+    ensures { IsParseFault (kind_of error) result }
 {
     let Ok(text) = format!(in alloc; "{error}") else {
         return ParseFault::Memory;

@@ -99,8 +99,8 @@ Walks old (word ∷ words) new text =
     × (text ≡ first ++ rest)
 
 -- the texts of all words; or those of the words before one that is refused, and why it is
-abbrev pub IsTold : Debugging → List DebugWord → List ℕ → Option DebugFault → Type 0
-IsTold old words text None = (new : Debugging) × Walks old words new text
-IsTold old words text (Some fault) =
+abbrev pub IsTextOfWords : Debugging → List DebugWord → List ℕ → Option DebugFault → Type 0
+IsTextOfWords old words text None = (new : Debugging) × Walks old words new text
+IsTextOfWords old words text (Some fault) =
     (n : ℕ) × (word : DebugWord) × (new : Debugging) × (slice_get words n ≡ Some word)
     × Walks old (take n words) new text × Refuses new fault word

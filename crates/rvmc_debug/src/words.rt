@@ -3,7 +3,7 @@
 ghost use Rattle.std.specs.Prelude.{◌≡◌, ◌<◌, ◌++◌, IfErr, IfOk, List, OnErr, OnOk, length, ℕ};
 ghost use Rattle.cl_debug.specs.declared.faults.DebugFault.TheVariants.{NoSymbol};
 ghost use Rattle.rvmc_line.specs.declared.debug.DebugWord.TheVariants as word;
-ghost use Rattle.rvmc_debug.specs.Words.{AddsBreak, Does, IsSpot, IsTold, IsUnknown, Refuses, TellsBytes, TellsPlace};
+ghost use Rattle.rvmc_debug.specs.Words.{AddsBreak, Does, IsSpot, IsTextOfWords, IsUnknown, Refuses, TellsBytes, TellsPlace};
 ghost use Rattle.rvmc_debug.specs.Words.{TellsRegs, WantsMemory};
 
 use crate::texts::{bytes_text, place_text, regs_text};
@@ -163,7 +163,7 @@ fn put_word(
 
 /// Does words one after another, up to the first that is refused.
 pub fn tell_all(alloc: Global, debugger: &mut Debugger, words: &[DebugWord]) -> Told
-    ensures { IsTold debugger.old words.now result.text.items result.fault }
+    ensures { IsTextOfWords debugger.old words.now result.text.items result.fault }
 {
     let mut text = Vec::new(alloc);
     for word in words {

@@ -49,11 +49,11 @@ regs_in (r ∷ h ∷ []) =
 regs_in others = None
 
 -- `bytes=R,A,N` and `bytes=R,NAME,N`
-abbrev pub bytes_in : List (List ℕ) → Option DebugWord
-bytes_in (r ∷ at ∷ n ∷ []) =
+abbrev pub bytes_word_in : List (List ℕ) → Option DebugWord
+bytes_word_in (r ∷ at ∷ n ∷ []) =
     option_and_then (λ rank. option_and_then (λ spot. option_map (λ count. Bytes rank spot count)
     (large_number_in n)) (spot_in at)) (small_number_in r)
-bytes_in others = None
+bytes_word_in others = None
 
 -- a word that stands alone
 unfoldable pub bare_word : List ℕ → Option DebugWord
@@ -70,7 +70,7 @@ word_with name arguments =
     if bytes_eq name (codes "go") then go_in arguments
     else (if bytes_eq name (codes "break") then break_in arguments
     else (if bytes_eq name (codes "regs") then regs_in arguments
-    else (if bytes_eq name (codes "bytes") then bytes_in arguments
+    else (if bytes_eq name (codes "bytes") then bytes_word_in arguments
     else None)))
 
 -- what stands before, between and behind the equals signs: a word alone, or a word and its arguments with commas

@@ -3,7 +3,7 @@
 ghost use Rattle.std.specs.Prelude.{◌≡◌, ◌++◌, ◌∷◌, [], IfOk, OnErr, OnOk, map};
 ghost use Rattle.std.specs.List.{list_all};
 ghost use Rattle.rv_image.specs.Names as names;
-ghost use Rattle.rvmc_line.specs.Debug.{bare_word, break_in, bytes_in, debug_word_in, go_in, is_name, large_number_in};
+ghost use Rattle.rvmc_line.specs.Debug.{bare_word, break_in, bytes_word_in, debug_word_in, go_in, is_name, large_number_in};
 ghost use Rattle.rvmc_line.specs.Debug.{regs_in, small_number_in, spot_in, word_of, word_with};
 
 use crate::list::parts;
@@ -195,7 +195,7 @@ fn regs_in(arguments: &[&str]) -> Option<DebugWord>
 }
 
 fn bytes_in(alloc: Global, arguments: &[&str]) -> Result<Option<DebugWord>, AllocError>
-    ensures { IfOk result (λ found. found ≡ bytes_in (map (λ argument. argument.now) arguments.now)) }
+    ensures { IfOk result (λ found. found ≡ bytes_word_in (map (λ argument. argument.now) arguments.now)) }
 {
     let [r, at, n] = arguments else {
         return Ok(None);

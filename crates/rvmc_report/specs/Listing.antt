@@ -15,14 +15,14 @@ abbrev pub hex_8 : ℕ → List ℕ
 hex_8 n = replicate (8 - length (digits 16 false n)) 48 ++ digits 16 false n
 
 -- the instruction of a word, or for an illegal word `.word 0x` and its digits
-abbrev pub statement_of : Option Instr → ℕ → List ℕ
-statement_of (Some instr) word = instr_text instr
-statement_of None word = codes ".word 0x" ++ hex_8 word
+abbrev pub listed_statement : Option Instr → ℕ → List ℕ
+listed_statement (Some instr) word = instr_text instr
+listed_statement None word = codes ".word 0x" ++ hex_8 word
 
 -- as `00000000: 000a72b7  lui x5, 0xa7`
 abbrev pub listing_line : ℕ → ℕ → List ℕ
 listing_line address word =
-    hex_8 address ++ (codes ": " ++ (hex_8 word ++ (codes "  " ++ (statement_of (decoded word) word ++ 10 ∷ []))))
+    hex_8 address ++ (codes ": " ++ (hex_8 word ++ (codes "  " ++ (listed_statement (decoded word) word ++ 10 ∷ []))))
 
 -- the line of the word of this number
 abbrev pub word_line : List ℕ → ℕ → List ℕ

@@ -41,16 +41,16 @@ abbrev pub newline : List ℕ
 newline = 10 ∷ []
 
 -- an address, as `0x1c`
-abbrev pub address_text : ℕ → List ℕ
-address_text pc = codes "0x" ++ digits 16 false pc
+abbrev pub hex_text : ℕ → List ℕ
+hex_text pc = codes "0x" ++ digits 16 false pc
 
 -- how a hart stands
 abbrev pub mode_text : Mode → ℕ → List ℕ
-mode_text Running pc = codes "running at " ++ address_text pc
-mode_text (Waiting wait) pc = codes "waiting at " ++ address_text pc
+mode_text Running pc = codes "running at " ++ hex_text pc
+mode_text (Waiting wait) pc = codes "waiting at " ++ hex_text pc
 mode_text (Ended code) pc = codes "ended " ++ decimal code
 mode_text (Trapped cause at) pc =
-    codes "trapped " ++ (decimal (cause_number cause) ++ (codes " at " ++ address_text at))
+    codes "trapped " ++ (decimal (cause_number cause) ++ (codes " at " ++ hex_text at))
 
 abbrev pub stop_text : Stop → List ℕ
 stop_text AllEnded = codes "all-ended"

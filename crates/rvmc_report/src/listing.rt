@@ -4,7 +4,7 @@ ghost use Rattle.std.specs.Prelude.{◌≡◌, ◌+◌, ◌*◌, ◌<◌, ◌/�
 ghost use Rattle.std.specs.List.{flat_map};
 ghost use Rattle.rv_decode.specs.Decoded.{decoded};
 ghost use Rattle.rv_memory.specs.Memory.{value_at};
-ghost use Rattle.rvmc_report.specs.Listing.{hex_8, listing, listing_line, name_line, statement_of, symbols_at};
+ghost use Rattle.rvmc_report.specs.Listing.{hex_8, listing, listing_line, name_line, listed_statement, symbols_at};
 ghost use Rattle.rvmc_report.specs.Listing.{word_lines};
 
 use rv_decode::{decode, print_instr};
@@ -20,7 +20,7 @@ fn hex_8(alloc: Global, number: u32) -> Result<String, AllocError>
 
 /// The instruction of a word, or `.word 0x` and its digits.
 fn statement(alloc: Global, word: u32) -> Result<String, AllocError>
-    ensures { IfOk result (λ text. string_bytes text ≡ statement_of (decoded word) word) }
+    ensures { IfOk result (λ text. string_bytes text ≡ listed_statement (decoded word) word) }
 {
     match decode(word) {
         Some(instr) => print_instr(alloc, &instr),

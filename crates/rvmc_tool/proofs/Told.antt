@@ -11,7 +11,7 @@ use Rattle.cl_text.specs.Reading.{reading_record}
 use Rattle.cl_text.specs.declared.faults.RecordFault.{RecordFault}
 use Rattle.rv_image.specs.declared.images.ImageParts.{ImageParts}
 use Rattle.rvmc_answers.specs.Answers.{HasThreads, IsChecked, IsFaulty, Makes}
-use Rattle.rvmc_answers.specs.Answers.{SaysOfPlace, SaysWhy, place_in}
+use Rattle.rvmc_answers.specs.Answers.{SaysOfPlace, SaysWhy, place_asked}
 use Rattle.rvmc_answers.specs.Making.{IsFaultOf, IsMisplanned, IsRecordFault, IsDebugFault, IsNoRun, Refuses}
 use Rattle.rvmc_answers.specs.Making.{IsNoPlace, IsPlaceFault}
 use Rattle.rvmc_answers.specs.Answers.{Says, SaysOfRecord, SaysOfSteps, SaysOfWords}
@@ -136,11 +136,11 @@ leaves_words words bytes faults.Write is = absurd is
 
 -- nothing is told of a place that isn't there
 no_place : (read : Result (ImageParts × List Step) RecordFault) (at : Option ℕ) (fault : PlaceFault)
-    → MatchResult read (λ found. IsNoPlace found.0 found.1 (place_in at found.1) fault) (λ _. ⊥)
-    → MatchResult read (λ found. SaysOfPlace found.0 found.1 (place_in at found.1) [] 1) (λ _. IsFaulty [] 1)
+    → MatchResult read (λ found. IsNoPlace found.0 found.1 (place_asked at found.1) fault) (λ _. ⊥)
+    → MatchResult read (λ found. SaysOfPlace found.0 found.1 (place_asked at found.1) [] 1) (λ _. IsFaulty [] 1)
 no_place (Ok found) at (place.PastEnd count) is = inr (λ has. absurd (omega (arith, has.within, is.0)), (refl, refl))
 no_place (Ok found) at (place.NotARun k) (before, within, breaks) =
-    inr (λ has. run_law found.0 found.1 (place_in at found.1) k has.run before breaks, (refl, refl))
+    inr (λ has. run_law found.0 found.1 (place_asked at found.1) k has.run before breaks, (refl, refl))
 no_place (Err fault) at why is = absurd is
 
 -- what the fault of a record leaves that is to have a place
@@ -150,7 +150,7 @@ LeavesPlace at bytes fault = SaysWhy at bytes [] (fault_status fault) ⊎ IsRefu
 -- what is said of a reading, where there is no place
 abbrev SaysNoPlace : Option ℕ → Result (ImageParts × List Step) RecordFault → Type 0
 SaysNoPlace at read =
-    MatchResult read (λ found. SaysOfPlace found.0 found.1 (place_in at found.1) [] 1) (λ _. IsFaulty [] 1)
+    MatchResult read (λ found. SaysOfPlace found.0 found.1 (place_asked at found.1) [] 1) (λ _. IsFaulty [] 1)
 
 leaves_place : (at : Option ℕ) (bytes : List ℕ) (fault : Fault) → IsPlaceFault at bytes fault
     → LeavesPlace at bytes fault

@@ -10,7 +10,7 @@ use Rattle.rvmc_cli.specs.Meaning.{meaning_of}
 use Rattle.rvmc_line.specs.declared.line.CommandLine.{CommandLine}
 use Rattle.rvmc_report.specs.Faults.{fault_status}
 use Rattle.rvmc_report.specs.declared.faults.Fault.{Fault}
-use Rattle.rvmc_tool.specs.Tool.{Refuses}
+use Rattle.rvmc_tool.specs.Tool.{RefusesWords}
 
 -- what words mean where there are no threads: `run` is no command there
 abbrev pub plain_meaning_of : List (List ℕ) → Option CommandLine
@@ -20,7 +20,7 @@ plain_meaning_of words =
 -- such words: they mean no command line at all, or one that needs threads, which is a fault of the command line
 abbrev pub RefusesPlain : List (List ℕ) → ℕ → Option (List ℕ) → Option (List ℕ) → Type 0
 RefusesPlain words status old new =
-    Refuses words status old new
+    RefusesWords words status old new
     ⊎ (IfSome (meaning_of words) (λ line. needs_threads line ≡ true) × (status ≡ 2) × Keeps old new)
 
 -- ---- the steps to an output

@@ -29,14 +29,14 @@ Answers line bytes status old new =
     (text : List ℕ) × (IsSaid line bytes text status ⊎ IsRefused text status) × Appends old new text
 
 -- the output where there is no command line: help and the version stand there, and a refusal leaves it
-abbrev pub Shows : ParseFault → ℕ → Option (List ℕ) → Option (List ℕ) → Type 0
-Shows parse.Memory status old new = (status ≡ 5) × Keeps old new
-Shows (parse.Asked text) status old new = (status ≡ 0) × Appends old new (string_bytes text)
-Shows (parse.Refused text) status old new = (status ≡ 2) × Keeps old new
+abbrev pub ShowsFault : ParseFault → ℕ → Option (List ℕ) → Option (List ℕ) → Type 0
+ShowsFault parse.Memory status old new = (status ≡ 5) × Keeps old new
+ShowsFault (parse.Asked text) status old new = (status ≡ 0) × Appends old new (string_bytes text)
+ShowsFault (parse.Refused text) status old new = (status ≡ 2) × Keeps old new
 
 -- words that mean no command line, where every write succeeded
-abbrev pub Refuses : List (List ℕ) → ℕ → Option (List ℕ) → Option (List ℕ) → Type 0
-Refuses words status old new = (fault : ParseFault) × Parses words (Err fault) × Shows fault status old new
+abbrev pub RefusesWords : List (List ℕ) → ℕ → Option (List ℕ) → Option (List ℕ) → Type 0
+RefusesWords words status old new = (fault : ParseFault) × Parses words (Err fault) × ShowsFault fault status old new
 
 -- the statuses of which standard error has no line: all is done, a hart trapped, or a rank was cut short
 abbrev pub is_quiet : ℕ → Bool

@@ -6,7 +6,7 @@ ghost use Rattle.rvmc_answers.specs.Making.{needs_threads};
 ghost use Rattle.rvmc_answers.specs.Outputs.{output_bytes};
 ghost use Rattle.rvmc_cli.specs.Meaning.{meaning_of};
 ghost use Rattle.rvmc_line.specs.declared.line.CommandLine.{CommandLine as Line};
-ghost use Rattle.rvmc_tool.specs.Tool.{Answers, Refuses, Shows, is_quiet};
+ghost use Rattle.rvmc_tool.specs.Tool.{Answers, RefusesWords, ShowsFault, is_quiet};
 ghost use Rattle.rvmc_tool.specs.Plain.{IsWhole, RefusesPlain, Tells};
 ghost use Rattle.rvmc_tool.specs.Plain.{plain_meaning_of};
 ghost use Rattle.rvmc_report.specs.Faults.{fault_status};
@@ -151,7 +151,7 @@ fn obey_with_threads<R: Threads + Wait + Sync, I: Read, O: Write, E: Write>(
 
 /// Shows what there is in place of a command line.
 fn show<O: Write, E: Write>(fault: &ParseFault, out: &mut O, err: &mut E) -> u8
-    ensures shows { result ≢ 6 → Shows fault.now result (O.contents out.old) (O.contents out.new) }
+    ensures shows { result ≢ 6 → ShowsFault fault.now result (O.contents out.old) (O.contents out.new) }
     ensures quiet { is_quiet result ≡ true → Keeps (E.contents err.old) (E.contents err.new) }
 {
     match fault {
@@ -203,7 +203,7 @@ pub fn tool<'a, R: Threads + Wait + Sync, I: Read, O: Write, E: Write>(
 
     // They mean none: nothing is read, and the output is as it was but for help and the version.
     ensures refuses { meaning_of (map (λ w. w.now) words.entry.now) ≡ None → result ≢ 6
-        → Refuses (map (λ w. w.now) words.entry.now) result (O.contents out.old) (O.contents out.new) }
+        → RefusesWords (map (λ w. w.now) words.entry.now) result (O.contents out.old) (O.contents out.new) }
     ensures unread { meaning_of (map (λ w. w.now) words.entry.now) ≡ None
         → Keeps (I.remaining input.old) (I.remaining input.new) }
 

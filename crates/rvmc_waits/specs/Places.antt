@@ -21,8 +21,8 @@ abbrev pub nearest : ℕ → List Symbol → Option Symbol
 nearest at symbols = nearest_from at None symbols
 
 -- an address, as `0x1c`
-abbrev pub address_text : ℕ → List ℕ
-address_text at = codes "0x" ++ digits 16 false at
+abbrev pub hex_text : ℕ → List ℕ
+hex_text at = codes "0x" ++ digits 16 false at
 
 -- `+0xN)`, and ` (NAME` before it
 abbrev pub offset_text : ℕ → Symbol → List ℕ
@@ -32,10 +32,10 @@ abbrev pub name_text : ℕ → Symbol → List ℕ
 name_text at symbol = codes " (" ++ (symbol.name ++ offset_text at symbol)
 
 -- where there is a symbol
-abbrev pub symbol_text : ℕ → Option Symbol → List ℕ
-symbol_text at None = []
-symbol_text at (Some symbol) = name_text at symbol
+abbrev pub symbol_suffix : ℕ → Option Symbol → List ℕ
+symbol_suffix at None = []
+symbol_suffix at (Some symbol) = name_text at symbol
 
 -- an address and its symbol, as `0x1c (go+0x4)`
-unfoldable pub place_text : List Symbol → ℕ → List ℕ
-place_text symbols at = address_text at ++ symbol_text at (nearest at symbols)
+unfoldable pub named_address_text : List Symbol → ℕ → List ℕ
+named_address_text symbols at = hex_text at ++ symbol_suffix at (nearest at symbols)

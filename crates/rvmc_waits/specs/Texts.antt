@@ -16,7 +16,7 @@ use Rattle.cl_calls.specs.Calls.{call_named}
 use Rattle.cl_state.specs.Rank.{Rank}
 use Rattle.rvmc_waits.specs.declared.awaited.Wait.{Wait}
 use Rattle.rvmc_waits.specs.declared.awaited.Wait.TheVariants as wait
-use Rattle.rvmc_waits.specs.Places.{place_text}
+use Rattle.rvmc_waits.specs.Places.{named_address_text}
 use Rattle.rvmc_waits.specs.Waits.{waits}
 
 abbrev pub newline : List ℕ
@@ -96,7 +96,7 @@ unfoldable pub call_text : State → List Wait → List ℕ
 call_text hart found = codes " in " ++ (call_name (call_named hart) ++ (codes " for " ++ waits_text found))
 
 abbrev pub waiting_text : List Symbol → State → List Wait → List ℕ
-waiting_text symbols hart found = codes "waits at " ++ (place_text symbols hart.pc ++ call_text hart found)
+waiting_text symbols hart found = codes "waits at " ++ (named_address_text symbols hart.pc ++ call_text hart found)
 
 abbrev pub ended_text : ℕ → List ℕ
 ended_text code = codes "ended " ++ decimal code
@@ -105,18 +105,18 @@ abbrev pub trapped_text : Cause → List ℕ
 trapped_text cause = codes "trapped " ++ (decimal (cause_number cause) ++ codes " at ")
 
 -- `runs at PC`, `waits at PC in CALL for WHAT`, `ended CODE`, or `trapped CAUSE at PC`
-abbrev pub mode_text : List Symbol → State → List Wait → Mode → List ℕ
-mode_text symbols hart found Running = codes "runs at " ++ place_text symbols hart.pc
-mode_text symbols hart found (Waiting w) = waiting_text symbols hart found
-mode_text symbols hart found (Ended code) = ended_text code
-mode_text symbols hart found (Trapped cause at) = trapped_text cause ++ place_text symbols at
+abbrev pub doing_text : List Symbol → State → List Wait → Mode → List ℕ
+doing_text symbols hart found Running = codes "runs at " ++ named_address_text symbols hart.pc
+doing_text symbols hart found (Waiting w) = waiting_text symbols hart found
+doing_text symbols hart found (Ended code) = ended_text code
+doing_text symbols hart found (Trapped cause at) = trapped_text cause ++ named_address_text symbols at
 
 -- `rank R hart H `, and how the hart stands
 abbrev pub hart_head : ℕ → ℕ → List ℕ
 hart_head r number = codes "rank " ++ (decimal r ++ (codes " hart " ++ (decimal number ++ codes " ")))
 
 unfoldable pub hart_line : List Symbol → ℕ → ℕ → State → List Wait → List ℕ
-hart_line symbols r number hart found = hart_head r number ++ (mode_text symbols hart found hart.mode ++ newline)
+hart_line symbols r number hart found = hart_head r number ++ (doing_text symbols hart found hart.mode ++ newline)
 
 -- the lines of these harts of a rank in order, the first of which has this number
 abbrev pub harts_from : List Symbol → HubView → List (List Settled) → ℕ → Rank → ℕ → List State → List ℕ
@@ -124,5 +124,5 @@ harts_from symbols hub boxes r rank number harts =
     flat_map (λ hart. hart_line symbols r hart.0 hart.1 (waits hub boxes rank hart.0)) (enumerate_from number harts)
 
 -- the lines of the rank's harts
-abbrev pub harts_text : List Symbol → HubView → List (List Settled) → ℕ → Rank → List ℕ
-harts_text symbols hub boxes r rank = harts_from symbols hub boxes r rank 0 rank.harts
+abbrev pub hart_waits_text : List Symbol → HubView → List (List Settled) → ℕ → Rank → List ℕ
+hart_waits_text symbols hub boxes r rank = harts_from symbols hub boxes r rank 0 rank.harts

@@ -30,8 +30,8 @@ sent_to rank sends = filter (λ (s : Sent). s.dest == rank) sends
 abbrev pub is_of : ℕ → ℕ → Sent → Bool
 is_of source tag s = (s.envelope.source == source) && (s.envelope.tag == tag)
 
-abbrev pub number_of : ℕ → ℕ → List Sent → ℕ
-number_of source tag sends = count_by (is_of source tag) sends
+abbrev pub count_of_sends : ℕ → ℕ → List Sent → ℕ
+count_of_sends source tag sends = count_by (is_of source tag) sends
 
 -- ---- their text
 
@@ -54,7 +54,7 @@ tag_count = 65536
 -- the lines of a sender, in the order of the tags
 abbrev pub sender_lines : ℕ → List Sent → ℕ → List ℕ
 sender_lines tags sends source =
-    flat_map (λ tag. number_line source tag (number_of source tag sends)) (range_with_len 0 tags)
+    flat_map (λ tag. number_line source tag (count_of_sends source tag sends)) (range_with_len 0 tags)
 
 -- how many messages there are to a rank, if any, and their numbers by so many senders in order
 unfoldable pub messages_text : ℕ → ℕ → ℕ → List Sent → List ℕ

@@ -70,13 +70,13 @@ hub_waits hub rank q = if asks_in_vain hub rank q then request_waits hub rank q 
 
 -- ---- at the boxes
 
-abbrev pub holds : Option Settled → Bool
-holds None = false
-holds (Some settled) = settled.full
+abbrev pub is_full_box : Option Settled → Bool
+is_full_box None = false
+is_full_box (Some settled) = settled.full
 
 abbrev pub part_holds : Option (List Settled) → ℕ → Bool
 part_holds None part = false
-part_holds (Some parts) part = holds (slice_get parts part)
+part_holds (Some parts) part = is_full_box (slice_get parts part)
 
 -- whether something stands in the box of a link's partition
 abbrev pub box_is_full : List (List Settled) → ℕ → ℕ → Bool

@@ -2,7 +2,7 @@
 
 ghost use Rattle.std.specs.Prelude.{◌≡◌, ◌++◌, IfOk, OnOk, string_bytes};
 ghost use Rattle.cl_state.specs.Room.{rank_of};
-ghost use Rattle.rvmc_waits.specs.Texts.{call_text, ended_text, hart_head, hart_line, harts_text, mode_text};
+ghost use Rattle.rvmc_waits.specs.Texts.{call_text, ended_text, hart_head, hart_line, hart_waits_text, doing_text};
 ghost use Rattle.rvmc_waits.specs.Texts.{trapped_text, waiting_text};
 
 use crate::awaited::{Wait, put_waits};
@@ -80,7 +80,7 @@ fn put_mode(
     found: &[Wait],
 ) -> Result<(), AllocError>
     ensures { OnOk result
-        (text.new.items ≡ text.old.items ++ mode_text symbols.now hart.now found.now hart.now.mode) }
+        (text.new.items ≡ text.old.items ++ doing_text symbols.now hart.now found.now hart.now.mode) }
 {
     match hart.mode() {
         Mode::Running => {
@@ -134,7 +134,7 @@ pub fn put_harts(
 ) -> Result<(), AllocError>
     ensures { OnOk result
         (text.new.items
-        ≡ text.old.items ++ harts_text symbols.now hub.now boxes.now rank (rank_of own.now)) }
+        ≡ text.old.items ++ hart_waits_text symbols.now hub.now boxes.now rank (rank_of own.now)) }
 {
     for number in 0..own.harts.len() {
         let found = waits(alloc, hub, boxes, own, number)?;

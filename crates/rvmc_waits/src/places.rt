@@ -2,8 +2,8 @@
 
 ghost use Rattle.std.specs.Prelude.{◌≡◌, ◌++◌, IfOk, OnOk, string_bytes};
 ghost use Rattle.std.specs.Option.{option_copied};
-ghost use Rattle.rvmc_waits.specs.Places.{address_text, is_nearer, name_text, nearest as nearest_of};
-ghost use Rattle.rvmc_waits.specs.Places.{offset_text, place_text};
+ghost use Rattle.rvmc_waits.specs.Places.{hex_text, is_nearer, name_text, nearest as nearest_of};
+ghost use Rattle.rvmc_waits.specs.Places.{offset_text, named_address_text};
 
 use rv_image::Symbol;
 use std::alloc::{AllocError, Global};
@@ -34,7 +34,7 @@ pub fn nearest(symbols: &[Symbol], at: u64) -> Option<&Symbol>
 
 /// The address, as `0x1c`.
 fn address_text(alloc: Global, at: u64) -> Result<String, AllocError>
-    ensures { IfOk result (λ text. string_bytes text ≡ address_text at) }
+    ensures { IfOk result (λ text. string_bytes text ≡ hex_text at) }
 {
     format!(in alloc; "0x{at:x}")
 }
@@ -58,14 +58,14 @@ fn put_name(alloc: Global, text: &mut Vec<u8>, symbol: &Symbol, at: u64) -> Resu
 }
 
 /// Adds an address and the symbol nearest before it, as `0x1c (go+0x4)`.
-#[tactic(auto, unfolding(crate::specs::Places::place_text))]
+#[tactic(auto, unfolding(crate::specs::Places::named_address_text))]
 pub(crate) fn put_place(
     alloc: Global,
     text: &mut Vec<u8>,
     symbols: &[Symbol],
     at: u64,
 ) -> Result<(), AllocError>
-    ensures { OnOk result (text.new.items ≡ text.old.items ++ place_text symbols.now at) }
+    ensures { OnOk result (text.new.items ≡ text.old.items ++ named_address_text symbols.now at) }
 {
     let address = address_text(alloc, at)?;
     text.extend_from_slice(address.as_bytes())?;

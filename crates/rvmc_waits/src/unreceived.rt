@@ -2,7 +2,7 @@
 
 ghost use Rattle.std.specs.Prelude.{◌≡◌, ◌+◌, ◌++◌, ◌<◌, ◌≤◌, ◌-◌, ◌^◌, ℕ, cond, get_or, IfOk, OnOk, length};
 ghost use Rattle.std.specs.Prelude.{option_to_list, set, string_bytes, vec_len};
-ghost use Rattle.rvmc_waits.specs.Unreceived.{is_of, messages_text, number_line, number_of, sender_lines, sent_in};
+ghost use Rattle.rvmc_waits.specs.Unreceived.{is_of, messages_text, number_line, count_of_sends, sender_lines, sent_in};
 ghost use Rattle.rvmc_waits.specs.Unreceived.{sent_to, tag_count, unreceived, unreceived_head, unreceived_text};
 
 use mp_hub::HubState;
@@ -85,7 +85,7 @@ fn numbers_by_tag(
     requires { 2 ^ 16 ≤ tags }
     ensures len { IfOk result (λ numbers. vec_len numbers ≡ tags) }
     ensures numbers { IfOk result
-        (λ numbers. (tag : ℕ) → tag < tags → get_or numbers.items tag 0 ≡ number_of source tag sends.now) }
+        (λ numbers. (tag : ℕ) → tag < tags → get_or numbers.items tag 0 ≡ count_of_sends source tag sends.now) }
 {
     let mut numbers = Vec::from_elem(alloc, 0, tags)?;
     for sent in sends {

@@ -9,8 +9,8 @@ use Rattle.part_box.specs.declared.settled.Settled.{Settled}
 use Rattle.cl_state.specs.declared.state.RankState.{RankState}
 use Rattle.cl_state.specs.Room.{rank_of}
 use Rattle.cl_replay.specs.declared.states.ClusterState.{ClusterState}
-use Rattle.cl_why.specs.Why.{IsVerdict}
-use Rattle.rvmc_waits.specs.Texts.{harts_text, newline}
+use Rattle.cl_why.specs.Why.{IsDeadlockVerdict}
+use Rattle.rvmc_waits.specs.Texts.{hart_waits_text, newline}
 use Rattle.rvmc_waits.specs.Unreceived.{unreceived_text}
 
 -- ---- the harts
@@ -18,7 +18,7 @@ use Rattle.rvmc_waits.specs.Unreceived.{unreceived_text}
 -- the lines of the harts of these ranks in order, the first of which has this number
 abbrev pub ranks_from : List Symbol → HubView → List (List Settled) → ℕ → List RankState → List ℕ
 ranks_from symbols hub boxes number ranks =
-    flat_map (λ rank. harts_text symbols hub boxes rank.0 (rank_of rank.1)) (enumerate_from number ranks)
+    flat_map (λ rank. hart_waits_text symbols hub boxes rank.0 (rank_of rank.1)) (enumerate_from number ranks)
 
 -- of all ranks
 abbrev pub all_harts_text : ImageParts → ClusterState → List ℕ
@@ -26,29 +26,29 @@ all_harts_text image state = ranks_from image.symbols state.hub state.boxes.item
 
 -- ---- the verdict
 
-abbrev pub rank_text : ℕ → List ℕ
-rank_text rank = codes " " ++ decimal rank
+abbrev pub rank_word : ℕ → List ℕ
+rank_word rank = codes " " ++ decimal rank
 
 abbrev pub more_ranks : List ℕ → List ℕ
-more_ranks ranks = flat_map rank_text ranks
+more_ranks ranks = flat_map rank_word ranks
 
 abbrev pub deadlock_text : List ℕ → List ℕ
 deadlock_text ranks = codes "deadlock: ranks" ++ (more_ranks ranks ++ newline)
 
 -- `deadlock: ranks 0 1`, or `no deadlock shown`
-abbrev pub verdict_text : Option (List ℕ) → List ℕ
-verdict_text None = codes "no deadlock shown" ++ newline
-verdict_text (Some ranks) = deadlock_text ranks
+abbrev pub deadlock_verdict_text : Option (List ℕ) → List ℕ
+deadlock_verdict_text None = codes "no deadlock shown" ++ newline
+deadlock_verdict_text (Some ranks) = deadlock_text ranks
 
 -- ---- all of it
 
 abbrev pub why_text : ImageParts → ClusterState → Option (List ℕ) → List ℕ
 why_text image state found =
     all_harts_text image state
-    ++ (unreceived_text (length state.ranks.items) state.hub.board.lines ++ verdict_text found)
+    ++ (unreceived_text (length state.ranks.items) state.hub.board.lines ++ deadlock_verdict_text found)
 
 -- the text of the state with the verdict on it
 pub record IsWhy (image : ImageParts) (state : ClusterState) (text : List ℕ) : Type 0 where
   pub found : Option (List ℕ)
-  pub verdict : IsVerdict state found
+  pub verdict : IsDeadlockVerdict state found
   pub is : text ≡ why_text image state found

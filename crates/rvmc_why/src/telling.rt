@@ -2,7 +2,7 @@
 
 ghost use Rattle.std.specs.Prelude.{◌≡◌, ◌++◌, IfOk, OnOk, string_bytes};
 ghost use Rattle.std.specs.Option.{option_map};
-ghost use Rattle.rvmc_why.specs.Why.{IsWhy, all_harts_text, deadlock_text, more_ranks, rank_text, verdict_text};
+ghost use Rattle.rvmc_why.specs.Why.{IsWhy, all_harts_text, deadlock_text, more_ranks, rank_word, deadlock_verdict_text};
 
 use cl_replay::ClusterState;
 use cl_why::deadlock;
@@ -36,7 +36,7 @@ fn put_all_harts(
 
 /// A rank behind others.
 fn rank_text(alloc: Global, rank: u8) -> Result<String, AllocError>
-    ensures { IfOk result (λ text. string_bytes text ≡ rank_text rank) }
+    ensures { IfOk result (λ text. string_bytes text ≡ rank_word rank) }
 {
     format!(in alloc; " {rank}")
 }
@@ -65,7 +65,7 @@ fn put_deadlock(alloc: Global, text: &mut Vec<u8>, ranks: &[u8]) -> Result<(), A
 /// Adds the line of the verdict.
 fn put_verdict(alloc: Global, text: &mut Vec<u8>, found: &Option<Vec<u8>>) -> Result<(), AllocError>
     ensures { OnOk result
-        (text.new.items ≡ text.old.items ++ verdict_text (option_map (λ ranks. ranks.items) found.now)) }
+        (text.new.items ≡ text.old.items ++ deadlock_verdict_text (option_map (λ ranks. ranks.items) found.now)) }
 {
     match found {
         None => text.extend_from_slice(b"no deadlock shown\n"),

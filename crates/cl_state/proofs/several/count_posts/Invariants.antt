@@ -1,10 +1,10 @@
 use Rattle.std.proofs.Common.{◌≡◌, ◌+◌, ◌≤◌, length}
-use Rattle.cl_state.specs.Several.{pendings, posts_of}
+use Rattle.cl_state.specs.Several.{pendings, posts_pending}
 use Rattle.cl_state.proofs.several.count_posts.Given as goal
 
 abbrev pub invariant-loop-handle : goal.invariant-loop-handle
 invariant-loop-handle l = record {
-  count : l.count + length (posts_of (pendings l.requests l.rest)) ≡ length (posts_of (pendings l.requests l.handles));
+  count : l.count + length (posts_pending (pendings l.requests l.rest)) ≡ length (posts_pending (pendings l.requests l.handles));
   few : l.count + length l.rest ≤ length l.handles;
 }
 

@@ -2,7 +2,7 @@ use Rattle.std.proofs.Common.{◌≡◌, ◌∙◌, ◌∷◌, List, ap, sym, su
 use Rattle.std.proofs.lemmas.Grind.{common_steps}
 use Rattle.mp_request.specs.Table.{request_at}
 use Rattle.cl_state.specs.Pending.{pending_of}
-use Rattle.cl_state.specs.Several.{Given, got_of, post_of}
+use Rattle.cl_state.specs.Several.{Given, got_for_post, post_of}
 use Rattle.cl_state.specs.Writes.{IsEnough, bytes_from, messages_then, statuses_from}
 use Rattle.cl_state.specs.Written.{written}
 use Rattle.cl_state.proofs.Enough.{given_enough, given_left, enough_next}

@@ -7,8 +7,8 @@ use Rattle.rv_image.specs.declared.images.ImageParts.{ImageParts}
 use Rattle.cl_state.specs.Room.{rank_of}
 use Rattle.cl_state_laws.specs.Vain.{IsStopped, mode_of}
 use Rattle.cl_machine.specs.Cluster.{Cluster}
-use Rattle.cl_replay.specs.States.{StandsFor}
-use Rattle.cl_stuck.specs.Stuck.{IsHeld}
+use Rattle.cl_replay.specs.States.{ClusterStandsFor}
+use Rattle.cl_stuck.specs.Stuck.{IsStuckHart}
 use Rattle.cl_why.specs.Stuck.{TakesMemory}
 use Rattle.cl_why.proofs.Sizes.{few_harts}
 use Rattle.cl_why.proofs.Told.{by_harts, each_hart, not_there}
@@ -33,8 +33,8 @@ returns-then-count-gt255-clause-free c = λ no image cluster is.
 pub loop-number-preserved : goal.loop-number-preserved
 loop-number-preserved c =
     let own = c.index-own.result.now in
-    below_more (λ (hart : ℕ). (image : ImageParts) (cluster : Cluster) → StandsFor image c.args.state.now cluster
-    → IsStopped (mode_of (rank_of own) hart) ⊎ IsHeld c.args.among.now cluster c.args.rank (rank_of own) hart)
+    below_more (λ (hart : ℕ). (image : ImageParts) (cluster : Cluster) → ClusterStandsFor image c.args.state.now cluster
+    → IsStopped (mode_of (rank_of own) hart) ⊎ IsStuckHart c.args.among.now cluster c.args.rank (rank_of own) hart)
     c.loop-number.number c.loop-number.invariant
     (λ image cluster stands. (c.in_ok-is_held.ensures.held image cluster stands).0 c.if-not-branch.false)
 

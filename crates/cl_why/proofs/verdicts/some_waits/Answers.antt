@@ -3,14 +3,14 @@ use Rattle.std.proofs.lemmas.Bool.{eq-eqb, iff_false}
 use Rattle.std.proofs.lemmas.List.Folds.{list_any_at}
 use Rattle.rv_image.specs.declared.images.ImageParts.{ImageParts}
 use Rattle.cl_machine.specs.Cluster.{Cluster}
-use Rattle.cl_replay.specs.States.{StandsFor}
+use Rattle.cl_replay.specs.States.{ClusterStandsFor}
 use Rattle.cl_why.proofs.InTurn.{all_of, one_more}
 use Rattle.cl_why.proofs.Waits.{Waits}
 use Rattle.cl_why.proofs.verdicts.some_waits.Goals as goal
 
 pub loop-place-preserved : goal.loop-place-preserved
 loop-place-preserved c =
-    one_more (λ (r : ℕ). (image : ImageParts) (cluster : Cluster) → StandsFor image c.args.state.now cluster
+    one_more (λ (r : ℕ). (image : ImageParts) (cluster : Cluster) → ClusterStandsFor image c.args.state.now cluster
     → Waits cluster r → ⊥) c.args.among.now c.loop-place.place c.loop-place-test.true c.loop-place.invariant
     (λ image cluster stands one. iff_false (c.waits.ensures image cluster stands) c.if-waits.false one)
 
@@ -36,7 +36,7 @@ returns c = λ image cluster stands. (
   λ no. absurd (cc),
   λ some.
       absurd
-      (all_of (λ (r : ℕ). (image : ImageParts) (cluster : Cluster) → StandsFor image c.args.state.now cluster
+      (all_of (λ (r : ℕ). (image : ImageParts) (cluster : Cluster) → ClusterStandsFor image c.args.state.now cluster
       → Waits cluster r → ⊥) c.args.among.now c.loop-place.place c.loop-place-test.false c.loop-place.invariant some.r
       some.among image cluster stands (some.rank, some.hart, some.there, some.waits)),
 )

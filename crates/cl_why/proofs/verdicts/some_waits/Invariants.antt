@@ -1,7 +1,7 @@
 use Rattle.std.proofs.Common.{ℕ, IsTrue, take}
 use Rattle.rv_image.specs.declared.images.ImageParts.{ImageParts}
 use Rattle.cl_machine.specs.Cluster.{Cluster}
-use Rattle.cl_replay.specs.States.{StandsFor}
+use Rattle.cl_replay.specs.States.{ClusterStandsFor}
 use Rattle.cl_stuck.specs.Stuck.{is_among}
 use Rattle.cl_why.proofs.Waits.{Waits}
 use Rattle.cl_why.proofs.verdicts.some_waits.Given as goal
@@ -10,4 +10,4 @@ use Rattle.cl_why.proofs.verdicts.some_waits.Given as goal
 abbrev pub invariant-loop-place : goal.invariant-loop-place
 invariant-loop-place l =
     (r : ℕ) → IsTrue (is_among (take l.place l.among) r)
-    → (image : ImageParts) (cluster : Cluster) → StandsFor image l.state cluster → Waits cluster r → ⊥
+    → (image : ImageParts) (cluster : Cluster) → ClusterStandsFor image l.state cluster → Waits cluster r → ⊥

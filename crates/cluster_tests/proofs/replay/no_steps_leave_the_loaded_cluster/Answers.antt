@@ -1,6 +1,6 @@
 use Rattle.cl_machine.specs.Cluster.{loaded_cluster}
 use Rattle.cl_replay.specs.Replaying.{IsReached}
-use Rattle.cl_replay.specs.States.{StandsFor}
+use Rattle.cl_replay.specs.States.{ClusterStandsFor}
 use Rattle.cluster_tests.proofs.Merging.{ok_map}
 use Rattle.cluster_tests.proofs.Replaying.{reached_none}
 use Rattle.cluster_tests.proofs.replay.no_steps_leave_the_loaded_cluster.Goals as goal
@@ -9,5 +9,5 @@ pub returns : goal.returns
 returns c =
     let image = c.args.image.now in
     let steps = c.args.steps.now in
-    ok_map (IsReached image steps 0) (λ state. StandsFor image state (loaded_cluster image)) (reached_none image steps)
+    ok_map (IsReached image steps 0) (λ state. ClusterStandsFor image state (loaded_cluster image)) (reached_none image steps)
     c.replay.result c.replay.ensures.reached

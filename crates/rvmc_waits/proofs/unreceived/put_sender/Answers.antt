@@ -1,6 +1,6 @@
 use Rattle.std.proofs.Common.{◌≡◌, ◌∙◌, ◌<◌, ap, arith, get_or}
 use Rattle.std.proofs.lemmas.Grind.{common_steps}
-use Rattle.rvmc_waits.specs.Unreceived.{number_line, number_of}
+use Rattle.rvmc_waits.specs.Unreceived.{number_line, count_of_sends}
 use Rattle.rvmc_waits.proofs.Lines.{line_more}
 use Rattle.rvmc_waits.proofs.unreceived.put_sender.Goals as goal
 
@@ -11,6 +11,6 @@ loop-tag-preserved c =
     let sends = c.args.sends.now in
     let there : tag < c.args.tags = c.loop-tag-test.true in
     let read : c.index.result.now ≡ get_or c.in_ok-numbers.numbers.items tag 0 = grind (arith, common_steps, there) in
-    line_more (λ t. number_line source t (number_of source t sends)) c.args.text.now.items c.loop-tag.text.items
+    line_more (λ t. number_line source t (count_of_sends source t sends)) c.args.text.now.items c.loop-tag.text.items
     (number_line source tag c.index.result.now) _ tag c.loop-tag.invariant
     (ap (number_line source tag) (read ∙ c.in_ok-numbers.ensures.numbers tag there)) c.in_ok-put_number.ensures

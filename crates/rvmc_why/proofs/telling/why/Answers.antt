@@ -1,7 +1,7 @@
 use Rattle.std.proofs.Common.{ℕ, List, ◌≡◌, ◌∙◌, ◌++◌, ap, append_assoc, length, rules}
 use Rattle.std.specs.Option.{option_map}
 use Rattle.rvmc_waits.specs.Unreceived.{unreceived_text}
-use Rattle.rvmc_why.specs.Why.{all_harts_text, verdict_text}
+use Rattle.rvmc_why.specs.Why.{all_harts_text, deadlock_verdict_text}
 use Rattle.rvmc_why.proofs.telling.why.Goals as goal
 
 pub returns : goal.returns
@@ -10,7 +10,7 @@ returns c =
     let found = option_map (λ ranks. ranks.items) c.in_ok-found.found in
     let harts = all_harts_text c.args.image.now state in
     let messages = unreceived_text (length state.ranks.items) state.hub.board.lines in
-    let verdict = verdict_text found in
+    let verdict = deadlock_verdict_text found in
     let count : c.len.result ≡ length state.ranks.items = search rules in
     let first : c.put_all_harts.new.text.items ≡ c.new-text.result.items ++ harts = c.in_ok-put_all_harts.ensures in
     let from : c.put_all_harts.new.text.items ≡ harts = first ∙ ap (λ (t : List ℕ). t ++ harts) c.new-text.ensures.items in
