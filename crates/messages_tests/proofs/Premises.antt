@@ -149,12 +149,21 @@ together = record {
       ]
     ]
 
+not_collected : ¬ IsNumberOf (CollectsOf [] some_calls 0) 1
+not_collected n = elim (collects_by some_calls 0 0 (at_place _ 0 n)) [
+  | inl e ↦ (let h : 2 ≡ 1 = e in absurd (omega (arith, h)))
+  | inr e ↦ (let h : 0 ≡ 1 = e.0 in absurd (omega (arith, h)))
+]
+
+not_sent : ¬ IsNumberOf (SendsOf [] some_calls 0) 1
+not_sent n = let h : 0 ≡ 1 = sends_by some_calls 0 0 (at_place _ 0 n) in absurd (omega (arith, h))
+
+not_sent_either : ¬ IsNumberOf (SendsOf [] some_calls 1) 10
+not_sent_either n = let h : 0 ≡ 2 = sends_by some_calls 1 9 (at_place _ 9 n) in absurd (omega (arith, h))
+
 owners : OwnersPremises
 owners = record {
-  collects = λ n. elim (collects_by some_calls 0 0 (at_place _ 0 n)) [
-    | inl e ↦ (let h : 2 ≡ 1 = e in absurd (omega (arith, h)))
-    | inr e ↦ (let h : 0 ≡ 1 = e.0 in absurd (omega (arith, h)))
-  ];
+  collects = not_collected;
   not_received = λ n. elim (collects_by some_calls 1 4 (at_place _ 4 n)) [
     | inl e ↦ (let h : 0 ≡ 2 = e in absurd (omega (arith, h)))
     | inr e ↦ fifth_waits e.1
@@ -163,8 +172,9 @@ owners = record {
   finishes = λ n. (let h : 1 ≡ 2 = sends_by some_calls 1 2 (at_place _ 2 n) in absurd (omega (arith, h)));
   claims = λ n. (let h : 2 ≡ 1 = claims_by some_calls 0 4 (at_place _ 4 n) in absurd (omega (arith, h)));
   claims_once = seventh_received;
-  all = λ n. (let h : 0 ≡ 1 = sends_by some_calls 0 0 (at_place _ 0 n) in absurd (omega (arith, h)));
-  all_once = λ n. (let h : 0 ≡ 2 = sends_by some_calls 1 9 (at_place _ 9 n) in absurd (omega (arith, h)));
+  all = ((1, omega arith, refl), not_sent, not_collected);
+  all_once = ((1, omega arith, refl), not_sent_either, (9, refl, inl (asks 6, refl, refl)), (0, omega arith, refl));
+  all_refused = refl;
   unchanged = refl;
 }
 
@@ -172,6 +182,13 @@ links : LinksPremises
 links = record {
   sending = refl;
   receiving = refl;
+  one_each = refl;
+  first_sender = (_, refl, refl, refl);
+  second_sender = (_, refl, refl, refl);
+  first_receiver = (_, refl, refl, refl);
+  second_receiver = (_, refl, refl, refl);
+  first_pair = (_, _, refl, refl, refl, refl);
+  second_pair = (_, _, refl, refl, refl, refl);
   one_transfer = (_, _, refl, refl, refl, refl, refl);
   no_sending = (refl, (record { from = 0; to = 1 }, refl, refl, refl));
   no_receiving = (refl, (record { from = 0; to = 1 }, refl, refl, refl));

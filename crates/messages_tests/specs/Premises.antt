@@ -1,5 +1,5 @@
 -- Calls at which the premises of the hub's laws hold: no law speaks of nothing.
-use Rattle.std.specs.Prelude.{ℕ, suc, ◌≡◌, true, false, List, [], ◌∷◌, Some, None}
+use Rattle.std.specs.Prelude.{ℕ, suc, ◌≡◌, Bool, true, false, List, [], ◌∷◌, map, Some, None}
 use Rattle.std.specs.List.{slice_get, Contains}
 use Rattle.mp_types.specs.declared.codes.Code.TheVariants.{BadRequest, NoChannel}
 use Rattle.mp_types.specs.declared.requests.Request.TheVariants as request
@@ -13,7 +13,7 @@ use Rattle.mp_hub.specs.Losses.{NoneTwice, ClaimsOf, CollectsOf, IsThere}
 use Rattle.mp_hub.specs.Finished.{IsComplete, IsReadyFor}
 use Rattle.mp_hub.specs.Replies.{SendsOf, IsNumberOf}
 use Rattle.mp_hub.specs.Links.{GoesFrom}
-use Rattle.mp_hub.specs.Transfers.{begun_after}
+use Rattle.mp_hub.specs.Transfers.{Transfer, begun_after, sides_of}
 use Rattle.mp_hub.specs.Rows.{posts_receive, sends, sends_sync, receives_now, sending_side, receiving_side, two_links}
 
 -- ---- messages
@@ -62,7 +62,7 @@ pub record TogetherPremises : Type 0 where
       → (place : ℕ) × (number ≡ suc place) × IsReadyFor [] some_calls 1 place
 
 -- another rank's receive, a claim that wasn't received, and a message that was got; another rank's send; another rank's
--- claim, and one that was received
+-- claim, and one that was received; and both kinds among several
 pub record OwnersPremises : Type 0 where
   pub collects : ¬ IsNumberOf (CollectsOf [] some_calls 0) 1
   pub not_received : ¬ IsNumberOf (CollectsOf [] some_calls 1) 5
@@ -70,8 +70,13 @@ pub record OwnersPremises : Type 0 where
   pub finishes : ¬ IsNumberOf (SendsOf [] some_calls 1) 3
   pub claims : ¬ IsNumberOf (ClaimsOf [] some_calls 0) 5
   pub claims_once : Contains (received_after [] some_calls) 7
-  pub all : ¬ IsNumberOf (SendsOf [] some_calls 0) 1
-  pub all_once : ¬ IsNumberOf (SendsOf [] some_calls 1) 10
+  -- among several: another rank's receive
+  pub all : Contains {X = ℕ} (3 ∷ 1 ∷ []) 1 × (¬ IsNumberOf (SendsOf [] some_calls 0) 1)
+      × (¬ IsNumberOf (CollectsOf [] some_calls 0) 1)
+  -- and a receive of the rank's own, whose message was got
+  pub all_once : Contains {X = ℕ} (1 ∷ 10 ∷ []) 10 × (¬ IsNumberOf (SendsOf [] some_calls 1) 10)
+      × IsNumberOf (CollectsOf [] some_calls 1) 10 × Contains (got_after [] some_calls) 10
+  pub all_refused : reply_of [] some_calls 1 (request.All (1 ∷ 10 ∷ [])) ≡ Code BadRequest
   pub unchanged : reply_of [] some_calls 0 (request.Collect 1) ≡ Code BadRequest
 
 -- ---- transfers
@@ -91,9 +96,47 @@ HasBothSides =
     × (slice_get (begun_after two_links one_pair) 1 ≡ Some t)
     × (s.link ≡ t.link) × (s.setup.sending ≡ true) × (t.setup.sending ≡ false)
 
+-- both links have both sides: two pairs of one transfer, whose sides are initialised in the order of their numbers, and
+-- each receiver has its own sender's bytes in all
+abbrev pub two_pairs : List Call
+two_pairs = sending_side 5 4 64 ∷ sending_side 5 1 8 ∷ receiving_side 5 8 32 ∷ receiving_side 5 1 8 ∷ []
+
+-- each link has one side of each direction: the first of each is on link 0, the second of each on link 1
+abbrev pub on_link : Side → ℕ × Bool
+on_link t = (t.link, t.setup.sending)
+
+abbrev pub HaveOneEach : Type 0
+HaveOneEach =
+    map on_link (begun_after two_links two_pairs)
+    ≡ (0, true) ∷ (1, true) ∷ (0, false) ∷ (1, false) ∷ []
+
+-- the side at the place is that of the link which sends, or else that which receives
+abbrev pub IsSideAt : ℕ → ℕ → Bool → Type 0
+IsSideAt place link sends =
+    (t : Side) × (slice_get (begun_after two_links two_pairs) place ≡ Some t) × (t.link ≡ link)
+    × (t.setup.sending ≡ sends)
+
+-- the i-th sender and the i-th receiver of the transfer have this link
+abbrev pub ArePairOn : ℕ → ℕ → Type 0
+ArePairOn i link =
+    (s : Side) × (r : Side) × (slice_get (sides_of (begun_after two_links two_pairs) with_tag_5 true) i ≡ Some s)
+    × (slice_get (sides_of (begun_after two_links two_pairs) with_tag_5 false) i ≡ Some r)
+    × (s.link ≡ link) × (r.link ≡ link)
+  where
+    with_tag_5 : Transfer
+    with_tag_5 = record { comm = 0; from = 0; to = 1; tag = 5 }
+
 pub record LinksPremises : Type 0 where
   pub sending : reply_of two_links one_pair 0 (request.Init true 0 1 7 1 8) ≡ OnLink 1
   pub receiving : reply_of two_links one_pair 1 (request.Init false 0 0 7 1 8) ≡ OnLink 1
+  pub one_each : HaveOneEach
+  -- what one_each asks for is met by a side and itself: here are the four
+  pub first_sender : IsSideAt 0 0 true
+  pub second_sender : IsSideAt 1 1 true
+  pub first_receiver : IsSideAt 2 0 false
+  pub second_receiver : IsSideAt 3 1 false
+  pub first_pair : ArePairOn 0 0
+  pub second_pair : ArePairOn 1 1
   pub one_transfer : HasBothSides
   pub no_sending : (reply_of two_links no_link_left 0 (request.Init true 0 1 8 1 8) ≡ Code NoChannel)
       × GoesFrom two_links 0 1 1
