@@ -4,3 +4,4 @@ pub mod Padding
 pub mod Arrivals
 pub mod Ends
 pub mod Sides
+pub mod SideLaws

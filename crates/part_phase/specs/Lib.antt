@@ -3,4 +3,5 @@ pub mod Sending
 pub mod Receiving
 pub mod Phases
 pub mod Laws
+pub mod SideLaws
 pub mod Rows

@@ -1,14 +1,14 @@
 -- Worked values of phases.
-use Rattle.std.specs.Prelude.{◌≡◌, ℕ, List, [], ◌∷◌, ◌++◌, map, replicate, Option, Some, None, true, false}
+use Rattle.std.specs.Prelude.{◌≡◌, ℕ, Bool, List, [], ◌∷◌, ◌++◌, map, replicate, Option, Some, None, true, false}
+use Rattle.rv_image.specs.declared.images.ImageVersion.{ImageVersion}
 use Rattle.rv_image.specs.declared.images.ImageVersion.TheVariants.{One, Two}
 use Rattle.part_phase.specs.declared.receiving.RecvPhase.{RecvPhase}
 use Rattle.part_phase.specs.declared.sending.SendPhase.{SendPhase}
 use Rattle.part_phase.specs.Limits.{are_parts, is_size, padded}
 use Rattle.part_phase.specs.Receiving.{shaped_receiving, unshaped_receiving, is_cut, cut_into, begun_receiving}
-use Rattle.part_phase.specs.Receiving.{next_box}
-use Rattle.part_phase.specs.Receiving.{next_box_of, one_taken}
+use Rattle.part_phase.specs.Receiving.{IsRecvPhase, next_box, next_box_of, one_taken}
 use Rattle.part_phase.specs.Sending.{shaped_sending, unshaped_sending, begun_sending, readied, is_part_ready, next_to_free}
-use Rattle.part_phase.specs.Sending.{one_freed}
+use Rattle.part_phase.specs.Sending.{IsSendPhase, one_freed}
 
 -- 1 to 16 partitions of 8 to 64 bytes in version 1 and to 128 in version 2, in whole 8s
 abbrev pub LimitRows : Type 0
@@ -64,3 +64,26 @@ CutRows =
     × (one_taken 2 (one_taken 1 (one_taken 0 cut_apart)) ≡ record cut_apart { active = false })
     × (one_taken 0 (one_taken 1 (one_taken 2 cut_apart)) ≡ record cut_apart { active = false })
     × (next_box (begun_receiving (record cut_apart { active = false })) ≡ Some 0)
+
+-- which cuts of 192 bytes a sender may have: 16 partitions at most, whole words, and none wider than a box, which has 64
+-- bytes in version 1 and 128 in version 2
+abbrev pub cuts_of_192 : ImageVersion → List Bool
+cuts_of_192 version =
+    map (λ (c : ℕ × ℕ). is_cut version two_of_96 c.0 c.1)
+    ((1, 192) ∷ (2, 96) ∷ (3, 64) ∷ (8, 24) ∷ (12, 16) ∷ (16, 12) ∷ (24, 8) ∷ [])
+
+-- the widest sides that there are
+abbrev pub widest_sending : SendPhase
+widest_sending = shaped_sending 16 128 unshaped_sending
+
+abbrev pub widest_receiving : RecvPhase
+widest_receiving = cut_into 16 128 (shaped_receiving 16 128 unshaped_receiving)
+
+pub record WidthRows : Type 0 where
+  pub one : cuts_of_192 One ≡ false ∷ false ∷ true ∷ true ∷ true ∷ false ∷ false ∷ []
+  pub two : cuts_of_192 Two ≡ false ∷ true ∷ true ∷ true ∷ true ∷ false ∷ false ∷ []
+  pub sending : IsSendPhase widest_sending
+  pub receiving : IsRecvPhase widest_receiving
+  -- its last partition is made ready and its last box taken, as any other
+  pub last_ready : is_part_ready (readied 15 (begun_sending widest_sending)) 15 ≡ true
+  pub last_next : next_box_of (begun_receiving widest_receiving) 15 ≡ Some 15

@@ -1,6 +1,6 @@
 //! Worked values, as theorems that compute.
 
-ghost use Rattle.part_phase.specs.Rows.{CutRows, LimitRows, PaddedRows, SendingRows};
+ghost use Rattle.part_phase.specs.Rows.{CutRows, LimitRows, PaddedRows, SendingRows, WidthRows};
 
 /// Which numbers of partitions and of bytes are right, in both versions.
 pub fn limit_rows()
@@ -20,4 +20,9 @@ pub fn sending_rows()
 /// What the two partitions of a receiver wait for, whose sender has three.
 pub fn cut_rows()
     ensures { CutRows }
+{}
+
+/// Which cuts of 192 bytes there are in both versions, and that sixteen partitions of 128 bytes are a side.
+pub fn width_rows()
+    ensures { WidthRows }
 {}
