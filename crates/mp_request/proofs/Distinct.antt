@@ -7,7 +7,7 @@ use Rattle.std.proofs.lemmas.Map.Views.{any-filter_same}
 use Rattle.mp_request.specs.Table.{is_distinct}
 
 -- what equals x passes the filter as x does
-found_alike : (p : ℕ → Bool) (x : ℕ) (xs : List ℕ) → p x ≡ true
+pub found_alike : (p : ℕ → Bool) (x : ℕ) (xs : List ℕ) → p x ≡ true
     → list_any (λ y. y == x) (filter p xs) ≡ list_any (λ y. y == x) xs
 found_alike p x xs passes = any-filter_same (λ y. y == x) p true (λ k e. ap p (eqb-true k x e) ∙ passes) xs
 

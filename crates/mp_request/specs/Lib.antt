@@ -5,3 +5,4 @@ pub mod Refusals
 pub mod Rows
 pub mod Table
 pub mod Handles
+pub mod CallLaws

@@ -4,12 +4,14 @@
 //! and again (3.9), a partitioned one moves its bytes part by part (chapter 4).
 #![tactic(auto)]
 
+mod call_laws;
 mod entries;
 mod laws;
 mod refusals;
 mod rows;
 mod table;
 
+pub use call_laws::{nothing_law, start_law, states_law, test_law};
 pub use entries::{OpenRequest, Partitions, Progress, State, Transfer};
 pub use laws::{completion_law, map_law};
 pub use refusals::Refusal;
