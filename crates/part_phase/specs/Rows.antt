@@ -1,10 +1,14 @@
 -- Worked values of phases.
-use Rattle.std.specs.Prelude.{◌≡◌, ℕ, Bool, List, [], ◌∷◌, ◌++◌, map, replicate, Option, Some, None, true, false}
+use Rattle.std.specs.Prelude.{◌≡◌, ℕ, Bool, List, [], ◌∷◌, ◌++◌, map, slice_get, replicate, Option, Some, None, true, false}
 use Rattle.rv_image.specs.declared.images.ImageVersion.{ImageVersion}
 use Rattle.rv_image.specs.declared.images.ImageVersion.TheVariants.{One, Two}
+use Rattle.part_phase.specs.declared.phases.Phase.{Phase}
+use Rattle.part_phase.specs.declared.phases.Phase.TheVariants.{Apart, Sending, Receiving}
 use Rattle.part_phase.specs.declared.receiving.RecvPhase.{RecvPhase}
 use Rattle.part_phase.specs.declared.sending.SendPhase.{SendPhase}
 use Rattle.part_phase.specs.Limits.{are_parts, is_size, padded}
+use Rattle.part_phase.specs.Phases.{begun, changed_at, first_phases, is_unshaped_receiving, is_unshaped_sending}
+use Rattle.part_phase.specs.Phases.{on_receiving, on_sending, sending_at}
 use Rattle.part_phase.specs.Receiving.{shaped_receiving, unshaped_receiving, is_cut, cut_into, begun_receiving}
 use Rattle.part_phase.specs.Receiving.{IsRecvPhase, next_box, next_box_of, one_taken}
 use Rattle.part_phase.specs.Sending.{shaped_sending, unshaped_sending, begun_sending, readied, is_part_ready, next_to_free}
@@ -87,3 +91,32 @@ pub record WidthRows : Type 0 where
   -- its last partition is made ready and its last box taken, as any other
   pub last_ready : is_part_ready (readied 15 (begun_sending widest_sending)) 15 ≡ true
   pub last_next : next_box_of (begun_receiving widest_receiving) 15 ≡ Some 15
+
+-- links from 0 to 1, from 1 to 0 and from 1 to 2, of which rank 0 has the sender's side of the first and the receiver's
+-- of the second
+abbrev pub sides_of_0 : List Phase
+sides_of_0 = first_phases (record { from = 0; to = 1 } ∷ record { from = 1; to = 0 } ∷ record { from = 1; to = 2 } ∷ []) 0
+
+-- a transfer of 2 partitions of 8 bytes has the first, and its phase began
+abbrev pub shaped_of_0 : List Phase
+shaped_of_0 = changed_at 0 (on_sending (shaped_sending 2 8)) sides_of_0
+
+abbrev pub begun_of_0 : List Phase
+begun_of_0 = changed_at 0 begun shaped_of_0
+
+pub record SideRows : Type 0 where
+  pub first : sides_of_0 ≡ Sending unshaped_sending ∷ Receiving unshaped_receiving ∷ Apart ∷ []
+  -- which sides a transfer may have, at first and then
+  pub to_send : map (λ link. is_unshaped_sending (slice_get sides_of_0 link)) (0 ∷ 1 ∷ 2 ∷ 3 ∷ [])
+      ≡ true ∷ false ∷ false ∷ false ∷ []
+  pub to_receive : map (λ link. is_unshaped_receiving (slice_get sides_of_0 link)) (0 ∷ 1 ∷ 2 ∷ 3 ∷ [])
+      ≡ false ∷ true ∷ false ∷ false ∷ []
+  pub had : is_unshaped_sending (slice_get shaped_of_0 0) ≡ false
+  -- the phase is the first link's
+  pub next : map (λ link. next_to_free (sending_at begun_of_0 link)) (0 ∷ 1 ∷ 2 ∷ 3 ∷ [])
+      ≡ Some 0 ∷ None ∷ None ∷ None ∷ []
+  pub shape : (sending_at begun_of_0 0).size ≡ 8
+  -- who hasn't the side changes nothing, and so does a link that isn't there
+  pub not_sending : changed_at 1 (on_sending (shaped_sending 2 8)) sides_of_0 ≡ sides_of_0
+  pub not_receiving : changed_at 0 (on_receiving (shaped_receiving 2 8)) sides_of_0 ≡ sides_of_0
+  pub not_there : changed_at 3 begun begun_of_0 ≡ begun_of_0

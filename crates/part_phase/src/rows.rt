@@ -1,6 +1,6 @@
 //! Worked values, as theorems that compute.
 
-ghost use Rattle.part_phase.specs.Rows.{CutRows, LimitRows, PaddedRows, SendingRows, WidthRows};
+ghost use Rattle.part_phase.specs.Rows.{CutRows, LimitRows, PaddedRows, SendingRows, SideRows, WidthRows};
 
 /// Which numbers of partitions and of bytes are right, in both versions.
 pub fn limit_rows()
@@ -25,4 +25,9 @@ pub fn cut_rows()
 /// Which cuts of 192 bytes there are in both versions, and that sixteen partitions of 128 bytes are a side.
 pub fn width_rows()
     ensures { WidthRows }
+{}
+
+/// The sides that a rank has of three links, before and after a transfer has one.
+pub fn side_rows()
+    ensures { SideRows }
 {}
