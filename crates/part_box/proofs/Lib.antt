@@ -5,3 +5,5 @@ pub mod Allowed
 pub mod Leaves
 pub mod Owned
 pub mod Agreed
+pub mod Kept
+pub mod Worked

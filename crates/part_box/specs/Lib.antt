@@ -8,4 +8,6 @@ pub mod Fields
 pub mod Keys
 pub mod Settling
 pub mod Spelled
+pub mod Laws
+pub mod Rows
 pub mod Worked
