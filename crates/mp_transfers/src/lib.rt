@@ -6,6 +6,8 @@
 //! The first of a pair reserves a link for good, and the second has the same.
 #![tactic(auto)]
 
+mod laws;
 mod sides;
 
+pub use laws::link_law;
 pub use sides::{Setup, Side, find_link, find_peer, find_sender, has_same_total, receives_over};
