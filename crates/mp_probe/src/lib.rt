@@ -2,5 +2,7 @@
 #![tactic(auto)]
 
 mod handles;
+mod laws;
 
 pub use handles::{ClaimFault, Claims, Waiting};
+pub use laws::claims_law;
