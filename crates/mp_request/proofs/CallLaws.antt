@@ -25,6 +25,7 @@ nothing = record {
   null = λ table. refl;
   null_started = λ table progress. refl;
   null_completed = λ table. refl;
+  handles = refl;
   new = new;
   stateless = λ test table handle none. ap (λ o. option_map_or (λ request. test request.state) o false) none;
 }

@@ -14,12 +14,13 @@ use Rattle.mp_request.specs.Laws.{ChangesOne}
 
 -- ---- the null request, and handles that name nothing
 
--- the null request is never open, and its start or completion changes nothing (3.7.3); in a new table nothing is open;
--- what isn't open has no state
+-- the null request is never open, and its start or completion changes nothing (3.7.3); a new table has
+-- 255 handles, of which none is open; what isn't open has no state
 pub record NothingLaw : Type 0 where
   pub null : (table : Table) → request_at table 0 ≡ None
   pub null_started : (table : Table) (progress : Progress) → started table 0 progress ≡ table
   pub null_completed : (table : Table) → completed table 0 ≡ table
+  pub handles : length no_requests ≡ 255
   pub new : (handle : ℕ) → request_at no_requests handle ≡ None
   pub stateless : (test : State → Bool) (table : Table) (handle : ℕ) → request_at table handle ≡ None
       → has test table handle ≡ false
