@@ -5,3 +5,5 @@ pub mod Few
 pub mod Long
 pub mod RegisterNumbers
 pub mod Filling
+pub mod Written
+pub mod Taking

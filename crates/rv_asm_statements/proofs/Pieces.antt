@@ -23,7 +23,7 @@ abbrev from : Reads → List Lexeme → Option (List Argument)
 from f ts = heads f (slice_split is_comma ts)
 
 -- what an operand and those behind its comma come to
-abbrev come_to : Front → Option (List Argument)
+abbrev pub come_to : Front → Option (List Argument)
 come_to None = None
 come_to (Some (x, None)) = Some (x ∷ [])
 come_to (Some (x, Some rest)) = if_some (pieces_of rest) None (λ xs. Some (x ∷ xs))

@@ -15,3 +15,5 @@ pub mod DirectiveRowView
 pub mod Statements
 pub mod LongData
 pub mod Filling
+pub mod Written
+pub mod Kinds
