@@ -34,7 +34,7 @@ load_immediate-length d z = counted (is_between (negsuc 2047) (pos 2047) z) (int
     counted false true i j k l m n o p = refl
     counted false false i j k l m n o p = refl
 
-ranged-between : (low high z y : ℤ) → ranged low high z ≡ Ok y → (is_between low high z ≡ true) × (y ≡ z)
+pub ranged-between : (low high z y : ℤ) → ranged low high z ≡ Ok y → (is_between low high z ≡ true) × (y ≡ z)
 unfolding ranged
 ranged-between low high z y h = go (is_between low high z) h
   where

@@ -20,3 +20,5 @@ pub mod Said
 pub mod Distinct
 pub mod Directing
 pub mod Directed
+pub mod Reaching
+pub mod Standing

@@ -7,6 +7,8 @@ ghost use Rattle.rv_image.specs.declared.images.ImageVersion.TheVariants.{Two};
 ghost use Rattle.rv_asm_lines.specs.Layout.{Layout as Laid, layout_of};
 ghost use Rattle.rv_asm_lines.specs.Places.{IsPlaced, LabelsStay};
 ghost use Rattle.rv_asm.specs.Directed.{IsDirected, PartsAddUp};
+ghost use Rattle.rv_asm.specs.InParts.{StandInParts};
+ghost use Rattle.rv_asm.specs.Reached.{TargetsAreReached};
 ghost use Rattle.rv_asm.specs.Said.{said_from, said_in};
 ghost use Rattle.rv_asm.specs.Source.{meaning};
 ghost use Rattle.rv_asm.specs.Made.{AreGlobals, NamesFit};
@@ -15,6 +17,12 @@ ghost use Rattle.rv_asm.specs.Made.{AreGlobals, NamesFit};
 /// line first its labels and then its statement.
 pub fn items_are_those_of_lines(_source: &str)
     ensures { (s : Laid) → layout_of _source.now ≡ Ok s → said_in s.items ≡ said_from 1 (lines _source.now) }
+{}
+
+/// Where the first pass finds no fault, each label and each statement stands in the part that the last `.text` or `.data`
+/// before it names, the first ones in the text; instructions in the text alone, and data but for words in the data part.
+pub fn statements_stand_in_their_parts(_source: &str)
+    ensures { (s : Laid) → layout_of _source.now ≡ Ok s → StandInParts s.items }
 {}
 
 /// Where the first pass finds no fault, the place of a label or a statement is the sum of the lengths of what
@@ -57,4 +65,10 @@ pub fn images_are_of_version_two(_source: &str)
 /// A name of a source is one that a symbol may have, if it has at most 31 bytes.
 pub fn short_names_may_be_symbols()
     ensures { NamesFit }
+{}
+
+/// A jump or a branch leads from its own address to the place that its target names: a label's address and the number
+/// behind it, or so many bytes on. `li` leaves its number in its register, and `la` the address of its label.
+pub fn targets_are_reached()
+    ensures { TargetsAreReached }
 {}
