@@ -22,3 +22,4 @@ pub mod Directing
 pub mod Directed
 pub mod Reaching
 pub mod Standing
+pub mod HoldingNumbers

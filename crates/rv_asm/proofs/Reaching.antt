@@ -26,7 +26,7 @@ unfolding even_ranged
 even_is low high z y h = ok_is z y ((then_ok _ (kinds.Range z) (ok z) y h).1)
 
 -- what is added to an address, and then the place
-offset_named : (labels : List (List ℕ × ℕ)) (at : ℕ) (n : ℤ) (l : Option (List ℕ)) (z : ℤ) → label_offset labels at n l ≡ Ok z → IsNamedAt labels at l n (pos at +ℤ z)
+pub offset_named : (labels : List (List ℕ × ℕ)) (at : ℕ) (n : ℤ) (l : Option (List ℕ)) (z : ℤ) → label_offset labels at n l ≡ Ok z → IsNamedAt labels at l n (pos at +ℤ z)
 unfolding label_offset
 offset_named labels at n None z h = ap (λ (k : ℤ). pos at +ℤ k) (sym (ok_is n z h))
 offset_named labels at n (Some w) z h = go (address_in w labels) refl h

@@ -4,3 +4,4 @@ pub mod Said
 pub mod Directed
 pub mod Reached
 pub mod InParts
+pub mod Holding

@@ -7,6 +7,7 @@ ghost use Rattle.rv_image.specs.declared.images.ImageVersion.TheVariants.{Two};
 ghost use Rattle.rv_asm_lines.specs.Layout.{Layout as Laid, layout_of};
 ghost use Rattle.rv_asm_lines.specs.Places.{IsPlaced, LabelsStay};
 ghost use Rattle.rv_asm.specs.Directed.{IsDirected, PartsAddUp};
+ghost use Rattle.rv_asm.specs.Holding.{DataHoldNumbers};
 ghost use Rattle.rv_asm.specs.InParts.{StandInParts};
 ghost use Rattle.rv_asm.specs.Reached.{TargetsAreReached};
 ghost use Rattle.rv_asm.specs.Said.{said_from, said_in};
@@ -71,4 +72,10 @@ pub fn short_names_may_be_symbols()
 /// behind it, or so many bytes on. `li` leaves its number in its register, and `la` the address of its label.
 pub fn targets_are_reached()
     ensures { TargetsAreReached }
+{}
+
+/// The bytes of data are those of its numbers and of the addresses of its labels, one behind the other, in two's complement
+/// and the lowest first; those of a string, or zeros.
+pub fn data_hold_numbers()
+    ensures { DataHoldNumbers }
 {}
