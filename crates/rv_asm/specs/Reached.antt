@@ -25,7 +25,8 @@ GoesThere labels at goal jump is =
 
 -- ---- `li` and `la`
 
--- one register holds z behind the instructions: addi adds to x0, and addiw keeps the sum's low 32 bits, with their sign
+-- instructions leave z in one register, where that is not x0: addi adds to x0, and addiw keeps the low 32 bits of a sum,
+-- with their sign
 abbrev pub IsLoaded : ℕ → ℤ → List Instr → Type 0
 IsLoaded d z (instr.Imm Addi e s n ∷ []) = (e ≡ d) × (s ≡ 0) × (n ≡ z)
 IsLoaded d z (instr.Upper Lui e high ∷ []) = (e ≡ d) × (high ≡ z)
