@@ -16,3 +16,4 @@ pub mod Links
 pub mod Finished
 pub mod Together
 pub mod Live
+pub mod Vain

@@ -1,8 +1,10 @@
 //! Calls that would be answered NotYet, told without making them, and what they wait for.
 
-ghost use Rattle.std.specs.Prelude.{◌≡◌};
+ghost use Rattle.std.specs.Prelude.{◌≡◌, None, Some};
 ghost use Rattle.mp_hub.specs.Vain.{asks_in_vain};
+ghost use Rattle.mp_match.specs.Board.{is_receive_of};
 ghost use Rattle.mp_match.specs.FreePosts.{free_post};
+ghost use Rattle.mp_types.specs.declared.requests.Request.TheVariants.{Collect};
 
 use super::{HubState, has_distinct, selection_of};
 use mp_match::Post;
@@ -10,15 +12,23 @@ use mp_transfers::{find_sender, receives_over};
 use mp_types::Request;
 use rv_image::Link;
 
+// Whether the post is a receive or a claim of the rank.
+fn is_taken_by(rank: u8, post: Post) -> bool
+    ensures { result ≡ is_receive_of rank (Some (record { post = post; partner = None })) }
+{
+    match post {
+        Post::Send(_) => false,
+        Post::Receive(selection) | Post::Claim(selection) => selection.rank == rank,
+    }
+}
+
 impl HubState {
     /// Whether a call of the rank would be answered NotYet if it were made now. Changes nothing, and takes no memory.
     pub fn asks_in_vain(&self, rank: u8, request: &Request) -> bool
         ensures { result ≡ asks_in_vain self.now rank request.now }
     {
         match request {
-            Request::Collect { post } => {
-                self.may_collect(rank, *post) && !self.queues.has_partner(*post)
-            }
+            Request::Collect { post } => self.lacks_message(rank, *post),
             Request::Finished { post } => {
                 self.queues.is_send_of(rank, *post) && !self.is_complete(*post)
             }
@@ -35,6 +45,16 @@ impl HubState {
                     && find_sender(self.sides.as_slice(), *link).is_none()
             }
             _ => false,
+        }
+    }
+
+    // Whether the post is a receive of the rank that has no message. It's what is asked most: one look at the post tells.
+    fn lacks_message(&self, rank: u8, post: u64) -> bool
+        ensures { result ≡ asks_in_vain self.now rank (Collect post) }
+    {
+        match self.queues.free_post(post) {
+            Some(free) => is_taken_by(rank, free) && !self.claims.is_waiting(post),
+            None => false,
         }
     }
 
