@@ -1,6 +1,6 @@
 -- What each kind of step asks of a state is what the table asks of its cluster.
 use Rattle.std.specs.Prelude.{ℕ, ◌≡◌, ◌<◌, ◌≤◌, ◌⊎◌, ◌+◌, ◌^◌, max, List, length, slice_get, slice_set, Some}
-use Rattle.std.specs.Prelude.{◌/◌, ◌%◌, Bool, Result, Ok, Err, IfErr, IsFalse, MatchResult, OnErr, OnOk, vec_len}
+use Rattle.std.specs.Prelude.{◌/◌, ◌%◌, Result, Ok, Err, IfErr, MatchResult, OnOk, vec_len}
 use Rattle.std.specs.Global.{Vec}
 use Rattle.std.specs.Vec.{with_items}
 use Rattle.std.proofs.Common.{refl, sym, ap, ◌∙◌, subst, arith, get_or, inl, inr, ⊎_elim}

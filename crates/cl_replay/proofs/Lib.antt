@@ -8,3 +8,4 @@ pub mod Spells
 pub mod Records
 pub mod Verdicts
 pub mod Same
+pub mod Walks

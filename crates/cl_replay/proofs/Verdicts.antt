@@ -35,7 +35,7 @@ all_in_first P es zero h = tt
 all_in_first P [] (suc n) h = tt
 all_in_first P (e ∷ es) (suc n) h = (h.0, all_in_first P es n h.1)
 
-abbrev StepsInOrder : List Step → Type 0
+abbrev pub StepsInOrder : List Step → Type 0
 StepsInOrder = InOrder (λ (e : Step). e.stamp) (λ (e : Step). e.rank)
 
 take_order : (es : List Step) (n : ℕ) → StepsInOrder es → StepsInOrder (take n es)
@@ -88,7 +88,7 @@ last-push : (o : Option Step) (es : List Step) (e : Step) → last_or o (es ++ e
 last-push o [] e = refl
 last-push o (x ∷ es) e = last-push (Some x) es e
 
-last-take : (es : List Step) (n : ℕ) (e : Step) → 0 < n → slice_get es (n - 1) ≡ Some e
+pub last-take : (es : List Step) (n : ℕ) (e : Step) → 0 < n → slice_get es (n - 1) ≡ Some e
     → last_or None (take n es) ≡ Some e
 last-take es n e up there =
     let up_to : n ≡ suc (n - 1) = omega (arith, up) in

@@ -10,3 +10,4 @@ pub mod Checks
 pub mod Laws
 pub mod InnerReplaying
 pub mod InnerStates
+pub mod Walking

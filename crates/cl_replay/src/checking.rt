@@ -52,7 +52,8 @@ pub fn check(alloc: Global, image: &Image, steps: &[Step]) -> Result<Verdict, Al
     ensures { IfOk result (IsVerdict image.now steps.now) }
 {
     let mut state = ClusterState::load(alloc, image)?;
-    for n in 0..steps.len() {
+    let mut n = 0;
+    while n < steps.len() {
         if !comes_next(steps, n) {
             return Ok(Verdict::BadAt(n as u64));
         }
@@ -61,6 +62,7 @@ pub fn check(alloc: Global, image: &Image, steps: &[Step]) -> Result<Verdict, Al
             Err(StepFault::NotAStep) => return Ok(Verdict::BadAt(n as u64)),
             Err(StepFault::Memory) => return Err(AllocError),
         }
+        n = state.go_on(steps, n + 1, steps.len());
     }
     Ok(Verdict::Good)
 }

@@ -15,11 +15,12 @@ mod replaying;
 mod states;
 mod stepping;
 mod turns;
+mod walking;
 mod words;
 
 pub use checking::{Verdict, check};
 pub use cl_machine::{KindRef, Step};
-pub use faults::StepFault;
+pub use faults::{StepFault, WalkFault};
 pub use kept::KeptCluster;
 pub use laws::{merged_is_good_law, merged_replays_law, one_verdict_law, run_law};
 pub use replaying::{ReplayFault, replay};

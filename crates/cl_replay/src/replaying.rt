@@ -4,7 +4,7 @@ ghost use Rattle.std.specs.Prelude.{◌≡◌, ◌↔◌, ◌<◌, ◌≤◌, le
 ghost use Rattle.cl_replay.specs.Replaying.{IsReached};
 ghost use Rattle.cl_replay.specs.InnerReplaying.{ReplayFaultHolds};
 
-use crate::faults::StepFault;
+use crate::faults::WalkFault;
 use crate::states::ClusterState;
 use cl_machine::Step;
 use rv_image::Image;
@@ -40,12 +40,9 @@ pub fn replay(
     let Ok(mut state) = ClusterState::load(alloc, image) else {
         return Err(ReplayFault::Memory);
     };
-    for k in 0..n {
-        match state.step(&steps[k as usize]) {
-            Ok(()) => {}
-            Err(StepFault::NotAStep) => return Err(ReplayFault::Step(k)),
-            Err(StepFault::Memory) => return Err(ReplayFault::Memory),
-        }
+    match state.walk(steps, 0, n as usize) {
+        Ok(()) => Ok(state),
+        Err(WalkFault::Step(k)) => Err(ReplayFault::Step(k)),
+        Err(WalkFault::Memory) => Err(ReplayFault::Memory),
     }
-    Ok(state)
 }

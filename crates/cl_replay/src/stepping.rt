@@ -15,7 +15,7 @@ use cl_trace::Bare;
 
 /// Whether a step is an instruction that was done.
 #[inline(always)]
-fn is_plain_step(step: &Step) -> bool
+pub(crate) fn is_plain_step(step: &Step) -> bool
     ensures { IsTrue result → step.now.kind ≡ kinds.Plain }
 {
     match step.kind() {

@@ -111,6 +111,8 @@ pub(crate) fn plain_at_once(state: &mut RankState, step: &Step) -> bool
     ensures goes { IsTrue result → AsksNext (rank_of state.old) step.now ask.Plain
         × IsTold (rank_of state.old) step.now answer.Alone (rank_of state.new) }
     ensures low { IsTrue result → step.now.stamp < 2 ^ 62 }
+    ensures clock { IsTrue result → state.new.clock ≡ step.now.stamp }
+    ensures harts { vec_len state.new.harts ≡ vec_len state.old.harts }
     ensures none { IsFalse result → state.new ≡ state.old }
 {
     let clock = state.clock;

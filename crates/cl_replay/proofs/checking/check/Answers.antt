@@ -36,10 +36,14 @@ loop-n-preserved c =
     let n = c.loop-n.n in
     let e = c.index-steps-n.result in
     let there = slice_get_read steps (length steps) n e refl c.loop-n-test.true c.index-steps-n.is in
-    let leads = c.in-Ok.ensures.leads in (
-      reached_more image steps n c.loop-n.state c.loop-n.invariant.0 e there c.step.new.self leads,
-      order_more image steps n c.loop-n.state c.loop-n.invariant.0 c.loop-n.invariant.1 e there c.step.new.self leads
-          ((c.comes_next.ensures e there).0 c.if-not-comes_next.false),
+    let leads = c.in-Ok.ensures.leads in
+    let reached = reached_more image steps n c.loop-n.state c.loop-n.invariant.0 e there c.step.new.self leads in (
+      c.go_on-n.ensures.leads image reached,
+      c.go_on-n.ensures.order image reached
+          (order_more image steps n c.loop-n.state c.loop-n.invariant.0 c.loop-n.invariant.1 e there c.step.new.self
+          leads
+          ((c.comes_next.ensures e there).0 c.if-not-comes_next.false)),
+      omega (arith, c.go_on-n.ensures.within),
     )
 
 pub returns : goal.returns

@@ -1,3 +1,4 @@
+use Rattle.std.proofs.Common.{◌≤◌, ◌-◌, length}
 use Rattle.std.specs.Prelude.{take}
 use Rattle.cl_machine.specs.Order.{InOrder}
 use Rattle.cl_machine.specs.declared.steps.Step.{Step}
@@ -8,3 +9,7 @@ abbrev pub invariant-loop-n : goal.invariant-loop-n
 invariant-loop-n l =
     IsReached l.image l.steps l.n l.state
     × InOrder (λ (e : Step). e.stamp) (λ (e : Step). e.rank) (take l.n l.steps)
+    × (l.n ≤ length l.steps)
+
+abbrev pub decreases-loop-n : goal.decreases-loop-n
+decreases-loop-n l = length l.steps - l.n
