@@ -13,7 +13,8 @@ use Rattle.cl_replay.specs.Kept.{Snapshot, snapshot}
 use Rattle.cl_replay.specs.Replaying.{IsReached}
 use Rattle.cl_replay.specs.States.{ClusterStandsFor}
 use Rattle.cl_debug.specs.Faults.{OpenFaultHolds}
-use Rattle.cl_debug.specs.Leads.{AreKept, IsKeptAt, LeadFaultHolds, LeadsTo}
+use Rattle.cl_replay.specs.Walking.{LeadsOn}
+use Rattle.cl_debug.specs.Leads.{AreKept, IsKeptAt, LeadFaultHolds}
 use Rattle.cl_debug.specs.Spacing.{IsSpacing, multiples}
 use Rattle.cl_debug.specs.declared.faults.DebugFault.{DebugFault}
 use Rattle.cl_debug.proofs.Led.{kept_here}
@@ -71,7 +72,7 @@ module _ (image : ImageParts) (steps : List Step) (spacing k : ℕ) (kept : List
   -- one more is kept, and the steps up to the next multiple are done
   pub kept_more : (here : Snapshot) (more : List Snapshot) (next : ClusterState) (to : ℕ) → here ≡ snapshot state
       → more ≡ kept ++ here ∷ [] → to ≡ k * spacing + min spacing (length steps - k * spacing)
-      → LeadsTo steps (k * spacing) state to next
+      → LeadsOn steps (k * spacing) state to next
       → KeptSoFar image steps spacing (k + 1) more next
   kept_more here more next to same is to_is led = record {
     count = ap length is ∙ (let e : length (kept ++ here ∷ []) ≡ k + 1 = omega (

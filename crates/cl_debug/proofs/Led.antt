@@ -1,5 +1,5 @@
 -- Steps that lead on.
-use Rattle.std.specs.Prelude.{ℕ, ◌+◌, ◌≤◌, ◌≡◌, List, length, slice_get, Some}
+use Rattle.std.specs.Prelude.{ℕ, ◌≤◌, ◌≡◌, List, length, slice_get, Some}
 use Rattle.std.proofs.Common.{refl, ◌∙◌, arith}
 use Rattle.std.proofs.lemmas.Option.{slice_get_within}
 use Rattle.rv_image.specs.declared.images.ImageParts.{ImageParts}
@@ -8,28 +8,17 @@ use Rattle.cl_replay.specs.declared.states.ClusterState.{ClusterState}
 use Rattle.cl_replay.specs.Kept.{Snapshot, snapshot}
 use Rattle.cl_replay.specs.Replays.{IsRunUpTo}
 use Rattle.cl_replay.specs.Replaying.{IsReached}
-use Rattle.cl_replay.specs.InnerReplaying.{BreaksAt}
 use Rattle.cl_replay.specs.InnerStates.{StandsAlike}
-use Rattle.cl_replay.specs.Steps.{Leads, LeadsNowhere}
-use Rattle.cl_replay.proofs.Runs.{breaks, reached_more, run_law}
+use Rattle.cl_replay.specs.Steps.{LeadsNowhere}
+use Rattle.cl_replay.proofs.Runs.{breaks, run_law}
 use Rattle.cl_replay.proofs.Same.{same_stands, snapshot_same}
-use Rattle.cl_debug.specs.Leads.{IsKeptAt, LeadFaultHolds, LeadsTo}
+use Rattle.cl_replay.specs.Walking.{LeadsOn}
+use Rattle.cl_debug.specs.Leads.{IsKeptAt, LeadFaultHolds}
 use Rattle.cl_debug.specs.declared.faults.DebugFault.{DebugFault}
-
-module _ (steps : List Step) (from : ℕ) (old : ClusterState) (n : ℕ) (state : ClusterState)
-    (led : LeadsTo steps from old n state) (e : Step) (there : slice_get steps n ≡ Some e) where
-  -- one step more
-  pub led_more : (new : ClusterState) → Leads state e new → LeadsTo steps from old (n + 1) new
-  led_more new leads = λ image reached. reached_more image steps n state (led image reached) e there new leads
-
-  -- and where there is none
-  pub led_nowhere : LeadsNowhere state e → (image : ImageParts) → IsReached image steps from old
-      → BreaksAt image steps n
-  led_nowhere nowhere = λ image reached. breaks image steps n state (led image reached) e there nowhere
 
 -- a copy is where its original is
 pub copy_reached : (steps : List Step) (n : ℕ) (state copy : ClusterState) → StandsAlike state copy
-    → LeadsTo steps n state n copy
+    → LeadsOn steps n state n copy
 copy_reached steps n state copy alike = λ image reached. record {
   cluster = reached.cluster;
   run = reached.run;

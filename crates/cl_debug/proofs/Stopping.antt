@@ -7,7 +7,8 @@ use Rattle.rv_image.specs.declared.images.ImageParts.{ImageParts}
 use Rattle.cl_machine.specs.declared.steps.Step.{Step}
 use Rattle.cl_replay.specs.declared.states.ClusterState.{ClusterState}
 use Rattle.cl_replay.specs.Replaying.{IsReached}
-use Rattle.cl_debug.specs.Leads.{LeadFaultHolds, LeadsTo}
+use Rattle.cl_replay.specs.Walking.{LeadsOn}
+use Rattle.cl_debug.specs.Leads.{LeadFaultHolds}
 use Rattle.cl_debug.specs.Places.{IsBreakPlace, IsStop}
 use Rattle.cl_debug.specs.Stops.{IsNoStop, IsStopPlace, StopsAt}
 use Rattle.cl_debug.specs.declared.breaks.Break.{Break}
@@ -17,7 +18,7 @@ use Rattle.cl_debug.specs.declared.faults.DebugFault.{DebugFault}
 pub record RanTo (steps : List Step) (breaks : List Break) (from : ℕ) (old : ClusterState) (n : ℕ) (state :
     ClusterState)
     : Type 0 where
-  pub led : LeadsTo steps from old n state
+  pub led : LeadsOn steps from old n state
   pub none : (image : ImageParts) → IsReached image steps from old → (m : ℕ) → from < m → m ≤ n
       → ¬ IsBreakPlace image steps breaks m
 
@@ -39,7 +40,7 @@ n_cases m n most = by_order (cases_lt n m)
 module _ (steps : List Step) (breaks : List Break) (from : ℕ) (old : ClusterState) (n : ℕ) (state : ClusterState)
     (ran : RanTo steps breaks from old n state) where
   -- one step more, to where no break stops
-  pub ran_more : (new : ClusterState) → LeadsTo steps n state (n + 1) new → IsNoStop new steps breaks (n + 1)
+  pub ran_more : (new : ClusterState) → LeadsOn steps n state (n + 1) new → IsNoStop new steps breaks (n + 1)
       → RanTo steps breaks from old (n + 1) new
   ran_more new leads goes_on = record {
     led = λ image reached. leads image (ran.led image reached);
@@ -54,7 +55,7 @@ module _ (steps : List Step) (breaks : List Break) (from : ℕ) (old : ClusterSt
           image reached)))
 
   -- or to where one does
-  pub ran_stop : (new : ClusterState) → from ≤ n → LeadsTo steps n state (n + 1) new
+  pub ran_stop : (new : ClusterState) → from ≤ n → LeadsOn steps n state (n + 1) new
       → IsStopPlace new steps breaks (n + 1)
       → StopsAt steps breaks from old (n + 1) new
   ran_stop new forwards leads stops = λ image reached.

@@ -10,11 +10,6 @@ use Rattle.cl_replay.specs.InnerReplaying.{BreaksAt}
 use Rattle.cl_debug.specs.Spacing.{IsSpacing, multiples}
 use Rattle.cl_debug.specs.declared.faults.DebugFault.{DebugFault}
 
--- of whichever image the old state is the cluster at one place, the new state is the one at the other
-abbrev pub LeadsTo : List Step → ℕ → ClusterState → ℕ → ClusterState → Type 0
-LeadsTo steps from old to new =
-    (image : ImageParts) → IsReached image steps from old → IsReached image steps to new
-
 -- why steps before a place weren't done: the machine doesn't have this one where the steps before it lead, or memory
 -- was refused
 abbrev pub LeadFaultHolds : List Step → ℕ → ClusterState → ℕ → DebugFault → Type 0

@@ -3,10 +3,11 @@
 ghost use Rattle.std.specs.Prelude.{◌<◌, ◌≤◌, length, IfErr, IfOk, OnOk};
 ghost use Rattle.cl_replay.specs.Replays.{IsRunUpTo};
 ghost use Rattle.cl_debug.specs.Faults.{OpenFaultHolds};
-ghost use Rattle.cl_debug.specs.Leads.{AreKept, LeadFaultHolds, LeadsTo};
+ghost use Rattle.cl_replay.specs.Walking.{LeadsOn};
+ghost use Rattle.cl_debug.specs.Leads.{AreKept, LeadFaultHolds};
 
 use crate::faults::DebugFault;
-use cl_replay::{ClusterState, KeptCluster, Step, StepFault};
+use cl_replay::{ClusterState, KeptCluster, Step, WalkFault};
 use rv_image::Image;
 use std::alloc::Global;
 
@@ -19,17 +20,14 @@ pub(crate) fn advance(
 ) -> Result<(), DebugFault>
     requires forwards { from ≤ to }
     requires within { to ≤ length steps.now }
-    ensures leads { OnOk result (LeadsTo steps.now from state.old to state.new) }
+    ensures leads { OnOk result (LeadsOn steps.now from state.old to state.new) }
     ensures fault { IfErr result (LeadFaultHolds steps.now from state.old to) }
 {
-    for n in from..to {
-        match state.step(&steps[n as usize]) {
-            Ok(()) => {}
-            Err(StepFault::NotAStep) => return Err(DebugFault::NotARun(n)),
-            Err(StepFault::Memory) => return Err(DebugFault::Memory),
-        }
+    match state.walk(steps, from as usize, to as usize) {
+        Ok(()) => Ok(()),
+        Err(WalkFault::Step(n)) => Err(DebugFault::NotARun(n)),
+        Err(WalkFault::Memory) => Err(DebugFault::Memory),
     }
-    Ok(())
 }
 
 /// The clusters at all multiples of the spacing, each kept beside the one before it, in one pass that does each step

@@ -2,7 +2,8 @@ use Rattle.std.proofs.Common.{◌≡◌, length, subst}
 use Rattle.std.proofs.lemmas.Result.{err_from_is_err_and}
 use Rattle.cl_replay.specs.Replays.{IsRunUpTo}
 use Rattle.cl_debug.specs.Debugging.{Debugging}
-use Rattle.cl_debug.specs.Leads.{LeadFaultHolds, LeadsTo}
+use Rattle.cl_replay.specs.Walking.{LeadsOn}
+use Rattle.cl_debug.specs.Leads.{LeadFaultHolds}
 use Rattle.cl_debug.proofs.Led.{only_memory}
 use Rattle.cl_debug.proofs.debugging.Debugger.led.Goals as goal
 
@@ -26,5 +27,5 @@ returns-clause-reached c =
     let state = c.in_ok-state.state in
     let steps_are : c.as_slice.result.now ≡ now.steps = cc in
     let here = c.requires.starts state c.in_ok-state.ensures in
-    subst (λ steps. LeadsTo steps c.args.from state c.args.to c.advance.new.state) steps_are
+    subst (λ steps. LeadsOn steps c.args.from state c.args.to c.advance.new.state) steps_are
     c.in_ok-advance.ensures.leads now.image here
