@@ -22,6 +22,12 @@ pub trait Gate: Sync {
     fn turn(&self, rank: u8, _number: u64) {
         self.pass(rank, Point::Turn);
     }
+
+    /// Whether other ranks may be held until this one comes to its next turn.
+    #[inline(always)]
+    fn is_awaited(&self, _rank: u8) -> bool {
+        false
+    }
 }
 
 /// Holds nobody.
@@ -44,6 +50,11 @@ impl<'g, G: Gate> Gate for &'g G {
     fn turn(&self, rank: u8, number: u64) {
         (**self).turn(rank, number);
     }
+
+    #[inline(always)]
+    fn is_awaited(&self, rank: u8) -> bool {
+        (**self).is_awaited(rank)
+    }
 }
 
 /// A rank's way past a gate. Dropping it passes `End`, so that each rank passes that on every way it may end.
@@ -64,6 +75,11 @@ impl<G: Gate + Drop> Passage<G> {
     #[inline(always)]
     pub(crate) fn turn(&self, number: u64) {
         self.gate.turn(self.rank, number);
+    }
+
+    #[inline(always)]
+    pub(crate) fn is_awaited(&self) -> bool {
+        self.gate.is_awaited(self.rank)
     }
 }
 

@@ -6,6 +6,7 @@ mod gates;
 mod leaving;
 mod loading;
 mod pace;
+mod rests;
 pub mod rows;
 mod threads;
 mod ties;

@@ -205,4 +205,14 @@ impl Gate for Pace {
             self.come(rank, runner, number);
         }
     }
+
+    /// One that waits for this rank's count set it due.
+    #[inline(always)]
+    fn is_awaited(&self, rank: u8) -> bool {
+        if rank >= self.ranks {
+            return false;
+        }
+        let runner: &Runner = &self.runners[usize::from(rank)];
+        runner.due.load(Ordering::SeqCst) == 0
+    }
 }

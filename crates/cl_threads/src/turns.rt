@@ -7,8 +7,9 @@ ghost use Rattle.cl_rank.specs.Views.{view_of};
 ghost use Rattle.cl_threads.specs.OnThreads.{IsDone, IsReady, WentBy};
 
 use crate::gates::{Gate, Passage};
+use crate::rests::RestingDesk;
 use cl_journal::Hub;
-use cl_rank::{LockedDesk, Rank, Stop};
+use cl_rank::{Rank, Stop};
 use cl_record::Plan;
 use part_channel::Channel;
 use std::sync::{Mutex, Wait};
@@ -20,8 +21,8 @@ pub(crate) struct Done {
     pub stop: Stop,
 }
 
-/// Takes turns of the rank by its plan, until it has none. Its calls of the hub go through the lock, and its steps on
-/// boxes to their channels.
+/// Takes turns of the rank by its plan, until it has none. Its calls of the hub go through the lock, with a rest
+/// behind one in vain, and its steps on boxes to their channels.
 fn take_turns<R: Wait, G: Gate + Drop>(
     rt: &R,
     hub: &Mutex<Hub>,
@@ -34,7 +35,7 @@ fn take_turns<R: Wait, G: Gate + Drop>(
     ensures went { (deeds : List Deed) × WentBy plan.now (view_of rank.old) (view_of rank.new) result deeds }
     ensures over { AreChannelsOf (view_of rank.new).rank.site.version channels.now (view_of rank.new).sides }
 {
-    let mut desk = LockedDesk { hub };
+    let mut desk = RestingDesk::new(hub);
     let mut next = 0;
     let mut number: u64 = 0;
     loop {
@@ -43,6 +44,9 @@ fn take_turns<R: Wait, G: Gate + Drop>(
         let hart = plan.order[next];
         if let Err(stop) = rank.turn(rt, &mut desk, channels, hart) {
             return stop;
+        }
+        if desk.is_due {
+            desk.rest(passage);
         }
         next += 1;
         if next == plan.order.len() {
