@@ -13,6 +13,7 @@ pub mod Pairs
 pub mod Plain
 pub mod Replied
 pub mod Rows
+pub mod Stayed
 pub mod Stepped
 pub mod Tables
 pub mod Taken

@@ -7,9 +7,12 @@ ghost use Rattle.rv_hart.specs.Stores.{IsThere, store_range};
 ghost use Rattle.rv_hart.specs.declared.state.Mode.TheVariants.{Running};
 ghost use Rattle.rv_memory.specs.Access.{word_at};
 ghost use Rattle.mp_types.specs.declared.replies.Reply.{Reply};
+ghost use Rattle.mp_types.specs.declared.replies.Reply.TheVariants.{NotYet};
 ghost use Rattle.part_channel.specs.Channels.{ChannelView};
+ghost use Rattle.cl_calls.specs.declared.calls.Call.{Call as CallView};
 ghost use Rattle.cl_state.specs.declared.asking.Ask.TheVariants as ask;
 ghost use Rattle.cl_state.specs.declared.asking.Answer.TheVariants.{Alone, Reply as AnswerReply};
+ghost use Rattle.cl_state.specs.declared.asking.Doing.TheVariants.{Poll};
 ghost use Rattle.cl_state.specs.Asked.{asked, is_ecall as is_ecall_of};
 ghost use Rattle.cl_state.specs.Room.{rank_of};
 ghost use Rattle.cl_state.specs.Told.{told};
@@ -92,16 +95,6 @@ pub(crate) fn all_stopped(state: &RankState) -> bool
 pub(crate) struct Turn {
     pub(crate) hart: u8,
     pub(crate) doing: Doing,
-}
-
-/// A call of the hub that a hart asked for. The copy of the request was made before the call, so that nothing can fail
-/// once the hub has answered.
-#[derive(Drop)]
-struct HubCall {
-    turn: Turn,
-    request: Request,
-    /// The request that the event keeps.
-    copy: Request,
 }
 
 /// The link on which a call begins a phase, if it does.
@@ -247,6 +240,7 @@ impl Rank {
         ensures budget { self.new.budget ≡ self.old.budget }
         ensures harts { vec_len self.new.state.harts ≡ vec_len self.old.state.harts }
     {
+        // made before the call, so that nothing can fail once the hub has answered
         let Ok(copy) = request.try_copy(self.alloc) else {
             return Err(Stop::Memory);
         };
@@ -254,10 +248,36 @@ impl Rank {
         match desk.call(rt, self.state.site.number, turn.hart, clock, request) {
             Err(fault) => Err(stop_of(fault)),
             Ok((reply, stamp)) => {
-                self.tell_reply(turn, copy, reply, stamp);
+                match (reply, turn.doing) {
+                    (Reply::NotYet, Doing::Poll(..)) => self.wait_on(turn, copy, stamp),
+                    (reply, _) => self.tell_reply(turn, copy, reply, stamp),
+                }
                 Ok(())
             }
         }
+    }
+
+    /// Tells the rank that the post which a hart polls isn't at its end: only the clock moves.
+    fn wait_on(&mut self, turn: Turn, request: Request, stamp: Stamp)
+        requires may { MayTurn self.old turn }
+        requires polls { (call : CallView) × (post : ℕ) × (turn.doing ≡ Poll call post) }
+        requires asked { asked (rank_of self.old.state) turn.hart ≡ ask.Hub request }
+        requires stamp { (self.old.state.clock < stamp) × (stamp < 2 ^ 62) }
+        ensures turned { IsHubTurn turn.hart request NotYet stamp (view_of self.old) (view_of self.new) }
+        ensures own { (channels : List ChannelView)
+            → AreChannelsOf self.old.state.site.version channels (view_of self.old).sides
+            → AreChannelsOf self.new.state.site.version channels (view_of self.new).sides }
+        ensures budget { self.new.budget ≡ self.old.budget }
+        ensures harts { vec_len self.new.state.harts ≡ vec_len self.old.state.harts }
+    {
+        self.state.clock = stamp;
+        self.asked_box = None;
+        self.trace.push(Event {
+            hart: turn.hart,
+            stamp,
+            kind: Kind::Hub(Reply::NotYet),
+            request: Some(request),
+        });
     }
 
     /// Tells the rank the reply to its request.
