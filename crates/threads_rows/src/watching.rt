@@ -59,4 +59,8 @@ impl Gate for Watched {
         self.pace.turn(rank, number);
         self.watch(mine, number);
     }
+
+    fn is_awaited(&self, rank: u8) -> bool {
+        self.pace.is_awaited(rank)
+    }
 }
