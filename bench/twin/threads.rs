@@ -1,11 +1,11 @@
-//! The twin of `rvmc run`: a thread for each rank, one hub behind a lock, and the steps of hart.rs. A rank records an
-//! event of 24 bytes for each turn, and turns of one kind that follow one another as one; the hub keeps an entry for
-//! each call. A rank that waits for a message asks the hub once a turn. Only the calls EXIT, SEND and RECV are there,
-//! of one communicator and without tags and statuses; nothing here is proved.
+//! The twin of `rvmc run`: a thread for each rank, the hub of hub.rs with the queues of queues.rs behind a lock, and the
+//! steps of hart.rs. A rank records an event of 24 bytes for each turn, and turns of one kind that follow one another as
+//! one. A rank that waits for a message asks the hub once a turn, and lets another thread have the processor behind each
+//! time that it asks in vain. Only the calls EXIT, SEND and RECV are there, of one communicator and without statuses;
+//! nothing here is proved.
 //!
 //! usage: threads BUDGET [LEAD] <IMAGE        without LEAD no rank is held for another
 
-use std::collections::VecDeque;
 use std::hint::spin_loop;
 use std::io::Read;
 use std::sync::Mutex;
@@ -13,81 +13,8 @@ use std::sync::atomic::{AtomicU64, Ordering::SeqCst};
 use std::{env, io, process, thread};
 
 include!("hart.rs");
-
-// ---- the hub
-
-#[derive(Clone)]
-struct Message {
-    source: u64,
-    bytes: Vec<u8>,
-}
-
-enum Request {
-    Send { dest: usize, bytes: Vec<u8> },
-    Receive { source: u64 },
-}
-
-enum Reply {
-    Posted,
-    Got(Message),
-    NotYet,
-}
-
-#[allow(dead_code)]
-struct Entry {
-    rank: usize,
-    clock: u64,
-    stamp: u64,
-    request: Request,
-    got: Option<Message>,
-}
-
-#[derive(Default)]
-struct Hub {
-    clock: u64,
-    arrived: [VecDeque<Message>; 8],
-    entries: Vec<Entry>,
-}
-
-impl Hub {
-    fn answer(&mut self, rank: usize, request: &Request) -> Reply {
-        match request {
-            Request::Send { dest, bytes } => {
-                self.arrived[*dest].push_back(Message {
-                    source: rank as u64,
-                    bytes: bytes.clone(),
-                });
-                Reply::Posted
-            }
-            Request::Receive { source } => {
-                let arrived = &mut self.arrived[rank];
-                match arrived.iter().position(|it| it.source == *source) {
-                    Some(place) => Reply::Got(arrived.remove(place).unwrap()),
-                    None => Reply::NotYet,
-                }
-            }
-        }
-    }
-
-    /// Answers a call, and keeps it with its stamp.
-    fn call(&mut self, rank: usize, clock: u64, request: Request) -> (Reply, u64) {
-        let stamp = self.clock.max(clock) + 1;
-        let reply = self.answer(rank, &request);
-        let got = match &reply {
-            Reply::Got(message) => Some(message.clone()),
-            _ => None,
-        };
-        self.clock = stamp;
-        self.entries.push(Entry {
-            rank,
-            clock,
-            stamp,
-            request,
-            got,
-        });
-        (reply, stamp)
-    }
-}
+include!("queues.rs");
+include!("hub.rs");
 
 // ---- how far a rank may be ahead
 
@@ -172,7 +99,8 @@ impl Trace {
 
 enum State {
     Running,
-    Waiting,
+    /// On the post of its receive.
+    Waiting(u64),
     Ended(u64),
 }
 
@@ -212,16 +140,29 @@ impl Rank {
         start..start + self.hart.regs[11] as usize
     }
 
-    /// What the registers spell, where it is a call of the hub.
+    /// What the registers spell, where it is a call of the hub; of a rank that waits whether its message is there.
     fn request(&self) -> Option<Request> {
+        if let State::Waiting(post) = self.state {
+            return Some(Request::Collect(post));
+        }
+        let (number, other) = (self.number as u8, self.hart.regs[12] as u8);
+        let tag = self.hart.regs[13] as u16;
         match self.hart.regs[17] {
             16 => Some(Request::Send {
-                dest: self.hart.regs[12] as usize,
-                bytes: self.memory.bytes[self.buffer()].to_vec(),
+                sent: Sent {
+                    dest: other,
+                    comm: 0,
+                    source: number,
+                    tag,
+                },
+                body: self.memory.bytes[self.buffer()].into(),
             }),
-            18 => Some(Request::Receive {
-                source: self.hart.regs[12],
-            }),
+            18 => Some(Request::Receive(Key {
+                rank: number,
+                comm: 0,
+                source: Some(other),
+                tag: Some(tag),
+            })),
             _ => None,
         }
     }
@@ -237,17 +178,22 @@ impl Rank {
         let Some(request) = self.request() else {
             return self.exit();
         };
-        let (reply, stamp) = hub.lock().unwrap().call(self.number, self.clock, request);
+        let is_receive = matches!(request, Request::Receive(_));
+        let (reply, stamp) = hub.lock().unwrap().call(self.number as u8, self.clock, request);
         self.clock = stamp;
         self.trace.push(stamp, Kind::Hub);
-        if let Reply::NotYet = reply {
-            self.state = State::Waiting;
-            return;
-        }
-        if let Reply::Got(message) = reply {
-            let buffer = self.buffer();
-            let count = message.bytes.len().min(buffer.len());
-            self.memory.bytes[buffer][..count].copy_from_slice(&message.bytes[..count]);
+        match reply {
+            Reply::NotYet => return thread::yield_now(),
+            Reply::Posted(post) if is_receive => {
+                self.state = State::Waiting(post);
+                return;
+            }
+            Reply::Posted(_) => {}
+            Reply::Got(_, body) => {
+                let buffer = self.buffer();
+                let count = body.len().min(buffer.len());
+                self.memory.bytes[buffer][..count].copy_from_slice(&body[..count]);
+            }
         }
         self.state = State::Running;
         self.hart.regs[10] = 0;
@@ -257,7 +203,7 @@ impl Rank {
 
     /// Gives the hart a turn: an instruction, a call, or one more try of a call that waits.
     fn turn(&mut self, hub: &Mutex<Hub>) {
-        if let State::Waiting = self.state {
+        if let State::Waiting(_) = self.state {
             return self.call(hub);
         }
         match step(&mut self.hart, &mut self.memory) {
@@ -293,7 +239,7 @@ impl Rank {
         let (hart, why) = match self.state {
             State::Ended(code) => (format!("ended {code}"), "all-ended"),
             State::Running => (format!("running at {pc:#x}"), "budget"),
-            State::Waiting => (format!("waiting at {pc:#x}"), "budget"),
+            State::Waiting(_) => (format!("waiting at {pc:#x}"), "budget"),
         };
         println!("rank {number} output 0\n\nrank {number} hart 0 {hart}");
         println!("rank {number} stop {why} turns {turns}");
