@@ -8,18 +8,18 @@ use std::hint::spin_loop;
 use std::sync::{Mutex, Wait};
 use std::thread::yield_now;
 
-/// The longest rest, in short waits of the processor. Behind one as long the thread also lets others run.
+/// The longest rest, in short waits of the processor.
 const MOST: u32 = 64;
 
-/// The hub under its lock, which tells when a rank was answered that nothing is there. Then the rank rests: not at all
-/// the first time, then twice as long each time, up to a bound, as long as it does nothing but ask in vain. So it leaves
-/// the lock to the ranks that have something to tell, and takes fewer turns until then.
+/// The hub under its lock, which tells when a rank was answered that nothing is there. Then the rank rests and lets other
+/// threads run: it doesn't wait the first time, then twice as long each time, up to a bound, as long as it does nothing
+/// but ask in vain. So it leaves the lock to the ranks that have something to tell, and takes fewer turns until then.
 #[derive(Drop)]
 pub(crate) struct RestingDesk<'a> {
     desk: LockedDesk<'a>,
     /// The stamp of the last call, if it was in vain. Where it is the rank's clock no other turn came behind it.
     vain: Option<Stamp>,
-    /// How long the next rest is.
+    /// How long the next rest waits.
     waits: u32,
     /// Whether there is a rest before the next turn.
     pub(crate) is_due: bool,
@@ -42,14 +42,15 @@ impl<'a> RestingDesk<'a> {
         self.is_due = false;
         for _ in 0..self.waits {
             if passage.is_awaited() {
-                self.waits = 0;
-                return;
+                break;
             }
             spin_loop();
         }
-        if self.waits >= MOST {
-            yield_now();
+        if passage.is_awaited() {
+            self.waits = 0;
+            return;
         }
+        yield_now();
         self.waits = self.waits.saturating_mul(2).clamp(1, MOST);
     }
 }
