@@ -64,9 +64,9 @@ fn left_by(hart: &Hart, steps: u64) -> Left {
 fn run(alloc: Global, image: &Image, way: Way, count: u64) -> Result<Option<Left>, AllocError>
     requires { image.now.links ≡ [] }
 {
-    let mut rank = Rank::new(alloc, image, 0, count, Vec::new(alloc), Vec::new(alloc))?;
-    let steps = done_by(alloc, image, way, &mut rank, count)?;
-    Ok(rank.state.harts.first().map(|hart| left_by(hart, steps)))
+    let rank = Rank::new(alloc, image, 0, count, Vec::new(alloc), Vec::new(alloc))?;
+    let (state, steps) = done_by(alloc, image, way, rank, count)?;
+    Ok(state.harts.first().map(|hart| left_by(hart, steps)))
 }
 
 /// What a run of the guest leaves.

@@ -6,6 +6,7 @@ ghost use Rattle.cl_rank.specs.Views.{view_of};
 
 use cl_journal::Hub;
 use cl_rank::Rank;
+use cl_state::RankState;
 use rv_hart::{Hart, Mode, step};
 use rv_image::Image;
 use rv_memory::RankMemory;
@@ -35,29 +36,44 @@ impl Way {
     }
 }
 
-/// Runs the guest a way. Its rank has no sides of links.
+/// Runs the guest a way. Its rank has no sides of links. What the rank is then, and how many instructions were done.
 pub fn done_by(
     alloc: Global,
     image: &Image,
     way: Way,
-    rank: &mut Rank,
+    rank: Rank,
     count: u64,
-) -> Result<u64, AllocError>
-    requires { AreChannelsOf rank.old.state.site.version [] (view_of rank.old).sides }
+) -> Result<(RankState, u64), AllocError>
+    requires { AreChannelsOf rank.state.site.version [] (view_of rank).sides }
 {
     match way {
         Way::Turns => {
+            let mut rank = rank;
             let mut hub = Hub::start(alloc, image)?;
-            Ok(turns(rank, &mut hub, count))
+            let steps = turns(&mut rank, &mut hub, count);
+            Ok((into_state(rank), steps))
         }
-        Way::Steps => Ok(first_steps(rank, count)),
-        Way::Events => first_events(alloc, rank, count),
+        Way::Steps => {
+            let mut state = into_state(rank);
+            let steps = first_steps(&mut state, count);
+            Ok((state, steps))
+        }
+        Way::Events => {
+            let mut state = into_state(rank);
+            let steps = first_events(alloc, &mut state, count)?;
+            Ok((state, steps))
+        }
     }
 }
 
+/// The rank's state.
+fn into_state(rank: Rank) -> RankState {
+    let (state, _trace, _sends, _recvs) = rank.into_parts();
+    state
+}
+
 /// Bare steps of the first hart.
-fn first_steps(rank: &mut Rank, count: u64) -> u64 {
-    let state = &mut rank.state;
+fn first_steps(state: &mut RankState, count: u64) -> u64 {
     match state.harts.first_mut() {
         Some(hart) => steps(hart, &mut state.memory, count),
         None => 0,
@@ -65,8 +81,7 @@ fn first_steps(rank: &mut Rank, count: u64) -> u64 {
 }
 
 /// Bare steps of the first hart, each with an event.
-fn first_events(alloc: Global, rank: &mut Rank, count: u64) -> Result<u64, AllocError> {
-    let state = &mut rank.state;
+fn first_events(alloc: Global, state: &mut RankState, count: u64) -> Result<u64, AllocError> {
     match state.harts.first_mut() {
         Some(hart) => events(alloc, hart, &mut state.memory, count),
         None => Ok(0),
