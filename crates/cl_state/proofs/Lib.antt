@@ -9,6 +9,7 @@ pub mod Pages
 pub mod Passed
 pub mod Phases
 pub mod Places
+pub mod Polled
 pub mod Posts
 pub mod Ready
 pub mod Starts

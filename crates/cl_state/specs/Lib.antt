@@ -11,6 +11,7 @@ pub mod Deals
 pub mod Right
 pub mod Standing
 pub mod Room
+pub mod Polls
 pub mod Table
 pub mod Told
 pub mod Writes
