@@ -1,7 +1,7 @@
 -- What an answer does to a rank's phases and to its table of requests, by the row of the turn.
-use Rattle.std.proofs.Common.{◌≡◌, ℕ, ◌==◌, List, [], ◌∷◌, Bool, true, false, Option, Some, None, refl, sym, ap, subst}
+use Rattle.std.proofs.Common.{◌≡◌, ℕ, List, [], Bool, true, false, Option, Some, None, refl, sym, subst}
 use Rattle.std.proofs.Common.{◌⊎◌, inl, inr, ◌∙◌}
-use Rattle.std.specs.Prelude.{if◌then◌else◌, nat_lt, slice_get, length, is_some}
+use Rattle.std.specs.Prelude.{if◌then◌else◌, slice_get}
 use Rattle.rv_image.specs.declared.images.ImageVersion.{ImageVersion}
 use Rattle.mp_types.specs.declared.codes.Code.TheVariants as code
 use Rattle.mp_types.specs.declared.messages.Message.{Message}
@@ -9,7 +9,6 @@ use Rattle.mp_types.specs.declared.messages.Envelope.{Envelope}
 use Rattle.mp_types.specs.declared.replies.Reply.{Reply}
 use Rattle.mp_types.specs.declared.replies.Reply.TheVariants as reply
 use Rattle.mp_types.specs.declared.requests.Request.{Request}
-use Rattle.mp_types.specs.declared.requests.Request.TheVariants as request
 use Rattle.mp_request.specs.declared.entries.OpenRequest.{OpenRequest}
 use Rattle.mp_request.specs.declared.entries.Partitions.{Partitions}
 use Rattle.mp_request.specs.declared.entries.Progress.{Progress}
@@ -17,21 +16,17 @@ use Rattle.mp_request.specs.declared.entries.Progress.TheVariants as progress
 use Rattle.mp_request.specs.declared.entries.State.TheVariants.{Inactive}
 use Rattle.mp_request.specs.declared.entries.Transfer.{Transfer}
 use Rattle.mp_request.specs.declared.entries.Transfer.TheVariants.{SendPartitions, ReceivePartitions}
-use Rattle.mp_request.specs.Table.{Table, lowest_free, with_request}
+use Rattle.mp_request.specs.Table.{lowest_free, with_request}
 use Rattle.part_phase.specs.declared.phases.Phase.{Phase}
 use Rattle.part_phase.specs.Limits.{are_parts, is_size}
-use Rattle.part_phase.specs.Phases.{sending_at, receiving_at, changed_at, on_sending, on_receiving, begun as begun_phase}
+use Rattle.part_phase.specs.Phases.{receiving_at, changed_at, on_sending, on_receiving, begun as begun_phase}
 use Rattle.part_phase.specs.Phases.{is_unshaped_sending, is_unshaped_receiving}
 use Rattle.part_phase.specs.Receiving.{shaped_receiving, is_cut, cut_into, one_taken}
-use Rattle.part_phase.specs.Sending.{shaped_sending, all_freed, readied, one_freed}
+use Rattle.part_phase.specs.Sending.{shaped_sending, readied, one_freed}
 use Rattle.cl_calls.specs.declared.calls.Partitioning.{Partitioning}
 use Rattle.cl_calls.specs.declared.sites.Site.{Site}
 use Rattle.cl_calls.specs.Calls.{any}
 use Rattle.cl_calls.specs.Checks.{sends_in}
-use Rattle.cl_calls.specs.Site.{members, place_of}
-use Rattle.cl_calls.specs.Handles.{handles_in}
-use Rattle.cl_calls.specs.Needs.{array_at}
-use Rattle.cl_state.specs.declared.asking.Answer.{Answer}
 use Rattle.cl_state.specs.declared.asking.Answer.TheVariants as answer
 use Rattle.cl_state.specs.declared.pending.Manner.{Manner}
 use Rattle.cl_state.specs.declared.pending.Manner.TheVariants.{Immediate, Blocking, Polling, Posting}
@@ -42,17 +37,15 @@ use Rattle.cl_state.specs.declared.row.Purpose.{Purpose}
 use Rattle.cl_state.specs.declared.row.Purpose.TheVariants as purpose
 use Rattle.cl_state.specs.declared.row.Row.{Row}
 use Rattle.cl_state.specs.declared.row.Row.TheVariants.{AtOnce, OnReply, OnBox}
-use Rattle.cl_state.specs.declared.row.Visit.{Visit}
 use Rattle.cl_state.specs.declared.row.Visit.TheVariants.{Readies, Frees, Takes, Sees}
 use Rattle.cl_state.specs.declared.row.Wanted.{Wanted}
 use Rattle.cl_state.specs.declared.row.Wanted.TheVariants as wanted
 use Rattle.cl_state.specs.Asked.{Part}
-use Rattle.cl_state.specs.Several.{are_fit, pendings}
 use Rattle.cl_state.specs.Table.{begun_outcome}
 use Rattle.cl_state.specs.Told.{arrived, arrived_from, completed_all, done, ended, found, found_at, found_nothing, freed}
-use Rattle.cl_state.specs.Told.{freed_one, gathered, gathered_if, not_yet, opened, opened_at, part_readied, phase_begun}
-use Rattle.cl_state.specs.Told.{received, received_from, received_message, replied, seen_one, taken_one, told_row, visited}
-use Rattle.cl_state.specs.Told.{made_side_at, made_sending, made_receiving, cut_known}
+use Rattle.cl_state.specs.Told.{freed_one, gathered_if, not_yet, opened_at, part_readied, phase_begun}
+use Rattle.cl_state.specs.Told.{received, received_from, received_message, replied, seen_one, taken_one, told_row}
+use Rattle.cl_state.specs.Told.{made_side_at}
 use Rattle.cl_state.specs.Partitions.{side_on}
 use Rattle.cl_rank.specs.Follows.{named_link}
 use Rattle.cl_rank.proofs.Rows.{AloneRow, HubRow, StartsAs, WantedOf, TakesAt, FreesAt}

@@ -1,5 +1,5 @@
 -- The turns of a running rank that look at a box.
-use Rattle.std.proofs.Common.{◌≡◌, ℕ, ◌<◌, ◌+◌, ◌^◌, ◌⊎◌, List, [], ◌∷◌, ◌++◌, Option, Some, None, refl, sym, ap, subst, ◌∙◌, ⊎_elim, inl, inr}
+use Rattle.std.proofs.Common.{◌≡◌, ℕ, ◌<◌, ◌^◌, ◌⊎◌, List, [], ◌∷◌, ◌++◌, Some, None, refl, sym, ap, subst, ◌∙◌, ⊎_elim, inr}
 use Rattle.part_channel.specs.Channels.{ChannelView}
 use Rattle.part_channel.specs.declared.progress.Progress.{Progress}
 use Rattle.part_channel.specs.declared.progress.Progress.TheVariants as progress
@@ -18,7 +18,7 @@ use Rattle.cl_trace.specs.declared.events.Kind.TheVariants as kind
 use Rattle.cl_state.specs.Rank.{Rank}
 use Rattle.cl_rank.specs.declared.ranks.Rank.{Rank as Running}
 use Rattle.cl_rank.specs.declared.turning.Turn.{Turn}
-use Rattle.cl_rank.specs.Deeds.{Act, Suits, IsStamp, answer_of, event_of, kind_of, request_of}
+use Rattle.cl_rank.specs.Deeds.{Act, Suits, IsStamp, answer_of, kind_of, request_of}
 use Rattle.cl_rank.specs.Sides.{box_place_of}
 use Rattle.cl_rank.specs.RankSides.{AreChannelsOf, sides_in}
 use Rattle.cl_rank.specs.Steps.{IsTested}

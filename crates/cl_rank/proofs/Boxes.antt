@@ -1,15 +1,13 @@
 -- What a turn on a box makes of a rank, and what it may do there.
-use Rattle.std.proofs.Common.{◌≡◌, ◌≢◌, ℕ, zero, suc, ◌<◌, ◌≤◌, ◌+◌, ◌-◌, ◌*◌, ◌%◌, ◌^◌, ◌==◌, List, [], ◌∷◌, ◌++◌, length, take, Bool, true, false}
-use Rattle.std.proofs.Common.{Option, Some, None, get_or, set, replicate, refl, sym, ap, subst, ◌∙◌, rules, arith, inl, inr, ⊎_elim}
-use Rattle.std.specs.Prelude.{◌⊎◌, ◌&&◌, max, map, not, option_map, slice_get, nat_le, nat_lt, if◌then◌else◌}
+use Rattle.std.proofs.Common.{◌≡◌, ℕ, zero, suc, ◌<◌, ◌≤◌, ◌+◌, ◌-◌, ◌*◌, List, [], ◌∷◌, ◌++◌, length, take, true, false}
+use Rattle.std.proofs.Common.{Option, Some, None, get_or, replicate, refl, sym, ap, subst, ◌∙◌, rules, arith}
+use Rattle.std.specs.Prelude.{map, slice_get, nat_le, nat_lt}
 use Rattle.rv_image.specs.declared.images.ImageVersion.{ImageVersion}
 use Rattle.rv_image.specs.declared.images.ImageVersion.TheVariants.{One, Two}
-use Rattle.mp_request.specs.Table.{Table}
-use Rattle.part_box.specs.declared.view.Sending.{Sending as SendingKey}
 use Rattle.part_box.specs.Keys.{Sender}
-use Rattle.part_channel.specs.Channels.{ChannelView, receiver_box, sender_box}
+use Rattle.part_channel.specs.Channels.{ChannelView, sender_box}
 use Rattle.part_channel.specs.Receiving.{RecvView}
-use Rattle.part_channel.specs.Sending.{IsPast, IsSendSide, SendView, made_of, ready_refusal, readied}
+use Rattle.part_channel.specs.Sending.{IsPast, SendView, made_of, ready_refusal, readied}
 use Rattle.part_channel.specs.Words.{bytes_of_words}
 use Rattle.part_channel.specs.BoxWords.{words_of}
 use Rattle.part_channel.proofs.Words.{length-words_of}
@@ -18,7 +16,7 @@ use Rattle.part_phase.specs.declared.phases.Phase.TheVariants.{Apart, Sending, R
 use Rattle.part_phase.specs.declared.sending.SendPhase.{SendPhase}
 use Rattle.part_phase.specs.Limits.{box_bytes, box_words, padded}
 use Rattle.part_phase.specs.Phases.{changed_at, on_sending, sending_at, sending_in}
-use Rattle.part_phase.specs.Sending.{all_freed, is_part_ready, readied as readied_phase}
+use Rattle.part_phase.specs.Sending.{readied as readied_phase}
 use Rattle.cl_state.specs.declared.asking.Answer.TheVariants as answer
 use Rattle.cl_state.specs.declared.asking.Ask.TheVariants as ask
 use Rattle.cl_state.specs.declared.row.Row.TheVariants.{OnBox}

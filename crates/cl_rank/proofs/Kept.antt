@@ -1,5 +1,5 @@
 -- What the sides of a rank keep when the side of one link and its phase change.
-use Rattle.std.proofs.Common.{◌≡◌, ◌≢◌, ℕ, ◌<◌, ◌≤◌, ◌==◌, List, [], ◌∷◌, Bool, true, false, Option, Some, None}
+use Rattle.std.proofs.Common.{◌≡◌, ◌≢◌, ℕ, ◌≤◌, ◌==◌, List, Bool, true, false, Option, Some, None}
 use Rattle.std.proofs.Common.{refl, sym, ap, subst, ◌∙◌, get_or, rules, arith}
 use Rattle.std.specs.Prelude.{All, map, option_map, slice_get}
 use Rattle.part_box.specs.Keys.{Sender}

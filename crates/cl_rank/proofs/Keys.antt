@@ -1,7 +1,6 @@
 -- What the acts of a rank make of the keys of its sides.
-use Rattle.std.proofs.Common.{◌≡◌, ◌≢◌, ℕ, ◌==◌, List, Bool, true, false, Option, Some, None, refl, sym, ap, subst, ◌∙◌}
-use Rattle.std.proofs.Common.{rules}
-use Rattle.std.specs.Prelude.{◌&&◌, option_map, slice_get, ⊤}
+use Rattle.std.proofs.Common.{◌≡◌, ◌≢◌, ℕ, List, Bool, true, false, Option, Some, None, refl, sym, ap, subst, ◌∙◌}
+use Rattle.std.specs.Prelude.{option_map, slice_get}
 use Rattle.part_box.specs.declared.view.Receiving.{Receiving}
 use Rattle.part_box.specs.declared.view.Sending.{Sending}
 use Rattle.part_box.specs.Keys.{Receiver, Sender}
@@ -15,7 +14,7 @@ use Rattle.cl_rank.specs.RankSides.{receiver_key, receiver_of, receiver_view, se
 use Rattle.cl_rank.specs.RankSides.{side_of}
 use Rattle.cl_rank.specs.Steps.{changed_side}
 use Rattle.cl_rank.proofs.Kept.{each_link}
-use Rattle.cl_rank.proofs.Lists.{at_changed, at_modified, beside, beside_modified, differs, is_equal, itself}
+use Rattle.cl_rank.proofs.Lists.{at_changed, at_modified, beside, beside_modified, differs, itself}
 
 stays : {K : Type 0} (Acts : K → K → Type 0) (o : Option K) → KeyMoves false Acts o o
 stays Acts None = tt

@@ -2,6 +2,7 @@ pub mod Alone
 pub mod Answered
 pub mod Asks
 pub mod Boxes
+pub mod Called
 pub mod Clocks
 pub mod Kept
 pub mod Keys

@@ -1,7 +1,6 @@
 -- The sides of a rank as it is loaded.
 use Rattle.std.proofs.Common.{◌≡◌, ℕ, zero, suc, ◌<◌, ◌≤◌, ◌^◌, List, [], ◌∷◌, length, map, replicate, get_or, Option, Some, None, refl, sym, ap, subst, ◌∙◌, arith}
 use Rattle.std.specs.Prelude.{All}
-use Rattle.rv_image.specs.declared.images.ImageVersion.{ImageVersion}
 use Rattle.rv_image.specs.declared.images.ImageParts.{ImageParts}
 use Rattle.mp_request.specs.declared.entries.OpenRequest.{OpenRequest}
 use Rattle.mp_request.specs.declared.entries.Partitions.{Partitions}
@@ -10,7 +9,6 @@ use Rattle.part_box.specs.Keys.{BoxId, Sender, new_sender}
 use Rattle.part_channel.specs.Receiving.{RecvView}
 use Rattle.part_channel.specs.Sending.{IsPast, SendView}
 use Rattle.part_phase.specs.declared.phases.Phase.{Phase}
-use Rattle.part_phase.specs.Limits.{box_bytes}
 use Rattle.cl_calls.specs.Checks.{sending_side}
 use Rattle.cl_state.specs.Rank.{Rank, loaded}
 use Rattle.cl_rank.specs.Fitting.{RequestsFit}

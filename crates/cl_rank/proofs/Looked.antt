@@ -1,8 +1,7 @@
 -- What a turn that looks at a box makes of a rank.
-use Rattle.std.proofs.Common.{◌≡◌, ℕ, zero, suc, ◌<◌, ◌≤◌, ◌+◌, ◌==◌, List, [], ◌∷◌, length, Bool, true, false, Option, Some, None}
+use Rattle.std.proofs.Common.{◌≡◌, ℕ, zero, suc, ◌<◌, ◌≤◌, ◌+◌, List, [], ◌∷◌, length, Bool, true, false, Option, Some, None}
 use Rattle.std.proofs.Common.{get_or, inl, refl, sym, ap, subst, ◌∙◌, rules, arith}
-use Rattle.std.specs.Prelude.{map, max, not, slice_get, nat_le, nat_lt, ◌^◌, if◌then◌else◌}
-use Rattle.mp_request.specs.Table.{Table}
+use Rattle.std.specs.Prelude.{map, max, slice_get, nat_le, nat_lt, ◌^◌, if◌then◌else◌}
 use Rattle.part_box.specs.Gate.{taken_stamp}
 use Rattle.part_box.specs.declared.view.Sending.{Sending as SendingKey}
 use Rattle.part_box.specs.Keys.{Sender, after_freed}
@@ -16,8 +15,7 @@ use Rattle.part_phase.specs.declared.phases.Phase.{Phase}
 use Rattle.part_phase.specs.declared.phases.Phase.TheVariants.{Apart, Sending, Receiving}
 use Rattle.part_phase.specs.declared.sending.SendPhase.{SendPhase}
 use Rattle.part_phase.specs.Phases.{changed_at, on_sending, sending_at}
-use Rattle.part_phase.specs.Sending.{all_freed, is_part_ready, next_to_free, one_freed}
-use Rattle.cl_state.specs.declared.asking.Answer.{Answer}
+use Rattle.part_phase.specs.Sending.{all_freed, is_part_ready, one_freed}
 use Rattle.cl_state.specs.declared.asking.Answer.TheVariants as answer
 use Rattle.cl_state.specs.declared.asking.Ask.TheVariants as ask
 use Rattle.cl_state.specs.declared.row.Row.{Row}
@@ -29,7 +27,7 @@ use Rattle.cl_state.specs.Told.{told}
 use Rattle.cl_rank.specs.Deeds.{Act}
 use Rattle.cl_rank.specs.Fitting.{RequestsFit}
 use Rattle.cl_rank.specs.Sides.{ReceiverActs, SenderActs, is_place, box_place_of}
-use Rattle.cl_rank.specs.RankSides.{AreChannelsOf, AreSides, HasKey, HasSender, KeyMoves}
+use Rattle.cl_rank.specs.RankSides.{AreChannelsOf, AreSides, HasKey, KeyMoves}
 use Rattle.cl_rank.specs.RankSides.{phase_of_sender, receiver_key, sender_key, sender_of, sender_view, side_of}
 use Rattle.cl_rank.specs.RankSides.{sides_in}
 use Rattle.cl_rank.specs.Steps.{IsTested, MayTest, changed_side}
@@ -38,7 +36,7 @@ use Rattle.cl_rank.proofs.Boxes.{key_at, sender_at, sender_there}
 use Rattle.cl_rank.proofs.Kept.{kept, owned, sender_fits}
 use Rattle.cl_rank.proofs.Keys.{receivers_apart, senders_move}
 use Rattle.cl_rank.proofs.Lists.{same_changed, same_side}
-use Rattle.cl_rank.proofs.Moves.{Moved, SameShape, ToldBy, fit_kept, fits_at, own_told, row_at, sending_shapes, shapes_stay}
+use Rattle.cl_rank.proofs.Moves.{Moved, SameShape, fit_kept, fits_at, own_told, row_at, sending_shapes, shapes_stay}
 use Rattle.cl_rank.proofs.Moves.{sides_told, started_at, told_by}
 use Rattle.cl_rank.proofs.Rows.{CanFree, FreesAt, RowFits}
 use Rattle.cl_rank.proofs.Tables.{Keeps}

@@ -1,13 +1,12 @@
 -- What each turn makes of a rank: its sides go with its phases again, and its keys move by the act.
-use Rattle.std.proofs.Common.{◌≡◌, ◌≢◌, ℕ, zero, suc, ◌<◌, ◌≤◌, ◌+◌, ◌^◌, ◌==◌, List, [], ◌∷◌, length, Bool, true, false, Option, Some, None}
-use Rattle.std.proofs.Common.{refl, sym, ap, subst, ◌∙◌, rules, arith}
-use Rattle.std.specs.Prelude.{map, not, option_map, slice_get, nat_le, nat_lt, if◌then◌else◌}
+use Rattle.std.proofs.Common.{◌≡◌, ℕ, zero, suc, ◌<◌, ◌≤◌, List, [], ◌∷◌, length, Bool, true, false, Option, Some, None}
+use Rattle.std.proofs.Common.{refl, sym, ap, subst, ◌∙◌, rules}
+use Rattle.std.specs.Prelude.{map, not, option_map, nat_le, nat_lt, if◌then◌else◌}
 use Rattle.rv_image.specs.declared.images.ImageVersion.{ImageVersion}
-use Rattle.mp_request.specs.declared.entries.Partitions.{Partitions}
-use Rattle.mp_request.specs.Table.{Table, request_at}
+use Rattle.mp_request.specs.Table.{Table}
 use Rattle.part_channel.specs.Channels.{ChannelView, receiver_box, sender_box}
-use Rattle.part_channel.specs.Receiving.{RecvView, awaited}
-use Rattle.part_channel.specs.Sending.{SendView, IsPast, begun as begun_side_of}
+use Rattle.part_channel.specs.Receiving.{RecvView}
+use Rattle.part_channel.specs.Sending.{SendView, IsPast}
 use Rattle.part_phase.specs.declared.phases.Phase.{Phase}
 use Rattle.part_phase.specs.declared.phases.Phase.TheVariants.{Apart, Sending, Receiving}
 use Rattle.part_phase.specs.declared.receiving.RecvPhase.{RecvPhase}
@@ -15,27 +14,25 @@ use Rattle.part_phase.specs.declared.sending.SendPhase.{SendPhase}
 use Rattle.part_phase.specs.Limits.{box_bytes}
 use Rattle.part_phase.specs.Phases.{begun, changed_at, on_receiving, on_sending, sending_at, sending_in}
 use Rattle.part_phase.specs.Receiving.{begun_receiving}
-use Rattle.part_phase.specs.Sending.{all_freed, begun_sending, one_freed, readied}
-use Rattle.cl_calls.specs.Checks.{sending_side}
+use Rattle.part_phase.specs.Sending.{all_freed, begun_sending}
 use Rattle.cl_calls.specs.declared.sites.Site.{Site}
 use Rattle.cl_state.specs.declared.asking.Answer.{Answer}
 use Rattle.cl_state.specs.declared.asking.Answer.TheVariants as answer
 use Rattle.cl_state.specs.declared.asking.Ask.{Ask}
-use Rattle.cl_state.specs.declared.asking.Ask.TheVariants as ask
 use Rattle.cl_state.specs.declared.row.Row.{Row}
 use Rattle.cl_state.specs.Asked.{asked, doing, part_of}
 use Rattle.cl_state.specs.Rank.{Rank}
 use Rattle.cl_state.specs.Table.{row_in}
 use Rattle.cl_state.specs.Told.{told, told_row}
-use Rattle.cl_rank.specs.Deeds.{Act, Suits, answer_of, request_of}
+use Rattle.cl_rank.specs.Deeds.{Act, Suits, request_of}
 use Rattle.cl_rank.specs.Fitting.{RequestsFit}
 use Rattle.cl_rank.specs.Follows.{started_link}
 use Rattle.cl_rank.specs.RankSides.{AreChannelsOf, AreSides, KeysMove, PhaseFits, Sides, phase_of_receiver}
 use Rattle.cl_rank.specs.RankSides.{phase_of_sender, receiver_key, sender_key, side_of, sides_in}
 use Rattle.cl_rank.specs.Sides.{box_place_of}
 use Rattle.cl_rank.specs.Steps.{begun_at, begun_receiver, begun_sender, changed_side}
-use Rattle.cl_rank.proofs.Answered.{Becomes, alone_becomes, begun_at as begun_phases}
-use Rattle.cl_rank.proofs.Kept.{SideKept, each_link, kept, owned, past_later}
+use Rattle.cl_rank.proofs.Answered.{alone_becomes, begun_at as begun_phases}
+use Rattle.cl_rank.proofs.Kept.{kept, owned, past_later}
 use Rattle.cl_rank.proofs.Keys.{keys_stay, receivers_stay, senders_stay, somewhere}
 use Rattle.cl_rank.proofs.Rows.{AloneRow, RowFits, doing_passed, row_fits}
 use Rattle.cl_rank.proofs.Tables.{Keeps}

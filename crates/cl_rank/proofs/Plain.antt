@@ -1,7 +1,5 @@
 -- The turns of a running rank that do one instruction.
-use Rattle.std.proofs.Common.{◌≡◌, ℕ, ◌<◌, ◌+◌, ◌^◌, List, [], ◌∷◌, ◌++◌, Option, None, refl, sym, subst, arith, length, ap, ◌∙◌}
-use Rattle.part_channel.specs.Receiving.{RecvView}
-use Rattle.part_channel.specs.Sending.{SendView}
+use Rattle.std.proofs.Common.{◌≡◌, ℕ, ◌<◌, ◌+◌, ◌^◌, List, [], ◌∷◌, ◌++◌, None, refl, subst, arith, length, ap, ◌∙◌}
 use Rattle.cl_state.specs.declared.asking.Answer.TheVariants as answer
 use Rattle.cl_state.specs.declared.asking.Ask.TheVariants as ask
 use Rattle.cl_state.specs.declared.state.RankState.{RankState}

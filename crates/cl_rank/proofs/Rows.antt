@@ -1,5 +1,5 @@
 -- What the row of a turn is, by what the turn asks.
-use Rattle.std.proofs.Common.{◌≡◌, ℕ, ◌<◌, ◌==◌, List, [], ◌∷◌, length, Bool, true, false, Option, Some, None, refl, sym, ap, ◌∙◌}
+use Rattle.std.proofs.Common.{◌≡◌, ℕ, ◌==◌, List, [], ◌∷◌, length, Bool, true, false, Option, Some, None, refl, sym}
 use Rattle.std.proofs.Common.{subst, inl, inr, zero, suc, take, ◌≤◌, ◌+◌, ◌*◌, arith}
 use Rattle.std.specs.Prelude.{if◌then◌else◌, not, ◌&&◌, ◌⊎◌, nat_lt}
 use Rattle.rv_memory.specs.Memory.{Memory, bytes_at}
@@ -12,7 +12,6 @@ use Rattle.mp_types.specs.declared.requests.Request.{Request}
 use Rattle.mp_types.specs.declared.requests.Request.TheVariants as request
 use Rattle.mp_request.specs.declared.entries.OpenRequest.{OpenRequest}
 use Rattle.mp_request.specs.declared.entries.Partitions.{Partitions}
-use Rattle.mp_request.specs.declared.entries.Progress.{Progress}
 use Rattle.mp_request.specs.declared.entries.State.{State}
 use Rattle.mp_request.specs.declared.entries.State.TheVariants.{Ordinary, Inactive, Active}
 use Rattle.mp_request.specs.declared.entries.Transfer.{Transfer}
@@ -31,11 +30,7 @@ use Rattle.cl_calls.specs.Checks.{checks, first_fault, holds_of_sender, receivin
 use Rattle.cl_calls.specs.Needs.{needs_of}
 use Rattle.cl_calls.specs.declared.calls.Call.{Call}
 use Rattle.cl_calls.specs.declared.calls.Call.TheVariants as call
-use Rattle.cl_calls.specs.declared.calls.Claimed.{Claimed}
 use Rattle.cl_calls.specs.declared.calls.Completing.{Completing}
-use Rattle.cl_calls.specs.declared.calls.Probing.{Probing}
-use Rattle.cl_calls.specs.declared.calls.Receiving.{Receiving}
-use Rattle.cl_calls.specs.declared.calls.Sending.{Sending}
 use Rattle.cl_calls.specs.declared.calls.Several.{Several}
 use Rattle.cl_calls.specs.declared.sites.Site.{Site}
 use Rattle.cl_state.specs.declared.asking.Ask.{Ask}
@@ -55,19 +50,18 @@ use Rattle.cl_state.specs.declared.row.Purpose.{Purpose}
 use Rattle.cl_state.specs.declared.row.Purpose.TheVariants as purpose
 use Rattle.cl_state.specs.declared.row.Row.{Row}
 use Rattle.cl_state.specs.declared.row.Row.TheVariants.{AtOnce, OnReply, OnBox}
-use Rattle.cl_state.specs.declared.row.Visit.{Visit}
 use Rattle.cl_state.specs.declared.row.Visit.TheVariants.{Readies, Frees, Takes, Sees}
 use Rattle.cl_state.specs.declared.row.Wanted.{Wanted}
 use Rattle.cl_state.specs.declared.row.Wanted.TheVariants as wanted
 use Rattle.cl_state.specs.Asked.{Part, asked_in, asked_by, asked_poll, asked_completing, doing, doing_in, checked}
 use Rattle.cl_state.specs.Asked.{go_or_refuse, asked_start}
-use Rattle.cl_state.specs.Partitions.{awaited, awaited_at, awaited_by, awaited_in, taking_of, box_of, awaited_of_part}
+use Rattle.cl_state.specs.Partitions.{awaited, awaited_at, awaited_in, taking_of, box_of, awaited_of_part}
 use Rattle.cl_state.specs.Partitions.{asked_awaited, asked_ready, asked_arrived, awaited_by_receiver}
 use Rattle.cl_state.specs.Pending.{pending_of, pending_in, pending_at, asked_pending}
-use Rattle.cl_state.specs.Several.{pendings, posts_pending, has_posts, asked_all}
+use Rattle.cl_state.specs.Several.{asked_all}
 use Rattle.cl_state.specs.Table.{begins, comes, completes, gathers, holds_by, nothing_comes, polled, row_arrived, row_awaited}
 use Rattle.cl_state.specs.Table.{row_completing, row_in, row_of, row_of_part, row_ready, starts}
-use Rattle.cl_state.specs.Transfers.{asked_transfer, asked_claimed, send_of, receive_of, claimed_of}
+use Rattle.cl_state.specs.Transfers.{asked_transfer, send_of, receive_of}
 use Rattle.cl_rank.specs.Follows.{link_of, link_at, started_link}
 
 -- ---- what a row is

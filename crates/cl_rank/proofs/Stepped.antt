@@ -1,16 +1,15 @@
 -- What the step of a side makes of all sides of a rank.
-use Rattle.std.proofs.Common.{◌≡◌, ℕ, ◌<◌, ◌≤◌, ◌*◌, ◌%◌, ◌^◌, List, [], ◌∷◌, zero, suc, length, map, set, get_or, Option, Some, None, refl, sym, ap, subst, ◌∙◌}
+use Rattle.std.proofs.Common.{◌≡◌, ℕ, ◌<◌, ◌≤◌, ◌*◌, ◌%◌, ◌^◌, List, [], ◌∷◌, zero, suc, length, map, set, get_or, Option, Some, None, sym, ap, subst, ◌∙◌}
 use Rattle.std.specs.Prelude.{slice_get}
 use Rattle.mp_types.specs.declared.codes.Code.{Code}
 use Rattle.part_box.specs.Gate.{ready_stamp}
 use Rattle.part_channel.specs.Channels.{ChannelView, sender_box, receiver_box}
 use Rattle.part_channel.specs.declared.progress.Progress.{Progress}
 use Rattle.part_channel.specs.declared.progress.Take.{Take}
-use Rattle.part_channel.specs.Receiving.{RecvView, shown_take, take_refusal, take_stamp, took}
+use Rattle.part_channel.specs.Receiving.{RecvView, shown_take, take_stamp, took}
 use Rattle.part_channel.specs.Sending.{IsPast, IsTold, SendView, ready_refusal, readied, test_progress, tested}
 use Rattle.part_channel.specs.BoxWords.{words_of}
-use Rattle.cl_rank.specs.RankSides.{side_of}
-use Rattle.cl_rank.specs.Steps.{IsPlace, IsReadied, IsTaken, IsTested, MayReady, MayTake, MayTest, ReceiverAt, SenderAt}
+use Rattle.cl_rank.specs.Steps.{IsPlace, IsReadied, IsTaken, IsTested, MayReady, MayTake, MayTest}
 use Rattle.cl_rank.specs.Steps.{changed_side, keeps_receiving, keeps_sending}
 use Rattle.part_channel.proofs.Words.{bytes_back}
 use Rattle.cl_rank.proofs.Lists.{placed, same_side}

@@ -1,5 +1,5 @@
 -- A step that was refused leaves the rank as it was.
-use Rattle.std.proofs.Common.{◌≡◌, ◌<◌, ◌≤◌, ℕ, refl, ap, sym, ◌∙◌, subst, List, length, get_or, Some, slice_set, arith}
+use Rattle.std.proofs.Common.{◌≡◌, ℕ, ap, sym, ◌∙◌, subst, List, length, get_or, Some, slice_set}
 use Rattle.std.specs.Prelude.{IsOk, OnErr, Result, Ok, Err, true, slice_get}
 use Rattle.std.specs.Result.{is_err}
 use Rattle.std.specs.Global.{Vec}

@@ -1,6 +1,6 @@
 -- The turns of a running rank, by what its parts became.
 use Rattle.std.proofs.Common.{◌≡◌, ℕ, ◌<◌, ◌≤◌, ◌+◌, ◌^◌, List, [], ◌∷◌, ◌++◌, length, Option, Some, None, refl, sym, ap, subst, ◌∙◌, arith}
-use Rattle.std.specs.Prelude.{max, take}
+use Rattle.std.specs.Prelude.{take}
 use Rattle.mp_types.specs.declared.requests.Request.{Request}
 use Rattle.cl_trace.specs.declared.events.Event.{Event}
 use Rattle.cl_trace.specs.declared.events.Kind.{Kind}
@@ -24,7 +24,7 @@ use Rattle.cl_rank.specs.Sides.{box_place_of}
 use Rattle.cl_rank.specs.RankSides.{AreChannelsOf, KeysMove, sides_in}
 use Rattle.cl_rank.specs.Steps.{IsReadied, MayReady, begun_at, begun_receiver, begun_sender}
 use Rattle.cl_rank.specs.Turning.{RankView}
-use Rattle.cl_rank.specs.Views.{AsksNobody, IsQuietTurn, MayTurn, view_of}
+use Rattle.cl_rank.specs.Views.{AsksNobody, IsQuietTurn, MayTurn}
 use Rattle.cl_rank.proofs.Boxes.{long_enough, may_ready, ready_moved}
 use Rattle.cl_rank.proofs.Keys.{somewhere}
 use Rattle.cl_rank.proofs.Moves.{Moved, alone_moved, started_at}

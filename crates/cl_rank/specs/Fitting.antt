@@ -1,5 +1,5 @@
 -- Requests that go with phases.
-use Rattle.std.specs.Prelude.{ℕ, ◌≡◌, ◌<◌, List, Option, Some, None}
+use Rattle.std.specs.Prelude.{ℕ, ◌≡◌, ◌<◌, List, Some}
 use Rattle.mp_request.specs.declared.entries.Partitions.{Partitions}
 use Rattle.mp_request.specs.Table.{Table, request_at}
 use Rattle.cl_calls.specs.Checks.{sending_side}

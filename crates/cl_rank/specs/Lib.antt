@@ -3,6 +3,7 @@ pub mod Alone
 pub mod Sides
 pub mod RankSides
 pub mod Facts
+pub mod Roomy
 pub mod Steps
 pub mod Fitting
 pub mod Follows

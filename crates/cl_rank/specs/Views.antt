@@ -1,21 +1,13 @@
 -- What contracts see of a rank that takes turns, and what a turn of it leans on.
-use Rattle.std.specs.Prelude.{ℕ, ◌≡◌, ◌<◌, ◌+◌, ◌^◌, List, [], ◌∷◌, ◌++◌, length, Option, Some, None}
-use Rattle.mp_request.specs.declared.entries.Partitions.{Partitions}
-use Rattle.mp_request.specs.Table.{Table, request_at}
+use Rattle.std.specs.Prelude.{ℕ, ◌≡◌, ◌<◌, ◌+◌, ◌^◌, [], ◌∷◌, ◌++◌, length, Option, Some, None, vec_len}
 use Rattle.mp_types.specs.declared.replies.Reply.{Reply}
 use Rattle.mp_types.specs.declared.requests.Request.{Request}
-use Rattle.cl_calls.specs.Checks.{sending_side}
+use Rattle.cl_state.specs.Polls.{Polls}
 use Rattle.cl_state.specs.Room.{rank_of}
 use Rattle.cl_state.specs.TurnRoom.{HasRoom, IsNext}
-use Rattle.cl_state.specs.Asked.{asked}
 use Rattle.cl_state.specs.declared.asking.Ask.{Ask}
 use Rattle.cl_state.specs.declared.asking.Answer.TheVariants.{Alone}
-use Rattle.cl_trace.specs.declared.events.Event.{Event}
 use Rattle.cl_trace.specs.declared.events.Kind.{Kind}
-use Rattle.part_channel.specs.Receiving.{RecvView}
-use Rattle.part_channel.specs.Sending.{SendView}
-use Rattle.part_phase.specs.declared.phases.Phase.{Phase}
-use Rattle.part_phase.specs.Phases.{sending_at}
 use Rattle.cl_rank.specs.declared.ranks.Rank.{Rank}
 use Rattle.cl_rank.specs.declared.sides.BoxPlace.{BoxPlace}
 use Rattle.cl_rank.specs.declared.turning.Turn.{Turn}
@@ -41,6 +33,16 @@ view_of r = record {
 pub record MayTurn (r : Rank) (t : Turn) : Type 0 where
   pub next : IsNext r.state t.hart t.doing
   pub room : HasRoom r.state t.hart
+  pub low : r.state.clock + 1 < 2 ^ 62
+  pub left : length r.trace.events < r.budget
+  pub few : length r.trace.events + 1 < 2 ^ 64
+  pub space : 0 < r.trace.room
+
+-- such a rank, where the turn of a hart polls a post and asks the hub this
+pub record MayWait (r : Rank) (hart : ℕ) (request : Request) : Type 0 where
+  pub there : hart < vec_len r.state.harts
+  pub polls : Polls r.state hart request
+  pub room : HasRoom r.state hart
   pub low : r.state.clock + 1 < 2 ^ 62
   pub left : length r.trace.events < r.budget
   pub few : length r.trace.events + 1 < 2 ^ 64

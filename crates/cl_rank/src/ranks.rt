@@ -7,6 +7,7 @@ ghost use Rattle.cl_trace.specs.Rising.{last_stamp};
 ghost use Rattle.cl_rank.specs.Facts.{are_sides_fact};
 ghost use Rattle.cl_rank.specs.Fitting.{RequestsFit};
 ghost use Rattle.cl_rank.specs.RankSides.{AreChannelsOf, AreNewSides, AreSides, sides_in};
+ghost use Rattle.cl_rank.specs.Roomy.{IsRoomy, is_roomy_fact};
 ghost use Rattle.cl_rank.specs.Turns.{IsActive};
 ghost use Rattle.cl_rank.specs.Turning.{Answered, IsCause, IsTurn, StopHolds};
 
@@ -35,6 +36,9 @@ pub struct Rank {
     pub recvs: Vec<(u8, RecvSide)>,
     /// The box that the last turn asked, if it asked one.
     pub asked_box: Option<BoxPlace>,
+    /// The hart whose poll was just answered that nothing is there yet. The room that its turn wants is made, so that
+    /// the next poll needn't work the turn out.
+    pub(crate) roomy: Option<u8>,
     ghost low: { state.clock < 2 ^ 62 },
     ghost within: { length trace.events ≤ budget },
     ghost stamped: { last_stamp 0 trace.events ≤ state.clock },
@@ -42,6 +46,7 @@ pub struct Rank {
         (sides_in sends.items recvs.items) } by { are_sides_fact state.site.version state.phases state.clock
             (sides_in sends.items recvs.items) },
     ghost fit: { RequestsFit state.requests state.phases },
+    ghost room: { IsRoomy state roomy } by { is_roomy_fact state roomy },
 }
 
 impl Rank {
@@ -75,6 +80,7 @@ impl Rank {
             sends,
             recvs,
             asked_box: None,
+            roomy: None,
         })
     }
 
@@ -114,10 +120,11 @@ impl Rank {
         let stamp = self.state.clock + 1;
         if step_plain(&mut self.state, hart, stamp) {
             self.asked_box = None;
+            self.roomy = None;
             self.trace.push_plain(hart, stamp);
             return Ok(());
         }
-        self.slow_turn(rt, desk, channels, hart)
+        self.other_turn(rt, desk, channels, hart)
     }
 
     /// Takes a turn of a hart over the hub itself, and never waits. After a refusal the hub is as it was, too.
@@ -156,6 +163,7 @@ impl Rank {
             sends,
             recvs,
             asked_box: _,
+            roomy: _,
         } = self;
         (state, trace, sends, recvs)
     }

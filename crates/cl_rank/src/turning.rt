@@ -1,18 +1,17 @@
 //! What a turn does to a rank.
 
-ghost use Rattle.std.specs.Prelude.{◌≡◌, ◌<◌, ◌+◌, ◌^◌, ℕ, List, length, vec_len, IfErr, OnOk};
-ghost use Rattle.std.specs.Prelude.{OnErr, IsTrue, IsFalse, Some, slice_get, true};
+ghost use Rattle.std.specs.Prelude.{◌≡◌, ◌<◌, ◌+◌, ◌^◌, List, length, vec_len, IfErr, OnOk};
+ghost use Rattle.std.specs.Prelude.{OnErr, IsTrue, IsFalse, Some, slice_get, false, true};
 ghost use Rattle.rv_hart.specs.State.{State};
+ghost use Rattle.rv_hart.specs.Stepped.{stepped};
 ghost use Rattle.rv_hart.specs.Stores.{IsThere, store_range};
 ghost use Rattle.rv_hart.specs.declared.state.Mode.TheVariants.{Running};
 ghost use Rattle.rv_memory.specs.Access.{word_at};
 ghost use Rattle.mp_types.specs.declared.replies.Reply.{Reply};
 ghost use Rattle.mp_types.specs.declared.replies.Reply.TheVariants.{NotYet};
 ghost use Rattle.part_channel.specs.Channels.{ChannelView};
-ghost use Rattle.cl_calls.specs.declared.calls.Call.{Call as CallView};
 ghost use Rattle.cl_state.specs.declared.asking.Ask.TheVariants as ask;
 ghost use Rattle.cl_state.specs.declared.asking.Answer.TheVariants.{Alone, Reply as AnswerReply};
-ghost use Rattle.cl_state.specs.declared.asking.Doing.TheVariants.{Poll};
 ghost use Rattle.cl_state.specs.Asked.{asked, is_ecall as is_ecall_of};
 ghost use Rattle.cl_state.specs.Room.{rank_of};
 ghost use Rattle.cl_state.specs.Told.{told};
@@ -21,24 +20,52 @@ ghost use Rattle.cl_rank.specs.RankSides.{AreChannelsOf};
 ghost use Rattle.cl_rank.specs.Turns.{AllStopped, IsActive};
 ghost use Rattle.cl_rank.specs.Turning.{IsTurn, StopHolds};
 ghost use Rattle.cl_rank.specs.Turns.{all_stopped as all_stopped_of, is_stopped as is_stopped_of};
-ghost use Rattle.cl_rank.specs.Views.{AsksNobody, IsHubTurn, IsQuietTurn, MayTurn, view_of};
+ghost use Rattle.cl_rank.specs.Views.{AsksNobody, IsHubTurn, IsQuietTurn, MayTurn, MayWait, view_of};
 
 use crate::desks::Desk;
 use crate::ranks::Rank;
 use crate::sides::{BoxPlace, begin, follow_receiver, follow_sender, make_ready, take, test};
 use crate::stops::{Stop, stop_of};
 use cl_calls::Call;
-use cl_state::{Answer, Ask, Doing, RankState, is_ecall};
+use cl_state::{Answer, Ask, Doing, RankState};
 use cl_trace::{Event, Kind};
 use mp_request::{OpenRequest, Requests, Transfer};
 use mp_types::{Reply, Request, Stamp};
 use part_channel::{Channel, Progress, Take};
 use part_phase::{Contents, box_words};
-use rv_hart::{Hart, Mode, step};
+use rv_hart::{Did, Hart, Mode, step};
+use rv_memory::RankMemory;
 
-/// Does the instruction of a running hart, where it is no ECALL, at this stamp. Else nothing is done: the hart isn't
-/// running, its word is ECALL's, or there is no memory for the page that the instruction stores to. Where that page is
-/// there no memory is taken.
+/// Does the instruction of a running hart, where it is no ECALL. Else nothing is done: the hart isn't running, its word
+/// is ECALL's, or there is no memory for the page that the instruction stores to. Where that page is there no memory is
+/// taken.
+///
+/// The step itself tells that it met an ECALL, of which it does nothing. So the word isn't looked at before.
+#[inline(always)]
+pub fn step_running(hart: &mut Hart, memory: &mut RankMemory) -> bool
+    ensures running { IsTrue result → hart.old.mode ≡ Running }
+    ensures no_call { IsTrue result → is_ecall_of (word_at memory.old hart.old.pc) ≡ false }
+    ensures hart { IsTrue result → hart.new ≡ (stepped hart.old memory.old).state }
+    ensures memory { IsTrue result → memory.new ≡ (stepped hart.old memory.old).memory }
+    ensures same_hart { IsFalse result → hart.new ≡ hart.old }
+    ensures same_memory { IsFalse result → memory.new ≡ memory.old }
+    ensures other { IsFalse result → hart.old.mode ≡ Running → IsThere memory.old (store_range hart.old memory.old)
+        → is_ecall_of (word_at memory.old hart.old.pc) ≡ true }
+{
+    match hart.mode() {
+        Mode::Running => {}
+        _ => return false,
+    }
+    let Ok(did) = step(hart, memory) else {
+        return false;
+    };
+    match did {
+        Did::Call => false,
+        _ => true,
+    }
+}
+
+/// Does the same for a hart of a rank, at this stamp.
 #[inline(always)]
 #[tactic(auto, unfolding(cl_state::specs::Asked::asked, cl_state::specs::Told::told, cl_state::specs::Asked::doing))]
 pub fn step_plain(state: &mut RankState, hart: u8, stamp: Stamp) -> bool
@@ -53,15 +80,7 @@ pub fn step_plain(state: &mut RankState, hart: u8, stamp: Stamp) -> bool
         → is_ecall_of (word_at state.old.memory at.pc) ≡ true }
     ensures harts { vec_len state.new.harts ≡ vec_len state.old.harts }
 {
-    let at = &state.harts[hart as usize];
-    match at.mode() {
-        Mode::Running => {}
-        _ => return false,
-    }
-    if is_ecall(state.memory.text_word(at.pc())) {
-        return false;
-    }
-    if step(&mut state.harts[hart as usize], &mut state.memory).is_err() {
+    if !step_running(&mut state.harts[hart as usize], &mut state.memory) {
         return false;
     }
     state.clock = stamp;
@@ -139,9 +158,44 @@ fn into_reply(answer: Answer) -> Reply
 }
 
 impl Rank {
-    /// A turn of any kind, of a rank that has a turn left and room for its event.
+    /// A turn of any kind, of a rank that has a turn left and room for its event. A poll that was just in vain is made again
+    /// before anything is laid out for turns of other kinds.
     #[inline(never)]
-    pub(crate) fn slow_turn<R, D: Desk<R>>(
+    pub(crate) fn other_turn<R, D: Desk<R>>(
+        &mut self,
+        rt: &R,
+        desk: &mut D,
+        channels: &[Channel],
+        hart: u8,
+    ) -> Result<(), Stop>
+        requires hart { hart < vec_len self.old.state.harts }
+        requires low { self.old.state.clock + 1 < 2 ^ 62 }
+        requires left { length self.old.trace.events < self.old.budget }
+        requires few { length self.old.trace.events + 1 < 2 ^ 64 }
+        requires space { 0 < self.old.trace.room }
+        requires own { AreChannelsOf self.old.state.site.version channels.now (view_of self.old).sides }
+        ensures turned { OnOk result (IsTurn D.gives hart (view_of self.old) (view_of self.new) desk.old desk.new) }
+        ensures active { OnOk result (IsActive (rank_of self.old.state)
+            (length self.old.trace.events) self.old.budget) }
+        ensures stop { IfErr result
+            (λ stop. StopHolds D.gives hart (rank_of self.old.state)
+            (length self.old.trace.events) self.old.budget desk.old desk.new stop) }
+        ensures unchanged { OnErr result (view_of self.new ≡ view_of self.old) }
+        ensures own { AreChannelsOf self.new.state.site.version channels.now (view_of self.new).sides }
+        ensures budget { self.new.budget ≡ self.old.budget }
+        ensures harts { vec_len self.new.state.harts ≡ vec_len self.old.state.harts }
+    {
+        if self.roomy == Some(hart) && !all_stopped(&self.state) {
+            if let Some(request) = self.state.poll(hart) {
+                return self.poll_again(rt, desk, hart, request);
+            }
+        }
+        self.slow_turn(rt, desk, channels, hart)
+    }
+
+    /// A turn that is worked out.
+    #[inline(never)]
+    fn slow_turn<R, D: Desk<R>>(
         &mut self,
         rt: &R,
         desk: &mut D,
@@ -168,6 +222,7 @@ impl Rank {
         if all_stopped(&self.state) {
             return Err(Stop::AllEnded);
         }
+        self.roomy = None;
         let doing = self.state.next(hart);
         let known = self.trace.posts_of(hart);
         let Ok(ask) = self.state.ask_again(hart, &doing, known) else {
@@ -209,6 +264,7 @@ impl Rank {
             .tell_next(hart, &turn.doing, &Answer::Alone, stamp);
         begin(&mut self.sends, &mut self.recvs, link);
         self.asked_box = None;
+        self.roomy = None;
         self.trace.push(Event {
             hart,
             stamp,
@@ -249,7 +305,7 @@ impl Rank {
             Err(fault) => Err(stop_of(fault)),
             Ok((reply, stamp)) => {
                 match (reply, turn.doing) {
-                    (Reply::NotYet, Doing::Poll(..)) => self.wait_on(turn, copy, stamp),
+                    (Reply::NotYet, Doing::Poll(..)) => self.wait_on(turn.hart, copy, stamp),
                     (reply, _) => self.tell_reply(turn, copy, reply, stamp),
                 }
                 Ok(())
@@ -257,13 +313,54 @@ impl Rank {
         }
     }
 
-    /// Tells the rank that the post which a hart polls isn't at its end: only the clock moves.
-    fn wait_on(&mut self, turn: Turn, request: Request, stamp: Stamp)
-        requires may { MayTurn self.old turn }
-        requires polls { (call : CallView) × (post : ℕ) × (turn.doing ≡ Poll call post) }
-        requires asked { asked (rank_of self.old.state) turn.hart ≡ ask.Hub request }
+    /// Polls a post anew, of which the last turn was told that nothing is there yet. Only the desk's answer counts: what
+    /// the turn does is worked out where there is something, and the room for it is made.
+    fn poll_again<R, D: Desk<R>>(
+        &mut self,
+        rt: &R,
+        desk: &mut D,
+        hart: u8,
+        request: Request,
+    ) -> Result<(), Stop>
+        requires may { MayWait self.old hart request }
+        requires active { ¬ (AllStopped (rank_of self.old.state)) }
+        ensures turned { OnOk result
+            (IsTurn D.gives hart (view_of self.old) (view_of self.new) desk.old desk.new) }
+        ensures stop { IfErr result
+            (λ stop. StopHolds D.gives hart (rank_of self.old.state)
+            (length self.old.trace.events) self.old.budget desk.old desk.new stop) }
+        ensures unchanged { OnErr result (view_of self.new ≡ view_of self.old) }
+        ensures own { (channels : List ChannelView)
+            → AreChannelsOf self.old.state.site.version channels (view_of self.old).sides
+            → AreChannelsOf self.new.state.site.version channels (view_of self.new).sides }
+        ensures budget { self.new.budget ≡ self.old.budget }
+        ensures harts { vec_len self.new.state.harts ≡ vec_len self.old.state.harts }
+    {
+        // made before the call, so that nothing can fail once the hub has answered
+        let Ok(copy) = request.try_copy(self.alloc) else {
+            return Err(Stop::Memory);
+        };
+        let clock = self.state.clock;
+        match desk.call(rt, self.state.site.number, hart, clock, request) {
+            Err(fault) => Err(stop_of(fault)),
+            Ok((Reply::NotYet, stamp)) => {
+                self.wait_on(hart, copy, stamp);
+                Ok(())
+            }
+            Ok((reply, stamp)) => {
+                let doing = self.state.next(hart);
+                self.tell_reply(Turn { hart, doing }, copy, reply, stamp);
+                Ok(())
+            }
+        }
+    }
+
+    /// Tells the rank that the post which a hart polls isn't at its end: only the clock moves, and the room that was
+    /// made for the turn is there still.
+    fn wait_on(&mut self, hart: u8, request: Request, stamp: Stamp)
+        requires may { MayWait self.old hart request }
         requires stamp { (self.old.state.clock < stamp) × (stamp < 2 ^ 62) }
-        ensures turned { IsHubTurn turn.hart request NotYet stamp (view_of self.old) (view_of self.new) }
+        ensures turned { IsHubTurn hart request NotYet stamp (view_of self.old) (view_of self.new) }
         ensures own { (channels : List ChannelView)
             → AreChannelsOf self.old.state.site.version channels (view_of self.old).sides
             → AreChannelsOf self.new.state.site.version channels (view_of self.new).sides }
@@ -272,8 +369,9 @@ impl Rank {
     {
         self.state.clock = stamp;
         self.asked_box = None;
+        self.roomy = Some(hart);
         self.trace.push(Event {
-            hart: turn.hart,
+            hart,
             stamp,
             kind: Kind::Hub(Reply::NotYet),
             request: Some(request),
@@ -301,6 +399,7 @@ impl Rank {
         follow_sender(&mut self.sends, link, sending, phases.sending(link));
         follow_receiver(&mut self.recvs, link, receiving, phases.receiving(link));
         self.asked_box = None;
+        self.roomy = None;
         self.trace.push(Event {
             hart,
             stamp,
@@ -326,6 +425,7 @@ impl Rank {
         self.state
             .tell_next(turn.hart, &turn.doing, &Answer::Alone, stamp);
         self.asked_box = Some(place);
+        self.roomy = None;
         self.trace.push(Event {
             hart: turn.hart,
             stamp,
@@ -353,6 +453,7 @@ impl Rank {
         };
         self.state.tell_next(turn.hart, &turn.doing, &answer, stamp);
         self.asked_box = Some(place);
+        self.roomy = None;
         self.trace.push(Event {
             hart: turn.hart,
             stamp,
@@ -381,6 +482,7 @@ impl Rank {
         };
         self.state.tell_next(turn.hart, &turn.doing, &answer, stamp);
         self.asked_box = Some(place);
+        self.roomy = None;
         self.trace.push(Event {
             hart: turn.hart,
             stamp,

@@ -20,6 +20,7 @@ invariant_of-self c =
       stamped = omega (arith, clock, last);
       sides = moved.sides;
       fit = moved.fit;
+      room = tt;
     }
 
 pub returns-clause-turned : goal.returns-clause-turned

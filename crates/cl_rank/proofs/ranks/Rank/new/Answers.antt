@@ -16,4 +16,5 @@ invariant_of-result c =
       sides = new_sides (rank_of c.in_ok-load.field-0) c.args.image.now c.args.rank is c.args.sends.items c.args.recvs.items
           c.requires;
       fit = new_fit (rank_of c.in_ok-load.field-0) c.args.image.now c.args.rank is;
+      room = tt;
     }

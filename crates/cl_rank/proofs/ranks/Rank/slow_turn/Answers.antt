@@ -1,9 +1,4 @@
-use Rattle.std.proofs.Common.{◌≡◌, sym, ◌∙◌, subst, refl}
-use Rattle.cl_state.specs.Asked.{asked}
-use Rattle.cl_state.specs.Room.{rank_of}
-use Rattle.cl_trace.specs.declared.events.Kind.TheVariants as kind
-use Rattle.cl_rank.specs.Deeds.{Act}
-use Rattle.cl_rank.specs.Views.{AsksNobody}
+use Rattle.std.proofs.Common.{sym, ◌∙◌}
 use Rattle.cl_rank.proofs.Asks.{asks_nothing_plain, asks_nothing_local, asks_nothing_held, asks_nothing_idle}
 use Rattle.cl_rank.proofs.ranks.Rank.slow_turn.Goals as goal
 

@@ -35,6 +35,7 @@ invariant_of-self c =
       stamped = omega (arith, clock, last);
       sides = moved.sides;
       fit = moved.fit;
+      room = tt;
     }
 
 pub returns-clause-turned : goal.returns-clause-turned

@@ -56,6 +56,7 @@ invariant_of-self c =
       stamped = omega (arith, clock, last);
       sides = turn.moved.sides;
       fit = turn.moved.fit;
+      room = tt;
     }
 
 pub returns-clause-turned : goal.returns-clause-turned

@@ -1,4 +1,4 @@
-use Rattle.std.proofs.Common.{◌≡◌, ◌<◌, ◌+◌, ◌^◌, ap, length, refl, rules, arith}
+use Rattle.std.proofs.Common.{◌≡◌, ◌+◌, ap, length, refl, rules, arith}
 use Rattle.cl_trace.specs.Rising.{last_stamp}
 use Rattle.cl_rank.proofs.Plain.{plain_turn, went_plain}
 use Rattle.cl_rank.proofs.Went.{one_more, stamped_by}
@@ -25,6 +25,7 @@ invariant_of-self-then-step_plain g c =
       stamped = omega (arith, clock, last);
       sides = moved.sides;
       fit = moved.fit;
+      room = tt;
     }
 
 pub returns-then-step_plain-clause-turned : goal.returns-then-step_plain-clause-turned

@@ -17,6 +17,7 @@ invariant_of-self c =
       stamped = omega (arith, last);
       sides = moved.sides;
       fit = moved.fit;
+      room = c.requires.may.room;
     }
 
 pub returns-clause-turned : goal.returns-clause-turned
@@ -27,12 +28,12 @@ returns-clause-turned c =
     record {
       event = c.push.ensures;
       moves = (
-        search (rules, c.requires.may.next.there),
+        search (rules, c.requires.may.there),
         c.requires.stamp.1,
-        c.requires.asked,
+        c.requires.may.polls.asks,
         (refl, c.requires.stamp.0),
-        sym (told_nothing old c.args.turn.hart c.args.stamp c.requires.polls.0 c.requires.polls.1 c.args.turn.doing
-            c.requires.may.next.spelled c.requires.polls.2),
+        sym (told_nothing old c.args.hart c.args.stamp c.requires.may.polls.call c.requires.may.polls.post
+            c.requires.may.polls.turn),
       );
       keys = moved.keys;
       box = refl;
