@@ -20,4 +20,4 @@ pub use desks::{Desk, LockedDesk, PlainDesk};
 pub use ranks::Rank;
 pub use sides::BoxPlace;
 pub use stops::Stop;
-pub use turning::step_plain;
+pub use turning::{step_plain, step_running};

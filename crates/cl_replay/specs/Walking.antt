@@ -1,12 +1,15 @@
 -- Where the steps between two places of a list lead.
-use Rattle.std.specs.Prelude.{ℕ, ◌≡◌, ◌<◌, List, take, slice_get, Some}
+use Rattle.std.specs.Prelude.{ℕ, ◌≡◌, ◌<◌, ◌+◌, ◌-◌, List, take, slice_get, Some}
 use Rattle.std.specs.Vec.{with_item}
+use Rattle.rv_hart.specs.State.{State}
 use Rattle.rv_image.specs.declared.images.ImageParts.{ImageParts}
+use Rattle.rv_memory.specs.Memory.{Memory}
 use Rattle.cl_machine.specs.Order.{InOrder}
 use Rattle.cl_machine.specs.declared.steps.Step.{Step}
 use Rattle.cl_state.specs.declared.state.RankState.{RankState}
 use Rattle.cl_replay.specs.declared.faults.WalkFault.{WalkFault}
 use Rattle.cl_replay.specs.declared.states.ClusterState.{ClusterState}
+use Rattle.cl_replay.specs.declared.walking.Whose.{Whose}
 use Rattle.cl_replay.specs.InnerReplaying.{BreaksAt}
 use Rattle.cl_replay.specs.Replaying.{IsReached}
 
@@ -44,3 +47,43 @@ pub record GoesOn (steps : List Step) (r : ℕ) (from : ℕ) (old : RankState) (
   pub leads : (cluster : ClusterState) → slice_get cluster.ranks.items r ≡ Some old
       → LeadsOn steps from cluster to (with_rank cluster r new)
   pub order : (cluster : ClusterState) → slice_get cluster.ranks.items r ≡ Some old → KeepsOrder steps from cluster to
+
+-- a hart with the memory and the clock of its rank
+pub record HartAt : Type 0 where
+  pub hart : State
+  pub memory : Memory
+  pub clock : ℕ
+
+abbrev pub hart_at : State → Memory → ℕ → HartAt
+hart_at hart memory clock = record { hart = hart; memory = memory; clock = clock }
+
+-- the rank has this hart, this memory and this clock
+pub record HasHart (rank : RankState) (hart : ℕ) (at : HartAt) : Type 0 where
+  pub there : slice_get rank.harts.items hart ≡ Some at.hart
+  pub memory : rank.memory ≡ at.memory
+  pub clock : rank.clock ≡ at.clock
+
+-- the same rank with another state of one of its harts, another memory and another clock
+abbrev pub with_hart : RankState → ℕ → HartAt → RankState
+with_hart rank hart at = record rank {
+  harts = with_item rank.harts hart at.hart;
+  memory = at.memory;
+  clock = at.clock;
+}
+
+-- these steps stand in a list from a place on, behind a step of this stamp
+pub record StandsIn (run steps : List Step) (from clock : ℕ) : Type 0 where
+  pub behind : 0 < from
+  pub last : Step
+  pub before : slice_get steps (from - 1) ≡ Some last
+  pub stamp : last.stamp ≡ clock
+  pub each : (k : ℕ) (e : Step) → slice_get run k ≡ Some e → slice_get steps (from + k) ≡ Some e
+
+-- so many of these steps lead whichever rank has this hart to the same one with the hart's new state, in whichever list
+-- they stand behind a step of the clock's stamp; and the new clock is the stamp of the last one
+pub record HartGoesOn (run : List Step) (whose : Whose) (old : HartAt) (n : ℕ) (new : HartAt) : Type 0 where
+  pub goes : (steps : List Step) (from : ℕ) (rank : RankState) → StandsIn run steps from old.clock
+      → HasHart rank whose.hart old
+      → GoesOn steps whose.rank from rank (from + n) (with_hart rank whose.hart new)
+  pub stamp : (steps : List Step) (from : ℕ) → StandsIn run steps from old.clock
+      → (last : Step) × (slice_get steps (from + n - 1) ≡ Some last) × (last.stamp ≡ new.clock)
