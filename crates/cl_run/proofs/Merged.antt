@@ -9,8 +9,8 @@ use Rattle.cl_machine.specs.Cluster.{loaded_cluster}
 use Rattle.cl_machine.specs.Order.{of_rank}
 use Rattle.cl_machine.specs.ProductSteps.{step_of}
 use Rattle.cl_machine.specs.declared.steps.Step.{Step}
-use Rattle.cl_order.proofs.Joinings.{joined}
-use Rattle.cl_order.proofs.Reorders.{absent, no_deeds, reorder}
+use Rattle.cl_stamp_laws.proofs.Joinings.{joined}
+use Rattle.cl_stamp_laws.proofs.Reorders.{absent, no_deeds, reorder}
 use Rattle.cl_record.specs.Records.{IsMergedRun, steps_by, steps_in}
 use Rattle.cl_record.specs.declared.plans.Plan.{Plan}
 use Rattle.cl_record.specs.declared.records.Record.{Record}

@@ -31,7 +31,7 @@ use Rattle.cl_record.specs.BoxKeys.{box_of}
 use Rattle.cl_record.specs.Plans.{HasPlans}
 use Rattle.cl_record.specs.declared.plans.Plan.{Plan}
 use Rattle.cl_record.specs.declared.records.Record.{Record}
-use Rattle.cl_order.proofs.Ranks.{starts}
+use Rattle.cl_stamp_laws.proofs.Ranks.{starts}
 use Rattle.cl_record.proofs.Elements.{at_below}
 use Rattle.cl_record.proofs.Leaves.{shows}
 use Rattle.cl_threads.specs.OnThreads.{AreDone}

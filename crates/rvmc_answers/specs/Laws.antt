@@ -7,7 +7,7 @@ use Rattle.cl_rank.specs.declared.stops.Stop.TheVariants.{AllEnded, Budget}
 use Rattle.cl_record.specs.declared.plans.Plan.{Plan}
 use Rattle.cl_replay.specs.declared.checking.Verdict.TheVariants.{Good}
 use Rattle.cl_machine.specs.declared.steps.Step.{Step}
-use Rattle.cl_why.specs.Why.{IsVerdictOf}
+use Rattle.cl_deadlock.specs.Why.{IsVerdictOf}
 use Rattle.rv_image.specs.declared.images.ImageParts.{ImageParts}
 use Rattle.rvmc_answers.specs.Answers.{IsDone, IsLeftByThreads, IsTextOf, IsTold, IsWhyAt, Says}
 use Rattle.rvmc_answers.specs.Plans.{ArePlansOf, listed}

@@ -5,7 +5,7 @@ use Rattle.rv_image.specs.declared.images.Link.{Link}
 use Rattle.mp_match.specs.declared.posts.Post.{Post}
 use Rattle.mp_match.specs.declared.posts.Post.TheVariants.{Send, Receive, Claim}
 use Rattle.mp_transfers.specs.Inits.{is_to}
-use Rattle.mp_waits.specs.Waits.{could_pair, is_from}
+use Rattle.mp_wait_laws.specs.Waits.{could_pair, is_from}
 use Rattle.rvmc_waits.specs.declared.awaited.Wait.{Wait}
 use Rattle.rvmc_waits.specs.declared.awaited.Wait.TheVariants as wait
 use Rattle.rvmc_waits.specs.Laws.{NamedLaw, is_named}

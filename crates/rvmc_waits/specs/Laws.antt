@@ -7,7 +7,7 @@ use Rattle.mp_match.specs.declared.posts.Line.{Line}
 use Rattle.mp_match.specs.Pairs.{admits}
 use Rattle.mp_hub.specs.Hub.{selecting}
 use Rattle.mp_transfers.specs.Inits.{is_receiver}
-use Rattle.mp_waits.specs.Waits.{could_pair, could_send, sends_over}
+use Rattle.mp_wait_laws.specs.Waits.{could_pair, could_send, sends_over}
 use Rattle.rvmc_waits.specs.declared.awaited.Wait.{Wait}
 use Rattle.rvmc_waits.specs.declared.awaited.Wait.TheVariants as wait
 use Rattle.rvmc_waits.specs.Places.{nearest}

@@ -9,7 +9,7 @@ use Rattle.part_box.specs.declared.settled.Settled.{Settled}
 use Rattle.cl_state.specs.declared.state.RankState.{RankState}
 use Rattle.cl_state.specs.Room.{rank_of}
 use Rattle.cl_replay.specs.declared.states.ClusterState.{ClusterState}
-use Rattle.cl_why.specs.Why.{IsDeadlockVerdict}
+use Rattle.cl_deadlock.specs.Why.{IsDeadlockVerdict}
 use Rattle.rvmc_waits.specs.Texts.{hart_waits_text, newline}
 use Rattle.rvmc_waits.specs.Unreceived.{unreceived_text}
 

@@ -4,8 +4,8 @@ ghost use Rattle.std.specs.Prelude.{◌≡◌, ◌++◌, IfOk, OnOk, string_byte
 ghost use Rattle.std.specs.Option.{option_map};
 ghost use Rattle.rvmc_why.specs.Why.{IsWhy, all_harts_text, deadlock_text, more_ranks, rank_word, deadlock_verdict_text};
 
+use cl_deadlock::deadlock;
 use cl_replay::ClusterState;
-use cl_why::deadlock;
 use rv_image::Image;
 use rvmc_waits::{put_harts, put_unreceived};
 use std::alloc::{AllocError, Global};

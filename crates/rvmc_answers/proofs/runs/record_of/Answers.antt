@@ -1,6 +1,6 @@
 use Rattle.std.proofs.Common.{◌<◌, ◌^◌, length, rules}
 use Rattle.std.proofs.lemmas.Result.{IfOk-weaker}
-use Rattle.cl_fits.proofs.Runs.{records_fit}
+use Rattle.cl_text_laws.proofs.Runs.{records_fit}
 use Rattle.rvmc_answers.proofs.runs.record_of.Goals as goal
 
 -- the steps of a run are inside the limits, and there are no more than memory holds

@@ -1,5 +1,0 @@
-use Rattle.std.proofs.Common.{refl}
-use Rattle.calls_tests.proofs.calls.sides.Goals as goal
-
-pub returns : goal.returns
-returns c = (refl, refl, refl, refl, refl)

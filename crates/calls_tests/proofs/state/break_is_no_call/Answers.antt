@@ -1,7 +1,0 @@
-use Rattle.std.proofs.Common.{refl}
-use Rattle.cl_state.specs.Asked.{asked, doing}
-use Rattle.calls_tests.proofs.state.break_is_no_call.Goals as goal
-
-pub returns : goal.returns
-unfolding asked doing
-returns c = refl

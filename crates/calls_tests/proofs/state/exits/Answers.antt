@@ -1,8 +1,0 @@
-use Rattle.std.proofs.Common.{refl}
-use Rattle.cl_state.specs.Asked.{asked, doing}
-use Rattle.cl_state.specs.Told.{returned, told}
-use Rattle.calls_tests.proofs.state.exits.Goals as goal
-
-pub returns : goal.returns
-unfolding asked told doing returned
-returns c = (refl, refl)

@@ -1,7 +1,0 @@
-use Rattle.std.proofs.Common.{refl}
-use Rattle.cl_state.specs.Told.{with_status}
-use Rattle.calls_tests.proofs.state.no_status.Goals as goal
-
-pub returns : goal.returns
-unfolding with_status
-returns c = (λ memory source tag count. refl, λ memory gs. refl)

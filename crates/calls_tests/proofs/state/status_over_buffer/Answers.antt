@@ -1,8 +1,0 @@
-use Rattle.std.proofs.Common.{refl}
-use Rattle.cl_state.specs.Asked.{doing}
-use Rattle.cl_state.specs.Told.{received, received_message, returned, told, with_status}
-use Rattle.calls_tests.proofs.state.status_over_buffer.Goals as goal
-
-pub returns : goal.returns
-unfolding told doing returned received received_message with_status
-returns c = refl

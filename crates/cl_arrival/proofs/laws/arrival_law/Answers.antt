@@ -1,5 +1,0 @@
-use Rattle.cl_arrival.proofs.Arrival as source
-use Rattle.cl_arrival.proofs.laws.arrival_law.Goals as goal
-
-pub returns : goal.returns
-returns c = source.arrival

@@ -1,5 +1,0 @@
-use Rattle.cl_arrival.proofs.Takes as source
-use Rattle.cl_arrival.proofs.laws.take_law.Goals as goal
-
-pub returns : goal.returns
-returns c = source.taken

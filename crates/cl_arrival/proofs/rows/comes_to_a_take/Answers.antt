@@ -1,5 +1,0 @@
-use Rattle.cl_arrival.proofs.AloneRows as worked
-use Rattle.cl_arrival.proofs.rows.comes_to_a_take.Goals as goal
-
-pub returns : goal.returns
-returns c = worked.take

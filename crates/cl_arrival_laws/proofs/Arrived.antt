@@ -1,0 +1,145 @@
+-- What is reported arrived in a phase was taken in it.
+use Rattle.std.specs.Prelude.{ℕ, ◌+◌, ◌*◌, ◌/◌, ◌<◌, ◌≤◌, ◌≡◌, ◌≢◌, ◌⊎◌, ◌&&◌, List, [], ◌∷◌, ◌++◌, Bool, true, false}
+use Rattle.std.specs.Prelude.{length, get_or, None, if◌then◌else◌, nat_lt}
+use Rattle.std.proofs.Common.{refl, sym, ap, ◌∙◌, subst, arith}
+use mathlib.Core.Logic.{inl, inr}
+use Rattle.rv_image.specs.declared.images.ImageParts.{ImageParts}
+use Rattle.rv_image.specs.declared.images.ImageVersion.{ImageVersion}
+use Rattle.part_phase.specs.declared.receiving.RecvPhase.{RecvPhase}
+use Rattle.part_phase.specs.Phases.{receiving_at}
+use Rattle.part_phase.specs.Receiving.{begun_receiving, is_left, lowest_from, next_box_of, overlaps}
+use Rattle.part_phase.specs.Sending.{none_marked}
+use Rattle.part_phase.proofs.Arrivals.{below, begins, cut as knows_cut, ends, marked_back}
+use Rattle.part_phase.proofs.Lowest.{none_pass}
+use Rattle.cl_state.specs.Rank.{Rank, loaded}
+use Rattle.cl_rank.specs.Deeds.{Act, Deed}
+use Rattle.cl_rank.specs.Alone.{IsAlone}
+use Rattle.cl_machine.specs.Boxes.{box_number}
+use Rattle.cl_arrival_laws.specs.Arrival.{ArrivedLaw, IsTakenTimes, is_receiving, phases_begun, taken_at}
+use Rattle.cl_arrival_laws.proofs.Counting.{one_more_deed}
+use Rattle.cl_arrival_laws.proofs.Receives.{ActDoes, SideMoves, does}
+use Rattle.cl_arrival_laws.proofs.Reports.{is_its_part, waits_for_none}
+use Rattle.cl_arrival_laws.proofs.Takes.{Counts, counts}
+
+-- ---- what a turn keeps of a side that has a shape
+
+-- its partitions stay, and a cut that is known stays known
+abbrev pub Keeps : RecvPhase → RecvPhase → Type 0
+Keeps p q = (0 < p.parts → q.parts ≡ p.parts) × (p.boxes ≢ 0 → 0 < q.boxes)
+
+positive : (n : ℕ) → n ≢ 0 → 0 < n
+positive n some = omega (arith, some)
+
+keeps_same : (p : RecvPhase) → Keeps p p
+keeps_same p = (λ some. refl, λ some. positive p.boxes some)
+
+keeps_begun : (p : RecvPhase) → Keeps p (begun_receiving p)
+keeps_begun p = go p.active
+  where
+    go : (b : Bool) → Keeps p (if b then p else record p { active = true; taken = none_marked })
+    go true = keeps_same p
+    go false = (λ some. refl, λ some. positive p.boxes some)
+
+side_keeps : (version : ImageVersion) (p q : RecvPhase) → SideMoves version p q → Keeps p q
+side_keeps version p q (inl e) = subst (Keeps p) (sym e) (keeps_same p)
+side_keeps version p q (inr (inl e)) = subst (Keeps p) (sym e) (keeps_begun p)
+side_keeps version p q (inr (inr (inl m))) =
+    subst (Keeps p) (sym m.3)
+    (λ some. absurd (let none = m.2 in omega (arith, some, none)), λ some. positive p.boxes some)
+side_keeps version p q (inr (inr (inr m))) =
+    subst (Keeps p) (sym m.3) (λ some. refl, λ some. (knows_cut version p m.0 m.1 m.2).0)
+
+act_keeps : (version : ImageVersion) (k : ℕ) (a : Act) (p q : RecvPhase) → ActDoes version k a p q → Keeps p q
+act_keeps version k (Act.Take link box gate bytes) p q (inl m) =
+    subst (Keeps p) (sym m.1.1) (λ some. refl, λ some. positive p.boxes some)
+act_keeps version k (Act.Take link box gate bytes) p q (inr m) = subst (Keeps p) (sym m.1) (keeps_same p)
+act_keeps version k Act.Plain p q m = side_keeps version p q m
+act_keeps version k Act.Local p q m = side_keeps version p q m
+act_keeps version k (Act.Hub clock request reply) p q m = side_keeps version p q m
+act_keeps version k (Act.Ready link part bytes) p q m = side_keeps version p q m
+act_keeps version k (Act.Miss link part) p q m = side_keeps version p q m
+act_keeps version k (Act.Freed link part gate) p q m = side_keeps version p q m
+act_keeps version k Act.Held p q m = side_keeps version p q m
+act_keeps version k Act.Idle p q m = side_keeps version p q m
+
+-- ---- a partition that waits for no box
+
+no_right : (a : Bool) → (a && true) ≡ false → a ≡ false
+no_right true e = absurd (cc)
+no_right false e = refl
+
+is_less : (a b : ℕ) → a < b → nat_lt a b ≡ true
+is_less a b low = grind arith
+
+-- each of its boxes was taken
+taken_there : (p : RecvPhase) (part box : ℕ) → p.active ≡ true → next_box_of p part ≡ None → box < p.boxes
+    → box * p.bytes < (part + 1) * p.size → part * p.size < (box + 1) * p.bytes → get_or p.taken box false ≡ true
+taken_there p part box on none low first second =
+    let passes : ℕ → Bool = λ n. is_left p.taken n && overlaps p part n in
+    let no_box : lowest_from passes 0 p.boxes ≡ None =
+    sym (ap (λ (b : Bool). if b then lowest_from passes 0 p.boxes else None) on) ∙ none in
+    let fails : (is_left p.taken box && overlaps p part box) ≡ false =
+    none_pass passes 0 p.boxes no_box box (omega arith) (omega (arith, low)) in
+    let a = is_less (box * p.bytes) ((part + 1) * p.size) first in
+    let b = is_less (part * p.size) ((box + 1) * p.bytes) second in
+    let both : overlaps p part box ≡ true = λ i. a i && b i in
+    marked_back (get_or p.taken box false)
+    (no_right (is_left p.taken box) (ap (λ c. is_left p.taken box && c) (sym both) ∙ fails))
+
+-- ---- the law
+
+either : (b : Bool) → ((b ≡ true) ⊎ (b ≡ false))
+either true = inl refl
+either false = inr refl
+
+module _ (image : ImageParts) (r : ℕ) (ds : List Deed) (new : Rank) (link part n : ℕ)
+    (run : IsAlone (loaded image r) ds new) (some : 0 < n)
+    (begun : phases_begun (is_receiving link) (loaded image r) ds ≡ n) where
+  abbrev q : RecvPhase
+  q = receiving_at new.phases link
+
+  its_counts : (i : ℕ) → i < 16 → Counts i q n (length (taken_at (box_number link i) ds))
+  its_counts i low =
+      subst (λ m. Counts i q m (length (taken_at (box_number link i) ds))) begun
+      (counts image r link i low ds new run)
+
+  few : q.boxes ≤ 16
+  few = (its_counts 0 (omega arith)).few
+
+  known : ((q.active ≡ false) ⊎ ((0 < q.boxes) × (next_box_of q part ≡ None))) → 0 < q.boxes
+  known (inl off) = (its_counts 0 (omega arith)).known off some
+  known (inr h) = h.0
+
+  taken_times : ((q.active ≡ false) ⊎ ((0 < q.boxes) × (next_box_of q part ≡ None))) → part < q.parts
+      → IsTakenTimes n q link part ds
+  taken_times waits its byte within =
+      let total = (its_counts 0 (omega arith)).total (known waits) in
+      let box = byte / q.bytes in
+      let low : box < q.boxes = below part q.size q.parts q.boxes q.bytes byte total its within.1 in
+      let from : box * q.bytes ≤ byte = begins part q.size q.parts q.boxes q.bytes byte total its within.1 in
+      let to : byte < (box + 1) * q.bytes = ends part q.size q.parts q.boxes q.bytes byte total its within.1 in
+      let c = its_counts box (let most = few in omega (arith, low, most)) in
+      (box, (from, to), low, go waits box low c (omega (arith, from, within.1)) (omega (arith, to, within.0)))
+    where
+      go : ((q.active ≡ false) ⊎ ((0 < q.boxes) × (next_box_of q part ≡ None))) → (box : ℕ) → box < q.boxes
+          → Counts box q n (length (taken_at (box_number link box) ds))
+          → box * q.bytes < (part + 1) * q.size → part * q.size < (box + 1) * q.bytes
+          → length (taken_at (box_number link box) ds) ≡ n
+      go (inl off) box low c first second = c.idle (λ k. low) off
+      go (inr h) box low c first second =
+          elim (either q.active) [
+            | inl on ↦ c.gone (λ k. low) on (taken_there q part box on h.1 low first second)
+            | inr off ↦ c.idle (λ k. low) off
+          ]
+
+pub arrived : ArrivedLaw
+arrived image r ds old new d link part k run move reports begun =
+    let p = receiving_at old.phases link in
+    let q = receiving_at new.phases link in
+    let keeps : Keeps p q = act_keeps old.site.version link d.act p q (does link old new d move) in
+    let its = is_its_part old new d link part move reports in
+    let same = keeps.0 (omega (arith, its)) in
+    taken_times image r (ds ++ d ∷ []) new link part (k + 1) (one_more_deed ds (loaded image r) old new d run move)
+    (omega arith) begun
+    (elim (waits_for_none old new d link part move reports) [ inl off ↦ inl off | inr h ↦ inr (keeps.1 h.0, h.1) ])
+    (omega (arith, its, same))

@@ -1,5 +1,0 @@
-use Rattle.cl_fits.proofs.Runs as source
-use Rattle.cl_fits.proofs.laws.records_fit_law.Goals as goal
-
-pub returns : goal.returns
-returns c = source.records_fit

@@ -1,5 +1,0 @@
-use Rattle.cl_gates.proofs.Kept as source
-use Rattle.cl_gates.proofs.laws.gates_kept_law.Goals as goal
-
-pub returns : goal.returns
-returns c = source.gates_kept

@@ -1,0 +1,5 @@
+use Rattle.cl_stamp_laws.proofs.Reorders as source
+use Rattle.cl_stamp_laws.proofs.laws.reorder_law.Goals as goal
+
+pub returns : goal.returns
+returns c = source.reorder

@@ -1,5 +1,0 @@
-use Rattle.cl_stuck.proofs.Unions as law
-use Rattle.cl_stuck.proofs.laws.union_law.Goals as goal
-
-pub returns : goal.returns
-returns c = law.union_law

@@ -1,0 +1,5 @@
+use Rattle.cl_text_laws.proofs.Runs as source
+use Rattle.cl_text_laws.proofs.laws.records_fit_law.Goals as goal
+
+pub returns : goal.returns
+returns c = source.records_fit

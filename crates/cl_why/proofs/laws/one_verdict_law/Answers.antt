@@ -1,5 +1,0 @@
-use Rattle.cl_why.proofs.One.{one_verdict}
-use Rattle.cl_why.proofs.laws.one_verdict_law.Goals as goal
-
-pub returns : goal.returns
-returns c = one_verdict

@@ -1,9 +1,0 @@
-use Rattle.cl_rank.specs.Views.{view_of}
-use Rattle.cluster_tests.proofs.Turning.{enters, on_ok}
-use Rattle.cluster_tests.proofs.rank.a_call_is_entered.Goals as goal
-
-pub returns : goal.returns
-returns c = λ request asks.
-    on_ok c.turn_plain.result
-    (λ turn. enters c.args.hart (view_of c.args.rank.now) (view_of c.turn_plain.new.self) c.args.hub.now
-    c.turn_plain.new.hub turn request asks) c.turn_plain.ensures.turned

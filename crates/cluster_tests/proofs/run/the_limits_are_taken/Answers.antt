@@ -1,7 +1,0 @@
-use Rattle.cluster_tests.proofs.Planning.{limits}
-use Rattle.cluster_tests.proofs.run.the_limits_are_taken.Goals as goal
-
-pub returns : goal.returns
-returns c =
-    let at = c.requires.plans in
-    c.are_plans.ensures.1 (limits c.args.image.now c.args.plans.now at.0 c.requires.one c.requires.hart at.1 at.2 at.3)

@@ -1,0 +1,8 @@
+use Rattle.std.proofs.Common.{refl}
+use Rattle.cl_state.specs.Asked.{asked, doing}
+use Rattle.cl_state.specs.Told.{returned, told}
+use Rattle.test_calls.proofs.state.exits.Goals as goal
+
+pub returns : goal.returns
+unfolding asked told doing returned
+returns c = (refl, refl)

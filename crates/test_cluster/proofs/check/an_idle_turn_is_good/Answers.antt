@@ -1,0 +1,14 @@
+use Rattle.std.proofs.Common.{◌≡◌}
+use Rattle.cl_replay.specs.Checks.{IsVerdict}
+use Rattle.cl_replay.specs.declared.checking.Verdict.{Verdict}
+use Rattle.test_cluster.proofs.Checking.{good_with_last, idles}
+use Rattle.test_cluster.proofs.Merging.{ok_map}
+use Rattle.test_cluster.proofs.check.an_idle_turn_is_good.Goals as goal
+
+pub returns : goal.returns
+returns c = λ front cluster e ends comes idle.
+    let image = c.args.image.now in
+    let steps = c.args.steps.now in
+    let next = idles cluster e idle in
+    ok_map (IsVerdict image steps) (λ found. found ≡ Verdict.Good)
+    (good_with_last image steps front cluster e ends next.0 next.1 comes) c.check.result c.check.ensures

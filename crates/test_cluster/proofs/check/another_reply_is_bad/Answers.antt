@@ -1,0 +1,13 @@
+use Rattle.std.proofs.Common.{◌≡◌, length}
+use Rattle.cl_replay.specs.Checks.{IsVerdict}
+use Rattle.cl_replay.specs.declared.checking.Verdict.{Verdict}
+use Rattle.test_cluster.proofs.Checking.{has_another_reply, no_step}
+use Rattle.test_cluster.proofs.Merging.{ok_map}
+use Rattle.test_cluster.proofs.check.another_reply_is_bad.Goals as goal
+
+pub returns : goal.returns
+returns c = λ front cluster e ends calls.
+    let image = c.args.image.now in
+    let steps = c.args.steps.now in
+    ok_map (IsVerdict image steps) (λ found. found ≡ Verdict.BadAt (length front))
+    (no_step image steps front cluster e ends (has_another_reply cluster e calls)) c.check.result c.check.ensures

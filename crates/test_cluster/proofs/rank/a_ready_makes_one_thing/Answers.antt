@@ -1,0 +1,10 @@
+use Rattle.cl_rank.specs.Views.{view_of}
+use Rattle.test_cluster.proofs.Boxing.{makes_one}
+use Rattle.test_cluster.proofs.Turning.{on_ok}
+use Rattle.test_cluster.proofs.rank.a_ready_makes_one_thing.Goals as goal
+
+pub returns : goal.returns
+returns c =
+    on_ok c.turn_plain.result
+    (makes_one c.args.hart (view_of c.args.rank.now) (view_of c.turn_plain.new.self) c.args.hub.now
+    c.turn_plain.new.hub) c.turn_plain.ensures.turned

@@ -1,7 +1,0 @@
--- The text of the definition, computed.
-use Rattle.std.specs.Fmt.{digits}
-use Rattle.words_tests.proofs.decode.offset_is_printed_with_its_sign.Goals as goal
-
-pub returns : goal.returns
-unfolding digits
-returns c = rw c.new.ensures at c.print_instr.ensures.text
