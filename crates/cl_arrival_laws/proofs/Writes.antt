@@ -26,7 +26,7 @@ use Rattle.cl_calls.specs.Calls.{no_rank, no_message}
 use Rattle.cl_calls.specs.Checks.{receives_in, receiving_side, sending_side}
 use Rattle.cl_calls.specs.Handles.{handles_in}
 use Rattle.cl_calls.specs.Needs.{array_at}
-use Rattle.cl_calls.specs.Site.{members, place_of}
+use Rattle.cl_calls.specs.Site.{members, position_of}
 use Rattle.cl_state.specs.declared.asking.Answer.TheVariants as answer
 use Rattle.cl_state.specs.declared.asking.Ask.{Ask}
 use Rattle.cl_state.specs.declared.asking.Ask.TheVariants as ask
@@ -147,10 +147,10 @@ module _ (site : Site) (old : Part) (link box : ℕ) (bytes : List ℕ) where
           → Places side
           (if b
           then not_yet m (with_taken_box side box bytes old)
-          else arrived_from (place_of side.peer (members site side.comm)) side target
+          else arrived_from (position_of side.peer (members site side.comm)) side target
           (with_taken_box side box bytes old)).memory
       go true = inl (still m (with_taken_box side box bytes old))
-      go false = arrives side target (place_of side.peer (members site side.comm)) (with_taken_box side box bytes old) refl
+      go false = arrives side target (position_of side.peer (members site side.comm)) (with_taken_box side box bytes old) refl
 
   says_takes : (m : Manner) (side : Partitions) (target : Target) (b : ℕ)
       → Says (transfer.ReceivePartitions side) (row_awaited m (transfer.ReceivePartitions side) target

@@ -1,6 +1,6 @@
 -- The worked rows of the gate rule.
 use Rattle.std.proofs.Common.{refl}
-use Rattle.cl_box_laws.specs.Rows.{KeptRow, TwiceRow, UnmadeRow}
+use Rattle.cl_box_laws.specs.Worked.{KeptRow, TwiceRow, UnmadeRow}
 use Rattle.cl_box_laws.proofs.Stands.{free_open, none_shut, shut_used}
 
 pub kept : KeptRow

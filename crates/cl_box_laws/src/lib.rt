@@ -3,4 +3,4 @@
 #![tactic(auto)]
 
 pub mod laws;
-pub mod rows;
+pub mod worked;

@@ -3,9 +3,9 @@ use Rattle.std.proofs.Common.{arith, ◌<◌, List, ℕ, [], ◌∷◌, length, 
 use Rattle.std.proofs.lemmas.Bool.{false≢true}
 use Rattle.std.proofs.lemmas.List.{get_or_past}
 use Rattle.std.proofs.Common.{◌≡◌, ◌≤◌}
-use Rattle.cl_calls.specs.Site.{place_of}
+use Rattle.cl_calls.specs.Site.{position_of}
 
-pub has_members : (r : ℕ) (xs : List ℕ) → IsTrue (is_some (place_of r xs)) → 0 < length xs
+pub has_members : (r : ℕ) (xs : List ℕ) → IsTrue (is_some (position_of r xs)) → 0 < length xs
 has_members r [] h = absurd (false≢true h)
 has_members r (x ∷ xs) h = omega arith
 

@@ -32,7 +32,7 @@ use Rattle.cl_calls.specs.declared.needs.Statuses.{Statuses}
 use Rattle.cl_calls.specs.declared.needs.Tag.{Tag}
 use Rattle.cl_calls.specs.Calls.{any, no_rank}
 use Rattle.cl_calls.specs.declared.sites.Site.{Site}
-use Rattle.cl_calls.specs.Site.{members, place_of}
+use Rattle.cl_calls.specs.Site.{members, position_of}
 
 -- the side of a partitioned transfer that a request has (MPI 4.1, 4.2): the sender's, or the receiver's
 abbrev pub sends_in : Transfer → Option Side
@@ -112,7 +112,7 @@ are_named memory table handles = may_be_tested table (handles_in memory handles)
 -- the caller is a member of the communicator
 abbrev pub is_comm : Site → Option ℕ → Bool
 is_comm site None = true
-is_comm site (Some comm) = is_some (place_of site.number (members site comm))
+is_comm site (Some comm) = is_some (position_of site.number (members site comm))
 
 -- a position of the communicator, or what may stand for one
 abbrev pub is_peer : Site → Option ℕ → Option Peer → Bool

@@ -7,9 +7,9 @@ abbrev pub members : Site → ℕ → List ℕ
 members site comm = get_or site.comms comm []
 
 -- the position of a rank among members, if it is one
-abbrev pub place_of : ℕ → List ℕ → Option ℕ
-place_of rank ranks = position (λ x. x == rank) ranks
+abbrev pub position_of : ℕ → List ℕ → Option ℕ
+position_of rank ranks = position (λ x. x == rank) ranks
 
 -- the rank at a position of a communicator
 abbrev pub member : Site → ℕ → ℕ → ℕ
-member site comm place = get_or (members site comm) place 0
+member site comm position = get_or (members site comm) position 0

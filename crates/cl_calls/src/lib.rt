@@ -17,4 +17,4 @@ pub use calls::{
 pub use checking::{Standing, fault, receiving_side, sending_side};
 pub use handles::{Handles, handles_at};
 pub use needs::{Array, Named, Needs, Peer, Range, Region, Statuses, Tag};
-pub use sites::{Communicators, Site, place};
+pub use sites::{Communicators, Site, position};

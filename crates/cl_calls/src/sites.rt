@@ -1,7 +1,7 @@
 //! What the image fixes of a rank.
 
 ghost use Rattle.std.specs.Prelude.{◌≡◌, ◌<◌, [], length, get_or, vec_len, IsTrue, is_some, Some};
-ghost use Rattle.cl_calls.specs.Site.{members as members_of, member as member_of, place_of};
+ghost use Rattle.cl_calls.specs.Site.{members as members_of, member as member_of, position_of};
 ghost use Rattle.cl_calls.specs.Checks.{is_comm as is_comm_of, is_peer as is_peer_of};
 
 mod copies;
@@ -75,8 +75,8 @@ impl Communicators {
 }
 
 /// The position of a rank among members, if it is one.
-pub fn place(rank: u8, ranks: &[u8]) -> Option<u64>
-    ensures { result ≡ place_of rank ranks.now }
+pub fn position(rank: u8, ranks: &[u8]) -> Option<u64>
+    ensures { result ≡ position_of rank ranks.now }
 {
     for i in 0..ranks.len() {
         if ranks[i] == rank {
@@ -100,7 +100,7 @@ impl Site {
     {
         match comm {
             None => true,
-            Some(comm) => match place(self.number, self.members(comm)) {
+            Some(comm) => match position(self.number, self.members(comm)) {
                 Some(_) => true,
                 None => false,
             },
@@ -129,10 +129,10 @@ impl Site {
     }
 
     /// The rank at a position of the communicator.
-    pub fn member(&self, comm: u64, place: u64) -> u8
-        requires { place < length (members_of self.now comm) }
-        ensures { result ≡ member_of self.now comm place }
+    pub fn member(&self, comm: u64, position: u64) -> u8
+        requires { position < length (members_of self.now comm) }
+        ensures { result ≡ member_of self.now comm position }
     {
-        self.members(comm)[place as usize]
+        self.members(comm)[position as usize]
     }
 }

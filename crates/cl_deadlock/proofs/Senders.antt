@@ -16,7 +16,7 @@ use Rattle.mp_match.specs.Pairs.{admits}
 use Rattle.mp_hub.specs.Hub.{HubView, is_ready}
 use Rattle.mp_hub.specs.Live.{IsReadyToAll}
 use Rattle.mp_wait_laws.specs.Waits.{OnlyOf, could_pair}
-use Rattle.cl_calls.specs.Site.{place_of}
+use Rattle.cl_calls.specs.Site.{position_of}
 use Rattle.cl_deadlock_laws.specs.Stuck.{is_among}
 
 -- each passes where all do
@@ -38,9 +38,9 @@ admitted false b its e = absurd (cc)
 -- where each member that is admitted is one of these, none but these could send
 pub senders_only : (among ms : List ℕ) (source : Option ℕ)
     → list_all (λ k. not (admits source k) || is_among among k) ms ≡ true
-    → OnlyOf (is_among among) (λ k. admits source k && is_some (place_of k ms))
+    → OnlyOf (is_among among) (λ k. admits source k && is_some (position_of k ms))
 senders_only among ms source all k could =
-    let parts = and_parts (admits source k) (is_some (place_of k ms)) could in
+    let parts = and_parts (admits source k) (is_some (position_of k ms)) could in
     let i = position_or_len (λ x. x == k) ms in
     let inside : i < length ms = inside_of i (length ms) parts.1 in
     let here : get_or ms i 0 ≡ k = eqb-true (get_or ms i 0) k (passes_at_first (λ x. x == k) ms 0 inside) in
@@ -58,7 +58,7 @@ first_within p (x ∷ xs) any = by (p x) any (first_within p xs)
     by true its less = omega arith
     by false its less = (let low = less its in omega (arith, low))
 
-placed : (k : ℕ) (ms : List ℕ) → list_any (λ x. x == k) ms ≡ true → is_some (place_of k ms) ≡ true
+placed : (k : ℕ) (ms : List ℕ) → list_any (λ x. x == k) ms ≡ true → is_some (position_of k ms) ≡ true
 placed k ms here =
     let n = position_or_len (λ x. x == k) ms in
     let low : nat_lt n (length ms) ≡ true = lt-ltb n (length ms) (first_within (λ x. x == k) ms here) in
@@ -73,15 +73,15 @@ all_pass p (x ∷ xs) each =
 
 -- where none but these could send, each member that is admitted is one of these
 pub senders_all : (among ms : List ℕ) (source : Option ℕ)
-    → OnlyOf (is_among among) (λ k. admits source k && is_some (place_of k ms))
+    → OnlyOf (is_among among) (λ k. admits source k && is_some (position_of k ms))
     → list_all (λ k. not (admits source k) || is_among among k) ms ≡ true
 senders_all among ms source only =
     all_pass (λ k. not (admits source k) || is_among among k) ms (λ k here. by k (placed k ms here) (admits source k)
     refl)
   where
-    by : (k : ℕ) → is_some (place_of k ms) ≡ true → (a : Bool) → admits source k ≡ a
+    by : (k : ℕ) → is_some (position_of k ms) ≡ true → (a : Bool) → admits source k ≡ a
         → (not a || is_among among k) ≡ true
-    by k place true e = only k (and_from (admits source k) (is_some (place_of k ms)) e place)
+    by k place true e = only k (and_from (admits source k) (is_some (position_of k ms)) e place)
     by k place false e = refl
 
 -- a post without a partner

@@ -10,7 +10,7 @@ use Rattle.mp_wait_laws.specs.Laws.{SendsAsMember}
 use Rattle.mp_wait_laws.proofs.Waits.{waits_law}
 use Rattle.cl_calls.specs.Checks.{is_comm}
 use Rattle.cl_calls.specs.declared.sites.Site.{Site}
-use Rattle.cl_calls.specs.Site.{members, place_of}
+use Rattle.cl_calls.specs.Site.{members, position_of}
 use Rattle.cl_state.specs.declared.asking.Ask.{Ask}
 use Rattle.cl_state.specs.declared.asking.Ask.TheVariants as ask
 use Rattle.cl_state.specs.Asked.{asked}
@@ -54,7 +54,7 @@ module _ (image : ImageParts) (r : ℕ) (ds : List Deed) (rank : Rank) (run : Is
           let inside = inside_from image r ds (loaded image r) rank run ((members_law.first) (loaded image r).site) in
           let comm_is : is_comm rank.site (Some comm) ≡ true =
           (members_law.sends) rank hart comm dest tag sync bytes inside asks in
-          ap (λ (s : Site). is_some (place_of r (members s comm))) (same_site image other es x its)
+          ap (λ (s : Site). is_some (position_of r (members s comm))) (same_site image other es x its)
           ∙ sym (ap (λ (s : Site). is_comm s (Some comm)) (same_site image r ds rank run)) ∙ comm_is
       go (request.Recv now comm source tag) asks = tt
       go (request.Collect post) asks = tt

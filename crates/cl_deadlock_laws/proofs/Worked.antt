@@ -15,9 +15,9 @@ use Rattle.cl_state_laws.specs.Vain.{IsStopped, mode_of}
 use Rattle.cl_machine.specs.Boxes.{Box, IsEmpty, empty_box}
 use Rattle.cl_machine.specs.Cluster.{Cluster}
 use Rattle.cl_machine.specs.Journal.{Journal, reply_in}
-use Rattle.cl_deadlock_laws.specs.Rows.{AnySource, FromItself, SentBefore, WaitForSecond, waitall}
-use Rattle.cl_deadlock_laws.specs.Rows.{NobodyLeft, NoneReady, NoneTakes, OneAlone, OneRuns, ReceiveFirst, SendFirst, ended}
-use Rattle.cl_deadlock_laws.specs.Rows.{left_there, recv, ssend, waits_for_it, waits_to_be_taken, waits_unready}
+use Rattle.cl_deadlock_laws.specs.Worked.{AnySource, FromItself, SentBefore, WaitForSecond, waitall}
+use Rattle.cl_deadlock_laws.specs.Worked.{NobodyLeft, NoneReady, NoneTakes, OneAlone, OneRuns, ReceiveFirst, SendFirst, ended}
+use Rattle.cl_deadlock_laws.specs.Worked.{left_there, recv, ssend, waits_for_it, waits_to_be_taken, waits_unready}
 use Rattle.cl_deadlock_laws.specs.Stuck.{AreStuck, IsStuckHart, is_among, is_member}
 
 -- two ranks with a hart each

@@ -6,7 +6,7 @@ use Rattle.rv_image.specs.declared.images.ImageParts.{ImageParts}
 use Rattle.mp_transfers.specs.Inits.{is_receiver}
 use Rattle.mp_wait_laws.specs.Waits.{OnlyOf, WaitsFor, sends_over}
 use Rattle.cl_calls.specs.declared.sites.Site.{Site}
-use Rattle.cl_calls.specs.Site.{members, place_of}
+use Rattle.cl_calls.specs.Site.{members, position_of}
 use Rattle.cl_state.specs.declared.asking.Ask.{Ask}
 use Rattle.cl_state.specs.Asked.{asked}
 use Rattle.cl_state.specs.Rank.{Rank}
@@ -58,7 +58,7 @@ IsFullAt boxes number = (box : Box) → slice_get boxes number ≡ Some box → 
 
 -- whether rank k is a member of a communicator. Each rank has the image's communicators
 abbrev pub is_member : Site → ℕ → ℕ → Bool
-is_member site comm k = is_some (place_of k (members site comm))
+is_member site comm k = is_some (position_of k (members site comm))
 
 -- what the hart of rank r asks isn't there now, and could come from these ranks alone: from whoever could answer it at
 -- the hub, from a link's sender into an empty box, from its receiver out of a full one, or from its own rank

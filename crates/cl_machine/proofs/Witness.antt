@@ -5,7 +5,7 @@ use Rattle.std.proofs.lemmas.Option.{same_Some}
 use mathlib.Core.Logic.{inl}
 use Rattle.cl_machine.specs.Boxes.{Thing}
 use Rattle.cl_machine.specs.Joined.{Got, thing_of}
-use Rattle.cl_machine.specs.Rows.{JoinedRow}
+use Rattle.cl_machine.specs.Worked.{JoinedRow}
 
 abbrev one_got : List ℕ → Got
 one_got bytes = record { stamp = 2; bytes = bytes; take = 3 }

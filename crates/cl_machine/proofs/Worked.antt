@@ -18,11 +18,11 @@ use Rattle.cl_state.specs.Rows.{send}
 use Rattle.cl_state.proofs.Moves.{told_at}
 use Rattle.cl_machine.specs.Boxes.{Box, Thing, empty_box, box_number}
 use Rattle.cl_machine.specs.Cluster.{Cluster, IsStep}
-use Rattle.cl_machine.specs.Rows.{step, step_by, sender_called, sender_made, sender_done, receiver_missed, receiver_took}
-use Rattle.cl_machine.specs.Rows.{receiver_done, first_reply, one_call, second_reply, shared_start, shared_end}
-use Rattle.cl_machine.specs.Rows.{SharedRow, EarlyRow, receiving, sent_message, SendsFirst, ReceivesFirst}
-use Rattle.cl_machine.specs.Rows.{NothingSent, StampTooLow, RealCallsRow, RealEndRow, partition_bytes}
-use Rattle.cl_machine.specs.Rows.{partition_receiver, partition_sender, linked}
+use Rattle.cl_machine.specs.Worked.{step, step_by, sender_called, sender_made, sender_done, receiver_missed, receiver_took}
+use Rattle.cl_machine.specs.Worked.{receiver_done, first_reply, one_call, second_reply, shared_start, shared_end}
+use Rattle.cl_machine.specs.Worked.{SharedRow, EarlyRow, receiving, sent_message, SendsFirst, ReceivesFirst}
+use Rattle.cl_machine.specs.Worked.{NothingSent, StampTooLow, RealCallsRow, RealEndRow, partition_bytes}
+use Rattle.cl_machine.specs.Worked.{partition_receiver, partition_sender, linked}
 
 -- a told rank has its stamp, and as many harts
 there : (hart : ℕ) (rank : Rank) (told_hart : ℕ) (answer : Answer) (stamp : ℕ) → hart < length rank.harts

@@ -12,5 +12,5 @@ pub mod Product
 pub mod ProductSteps
 pub mod Joined
 pub mod Laws
-pub mod Rows
+pub mod Worked
 pub mod LoadedRun

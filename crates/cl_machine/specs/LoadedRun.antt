@@ -10,7 +10,7 @@ use Rattle.cl_trace.specs.declared.events.Kind.{Kind}
 use Rattle.cl_state.specs.Rank.{Rank}
 use Rattle.cl_machine.specs.declared.steps.Step.{Step}
 use Rattle.cl_machine.specs.Cluster.{Cluster, IsRun, loaded_cluster}
-use Rattle.cl_machine.specs.Rows.{step}
+use Rattle.cl_machine.specs.Worked.{step}
 
 -- one rank with one hart, which does `addi x0, x0, 0` and calls EXIT: all its registers are 0 but x2
 abbrev pub ending : ImageParts

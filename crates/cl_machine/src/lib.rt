@@ -6,7 +6,7 @@
 #![tactic(auto)]
 
 pub mod laws;
-pub mod rows;
 mod steps;
+pub mod worked;
 
 pub use steps::{KindRef, Step};

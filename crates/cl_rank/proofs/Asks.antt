@@ -19,7 +19,7 @@ use Rattle.cl_state.specs.Rank.{Rank}
 use Rattle.cl_rank.specs.declared.ranks.Rank.{Rank as Running}
 use Rattle.cl_rank.specs.declared.turning.Turn.{Turn}
 use Rattle.cl_rank.specs.Deeds.{Act, Suits, IsStamp, answer_of, kind_of, request_of}
-use Rattle.cl_rank.specs.Sides.{box_place_of}
+use Rattle.cl_rank.specs.Sides.{box_id_of}
 use Rattle.cl_rank.specs.RankSides.{AreChannelsOf, sides_in}
 use Rattle.cl_rank.specs.Steps.{IsTested}
 use Rattle.cl_rank.specs.Views.{AsksNobody}
@@ -39,7 +39,7 @@ pub record BoxTurn (r : Running) (t : Turn) (link part : ℕ) (new : RankState) 
   pub tells : x.0 ≡ answer_of act
   pub kinds : x.1 ≡ kind_of act
   pub quiet : request_of act ≡ None
-  pub place : box_place_of act ≡ Some (link, part)
+  pub place : box_id_of act ≡ Some (link, part)
   pub low : x.2 < 2 ^ 62
   pub moved : Moved (rank_of r.state) (rank_of new) (sides_in r.sends.items r.recvs.items) (sides_in sends recvs) x.2 act
 

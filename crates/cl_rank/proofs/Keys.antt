@@ -8,7 +8,7 @@ use Rattle.part_channel.specs.Receiving.{RecvView}
 use Rattle.part_channel.specs.Sending.{SendView, modified}
 use Rattle.rv_image.specs.declared.images.ImageVersion.{ImageVersion}
 use Rattle.cl_rank.specs.Deeds.{Act}
-use Rattle.cl_rank.specs.Sides.{ReceiverActs, SenderActs, is_place, box_place_of}
+use Rattle.cl_rank.specs.Sides.{ReceiverActs, SenderActs, is_place, box_id_of}
 use Rattle.cl_rank.specs.RankSides.{HasKey, KeyMoves, KeysMove, Sides}
 use Rattle.cl_rank.specs.RankSides.{receiver_key, receiver_of, receiver_view, sender_key, sender_of, sender_view}
 use Rattle.cl_rank.specs.RankSides.{side_of}
@@ -34,7 +34,7 @@ not_here l p o none = ap (is_place l p) none
 pub somewhere : (place : ℕ × ℕ) → Some place ≡ None → ⊥
 somewhere place h = cc
 
-elsewhere : (sides : Sides) (act : Act) → box_place_of act ≡ None → HasKey sides act
+elsewhere : (sides : Sides) (act : Act) → box_id_of act ≡ None → HasKey sides act
 elsewhere sides Act.Plain none = tt
 elsewhere sides Act.Local none = tt
 elsewhere sides (Act.Hub clock request reply) none = tt
@@ -46,15 +46,15 @@ elsewhere sides Act.Held none = tt
 elsewhere sides Act.Idle none = tt
 
 -- an act on no box leaves the keys
-pub keys_stay : (v : ImageVersion) (stamp : ℕ) (act : Act) (old new : Sides) → box_place_of act ≡ None
+pub keys_stay : (v : ImageVersion) (stamp : ℕ) (act : Act) (old new : Sides) → box_id_of act ≡ None
     → ((l p : ℕ) → sender_of new l p ≡ sender_of old l p) → ((l p : ℕ) → receiver_of new l p ≡ receiver_of old l p)
     → KeysMove v stamp act old new
 keys_stay v stamp act old new none sent got = record {
   there = elsewhere old act none;
   sends = λ l p. subst (λ b. KeyMoves b (SenderActs v stamp act) (sender_of old l p) (sender_of new l p))
-      (sym (not_here l p (box_place_of act) none)) (key_stays (SenderActs v stamp act) _ _ (sent l p));
+      (sym (not_here l p (box_id_of act) none)) (key_stays (SenderActs v stamp act) _ _ (sent l p));
   recvs = λ l p. subst (λ b. KeyMoves b (ReceiverActs v stamp act) (receiver_of old l p) (receiver_of new l p))
-      (sym (not_here l p (box_place_of act) none)) (key_stays (ReceiverActs v stamp act) _ _ (got l p));
+      (sym (not_here l p (box_id_of act) none)) (key_stays (ReceiverActs v stamp act) _ _ (got l p));
 }
 
 here : (link part : ℕ) → is_place link part (Some (link, part)) ≡ true

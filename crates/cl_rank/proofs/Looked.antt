@@ -26,7 +26,7 @@ use Rattle.cl_state.specs.Rank.{Rank}
 use Rattle.cl_state.specs.Told.{told}
 use Rattle.cl_rank.specs.Deeds.{Act}
 use Rattle.cl_rank.specs.Fitting.{RequestsFit}
-use Rattle.cl_rank.specs.Sides.{ReceiverActs, SenderActs, is_place, box_place_of}
+use Rattle.cl_rank.specs.Sides.{ReceiverActs, SenderActs, is_place, box_id_of}
 use Rattle.cl_rank.specs.RankSides.{AreChannelsOf, AreSides, HasKey, KeyMoves}
 use Rattle.cl_rank.specs.RankSides.{phase_of_sender, receiver_key, sender_key, sender_of, sender_view, side_of}
 use Rattle.cl_rank.specs.RankSides.{sides_in}
@@ -60,7 +60,7 @@ pub record SenderMoves (old new : Rank) (stamp : ℕ) (act : Act) (link part : �
   pub past : IsPast (f side) stamp
   pub keys : (f side).keys ≡ modified side.keys part change
   pub boxes : map sender_box (f side).keys ≡ map sender_box side.keys
-  pub place : box_place_of act ≡ Some (link, part)
+  pub place : box_id_of act ≡ Some (link, part)
   pub has : HasKey (sides_in sends recvs) act
   pub acts : (k : Sender) → slice_get side.keys part ≡ Some k
       → SenderActs old.site.version stamp act k.view (change k).view

@@ -29,7 +29,7 @@ use Rattle.cl_rank.specs.Fitting.{RequestsFit}
 use Rattle.cl_rank.specs.Follows.{started_link}
 use Rattle.cl_rank.specs.RankSides.{AreChannelsOf, AreSides, KeysMove, PhaseFits, Sides, phase_of_receiver}
 use Rattle.cl_rank.specs.RankSides.{phase_of_sender, receiver_key, sender_key, side_of, sides_in}
-use Rattle.cl_rank.specs.Sides.{box_place_of}
+use Rattle.cl_rank.specs.Sides.{box_id_of}
 use Rattle.cl_rank.specs.Steps.{begun_at, begun_receiver, begun_sender, changed_side}
 use Rattle.cl_rank.proofs.Answered.{alone_becomes, begun_at as begun_phases}
 use Rattle.cl_rank.proofs.Kept.{kept, owned, past_later}
@@ -146,7 +146,7 @@ sides_told v old new ps stamp after version site clock phases sides =
 -- ---- a turn that asks nobody
 
 alone_row : (v : ImageVersion) (table : Table) (ps : List Phase) (started : Option ℕ) (asks : Ask) (row : Row) (act : Act)
-    → Suits asks act → box_place_of act ≡ None → request_of act ≡ None → RowFits v table ps started asks row
+    → Suits asks act → box_id_of act ≡ None → request_of act ≡ None → RowFits v table ps started asks row
     → AloneRow started row
 alone_row v table ps started asks row Act.Plain is place quiet fits =
     (subst (λ a. RowFits v table ps started a row) is fits).1
@@ -258,7 +258,7 @@ started_receivers (Some link) recvs l p = receivers_stay link begun_receiver rec
 
 pub alone_moved : (old new : Rank) (hart stamp : ℕ) (act : Act) (sends : List (ℕ × SendView)) (recvs : List (ℕ × RecvView))
     → AreSides old.site.version old.phases old.clock (sides_in sends recvs) → RequestsFit old.requests old.phases
-    → Suits (asked old hart) act → box_place_of act ≡ None → request_of act ≡ None → old.clock ≤ stamp
+    → Suits (asked old hart) act → box_id_of act ≡ None → request_of act ≡ None → old.clock ≤ stamp
     → new ≡ told old hart answer.Alone stamp
     → Moved old new (sides_in sends recvs)
     (sides_in (begun_at (started_at old hart) begun_sender sends) (begun_at (started_at old hart) begun_receiver recvs))

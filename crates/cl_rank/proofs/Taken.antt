@@ -41,7 +41,7 @@ use Rattle.cl_rank.specs.declared.ranks.Rank.{Rank as Running}
 use Rattle.cl_rank.specs.declared.turning.Turn.{Turn}
 use Rattle.cl_rank.specs.Deeds.{Act}
 use Rattle.cl_rank.specs.Fitting.{RequestsFit}
-use Rattle.cl_rank.specs.Sides.{ReceiverActs, SenderActs, is_place, box_place_of}
+use Rattle.cl_rank.specs.Sides.{ReceiverActs, SenderActs, is_place, box_id_of}
 use Rattle.cl_rank.specs.RankSides.{AreChannelsOf, AreSides, HasKey, HasReceiver, KeyMoves, PhaseFits}
 use Rattle.cl_rank.specs.RankSides.{phase_of_receiver, receiver_key, receiver_of}
 use Rattle.cl_rank.specs.RankSides.{receiver_view, sender_key, side_of, sides_in}
@@ -75,7 +75,7 @@ pub record ReceiverMoves (old new : Rank) (stamp : ℕ) (act : Act) (link part :
   pub cut : (f side).boxes ≡ side.boxes
   pub keys : (f side).keys ≡ modified side.keys part change
   pub boxes : map receiver_box (f side).keys ≡ map receiver_box side.keys
-  pub place : box_place_of act ≡ Some (link, part)
+  pub place : box_id_of act ≡ Some (link, part)
   pub has : HasKey (sides_in sends recvs) act
   pub acts : (k : Receiver) → slice_get side.keys part ≡ Some k
       → ReceiverActs old.site.version stamp act k.view (change k).view

@@ -20,7 +20,7 @@ use Rattle.cl_rank.specs.declared.ranks.Rank.{Rank as Running}
 use Rattle.cl_rank.specs.declared.turning.Turn.{Turn}
 use Rattle.cl_rank.specs.Deeds.{Act, Suits, Deed, IsStamp, answer_of, event_of, kind_of, request_of}
 use Rattle.cl_rank.specs.Follows.{started_link}
-use Rattle.cl_rank.specs.Sides.{box_place_of}
+use Rattle.cl_rank.specs.Sides.{box_id_of}
 use Rattle.cl_rank.specs.RankSides.{AreChannelsOf, KeysMove, sides_in}
 use Rattle.cl_rank.specs.Steps.{IsReadied, MayReady, begun_at, begun_receiver, begun_sender}
 use Rattle.cl_rank.specs.Turning.{RankView}
@@ -50,7 +50,7 @@ pub quiet_turn : (old new : RankView) (hart stamp : ℕ) (act : Act) → hart < 
     → Suits (asked old.rank hart) act → IsStamp old.rank.clock act stamp
     → new.rank ≡ told old.rank hart (answer_of act) stamp → request_of act ≡ None
     → new.events ≡ old.events ++ event_of (deed_of old hart stamp act) ∷ []
-    → KeysMove old.rank.site.version stamp act old.sides new.sides → new.asked_box ≡ box_place_of act
+    → KeysMove old.rank.site.version stamp act old.sides new.sides → new.asked_box ≡ box_id_of act
     → IsQuietTurn hart old new
 quiet_turn old new hart stamp act there low answers is_stamp is quiet event keys box = record {
   deed = deed_of old hart stamp act;
@@ -66,7 +66,7 @@ quiet_turn old new hart stamp act there low answers is_stamp is quiet event keys
 some_none : (r : Request) → Some r ≡ None → ⊥
 some_none r h = cc
 
-pub alone_stamp : (clock : ℕ) (act : Act) → box_place_of act ≡ None → request_of act ≡ None → IsStamp clock act (clock + 1)
+pub alone_stamp : (clock : ℕ) (act : Act) → box_id_of act ≡ None → request_of act ≡ None → IsStamp clock act (clock + 1)
 alone_stamp clock Act.Plain place quiet = refl
 alone_stamp clock Act.Local place quiet = refl
 alone_stamp clock Act.Held place quiet = refl

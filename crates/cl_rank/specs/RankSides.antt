@@ -17,7 +17,7 @@ use Rattle.part_phase.specs.declared.sending.SendPhase.{SendPhase}
 use Rattle.part_phase.specs.Limits.{box_bytes, box_words}
 use Rattle.part_phase.specs.Phases.{first_phases}
 use Rattle.cl_rank.specs.Deeds.{Act}
-use Rattle.cl_rank.specs.Sides.{box_place_of, is_place, SenderActs, ReceiverActs}
+use Rattle.cl_rank.specs.Sides.{box_id_of, is_place, SenderActs, ReceiverActs}
 
 -- the sides of a rank, each with the number of its link
 pub record Sides : Type 0 where
@@ -136,8 +136,8 @@ HasKey sides _ = ⊤
 pub record KeysMove (version : ImageVersion) (stamp : ℕ) (act : Act) (old new : Sides) : Type 0 where
   pub there : HasKey old act
   pub sends : (link part : ℕ)
-      → KeyMoves (is_place link part (box_place_of act)) (SenderActs version stamp act)
+      → KeyMoves (is_place link part (box_id_of act)) (SenderActs version stamp act)
       (sender_of old link part) (sender_of new link part)
   pub recvs : (link part : ℕ)
-      → KeyMoves (is_place link part (box_place_of act)) (ReceiverActs version stamp act)
+      → KeyMoves (is_place link part (box_id_of act)) (ReceiverActs version stamp act)
       (receiver_of old link part) (receiver_of new link part)

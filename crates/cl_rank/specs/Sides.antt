@@ -12,12 +12,12 @@ use Rattle.cl_rank.specs.Deeds.{Act}
 -- ---- keys and deeds
 
 -- the box that an act asks: its link and its number there
-abbrev pub box_place_of : Act → Option (ℕ × ℕ)
-box_place_of (Act.Ready link part bytes) = Some (link, part)
-box_place_of (Act.Take link part gate bytes) = Some (link, part)
-box_place_of (Act.Miss link part) = Some (link, part)
-box_place_of (Act.Freed link part gate) = Some (link, part)
-box_place_of _ = None
+abbrev pub box_id_of : Act → Option (ℕ × ℕ)
+box_id_of (Act.Ready link part bytes) = Some (link, part)
+box_id_of (Act.Take link part gate bytes) = Some (link, part)
+box_id_of (Act.Miss link part) = Some (link, part)
+box_id_of (Act.Freed link part gate) = Some (link, part)
+box_id_of _ = None
 
 abbrev pub is_place : ℕ → ℕ → Option (ℕ × ℕ) → Bool
 is_place link part None = false

@@ -12,7 +12,7 @@ use Rattle.cl_state.specs.Rank.{Rank}
 use Rattle.cl_state.specs.Asked.{asked}
 use Rattle.cl_rank.specs.Deeds.{Act, Deed, event_of, RankMoves}
 use Rattle.cl_rank.specs.RankSides.{Sides, KeysMove}
-use Rattle.cl_rank.specs.Sides.{box_place_of}
+use Rattle.cl_rank.specs.Sides.{box_id_of}
 use Rattle.cl_rank.specs.declared.stops.Stop.{Stop}
 use Rattle.cl_rank.specs.declared.stops.Stop.TheVariants as stop
 use Rattle.cl_rank.specs.Turns.{AllStopped, IsActive}
@@ -54,7 +54,7 @@ pub record IsTurn {D : Type 0} (gives : DeskRule D) (hart : ℕ) (old new : Rank
   pub moves : RankMoves old.rank deed new.rank
   pub tells : Tells gives desk left deed
   pub keys : KeysMove old.rank.site.version deed.stamp deed.act old.sides new.sides
-  pub box : new.asked_box ≡ box_place_of deed.act
+  pub box : new.asked_box ≡ box_id_of deed.act
 
 -- what a desk's refusal carries
 abbrev pub IsFault : HubFault → Type 0

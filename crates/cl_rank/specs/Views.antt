@@ -9,15 +9,15 @@ use Rattle.cl_state.specs.declared.asking.Ask.{Ask}
 use Rattle.cl_state.specs.declared.asking.Answer.TheVariants.{Alone}
 use Rattle.cl_trace.specs.declared.events.Kind.{Kind}
 use Rattle.cl_rank.specs.declared.ranks.Rank.{Rank}
-use Rattle.cl_rank.specs.declared.sides.BoxPlace.{BoxPlace}
+use Rattle.cl_rank.specs.declared.sides.BoxId.{BoxId}
 use Rattle.cl_rank.specs.declared.turning.Turn.{Turn}
 use Rattle.cl_rank.specs.Deeds.{Act, Deed, event_of, RankMoves, Suits, answer_of, kind_of, request_of}
-use Rattle.cl_rank.specs.Sides.{box_place_of}
+use Rattle.cl_rank.specs.Sides.{box_id_of}
 use Rattle.cl_rank.specs.RankSides.{KeysMove, sides_in}
 use Rattle.cl_rank.specs.Turning.{RankView}
 
 -- a box as the pair of its link and its number there
-abbrev pub place_in : Option BoxPlace → Option (ℕ × ℕ)
+abbrev pub place_in : Option BoxId → Option (ℕ × ℕ)
 place_in None = None
 place_in (Some box) = Some (box.link, box.part)
 
@@ -54,7 +54,7 @@ pub record AsksNobody (asks : Ask) (told : Kind) : Type 0 where
   pub answers : Suits asks act
   pub alone : answer_of act ≡ Alone
   pub quiet : request_of act ≡ None
-  pub nowhere : box_place_of act ≡ None
+  pub nowhere : box_id_of act ≡ None
   pub kind : told ≡ kind_of act
 
 abbrev pub hub_deed : ℕ → Request → Reply → ℕ → RankView → Deed
@@ -74,7 +74,7 @@ pub record IsQuietTurn (hart : ℕ) (old new : RankView) : Type 0 where
   pub moves : RankMoves old.rank deed new.rank
   pub quiet : request_of deed.act ≡ None
   pub keys : KeysMove old.rank.site.version deed.stamp deed.act old.sides new.sides
-  pub box : new.asked_box ≡ box_place_of deed.act
+  pub box : new.asked_box ≡ box_id_of deed.act
 
 -- a turn of a hart that asked the hub for this, and was replied that
 pub record IsHubTurn (hart : ℕ) (request : Request) (reply : Reply) (stamp : ℕ) (old new : RankView) : Type 0 where

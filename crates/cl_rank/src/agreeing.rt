@@ -9,14 +9,14 @@ ghost use Rattle.cl_rank.specs.RankSides.{AreChannelsOf, receiver_of, sender_of}
 ghost use Rattle.cl_rank.specs.Views.{view_of};
 
 use crate::ranks::Rank;
-use crate::sides::{BoxPlace, find};
+use crate::sides::{BoxId, find};
 use part_channel::Channel;
 
 /// Tells who has both ranks of a box on one thread what its two keys know of each other. Nothing changes.
 ///
 /// The sender's rank has the sender's key of the box, the receiver's rank the other one; `channels` are those of all
 /// links, by number.
-pub fn agree(sender: &mut Rank, receiver: &mut Rank, channels: &[Channel], place: BoxPlace)
+pub fn agree(sender: &mut Rank, receiver: &mut Rank, channels: &[Channel], place: BoxId)
     requires sender { AreChannelsOf sender.old.state.site.version channels.now (view_of sender.old).sides }
     requires receiver { AreChannelsOf receiver.old.state.site.version channels.now (view_of receiver.old).sides }
     requires sends { (s : Sending) × (sender_of (view_of sender.old).sides place.link place.part ≡ Some s) }

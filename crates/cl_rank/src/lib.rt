@@ -13,11 +13,11 @@ mod stops;
 mod turning;
 
 pub use agreeing::agree;
-pub use cl_calls::{ANY, Call, Communicators, NO_RANK, Needs, Peer, Range, Site, Tag, place};
+pub use cl_calls::{ANY, Call, Communicators, NO_RANK, Needs, Peer, Range, Site, Tag, position};
 pub use cl_state::{Answer, Ask, Doing, RankState};
 pub use cl_trace::{Bare, Cursor, Event, Kind, Seen, Trace};
 pub use desks::{Desk, LockedDesk, PlainDesk};
 pub use ranks::Rank;
-pub use sides::BoxPlace;
+pub use sides::BoxId;
 pub use stops::Stop;
 pub use turning::{step_plain, step_running};

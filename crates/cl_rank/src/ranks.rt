@@ -12,7 +12,7 @@ ghost use Rattle.cl_rank.specs.Turns.{IsActive};
 ghost use Rattle.cl_rank.specs.Turning.{Answered, IsCause, IsTurn, StopHolds};
 
 use crate::desks::{Desk, PlainDesk};
-use crate::sides::BoxPlace;
+use crate::sides::BoxId;
 use crate::stops::Stop;
 use crate::turning::{all_stopped, step_plain};
 use cl_journal::{CLOCK_MAX, Hub};
@@ -35,7 +35,7 @@ pub struct Rank {
     /// The receiver's sides, likewise.
     pub recvs: Vec<(u8, RecvSide)>,
     /// The box that the last turn asked, if it asked one.
-    pub asked_box: Option<BoxPlace>,
+    pub asked_box: Option<BoxId>,
     /// The hart whose poll was just answered that nothing is there yet. The room that its turn wants is made, so that
     /// the next poll needn't work the turn out.
     pub(crate) roomy: Option<u8>,

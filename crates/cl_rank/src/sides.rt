@@ -13,7 +13,7 @@ use part_phase::{RecvPhase, SendPhase};
 
 /// A box of the cluster, by the number of its link and its number there.
 #[derive(Clone, Copy, Drop)]
-pub struct BoxPlace {
+pub struct BoxId {
     pub link: u8,
     pub part: u8,
 }
@@ -34,7 +34,7 @@ pub(crate) fn find<S>(sides: &[(u8, S)], link: u8) -> Option<usize>
 pub(crate) fn make_ready(
     sends: &mut Vec<(u8, SendSide)>,
     channels: &[Channel],
-    place: BoxPlace,
+    place: BoxId,
     bytes: &[u8],
     clock: Stamp,
 ) -> Stamp
@@ -78,7 +78,7 @@ pub(crate) fn test(
 pub(crate) fn take(
     recvs: &mut Vec<(u8, RecvSide)>,
     channels: &[Channel],
-    place: BoxPlace,
+    place: BoxId,
     clock: Stamp,
 ) -> Take
     requires may { MayTake channels.now place.link place.part recvs.old.items }

@@ -24,7 +24,7 @@ ghost use Rattle.cl_rank.specs.Views.{AsksNobody, IsHubTurn, IsQuietTurn, MayTur
 
 use crate::desks::Desk;
 use crate::ranks::Rank;
-use crate::sides::{BoxPlace, begin, follow_receiver, follow_sender, make_ready, take, test};
+use crate::sides::{BoxId, begin, follow_receiver, follow_sender, make_ready, take, test};
 use crate::stops::{Stop, stop_of};
 use cl_calls::Call;
 use cl_state::{Answer, Ask, Doing, RankState};
@@ -239,10 +239,10 @@ impl Rank {
             Ask::Held => self.go_alone(turn, Kind::Held),
             Ask::Idle => self.go_alone(turn, Kind::Idle),
             Ask::Ready { link, part, bytes } => {
-                self.make_ready(channels, turn, BoxPlace { link, part }, &bytes)
+                self.make_ready(channels, turn, BoxId { link, part }, &bytes)
             }
-            Ask::Look { link, part } => self.look(channels, turn, BoxPlace { link, part }),
-            Ask::Freed { link, part } => self.test(channels, turn, BoxPlace { link, part }),
+            Ask::Look { link, part } => self.look(channels, turn, BoxId { link, part }),
+            Ask::Freed { link, part } => self.test(channels, turn, BoxId { link, part }),
         }
         Ok(())
     }
@@ -409,7 +409,7 @@ impl Rank {
     }
 
     /// Makes a partition ready, with the bytes that are to stand in its box.
-    fn make_ready(&mut self, channels: &[Channel], turn: Turn, place: BoxPlace, bytes: &Contents)
+    fn make_ready(&mut self, channels: &[Channel], turn: Turn, place: BoxId, bytes: &Contents)
         requires may { MayTurn self.old turn }
         requires asked { asked (rank_of self.old.state) turn.hart ≡ ask.Ready place.link place.part bytes.now }
         requires own { AreChannelsOf self.old.state.site.version channels.now (view_of self.old).sides }
@@ -435,7 +435,7 @@ impl Rank {
     }
 
     /// Looks whether a partition was taken.
-    fn test(&mut self, channels: &[Channel], turn: Turn, place: BoxPlace)
+    fn test(&mut self, channels: &[Channel], turn: Turn, place: BoxId)
         requires may { MayTurn self.old turn }
         requires asked { asked (rank_of self.old.state) turn.hart ≡ ask.Freed place.link place.part }
         requires own { AreChannelsOf self.old.state.site.version channels.now (view_of self.old).sides }
@@ -463,7 +463,7 @@ impl Rank {
     }
 
     /// Looks whether a box is ready, and takes what lies in it.
-    fn look(&mut self, channels: &[Channel], turn: Turn, place: BoxPlace)
+    fn look(&mut self, channels: &[Channel], turn: Turn, place: BoxId)
         requires may { MayTurn self.old turn }
         requires asked { asked (rank_of self.old.state) turn.hart ≡ ask.Look place.link place.part }
         requires own { AreChannelsOf self.old.state.site.version channels.now (view_of self.old).sides }

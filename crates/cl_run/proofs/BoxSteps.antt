@@ -11,7 +11,7 @@ use Rattle.rv_image.specs.declared.images.Link.{Link}
 use Rattle.part_box.specs.declared.view.Receiving.{Receiving}
 use Rattle.part_box.specs.declared.view.Sending.{Sending}
 use Rattle.cl_rank.specs.Deeds.{Act}
-use Rattle.cl_rank.specs.Sides.{ReceiverActs, SenderActs, is_place, box_place_of}
+use Rattle.cl_rank.specs.Sides.{ReceiverActs, SenderActs, is_place, box_id_of}
 use Rattle.cl_rank.specs.RankSides.{HasKey, KeyMoves, KeysMove, Sides, receiver_of, sender_of}
 use Rattle.cl_machine.specs.Boxes.{Box, Holds, box_number, with_made}
 use Rattle.cl_machine.specs.PartRuns.{PartsMove, PartsMoveAt}
@@ -61,9 +61,9 @@ module _ (image : ImageParts) (joined : (link : ℕ) (l : Link) → slice_get im
   record Later (q : ℕ) (x : Station) : Type 0 where
     now : Station
     now_there : slice_get (slice_set ss r t) q ≡ Some now
-    sends : (link part : ℕ) → is_place link part (box_place_of act) ≡ false
+    sends : (link part : ℕ) → is_place link part (box_id_of act) ≡ false
         → sender_of now.sides link part ≡ sender_of x.sides link part
-    receives : (link part : ℕ) → is_place link part (box_place_of act) ≡ false
+    receives : (link part : ℕ) → is_place link part (box_id_of act) ≡ false
         → receiver_of now.sides link part ≡ receiver_of x.sides link part
 
   stays : (q : ℕ) (x : Station) → slice_get ss q ≡ Some x → r ≢ q → Later q x
@@ -89,7 +89,7 @@ module _ (image : ImageParts) (joined : (link : ℕ) (l : Link) → slice_get im
 
   -- a box that the act isn't on stays as it was
   elsewhere : (link part : ℕ) (l : Link) → slice_get image.links link ≡ Some l → part < 16
-      → is_place link part (box_place_of act) ≡ false → (box : Option Box) → box ≡ slice_get boxes (box_number link part)
+      → is_place link part (box_id_of act) ≡ false → (box : Option Box) → box ≡ slice_get boxes (box_number link part)
       → (from : Station) × (to : Station) × (slice_get (slice_set ss r t) l.from ≡ Some from)
       × (slice_get (slice_set ss r t) l.to ≡ Some to) × IsBoxOf image.version from.sides to.sides link part box
   elsewhere link part l at low away box same =
@@ -122,10 +122,10 @@ module _ (image : ImageParts) (joined : (link : ℕ) (l : Link) → slice_get im
     to_there : slice_get (slice_set ss r t) l.to ≡ Some to
     sends : sender_of from.sides link part ≡ Some s1
     receives : receiver_of to.sides link part ≡ Some r1
-    place : box_place_of act ≡ Some (link, part)
+    place : box_id_of act ≡ Some (link, part)
 
   agree_here : (link part : ℕ) (s1 : Sending) (r1 : Receiving) → Here link part s1 r1
-      → Agree image.links (slice_set ss r t) (box_place_of act) → AgreeOn image.version s1 r1
+      → Agree image.links (slice_set ss r t) (box_id_of act) → AgreeOn image.version s1 r1
   agree_here link part s1 r1 h agree =
       let now = subst (Agree image.links (slice_set ss r t)) h.place agree in
       subst (λ v. AgreeOn v s1 r1) (versions h.l.from h.from h.from_there)
@@ -175,7 +175,7 @@ module _ (image : ImageParts) (joined : (link : ℕ) (l : Link) → slice_get im
             ]
           ]
 
-  boxes_stay : box_place_of act ≡ None → AreBoxes image (slice_set ss r t) boxes
+  boxes_stay : box_id_of act ≡ None → AreBoxes image (slice_set ss r t) boxes
   boxes_stay none link part l at low =
       elsewhere link part l at low (ap (is_place link part) none) (slice_get boxes (box_number link part)) refl
 
@@ -188,7 +188,7 @@ module _ (image : ImageParts) (joined : (link : ℕ) (l : Link) → slice_get im
     went : SenderActs image.version stamp act s0 s1
     here : Here link part s1 r0
 
-  sender_went : (link part : ℕ) (k : Sending) → box_place_of act ≡ Some (link, part) → sender_of s.sides link part ≡ Some k
+  sender_went : (link part : ℕ) (k : Sending) → box_id_of act ≡ Some (link, part) → sender_of s.sides link part ≡ Some k
       → (s1 : Sending) × SenderWent link part s1
   sender_went link part k place was =
       let mine = own.sends_own link part k was in
@@ -233,7 +233,7 @@ module _ (image : ImageParts) (joined : (link : ℕ) (l : Link) → slice_get im
     went : ReceiverActs image.version stamp act r0 r1
     here : Here link part s0 r1
 
-  receiver_went : (link part : ℕ) (k : Receiving) → box_place_of act ≡ Some (link, part)
+  receiver_went : (link part : ℕ) (k : Receiving) → box_id_of act ≡ Some (link, part)
       → receiver_of s.sides link part ≡ Some k → (r1 : Receiving) × ReceiverWent link part r1
   receiver_went link part k place was =
       let mine = own.receives_own link part k was in
@@ -279,7 +279,7 @@ module _ (image : ImageParts) (joined : (link : ℕ) (l : Link) → slice_get im
       (λ n ne. get-set_other boxes (box_number link part) n _ ne)
 
   -- the boxes go by the deed, and each is still that of its two keys
-  pub boxes_go : (rank hart : ℕ) → Agree image.links (slice_set ss r t) (box_place_of act)
+  pub boxes_go : (rank hart : ℕ) → Agree image.links (slice_set ss r t) (box_id_of act)
       → (later_boxes : List Box)
       × PartsMove BoxMoves box_at boxes (record { rank = rank; hart = hart; stamp = stamp; act = act }) later_boxes
       × AreBoxes image (slice_set ss r t) later_boxes
@@ -288,7 +288,7 @@ module _ (image : ImageParts) (joined : (link : ℕ) (l : Link) → slice_get im
       missed_sending : (link part : ℕ) → act ≡ Act.Miss link part
           → (k : Sending) × (sender_of s.sides link part ≡ Some k) → AreBoxes image (slice_set ss r t) boxes
       missed_sending link part e has =
-          let one = sender_went link part has.0 (ap box_place_of e) has.1 in
+          let one = sender_went link part has.0 (ap box_id_of e) has.1 in
           let w = one.1 in
           let acts = subst (λ x. SenderActs image.version stamp x w.s0 one.0) e w.went in
           boxes_then link part one.0 w.r0 w.here (agree_here link part one.0 w.r0 w.here agree) boxes
@@ -298,7 +298,7 @@ module _ (image : ImageParts) (joined : (link : ℕ) (l : Link) → slice_get im
       missed_receiving : (link part : ℕ) → act ≡ Act.Miss link part
           → (k : Receiving) × (receiver_of s.sides link part ≡ Some k) → AreBoxes image (slice_set ss r t) boxes
       missed_receiving link part e has =
-          let one = receiver_went link part has.0 (ap box_place_of e) has.1 in
+          let one = receiver_went link part has.0 (ap box_id_of e) has.1 in
           let w = one.1 in
           let acts = subst (λ x. ReceiverActs image.version stamp x w.r0 one.0) e w.went in
           boxes_then link part w.s0 one.0 w.here (agree_here link part w.s0 one.0 w.here agree) boxes
@@ -309,11 +309,11 @@ module _ (image : ImageParts) (joined : (link : ℕ) (l : Link) → slice_get im
           → (later_boxes : List Box)
           × PartsMoveAt BoxMoves (box_for a) boxes (record { rank = rank; hart = hart; stamp = stamp; act = a }) later_boxes
           × AreBoxes image (slice_set ss r t) later_boxes
-      go Act.Plain e = (boxes, refl, boxes_stay (ap box_place_of e))
-      go Act.Local e = (boxes, refl, boxes_stay (ap box_place_of e))
-      go (Act.Hub clock request reply) e = (boxes, refl, boxes_stay (ap box_place_of e))
-      go Act.Held e = (boxes, refl, boxes_stay (ap box_place_of e))
-      go Act.Idle e = (boxes, refl, boxes_stay (ap box_place_of e))
+      go Act.Plain e = (boxes, refl, boxes_stay (ap box_id_of e))
+      go Act.Local e = (boxes, refl, boxes_stay (ap box_id_of e))
+      go (Act.Hub clock request reply) e = (boxes, refl, boxes_stay (ap box_id_of e))
+      go Act.Held e = (boxes, refl, boxes_stay (ap box_id_of e))
+      go Act.Idle e = (boxes, refl, boxes_stay (ap box_id_of e))
       go (Act.Miss link part) e = (
         boxes,
         refl,
@@ -321,7 +321,7 @@ module _ (image : ImageParts) (joined : (link : ℕ) (l : Link) → slice_get im
       )
       go (Act.Ready link part bytes) e =
           let has = subst (HasKey s.sides) e keys.there in
-          let one = sender_went link part has.0 (ap box_place_of e) has.1 in
+          let one = sender_went link part has.0 (ap box_id_of e) has.1 in
           let w = one.1 in
           let acts = subst (λ x. SenderActs image.version stamp x w.s0 one.0) e w.went in
           let now = agree_here link part one.0 w.r0 w.here agree in (
@@ -342,7 +342,7 @@ module _ (image : ImageParts) (joined : (link : ℕ) (l : Link) → slice_get im
           )
       go (Act.Take link part gate bytes) e =
           let has = subst (HasKey s.sides) e keys.there in
-          let one = receiver_went link part has.0 (ap box_place_of e) has.1 in
+          let one = receiver_went link part has.0 (ap box_id_of e) has.1 in
           let w = one.1 in
           let acts = subst (λ x. ReceiverActs image.version stamp x w.r0 one.0) e w.went in
           let now = agree_here link part w.s0 one.0 w.here agree in
@@ -365,7 +365,7 @@ module _ (image : ImageParts) (joined : (link : ℕ) (l : Link) → slice_get im
           )
       go (Act.Freed link part gate) e =
           let has = subst (HasKey s.sides) e keys.there in
-          let one = sender_went link part has.0 (ap box_place_of e) has.1 in
+          let one = sender_went link part has.0 (ap box_id_of e) has.1 in
           let w = one.1 in
           let acts = subst (λ x. SenderActs image.version stamp x w.s0 one.0) e w.went in
           let now = agree_here link part one.0 w.r0 w.here agree in

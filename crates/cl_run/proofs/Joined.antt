@@ -13,7 +13,7 @@ use Rattle.cl_journal.specs.Replaying.{HubHistory}
 use Rattle.cl_state.proofs.Moves.{told_at}
 use Rattle.cl_state.specs.Rank.{Rank}
 use Rattle.cl_rank.specs.Deeds.{Act, answer_of}
-use Rattle.cl_rank.specs.Sides.{box_place_of}
+use Rattle.cl_rank.specs.Sides.{box_id_of}
 use Rattle.cl_rank.specs.RankSides.{AreChannelsOf, HasKey, KeyMoves, KeysMove, Sides, receiver_of, sender_of}
 use Rattle.cl_run.specs.Driver.{GoesOn, IsJoined, Station, Stops, TakesTurn}
 use Rattle.cl_record.specs.BoxKeys.{HasKeysOf}
@@ -52,7 +52,7 @@ keys_kept links r version stamp act old new moves h = record {
 
 -- the box that an act asks is one of a link
 pub place_there : (links : List Link) (r : ℕ) (sides : Sides) (a : Act) (place : ℕ × ℕ) → HasKeysOf links r sides
-    → HasKey sides a → box_place_of a ≡ Some place → (place.0 < length links) × (place.1 < 16)
+    → HasKey sides a → box_id_of a ≡ Some place → (place.0 < length links) × (place.1 < 16)
 place_there links r sides a place h has e = go a has e
   where
     sending : (link part : ℕ) → (s : Sending) × (sender_of sides link part ≡ Some s) → (link < length links)
@@ -67,7 +67,7 @@ place_there links r sides a place h has e = go a has e
         → (place.0 < length links) × (place.1 < 16)
     at link part e both = subst (λ (p : ℕ × ℕ). (p.0 < length links) × (p.1 < 16)) (same_Some (link, part) place e) both
 
-    go : (a : Act) → HasKey sides a → box_place_of a ≡ Some place → (place.0 < length links) × (place.1 < 16)
+    go : (a : Act) → HasKey sides a → box_id_of a ≡ Some place → (place.0 < length links) × (place.1 < 16)
     go Act.Plain has e = absurd (cc)
     go Act.Local has e = absurd (cc)
     go (Act.Hub clock request reply) has e = absurd (cc)

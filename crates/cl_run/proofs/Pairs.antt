@@ -7,7 +7,7 @@ use Rattle.rv_image.specs.declared.images.Link.{Link}
 use Rattle.part_box.specs.declared.view.Receiving.{Receiving}
 use Rattle.part_box.specs.declared.view.Sending.{Sending}
 use Rattle.part_channel.specs.Channels.{ChannelView}
-use Rattle.cl_rank.specs.declared.sides.BoxPlace.{BoxPlace}
+use Rattle.cl_rank.specs.declared.sides.BoxId.{BoxId}
 use Rattle.cl_rank.specs.RankSides.{AreChannelsOf, receiver_of, sender_of}
 use Rattle.cl_rank.specs.Views.{place_in}
 use Rattle.cl_run.specs.declared.driver.Driver.{Driver}
@@ -75,7 +75,7 @@ module _ (seats : List Seat) (l : Link) (link part : ℕ) (x y : Seat)
 
 module _ (driver : Driver) (joined : AreJoined driver) where
   -- what a rank asked last is a box of a link
-  pub asked_there : (rank : ℕ) (seat : Seat) (place : BoxPlace) → slice_get driver.seats.items rank ≡ Some seat
+  pub asked_there : (rank : ℕ) (seat : Seat) (place : BoxId) → slice_get driver.seats.items rank ≡ Some seat
       → seat.rank.asked_box ≡ Some place → (place.link < length driver.hub.links) × (place.part < 16)
   asked_there rank seat place at e =
       (joined.each rank (station seat) (station_at driver.seats.items rank seat at)).asked (place.link, place.part)
@@ -102,7 +102,7 @@ module _ (driver : Driver) (joined : AreJoined driver) where
       )
 
   -- the keys agree of the box that a rank asked last
-  pub agree_asked : (rank : ℕ) (seat : Seat) (place : BoxPlace) (l : Link)
+  pub agree_asked : (rank : ℕ) (seat : Seat) (place : BoxId) (l : Link)
       → slice_get driver.seats.items rank ≡ Some seat
       → seat.rank.asked_box ≡ Some place → slice_get driver.hub.links place.link ≡ Some l
       → KeysAgree (stations driver) l place.link place.part

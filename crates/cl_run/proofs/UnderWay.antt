@@ -14,7 +14,7 @@ use Rattle.cl_calls.specs.declared.sites.Site.{Site}
 use Rattle.cl_state.specs.Rank.{Rank, site_of}
 use Rattle.cl_state.proofs.Moves.{told_at}
 use Rattle.cl_rank.specs.Deeds.{answer_of}
-use Rattle.cl_rank.specs.Sides.{box_place_of}
+use Rattle.cl_rank.specs.Sides.{box_id_of}
 use Rattle.cl_rank.specs.RankSides.{KeysMove}
 use Rattle.cl_machine.specs.Boxes.{Box}
 use Rattle.cl_machine.specs.PartRuns.{PartsMove}
@@ -198,7 +198,7 @@ module _ (image : ImageParts) (plans : List Plan) (order : List ℕ) (ss : List 
             w.boxes w.are_boxes turn.deed.act turn.deed.stamp
             (subst (λ v. KeysMove v turn.deed.stamp turn.deed.act s.sides t.sides) version_is turn.keys)
             turn.deed.rank turn.deed.hart
-            (subst (λ ls. Agree ls (slice_set ss (in_slot order slot) t) (box_place_of turn.deed.act)) w.links_are
+            (subst (λ ls. Agree ls (slice_set ss (in_slot order slot) t) (box_id_of turn.deed.act)) w.links_are
             (subst (Agree before.links (slice_set ss (in_slot order slot) t)) turn.asked_is agree))
 
         goes : IsStep (cluster_of ss before w.boxes) (step_of turn.deed)

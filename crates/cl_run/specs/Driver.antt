@@ -12,7 +12,7 @@ use Rattle.part_channel.specs.Settling.{IsLeft}
 use Rattle.part_phase.specs.Limits.{box_words}
 use Rattle.cl_journal.specs.Replaying.{HubHistory}
 use Rattle.cl_rank.specs.Deeds.{Deed, RankMoves, event_of}
-use Rattle.cl_rank.specs.Sides.{box_place_of}
+use Rattle.cl_rank.specs.Sides.{box_id_of}
 use Rattle.cl_rank.specs.RankSides.{AreChannelsOf, KeysMove, Sides, receiver_of, sender_of, side_of}
 use Rattle.cl_rank.specs.Turns.{AllStopped}
 use Rattle.cl_rank.specs.Turning.{Answered, StopHolds, Tells}
@@ -67,7 +67,7 @@ pub record TakesTurn (plan : Plan) (old : Station) (before : HubHistory) (new : 
   pub moves : RankMoves old.rank deed new.rank
   pub tells : Tells Answered before after deed
   pub keys : KeysMove old.rank.site.version deed.stamp deed.act old.sides new.sides
-  pub asked_is : new.asked ≡ box_place_of deed.act
+  pub asked_is : new.asked ≡ box_id_of deed.act
   pub runs : ¬ (AllStopped old.rank)
   pub turns_left : length old.events < old.budget
   pub traced : new.events ≡ old.events ++ event_of deed ∷ []

@@ -20,7 +20,7 @@ ghost use Rattle.cl_record.specs.Wiring.{AreNewEnds, sides_in};
 ghost use Rattle.cl_run.specs.declared.driver.Seat.{Seat};
 
 use cl_journal::Hub;
-use cl_rank::{BoxPlace, Rank, Stop, agree};
+use cl_rank::{BoxId, Rank, Stop, agree};
 use cl_record::{Ends, Lists, Plan, Record, Wiring, settle_all};
 use part_channel::Channel;
 use rv_image::{Image, Link};
@@ -127,7 +127,7 @@ fn load_seats(
 }
 
 /// The two keys of a box, of seats that are the link's two, agree. Nothing changes.
-fn agree_on(seats: &mut [Seat], channels: &[Channel], link: Link, place: BoxPlace)
+fn agree_on(seats: &mut [Seat], channels: &[Channel], link: Link, place: BoxId)
     requires link { IsLink (length seats.old) link }
     requires keys { HaveKeys (map station seats.old) channels.now link place.link place.part }
     ensures same { seats.new ≡ seats.old }

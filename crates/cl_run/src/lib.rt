@@ -6,7 +6,7 @@ mod driver;
 mod loading;
 mod one;
 
-pub use cl_machine::{KindRef, Step, laws, rows};
+pub use cl_machine::{KindRef, Step, laws, worked};
 pub use cl_record::{BUDGET_MAX, Plan, Record, RunFault, are_plans};
 pub use loading::Loaded;
 pub use one::run_one;

@@ -10,7 +10,7 @@ use Rattle.mp_types.specs.declared.messages.Message.{Message}
 use Rattle.mp_types.specs.declared.requests.Request.TheVariants as request
 use Rattle.mp_request.specs.Table.{Table, request_at, completed}
 use Rattle.cl_calls.specs.declared.sites.Site.{Site}
-use Rattle.cl_calls.specs.Site.{members, place_of}
+use Rattle.cl_calls.specs.Site.{members, position_of}
 use Rattle.cl_calls.specs.Calls.{any, no_rank}
 use Rattle.cl_state.specs.declared.asking.Ask.{Ask}
 use Rattle.cl_state.specs.declared.asking.Ask.TheVariants as ask
@@ -62,7 +62,7 @@ dealt [] gots = []
 dealt (p ∷ ps) gots = (p, got_for_post (post_of p) gots) ∷ dealt ps (left_of (post_of p) gots)
 
 abbrev pub is_from_member : Site → Message → Bool
-is_from_member site message = is_some (place_of message.envelope.source (members site message.envelope.comm))
+is_from_member site message = is_some (position_of message.envelope.source (members site message.envelope.comm))
 
 -- a receive got a message whose source is a member, and a send got none
 abbrev pub fits_one : Site → Pending → Option Message → Bool
@@ -96,7 +96,7 @@ abbrev pub given_message : Site → ℕ → ℕ → Message → Given
 given_message site buffer capacity message = record {
   buffer = buffer;
   bytes = take capacity message.bytes;
-  source = unwrap_or (place_of message.envelope.source (members site message.envelope.comm)) 0;
+  source = unwrap_or (position_of message.envelope.source (members site message.envelope.comm)) 0;
   tag = message.envelope.tag;
   truncated = nat_lt capacity (length message.bytes);
 }

@@ -19,7 +19,7 @@ use Rattle.cl_calls.specs.declared.calls.Probing.{Probing}
 use Rattle.cl_calls.specs.declared.calls.Receiving.{Receiving}
 use Rattle.cl_calls.specs.declared.calls.Several.{Several}
 use Rattle.cl_calls.specs.declared.sites.Site.{Site}
-use Rattle.cl_calls.specs.Site.{members, place_of}
+use Rattle.cl_calls.specs.Site.{members, position_of}
 use Rattle.cl_calls.specs.Calls.{any, no_rank, no_message}
 use Rattle.cl_calls.specs.Handles.{handles_in}
 use Rattle.cl_calls.specs.Needs.{array_at}
@@ -193,7 +193,7 @@ gives_at_once value = AtOnce (Ends code.Ok value)
 abbrev pub row_of : Site → ℕ → Memory → Table → List Phase → Call → Row
 row_of site hart memory table phases (call.Exit value) = AtOnce (Exits value)
 row_of site hart memory table phases (call.Put buffer count) = AtOnce (Puts buffer count)
-row_of site hart memory table phases (call.Rank comm) = gives_at_once (unwrap_or (place_of site.number (members site comm)) 0)
+row_of site hart memory table phases (call.Rank comm) = gives_at_once (unwrap_or (position_of site.number (members site comm)) 0)
 row_of site hart memory table phases (call.Size comm) = gives_at_once (length (members site comm))
 row_of site hart memory table phases call.Hart = gives_at_once hart
 row_of site hart memory table phases (call.Send s) = begins purpose.Send (send_of site false s)

@@ -31,7 +31,7 @@ use Rattle.cl_calls.specs.declared.calls.Partitioning.{Partitioning}
 use Rattle.cl_state.specs.Partitions.{side_on}
 use Rattle.mp_request.specs.Table.{with_request, lowest_free, started, completed}
 use Rattle.cl_calls.specs.declared.sites.Site.{Site}
-use Rattle.cl_calls.specs.Site.{members, place_of}
+use Rattle.cl_calls.specs.Site.{members, position_of}
 use Rattle.cl_calls.specs.Calls.{any, no_rank}
 use Rattle.cl_calls.specs.Handles.{handles_in}
 use Rattle.cl_calls.specs.Needs.{array_at}
@@ -102,7 +102,7 @@ received_from (Some place) target message part = received target place message.e
 
 unfoldable pub received_message : Site → Target → Message → Part → Part
 received_message site target message part =
-    received_from (place_of message.envelope.source (members site message.envelope.comm)) target message part
+    received_from (position_of message.envelope.source (members site message.envelope.comm)) target message part
 
 -- ---- requests that are opened and freed
 
@@ -148,7 +148,7 @@ found_at (Some place) value status envelope part =
 
 unfoldable pub found : Site → ℕ → ℕ → Envelope → Part → Part
 found site value status envelope part =
-    found_at (place_of envelope.source (members site envelope.comm)) value status envelope part
+    found_at (position_of envelope.source (members site envelope.comm)) value status envelope part
 
 -- a probe of the null process finds at once that nothing comes from there (3.8, 3.11)
 unfoldable pub found_nothing : ℕ → ℕ → Part → Part
@@ -221,7 +221,7 @@ arrived_from (Some place) side target part =
 
 unfoldable pub arrived : Site → Partitions → Target → Part → Part
 arrived site side target part =
-    arrived_from (place_of side.peer (members site side.comm)) side target part
+    arrived_from (position_of side.peer (members site side.comm)) side target part
 
 -- one more partition was found taken; with the last one the send completes, with the empty status
 unfoldable pub freed_one : Manner → ℕ → Target → Part → Part

@@ -21,7 +21,7 @@ use crate::asking::Ask;
 use crate::pending::Pending;
 use crate::turn::{Turn, is_longer, kept, status_bytes, write_where_right};
 use arrayvec::ArrayVec;
-use cl_calls::{ANY, Array, NO_RANK, Several, Site, handles_at, place};
+use cl_calls::{ANY, Array, NO_RANK, Several, Site, handles_at, position};
 use mp_request::Requests;
 use mp_types::{Code, Message, Posts, Request};
 use rv_memory::{RankMemory, SparePages};
@@ -145,7 +145,7 @@ fn fits(site: &Site, pending: Pending, gots: &[Option<Message>]) -> bool
                 None => false,
                 Some(message) => {
                     let envelope = message.envelope;
-                    place(envelope.source, site.members(u64::from(envelope.comm))).is_some()
+                    position(envelope.source, site.members(u64::from(envelope.comm))).is_some()
                 }
             },
         },
@@ -225,7 +225,7 @@ impl<'a> Giving<'a> {
         Giving {
             buffer,
             bytes: kept(u64::from(capacity), bytes),
-            source: place(envelope.source, site.members(u64::from(envelope.comm))).unwrap_or(0),
+            source: position(envelope.source, site.members(u64::from(envelope.comm))).unwrap_or(0),
             tag: u64::from(envelope.tag),
             truncated: is_longer(u64::from(capacity), bytes),
         }

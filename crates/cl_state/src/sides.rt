@@ -16,7 +16,7 @@ ghost use Rattle.cl_state.specs.Writes.{box_into, message_into, statuses_from};
 use crate::partitions::{place_at, side_on};
 use crate::pending::{Manner, Target};
 use crate::turn::{Turn, write_where_right};
-use cl_calls::{ANY, Partitioning, place};
+use cl_calls::{ANY, Partitioning, position};
 use mp_request::{OpenRequest, Partitions, Progress, State, Transfer};
 use mp_types::Code;
 use part_phase::Contents;
@@ -137,7 +137,7 @@ impl<'a> Turn<'a> {
         requires { HasPages self.old (statuses_from target.status 1 ∷ []) }
         ensures { Becomes self.old self.new (arrived self.old.site.now side.now target (part_in self.old)) }
     {
-        match place(side.peer, self.site.members(u64::from(side.comm))) {
+        match position(side.peer, self.site.members(u64::from(side.comm))) {
             None => self.end(Code::BadRequest, 0),
             Some(source) => {
                 let _ = self.requests.complete(target.handle);

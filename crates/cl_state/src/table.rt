@@ -28,7 +28,7 @@ use crate::transfers::{receive, receive_claimed, send, sync_send};
 use crate::turn::Turn;
 use cl_calls::{
     ANY, Call, Claimed, Completing, NO_MESSAGE, NO_RANK, Probing, Receiving, Several, handles_at,
-    place, receiving_side, sending_side,
+    position, receiving_side, sending_side,
 };
 use mp_request::{OpenRequest, Partitions, Progress, State, Transfer};
 use mp_types::Code;
@@ -383,7 +383,7 @@ impl<'a> Turn<'a> {
         match *call {
             Call::Exit { code } => Row::AtOnce(Outcome::Exits(code)),
             Call::Put { buffer, count } => Row::AtOnce(Outcome::Puts { buffer, count }),
-            Call::Rank { comm } => gives(place(site.number, site.members(comm)).unwrap_or(0)),
+            Call::Rank { comm } => gives(position(site.number, site.members(comm)).unwrap_or(0)),
             Call::Size { comm } => gives(site.members(comm).len() as u64),
             Call::Hart => gives(u64::from(self.number)),
             Call::Send(call) => begins(Purpose::Send, send(site, &call)),

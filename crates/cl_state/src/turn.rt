@@ -14,7 +14,7 @@ ghost use Rattle.cl_state.specs.Writes.{IsEnough, bytes_from, how_many, message_
 ghost use Rattle.cl_state.specs.Written.{written as written_in};
 
 use crate::pending::{Manner, Target};
-use cl_calls::{ANY, NO_RANK, Site, place};
+use cl_calls::{ANY, NO_RANK, Site, position};
 use mp_request::{OpenRequest, Progress, Requests};
 use mp_types::{Code, Envelope, Message};
 use part_phase::Phases;
@@ -170,7 +170,7 @@ impl<'a> Turn<'a> {
         ensures { Becomes self.old self.new (received_message self.old.site.now target message.now (part_in self.old)) }
     {
         let envelope = message.envelope;
-        match place(envelope.source, self.site.members(u64::from(envelope.comm))) {
+        match position(envelope.source, self.site.members(u64::from(envelope.comm))) {
             None => self.end(Code::BadRequest, 0),
             Some(source) => {
                 let tag = u64::from(envelope.tag);
@@ -185,7 +185,7 @@ impl<'a> Turn<'a> {
         requires { HasPages self.old (statuses_from status 1 ∷ []) }
         ensures { Becomes self.old self.new (found_by self.old.site.now value status envelope (part_in self.old)) }
     {
-        match place(envelope.source, self.site.members(u64::from(envelope.comm))) {
+        match position(envelope.source, self.site.members(u64::from(envelope.comm))) {
             None => self.end(Code::BadRequest, 0),
             Some(source) => {
                 let tag = u64::from(envelope.tag);

@@ -16,7 +16,7 @@ use Rattle.part_box.specs.declared.view.Sending.{Sending}
 use Rattle.part_box.specs.Gate.{ready_stamp, taken_stamp}
 use Rattle.part_box.specs.Steps.{with_freed, with_got, with_look, with_made}
 use Rattle.cl_rank.specs.Deeds.{Act, Deed}
-use Rattle.cl_rank.specs.Sides.{ReceiverActs, SenderActs, is_place, box_place_of}
+use Rattle.cl_rank.specs.Sides.{ReceiverActs, SenderActs, is_place, box_id_of}
 use Rattle.cl_machine.specs.Boxes.{box_number}
 use Rattle.cl_machine.specs.Joined.{Got, OnItsSide, got_of, made_of, takes_shown}
 use Rattle.cl_machine.specs.Parts.{is_index, own}
@@ -132,7 +132,7 @@ module _ (version : ImageVersion) where
 
   module _ (links : List Link) (rank link part : ℕ) (low : part < 16) where
     sender_step : (r h s : ℕ) (act : Act) (was mid is : Sending) (K : List Deed) → OnItsSide links rank act
-        → OnBox (SenderActs version) (is_place link part (box_place_of act)) was (deed r h s act) mid → SenderTells mid is K
+        → OnBox (SenderActs version) (is_place link part (box_id_of act)) was (deed r h s act) mid → SenderTells mid is K
         → SenderTells was is (cond (is_index (box_number link part) (box_for act)) (deed r h s act ∷ K) K)
     sender_step r h s Act.Plain was mid is K side on tells = tells_same was mid is K on tells
     sender_step r h s Act.Local was mid is K side on tells = tells_same was mid is K on tells
@@ -210,7 +210,7 @@ module _ (version : ImageVersion) where
 
   module _ (links : List Link) (rank link part : ℕ) (low : part < 16) where
     receiver_step : (r h s : ℕ) (act : Act) (was mid is : Receiving) (K : List Deed) → OnItsSide links rank act
-        → OnBox (ReceiverActs version) (is_place link part (box_place_of act)) was (deed r h s act) mid
+        → OnBox (ReceiverActs version) (is_place link part (box_id_of act)) was (deed r h s act) mid
         → ReceiverTells mid is K
         → ReceiverTells was is (cond (is_index (box_number link part) (box_for act)) (deed r h s act ∷ K) K)
     receiver_step r h s Act.Plain was mid is K side on tells = took_same was mid is K on tells

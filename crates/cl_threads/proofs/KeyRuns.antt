@@ -8,7 +8,7 @@ use Rattle.rv_image.specs.declared.images.Link.{Link}
 use Rattle.part_box.specs.declared.view.Receiving.{Receiving}
 use Rattle.part_box.specs.declared.view.Sending.{Sending}
 use Rattle.cl_rank.specs.Deeds.{Act, Deed, PartRun}
-use Rattle.cl_rank.specs.Sides.{ReceiverActs, SenderActs, is_place, box_place_of}
+use Rattle.cl_rank.specs.Sides.{ReceiverActs, SenderActs, is_place, box_id_of}
 use Rattle.cl_rank.specs.RankSides.{HasKey, KeyMoves, KeysMove, Sides, receiver_of, sender_of}
 use Rattle.cl_machine.specs.Joined.{OnItsSide}
 use Rattle.cl_threads.specs.OnThreads.{KeysGo}
@@ -37,12 +37,12 @@ key_before here Acts old None l h e = absurd (cc)
 abbrev pub SenderGoes : ImageVersion → ℕ → ℕ → Sending → List Deed → Sending → Type 0
 SenderGoes version link part was ds is =
     PartRun (λ (a : Sending) (d : Deed) (b : Sending).
-    OnBox (SenderActs version) (is_place link part (box_place_of d.act)) a d b) was ds is
+    OnBox (SenderActs version) (is_place link part (box_id_of d.act)) a d b) was ds is
 
 abbrev pub ReceiverGoes : ImageVersion → ℕ → ℕ → Receiving → List Deed → Receiving → Type 0
 ReceiverGoes version link part was ds is =
     PartRun (λ (a : Receiving) (d : Deed) (b : Receiving).
-    OnBox (ReceiverActs version) (is_place link part (box_place_of d.act)) a d b) was ds is
+    OnBox (ReceiverActs version) (is_place link part (box_id_of d.act)) a d b) was ds is
 
 module _ (version : ImageVersion) (link part : ℕ) where
   -- so does each that the rank has
@@ -52,7 +52,7 @@ module _ (version : ImageVersion) (link part : ℕ) where
   sender_goes [] old new k go at = (k, ap (λ s. sender_of s link part) go ∙ at, refl)
   sender_goes (d ∷ ds) old new k go at =
       let now =
-      key_goes (SenderActs version) (is_place link part (box_place_of d.act)) d (sender_of old link part)
+      key_goes (SenderActs version) (is_place link part (box_id_of d.act)) d (sender_of old link part)
       (sender_of go.0 link part) k (go.1.sends link part) at in
       let rest = sender_goes ds go.0 new now.0 go.2 now.1 in
       (rest.0, rest.1, (now.0, now.2, rest.2))
@@ -63,7 +63,7 @@ module _ (version : ImageVersion) (link part : ℕ) where
   receiver_goes [] old new k go at = (k, ap (λ s. receiver_of s link part) go ∙ at, refl)
   receiver_goes (d ∷ ds) old new k go at =
       let now =
-      key_goes (ReceiverActs version) (is_place link part (box_place_of d.act)) d (receiver_of old link part)
+      key_goes (ReceiverActs version) (is_place link part (box_id_of d.act)) d (receiver_of old link part)
       (receiver_of go.0 link part) k (go.1.recvs link part) at in
       let rest = receiver_goes ds go.0 new now.0 go.2 now.1 in
       (rest.0, rest.1, (now.0, now.2, rest.2))

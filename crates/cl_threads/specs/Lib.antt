@@ -3,5 +3,5 @@ pub mod OnThreads
 pub mod Loading
 pub mod Leaving
 pub mod Ties
-pub mod Rows
+pub mod Worked
 pub mod Runs

@@ -16,7 +16,7 @@ use Rattle.cl_state.specs.Rank.{Rank}
 use Rattle.cl_state.specs.Room.{rank_of}
 use Rattle.cl_state.specs.declared.state.RankState.{RankState}
 use Rattle.cl_rank.specs.Deeds.{Act, Deed, PartRun, event_of}
-use Rattle.cl_rank.specs.Sides.{ReceiverActs, SenderActs, is_place, box_place_of}
+use Rattle.cl_rank.specs.Sides.{ReceiverActs, SenderActs, is_place, box_id_of}
 use Rattle.cl_rank.specs.declared.stops.Stop.{Stop}
 use Rattle.cl_machine.specs.Cluster.{Cluster, loaded_cluster}
 use Rattle.cl_machine.specs.Joined.{Joined}
@@ -45,12 +45,12 @@ OnBox Acts false old d new = new ≡ old
 abbrev pub SenderWent : ImageVersion → ℕ → ℕ → List Deed → Sending → Type 0
 SenderWent version link part deeds key =
     PartRun (λ (a : Sending) (d : Deed) (b : Sending).
-    OnBox (SenderActs version) (is_place link part (box_place_of d.act)) a d b) nothing_sent deeds key
+    OnBox (SenderActs version) (is_place link part (box_id_of d.act)) a d b) nothing_sent deeds key
 
 abbrev pub ReceiverWent : ImageVersion → ℕ → ℕ → List Deed → Receiving → Type 0
 ReceiverWent version link part deeds key =
     PartRun (λ (a : Receiving) (d : Deed) (b : Receiving).
-    OnBox (ReceiverActs version) (is_place link part (box_place_of d.act)) a d b) nothing_received deeds key
+    OnBox (ReceiverActs version) (is_place link part (box_id_of d.act)) a d b) nothing_received deeds key
 
 -- box number `part` of a link: its two keys went by the deeds of the link's two ranks, and this is what they left of it
 pub record IsBoxOf (version : ImageVersion) (deeds : ℕ → List Deed) (link part : ℕ) (l : Link) (left : Settled)

@@ -7,10 +7,10 @@ mod leaving;
 mod loading;
 mod pace;
 mod rests;
-pub mod rows;
 mod threads;
 mod ties;
 mod turns;
+pub mod worked;
 
 pub use gates::{Gate, NoGate, Point};
 pub use pace::Pace;

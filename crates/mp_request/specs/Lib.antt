@@ -2,7 +2,7 @@ pub mod Entries
 pub mod Awaited
 pub mod Laws
 pub mod Refusals
-pub mod Rows
+pub mod Worked
 pub mod Table
 pub mod Handles
 pub mod CallLaws

@@ -8,14 +8,14 @@ mod call_laws;
 mod entries;
 mod laws;
 mod refusals;
-mod rows;
 mod table;
+mod worked;
 
 pub use call_laws::{nothing_law, start_law, states_law, test_law};
 pub use entries::{OpenRequest, Partitions, Progress, State, Transfer};
 pub use laws::{completion_law, map_law};
 pub use refusals::Refusal;
-pub use rows::{
+pub use table::{HANDLES, Requests};
+pub use worked::{
     completion_rows, done_rows, lowest_free_rows, named_rows, refusal_rows, testable_rows,
 };
-pub use table::{HANDLES, Requests};

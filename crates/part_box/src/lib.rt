@@ -11,14 +11,14 @@ mod gate;
 mod keys;
 mod laws;
 mod partition;
-mod rows;
 mod rule;
 mod settled;
 mod view;
+mod worked;
 
 pub use keys::{RecvKey, SendKey};
 pub use laws::{gate_law, look_law, settled_law};
 pub use partition::PartBox;
-pub use rows::settled_rows;
 pub use settled::Settled;
 pub use view::{Got, Loaded, Made, Receiving, Sending};
+pub use worked::settled_rows;

@@ -4,4 +4,4 @@ pub mod Receiving
 pub mod Phases
 pub mod Laws
 pub mod SideLaws
-pub mod Rows
+pub mod Worked

@@ -11,15 +11,15 @@ mod limits;
 mod marks;
 mod phases;
 mod receiving;
-mod rows;
 mod sending;
 mod side_laws;
+mod worked;
 
 pub use contents::Contents;
 pub use laws::{arrival_law, beginning_law, freeing_law, sides_law, taking_law};
 pub use limits::{are_parts, box_words, is_size};
 pub use phases::{Phase, Phases};
 pub use receiving::RecvPhase;
-pub use rows::{cut_rows, limit_rows, padded_rows, sending_rows, side_rows, width_rows};
 pub use sending::SendPhase;
 pub use side_laws::{bounds_law, one_side_law, phase_law, shape_law};
+pub use worked::{cut_rows, limit_rows, padded_rows, sending_rows, side_rows, width_rows};

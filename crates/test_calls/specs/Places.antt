@@ -6,7 +6,7 @@ use Rattle.cl_calls.specs.declared.sites.Site.{Site}
 use Rattle.cl_calls.specs.Checks.{is_comm, is_peer}
 use Rattle.cl_calls.specs.Needs.{destination, other_side, source}
 use Rattle.cl_calls.specs.Calls.{any, no_rank}
-use Rattle.cl_calls.specs.Site.{member, members, place_of}
+use Rattle.cl_calls.specs.Site.{member, members, position_of}
 
 -- communicator 2 has rank 1 alone
 abbrev pub of_two : Site
@@ -22,7 +22,7 @@ abbrev pub MemberRows : Type 0
 MemberRows =
     (map (members of_two) (0 ∷ 1 ∷ 2 ∷ 3 ∷ []) ≡ (0 ∷ 1 ∷ []) ∷ (1 ∷ 0 ∷ []) ∷ (1 ∷ []) ∷ [] ∷ [])
     × (map (member of_two 1) (0 ∷ 1 ∷ []) ≡ 1 ∷ 0 ∷ [])
-    × (map (λ rank. place_of rank (4 ∷ 2 ∷ 7 ∷ [])) (4 ∷ 2 ∷ 7 ∷ 0 ∷ []) ≡ Some 0 ∷ Some 1 ∷ Some 2 ∷ None ∷ [])
+    × (map (λ rank. position_of rank (4 ∷ 2 ∷ 7 ∷ [])) (4 ∷ 2 ∷ 7 ∷ 0 ∷ []) ≡ Some 0 ∷ Some 1 ∷ Some 2 ∷ None ∷ [])
 
 -- a member of 0 and of 1, and of no other; where no communicator is asked for there is none to be a member of
 abbrev pub CommRows : Type 0

@@ -11,7 +11,7 @@ use Rattle.cl_trace.specs.declared.events.Event.{Event}
 use Rattle.cl_trace.specs.declared.events.Kind.{Kind}
 use Rattle.cl_rank.proofs.Lists.{itself}
 use Rattle.cl_rank.specs.Deeds.{Act, IsStamp, event_of, kind_of}
-use Rattle.cl_rank.specs.Sides.{ReceiverActs, SenderActs, is_place, box_place_of}
+use Rattle.cl_rank.specs.Sides.{ReceiverActs, SenderActs, is_place, box_id_of}
 use Rattle.cl_rank.specs.RankSides.{KeyMoves, KeysMove, Sides, receiver_of, sender_of}
 use Rattle.cl_rank.specs.Turning.{Answered, IsTurn, RankView}
 use Rattle.test_cluster.specs.Boxes.{KeepsKeys, KeepsOthers, LooksInVain, MakesOne, ReceiverMisses, SenderMisses}
@@ -75,7 +75,7 @@ module _ (version : ImageVersion) (stamp link part : ℕ) (old new : Sides) wher
       }
 
 by_miss : (stamp : ℕ) (act : Act) (old new : RankView) → kind_of act ≡ Kind.Miss
-    → KeysMove old.rank.site.version stamp act old.sides new.sides → new.asked_box ≡ box_place_of act
+    → KeysMove old.rank.site.version stamp act old.sides new.sides → new.asked_box ≡ box_id_of act
     → LooksInVain old new
 by_miss stamp Act.Plain old new e keys box = absurd (cc)
 by_miss stamp Act.Local old new e keys box = absurd (cc)
@@ -96,7 +96,7 @@ by_miss stamp Act.Held old new e keys box = absurd (cc)
 by_miss stamp Act.Idle old new e keys box = absurd (cc)
 
 by_ready : (stamp : ℕ) (act : Act) (old new : RankView) → kind_of act ≡ Kind.Ready → IsStamp old.rank.clock act stamp
-    → KeysMove old.rank.site.version stamp act old.sides new.sides → new.asked_box ≡ box_place_of act → MakesOne old new
+    → KeysMove old.rank.site.version stamp act old.sides new.sides → new.asked_box ≡ box_id_of act → MakesOne old new
 by_ready stamp Act.Plain old new e at keys box = absurd (cc)
 by_ready stamp Act.Local old new e at keys box = absurd (cc)
 by_ready stamp (Act.Hub clock request reply) old new e at keys box = absurd (cc)
@@ -138,11 +138,11 @@ kind_behind kind before after last behind ends =
 module _ (hart : ℕ) (old new : RankView) (hub left : HubHistory) (turn : IsTurn Answered hart old new hub left) where
   pub keeps_others : KeepsOthers old new
   keeps_others = record {
-    sends = λ link part away. stays (is_place link part (box_place_of turn.deed.act))
+    sends = λ link part away. stays (is_place link part (box_id_of turn.deed.act))
         (SenderActs old.rank.site.version turn.deed.stamp turn.deed.act) (sender_of old.sides link part)
         (sender_of new.sides link part) (subst (λ place. is_place link part place ≡ false) turn.box away)
         (turn.keys.sends link part);
-    recvs = λ link part away. stays (is_place link part (box_place_of turn.deed.act))
+    recvs = λ link part away. stays (is_place link part (box_id_of turn.deed.act))
         (ReceiverActs old.rank.site.version turn.deed.stamp turn.deed.act) (receiver_of old.sides link part)
         (receiver_of new.sides link part) (subst (λ place. is_place link part place ≡ false) turn.box away)
         (turn.keys.recvs link part);

@@ -1,7 +1,7 @@
 //! The request table of `mp_request`: the six requests that its own worked rows speak of, and a table with none.
 
 ghost use Rattle.std.specs.Prelude.{◌≡◌, ◌∷◌, [], true, false};
-ghost use Rattle.mp_request.specs.Rows.{made, receive, six};
+ghost use Rattle.mp_request.specs.Worked.{made, receive, six};
 ghost use Rattle.mp_request.specs.Table.{no_requests, request_at};
 
 use mp_request::{Refusal, Requests};

@@ -1,5 +1,0 @@
-use Rattle.cl_arrival_laws.proofs.AloneRows as worked
-use Rattle.cl_arrival_laws.proofs.rows.comes_to_a_take.Goals as goal
-
-pub returns : goal.returns
-returns c = worked.take

@@ -1,5 +1,0 @@
-use Rattle.cl_box_laws.proofs.Worked as source
-use Rattle.cl_box_laws.proofs.rows.makes_nothing_twice.Goals as goal
-
-pub returns : goal.returns
-returns c = source.twice

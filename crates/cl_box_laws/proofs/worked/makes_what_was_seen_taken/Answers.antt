@@ -1,0 +1,5 @@
+use Rattle.cl_box_laws.proofs.Worked as source
+use Rattle.cl_box_laws.proofs.worked.makes_what_was_seen_taken.Goals as goal
+
+pub returns : goal.returns
+returns c = source.kept

@@ -1,5 +1,0 @@
-use Rattle.cl_deadlock_laws.proofs.Worked as worked
-use Rattle.cl_deadlock_laws.proofs.rows.each_receives_first.Goals as goal
-
-pub returns : goal.returns
-returns c = worked.receive_first

@@ -1,5 +1,0 @@
-use Rattle.cl_deadlock_laws.proofs.Worked as worked
-use Rattle.cl_deadlock_laws.proofs.rows.waits_for_nobody.Goals as goal
-
-pub returns : goal.returns
-returns c = worked.nobody_left

@@ -1,0 +1,5 @@
+use Rattle.cl_deadlock_laws.proofs.Worked as worked
+use Rattle.cl_deadlock_laws.proofs.worked.waits_to_be_taken_from.Goals as goal
+
+pub returns : goal.returns
+returns c = worked.none_takes

@@ -1,5 +1,0 @@
-use Rattle.cl_machine.proofs.LoadedRun as worked
-use Rattle.cl_machine.proofs.rows.loads_and_ends.Goals as goal
-
-pub returns : goal.returns
-returns c = worked.loaded_run

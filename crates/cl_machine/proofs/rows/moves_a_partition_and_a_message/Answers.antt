@@ -1,5 +1,0 @@
-use Rattle.cl_machine.proofs.Worked as worked
-use Rattle.cl_machine.proofs.rows.moves_a_partition_and_a_message.Goals as goal
-
-pub returns : goal.returns
-returns c = worked.real_end

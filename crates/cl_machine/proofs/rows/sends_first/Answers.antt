@@ -1,5 +1,0 @@
-use Rattle.cl_machine.proofs.Worked as worked
-use Rattle.cl_machine.proofs.rows.sends_first.Goals as goal
-
-pub returns : goal.returns
-returns c = worked.sends_first

@@ -1,5 +1,0 @@
-use Rattle.cl_machine.proofs.Worked as worked
-use Rattle.cl_machine.proofs.rows.shares_a_box_by_real_calls.Goals as goal
-
-pub returns : goal.returns
-returns c = worked.real_calls

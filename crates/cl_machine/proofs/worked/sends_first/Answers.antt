@@ -1,0 +1,5 @@
+use Rattle.cl_machine.proofs.Worked as worked
+use Rattle.cl_machine.proofs.worked.sends_first.Goals as goal
+
+pub returns : goal.returns
+returns c = worked.sends_first

@@ -1,0 +1,5 @@
+use Rattle.cl_machine.proofs.Worked as worked
+use Rattle.cl_machine.proofs.worked.takes_nothing_early.Goals as goal
+
+pub returns : goal.returns
+returns c = worked.early

@@ -1,5 +1,0 @@
-use Rattle.cl_state_laws.proofs.WorkedRequests as worked
-use Rattle.cl_state_laws.proofs.rows.probes.Goals as goal
-
-pub returns : goal.returns
-returns c = worked.probe

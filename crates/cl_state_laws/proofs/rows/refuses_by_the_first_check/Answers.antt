@@ -1,5 +1,0 @@
-use Rattle.cl_state_laws.proofs.Worked as worked
-use Rattle.cl_state_laws.proofs.rows.refuses_by_the_first_check.Goals as goal
-
-pub returns : goal.returns
-returns c = worked.refusals

@@ -1,5 +1,0 @@
-use Rattle.cl_state_laws.proofs.Worked as worked
-use Rattle.cl_state_laws.proofs.rows.waits_for_a_message.Goals as goal
-
-pub returns : goal.returns
-returns c = worked.waiting

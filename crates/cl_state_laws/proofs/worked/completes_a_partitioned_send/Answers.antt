@@ -1,0 +1,5 @@
+use Rattle.cl_state_laws.proofs.WorkedPartitions as worked
+use Rattle.cl_state_laws.proofs.worked.completes_a_partitioned_send.Goals as goal
+
+pub returns : goal.returns
+returns c = worked.sent

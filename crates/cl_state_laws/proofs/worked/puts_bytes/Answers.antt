@@ -1,0 +1,5 @@
+use Rattle.cl_state_laws.proofs.Worked as worked
+use Rattle.cl_state_laws.proofs.worked.puts_bytes.Goals as goal
+
+pub returns : goal.returns
+returns c = worked.put

@@ -1,0 +1,5 @@
+use Rattle.cl_state_laws.proofs.WorkedSeveral as worked
+use Rattle.cl_state_laws.proofs.worked.writes_all_statuses.Goals as goal
+
+pub returns : goal.returns
+returns c = worked.statuses_row

@@ -1,5 +1,0 @@
-use Rattle.mp_request.proofs.Worked as worked
-use Rattle.mp_request.proofs.rows.completion_rows.Goals as goal
-
-pub returns : goal.returns
-returns c = worked.completion

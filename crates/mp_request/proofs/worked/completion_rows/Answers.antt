@@ -1,0 +1,5 @@
+use Rattle.mp_request.proofs.Worked as worked
+use Rattle.mp_request.proofs.worked.completion_rows.Goals as goal
+
+pub returns : goal.returns
+returns c = worked.completion

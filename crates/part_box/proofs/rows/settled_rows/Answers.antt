@@ -1,5 +1,0 @@
-use Rattle.part_box.proofs.Worked.{settled}
-use Rattle.part_box.proofs.rows.settled_rows.Goals as goal
-
-pub returns : goal.returns
-returns c = settled

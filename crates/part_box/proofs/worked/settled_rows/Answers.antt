@@ -1,0 +1,5 @@
+use Rattle.part_box.proofs.Worked.{settled}
+use Rattle.part_box.proofs.worked.settled_rows.Goals as goal
+
+pub returns : goal.returns
+returns c = settled
