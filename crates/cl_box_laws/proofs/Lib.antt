@@ -3,4 +3,4 @@ pub mod Moves
 pub mod Sides
 pub mod Acts
 pub mod Kept
-pub mod Worked
+pub mod Cases

@@ -4,4 +4,4 @@ pub mod Own
 pub mod Others
 pub mod Runs
 pub mod Unions
-pub mod Worked
+pub mod Cases

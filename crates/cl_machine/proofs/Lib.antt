@@ -9,7 +9,7 @@ pub mod Meshes
 pub mod Views
 pub mod Law
 pub mod Verdicts
-pub mod Worked
+pub mod Cases
 pub mod Witness
 pub mod Same
 pub mod LoadedRun

@@ -1,7 +1,7 @@
 pub mod Asks
 pub mod Moves
 pub mod Replies
-pub mod Worked
+pub mod Cases
 pub mod WorkedRequests
 pub mod WorkedSeveral
 pub mod Misses

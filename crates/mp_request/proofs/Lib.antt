@@ -1,5 +1,5 @@
 pub mod Distinct
 pub mod Handles
 pub mod Maps
-pub mod Worked
+pub mod Cases
 pub mod CallLaws

@@ -6,4 +6,4 @@ pub mod Leaves
 pub mod Owned
 pub mod Agreed
 pub mod Kept
-pub mod Worked
+pub mod Cases

@@ -1,4 +1,4 @@
-use Rattle.cl_deadlock_laws.proofs.Worked as worked
+use Rattle.cl_deadlock_laws.proofs.Cases as worked
 use Rattle.cl_deadlock_laws.proofs.worked.each_sends_first.Goals as goal
 
 pub returns : goal.returns

@@ -1,4 +1,4 @@
-use Rattle.cl_machine.proofs.Worked as worked
+use Rattle.cl_machine.proofs.Cases as worked
 use Rattle.cl_machine.proofs.worked.receives_first.Goals as goal
 
 pub returns : goal.returns

@@ -1,4 +1,4 @@
-use Rattle.cl_machine.proofs.Worked as worked
+use Rattle.cl_machine.proofs.Cases as worked
 use Rattle.cl_machine.proofs.worked.stamps_above_both_clocks.Goals as goal
 
 pub returns : goal.returns

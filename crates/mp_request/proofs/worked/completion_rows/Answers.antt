@@ -1,4 +1,4 @@
-use Rattle.mp_request.proofs.Worked as worked
+use Rattle.mp_request.proofs.Cases as worked
 use Rattle.mp_request.proofs.worked.completion_rows.Goals as goal
 
 pub returns : goal.returns
