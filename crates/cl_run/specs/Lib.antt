@@ -7,7 +7,7 @@ pub use Rattle.cl_machine.specs.Parts
 pub use Rattle.cl_machine.specs.Product
 pub use Rattle.cl_machine.specs.Joined
 pub use Rattle.cl_machine.specs.Laws
-pub use Rattle.cl_machine.specs.Rows
+pub use Rattle.cl_machine.specs.Worked
 pub mod Setups
 pub mod Rounds
 pub mod Runs
