@@ -1,0 +1,64 @@
+"""What the programs of this folder are, and what each rank of them may print: the files `programs` and
+NAME.expected. c/run-all, c/build-all and c/examples/by-mpi use it."""
+
+import os
+import re
+
+FOLDER = os.path.dirname(os.path.abspath(__file__))
+
+# the line that begins the part of a rank, and the one that begins what `--why` tells
+HEAD = re.compile(r"rank ([0-7])|why")
+
+
+class Program:
+    """A line of the file `programs`."""
+
+    def __init__(self, name, kind, status, options):
+        self.name, self.kind, self.status, self.options = name, kind, int(status), options
+        self.source = os.path.join(FOLDER, name + ".c")
+        self.image = name + ".image"
+        self.ranks = int(options[options.index("-n") + 1])
+
+    def expected(self):
+        """What is expected of it, by its file."""
+        with open(os.path.join(FOLDER, self.name + ".expected"), encoding="ascii") as file:
+            return Expected(file.read(), self.ranks)
+
+
+class Expected:
+    """What each rank prints, and lines of `--why`. A rank that has several parts prints one of them."""
+
+    def __init__(self, text, ranks):
+        self.parts = {rank: [] for rank in range(ranks)}
+        self.why = []
+        lines = None
+        for line in text.splitlines():
+            head = HEAD.fullmatch(line)
+            if not head:
+                lines.append(line)
+            elif head[1]:
+                lines = []
+                self.parts[int(head[1])].append(lines)
+            else:
+                lines = self.why
+        for parts in self.parts.values():
+            parts[:] = ["".join(line + "\n" for line in part) for part in parts]
+
+    def is_part(self, rank, text):
+        """Whether a rank may print this."""
+        return text in self.parts[rank]
+
+    def outcomes(self):
+        """All that a rank may print, of those ranks that may print several things."""
+        return {(rank, part) for rank, parts in self.parts.items() if len(parts) > 1 for part in parts}
+
+
+def programs(names=()):
+    """The programs in the order of the file: those that are named, or all."""
+    with open(os.path.join(FOLDER, "programs"), encoding="ascii") as file:
+        lines = [line.split() for line in file if line.strip() and not line.startswith("#")]
+    found = [Program(*line[:3], line[3:]) for line in lines]
+    missing = set(names) - {program.name for program in found}
+    if missing:
+        raise SystemExit(f"there is no program {', '.join(sorted(missing))} in the file `programs`")
+    return [program for program in found if not names or program.name in names]
