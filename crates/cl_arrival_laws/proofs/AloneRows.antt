@@ -1,9 +1,9 @@
 -- The rows of ranks that go alone.
 use Rattle.std.specs.List.Sorted.{IsStrictlySortedBy}
-use Rattle.std.specs.Prelude.{All, [], ◌∷◌}
+use Rattle.std.specs.Prelude.{All, ℕ, ◌≡◌, ◌+◌, ◌%◌, ◌<◌, ◌≤◌, List, [], ◌∷◌, length}
 use Rattle.std.proofs.Common.{refl, arith}
 use Rattle.std.proofs.lemmas.List.Elements.{All-nil, All-cons}
-use Rattle.rv_image.specs.Image.{IsImage, IsLink}
+use Rattle.rv_image.specs.Image.{IsImage, IsLink, data_start}
 use Rattle.rv_decode.specs.Decoded.{decoded}
 use Rattle.rv_hart.specs.Effect.{gives}
 use Rattle.rv_hart.specs.Results.{imm_result}
@@ -17,9 +17,11 @@ one_link =
     All-cons (IsLink 2) _ [] (record { from_there = omega arith; to_there = omega arith; differ = λ e. omega (arith, e) })
     (All-nil (IsLink 2))
 
-sending_is_image : IsImage (linked sending_words)
+-- an image of these words: there are some, and they fit
+linked_is_image : (words : List ℕ) → 0 < length (linked words).text → length (linked words).text % 4 ≡ 0
+    → length (linked words).text ≤ 4096 → data_start (length (linked words).text) + 0 ≤ 4096 → IsImage (linked words)
 unfolding IsStrictlySortedBy
-sending_is_image = record {
+linked_is_image words some whole few fit = record {
   has_ranks = omega arith;
   few_ranks = omega arith;
   has_harts = omega arith;
@@ -28,12 +30,12 @@ sending_is_image = record {
   most_memory = omega arith;
   whole_pages = refl;
   stacks_fit = omega arith;
-  has_text = omega arith;
-  whole_words = refl;
-  text_fits = omega arith;
-  init_fits = omega arith;
+  has_text = some;
+  whole_words = whole;
+  text_fits = few;
+  init_fits = fit;
   entry_aligned = refl;
-  entry_in_text = omega arith;
+  entry_in_text = some;
   few_comms = omega arith;
   comms = All-nil _;
   few_links = omega arith;
@@ -43,31 +45,11 @@ sending_is_image = record {
   rising = tt;
 }
 
+sending_is_image : IsImage (linked sending_words)
+sending_is_image = linked_is_image sending_words (omega arith) refl (omega arith) (omega arith)
+
 receiving_is_image : IsImage (linked receiving_words)
-unfolding IsStrictlySortedBy
-receiving_is_image = record {
-  has_ranks = omega arith;
-  few_ranks = omega arith;
-  has_harts = omega arith;
-  few_harts = omega arith;
-  least_memory = omega arith;
-  most_memory = omega arith;
-  whole_pages = refl;
-  stacks_fit = omega arith;
-  has_text = omega arith;
-  whole_words = refl;
-  text_fits = omega arith;
-  init_fits = omega arith;
-  entry_aligned = refl;
-  entry_in_text = omega arith;
-  few_comms = omega arith;
-  comms = All-nil _;
-  few_links = omega arith;
-  links = one_link;
-  few_symbols = omega arith;
-  symbols = All-nil _;
-  rising = tt;
-}
+receiving_is_image = linked_is_image receiving_words (omega arith) refl (omega arith) (omega arith)
 
 pub ready : ReadyRow
 unfolding asked told doing returned stepped decoded gives imm_result phase_begun part_readied

@@ -1,10 +1,9 @@
 -- A Take writes the bytes that it took to their place.
-use Rattle.std.specs.Prelude.{ℕ, ◌+◌, ◌*◌, ◌≡◌, ◌⊎◌, ◌==◌, Bool, true, false, List, [], ◌∷◌, take, Option, None, Some}
+use Rattle.std.specs.Prelude.{ℕ, ◌+◌, ◌*◌, ◌≡◌, ◌⊎◌, ◌==◌, Bool, true, false, List, take, Option, None, Some}
 use Rattle.std.specs.Prelude.{if◌then◌else◌}
 use Rattle.std.proofs.Common.{refl, sym, ap, ◌∙◌, subst}
 use mathlib.Core.Logic.{inl, inr}
 use Rattle.rv_memory.specs.Memory.{Memory}
-use Rattle.mp_types.specs.declared.requests.Request.{Request}
 use Rattle.mp_types.specs.declared.requests.Request.TheVariants as request
 use Rattle.mp_request.specs.declared.entries.OpenRequest.{OpenRequest}
 use Rattle.mp_request.specs.declared.entries.Partitions.{Partitions}
@@ -36,66 +35,31 @@ use Rattle.cl_state.specs.declared.partitions.Awaited.TheVariants.{Box, Unready}
 use Rattle.cl_state.specs.declared.pending.Manner.{Manner}
 use Rattle.cl_state.specs.declared.pending.Manner.TheVariants.{Immediate, Blocking, Polling, Posting}
 use Rattle.cl_state.specs.declared.pending.Pending.{Pending}
-use Rattle.cl_state.specs.declared.pending.Pending.TheVariants as pending
 use Rattle.cl_state.specs.declared.pending.Target.{Target}
 use Rattle.cl_state.specs.declared.row.Row.{Row}
-use Rattle.cl_state.specs.Asked.{Part, asked, asked_by, asked_completing, asked_in, asked_poll, asked_start, doing}
+use Rattle.cl_state.specs.Asked.{Part, asked, asked_by, asked_completing, asked_in, doing}
 use Rattle.cl_state.specs.Asked.{part_of}
-use Rattle.cl_state.specs.Partitions.{asked_arrived, asked_awaited, asked_ready, awaited, awaited_at, awaited_by}
+use Rattle.cl_state.specs.Partitions.{asked_arrived, asked_awaited, awaited, awaited_at, awaited_by}
 use Rattle.cl_state.specs.Partitions.{awaited_in, taking_of}
-use Rattle.cl_state.specs.Pending.{asked_pending, pending_of}
+use Rattle.cl_state.specs.Pending.{pending_of}
 use Rattle.cl_state.specs.Rank.{Rank}
-use Rattle.cl_state.specs.Several.{asked_all, pendings, posts_pending}
+use Rattle.cl_state.specs.Several.{pendings, posts_pending}
 use Rattle.cl_state.specs.Table.{completing, row_arrived, row_awaited, row_completing, row_in, row_of, row_of_part}
 use Rattle.cl_state.specs.Told.{arrived, arrived_from, not_yet, seen_one, taken_one, told, told_row, with_taken_box}
 use Rattle.cl_state.specs.Told.{with_status}
-use Rattle.cl_state.specs.Transfers.{asked_transfer, receive_of, send_of, source_of, tag_of}
+use Rattle.cl_state.specs.Transfers.{receive_of, send_of, source_of, tag_of}
 use Rattle.cl_state.specs.Written.{written}
 use Rattle.cl_state.proofs.Moved.{by_awaited, by_taking, row_by, row_is}
+use Rattle.cl_state_laws.specs.Laws.{IsLook}
+use Rattle.cl_state_laws.proofs.Misses.{no_look, no_look_all, no_look_if, no_look_pending, no_look_poll, no_look_ready}
+use Rattle.cl_state_laws.proofs.Misses.{no_look_start}
 use Rattle.cl_rank.specs.Deeds.{Suits, answer_of}
 use Rattle.cl_arrival_laws.specs.Arrival.{WriteLaw}
 
--- ---- which turns look at a box
-
-abbrev IsLook : Ask → Type 0
-IsLook (ask.Look link box) = Unit {0}
-IsLook _ = ⊥
-
-no_look : (memory : Memory) (now : Bool) (t : Transfer) → IsLook (asked_transfer memory now t) → ⊥
-no_look memory now transfer.SendToNull look = look
-no_look memory now transfer.ReceiveFromNull look = look
-no_look memory now (transfer.Send sync buffer count dest tag comm) look = look
-no_look memory now (transfer.Receive buffer capacity source tag comm) look = look
-no_look memory now (transfer.ReceiveClaimed buffer capacity) look = look
-no_look memory now (transfer.SendPartitions side) look = look
-no_look memory now (transfer.ReceivePartitions side) look = look
-
-no_look_if : (b : Bool) (r : Request) → IsLook (if b then ask.Local else ask.Hub r) → ⊥
-no_look_if true r look = look
-no_look_if false r look = look
-
-no_look_start : (memory : Memory) (o : Option OpenRequest) → IsLook (asked_start memory o) → ⊥
-no_look_start memory None look = look
-no_look_start memory (Some r) look = no_look memory false r.transfer look
-
-no_look_pending : (p : Pending) → IsLook (asked_pending p) → ⊥
-no_look_pending pending.Nothing look = look
-no_look_pending pending.FromNull look = look
-no_look_pending (pending.Message post buffer capacity) look = look
-no_look_pending (pending.Word post) look = look
-
-no_look_all : (posts : List ℕ) → IsLook (asked_all posts) → ⊥
-no_look_all [] look = look
-no_look_all (post ∷ posts) look = look
-
-no_look_ready : (site : Site) (memory : Memory) (part : ℕ) (o : Option Partitions)
-    → IsLook (asked_ready site memory part o) → ⊥
-no_look_ready site memory part None look = look
-no_look_ready site memory part (Some side) look = look
-
-no_look_poll : (c : Call) (post : ℕ) → IsLook (asked_poll c post) → ⊥
-no_look_poll (call.Ssend s) post look = look
-no_look_poll _ post look = look
+-- a question whether a thing is there, and not whether one was taken
+abbrev AsksThing : Ask → Type 0
+AsksThing (ask.Look link box) = Unit {0}
+AsksThing _ = ⊥
 
 module _ (site : Site) (old : Part) (link box : ℕ) (bytes : List ℕ) where
   abbrev placed_in : Partitions → Memory
@@ -189,16 +153,16 @@ module _ (site : Site) (old : Part) (link box : ℕ) (bytes : List ℕ) where
       (λ e. absurd (subst IsLook (sym e) tt)) (λ going unknown e. absurd (subst IsLook (sym e) tt))
       (λ b going is. says_takes m side target b)
 
-  says_unready : (m : Manner) → IsLook (asked_awaited m Unready) → ⊥
+  says_unready : (m : Manner) → AsksThing (asked_awaited m Unready) → ⊥
   says_unready Immediate look = look
   says_unready Blocking look = look
   says_unready Polling look = look
   says_unready Posting look = look
 
   no_look_sender : (m : Manner) (l : ℕ) (p : SendPhase)
-      → IsLook (asked_awaited m (taking_of l p (next_to_free p))) → ⊥
+      → AsksThing (asked_awaited m (taking_of l p (next_to_free p))) → ⊥
   no_look_sender m l p =
-      by_taking (λ w. IsLook (asked_awaited m w) → ⊥) l p (λ look. look) (says_unready m)
+      by_taking (λ w. AsksThing (asked_awaited m w) → ⊥) l p (λ look. look) (says_unready m)
       (λ free going next ready look. look)
 
   says_by : (m : Manner) (c : Completing) (t : Transfer) (p : Pending)
@@ -207,7 +171,7 @@ module _ (site : Site) (old : Part) (link box : ℕ) (bytes : List ℕ) where
       says_receiver m side (completing m c 0 0) (receiving_at old.phases side.link)
       (next_box (receiving_at old.phases side.link))
   says_by m c (transfer.SendPartitions side) p =
-      λ e. absurd (looked e (no_look_sender m side.link (sending_at old.phases side.link)))
+      λ e. absurd (no_look_sender m side.link (sending_at old.phases side.link) (subst AsksThing (sym e) tt))
   says_by m c transfer.SendToNull p = λ e. absurd (looked e (no_look_pending p))
   says_by m c transfer.ReceiveFromNull p = λ e. absurd (looked e (no_look_pending p))
   says_by m c (transfer.Send sync buffer count dest tag comm) p =

@@ -54,7 +54,7 @@ use Rattle.cl_state_laws.specs.Laws.{IsLook, MissLaw, missed}
 abbrev pub Looks : Manner → Row → Type 0
 Looks m row = (site : Site) (part : Part) → told_row site row answer.Missed part ≡ not_yet m part
 
-no_look : (memory : Memory) (now : Bool) (t : Transfer) → IsLook (asked_transfer memory now t) → ⊥
+pub no_look : (memory : Memory) (now : Bool) (t : Transfer) → IsLook (asked_transfer memory now t) → ⊥
 no_look memory now transfer.SendToNull look = look
 no_look memory now transfer.ReceiveFromNull look = look
 no_look memory now (transfer.Send sync buffer count dest tag comm) look = look
@@ -67,11 +67,11 @@ pub no_look_if : (b : Bool) (r : Request) → IsLook (if b then ask.Local else a
 no_look_if true r look = look
 no_look_if false r look = look
 
-no_look_start : (memory : Memory) (o : Option OpenRequest) → IsLook (asked_start memory o) → ⊥
+pub no_look_start : (memory : Memory) (o : Option OpenRequest) → IsLook (asked_start memory o) → ⊥
 no_look_start memory None look = look
 no_look_start memory (Some r) look = no_look memory false r.transfer look
 
-no_look_pending : (p : Pending) → IsLook (asked_pending p) → ⊥
+pub no_look_pending : (p : Pending) → IsLook (asked_pending p) → ⊥
 no_look_pending pending.Nothing look = look
 no_look_pending pending.FromNull look = look
 no_look_pending (pending.Message post buffer capacity) look = look
@@ -132,7 +132,7 @@ looks_completing phases m c (Some r) look =
     subst (λ (row : Row). Looks m row) (row_is m c (awaited phases (Some r)) r)
     (looks_at phases m c r.state r.transfer (pending_of (Some r)) look)
 
-no_look_ready : (site : Site) (memory : Memory) (part : ℕ) (o : Option Partitions)
+pub no_look_ready : (site : Site) (memory : Memory) (part : ℕ) (o : Option Partitions)
     → IsLook (asked_ready site memory part o) → ⊥
 no_look_ready site memory part None look = look
 no_look_ready site memory part (Some side) look = look

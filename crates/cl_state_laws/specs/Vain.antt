@@ -2,7 +2,6 @@
 use Rattle.std.specs.Prelude.{◌≡◌, ℕ, Bool, true, false}
 use Rattle.rv_hart.specs.declared.state.Mode.{Mode}
 use Rattle.rv_hart.specs.declared.state.Mode.TheVariants.{Waiting, Ended, Trapped}
-use Rattle.mp_types.specs.declared.replies.Reply.TheVariants as reply
 use Rattle.cl_calls.specs.declared.calls.Call.TheVariants as call
 use Rattle.cl_state.specs.declared.asking.Doing.{Doing}
 use Rattle.cl_state.specs.declared.asking.Doing.TheVariants.{Go, Poll}

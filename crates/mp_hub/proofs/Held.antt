@@ -240,6 +240,14 @@ held_gathered h rank (n ∷ ns) b same known held =
           (let bad : true ≡ false = sym sends ∙ ap (is_send_of rank) (sym (line_same n)) ∙ e in absurd (cc))
     ]
 
+-- and of what a hub keeps, which is seen as this hub
+pub held_by_gathering : (h seen : HubView) (rank : ℕ) (ns : List ℕ) (after : Board) → h ≡ seen
+    → list_all (λ n. is_known seen rank n) ns ≡ true → after ≡ (all_got rank h.board ns).1
+    → AreHeld h.board h.claims → AreHeld after h.claims
+held_by_gathering h seen rank ns after is known gathered held =
+    subst (λ (b : Board). AreHeld b h.claims) (sym gathered)
+    (held_gathered h rank ns h.board refl (ap (λ (k : HubView). list_all (λ n. is_known k rank n) ns) is ∙ known) held)
+
 -- ---- claims
 
 pub held_fewer : (b : Board) (ws : List Waiting) (rank n : ℕ) → AreHeld b ws → AreHeld b (without_claim ws rank n)

@@ -13,48 +13,13 @@ use Rattle.mp_types.specs.declared.requests.Request.TheVariants.{Init}
 use Rattle.mp_match.proofs.Places.{get_snoc, get_within}
 use Rattle.mp_transfers.specs.declared.sides.Setup.{Setup}
 use Rattle.mp_transfers.specs.declared.sides.Side.{Side}
+use Rattle.mp_transfers.proofs.Links.{first_for, not_found}
 use Rattle.mp_transfers.specs.Inits.{peer_of, is_other_side, same_transfer, is_reserved, is_for, lowest_link, same_total}
 use Rattle.mp_hub.specs.Hub.{HubView, Call, outcome, init_outcome, init_with, init_first, side_added, setup_of, hub_after, hub_at_start}
 use Rattle.mp_hub.specs.Transfers.{begun, begun_after, is_of, sides_of}
 use Rattle.mp_hub.specs.Links.{GoesFrom, IsTaken, IsOneTransfer, LinksLaw}
 use Rattle.mp_hub.proofs.Histories.{call_by_call, hub_more}
-use Rattle.mp_hub.proofs.Transfers.{Joins, Steps, is_none, is_one, steps, Paired, paired, own_new, Has, has_place, sides_are, find_passes, numbered, transfer_of, links_on}
-
--- ---- links by their numbers
-
-found_numbered : (p : ℕ × Link → Bool) (n : ℕ) (links : List Link) (l : ℕ × Link)
-    → find p (enumerate_from n links) ≡ Some l → (d : ℕ) × (l.0 ≡ n + d) × (slice_get links d ≡ Some l.1)
-found_numbered p n [] l h = absurd (cc)
-found_numbered p n (x ∷ links) l h = go (p (n, x)) (λ g. found_numbered p (n + 1) links l g) h
-  where
-    go : (b : Bool)
-        → (find p (enumerate_from (n + 1) links) ≡ Some l
-        → (d : ℕ) × (l.0 ≡ (n + 1) + d) × (slice_get links d ≡ Some l.1))
-        → cond b (Some (n, x)) (find p (enumerate_from (n + 1) links)) ≡ Some l
-        → (d : ℕ) × (l.0 ≡ n + d) × (slice_get (x ∷ links) d ≡ Some l.1)
-    go true rest g =
-        let same : (n, x) ≡ l = same_Some (n, x) l g in
-        let number : n ≡ l.0 = ap (λ (k : ℕ × Link). k.0) same in
-        (0, (omega (arith, number)), ap (λ (k : ℕ × Link). Some k.1) same)
-    go false rest g = (let r = rest g in let e = r.1 in (suc r.0, (omega (arith, e)), r.2))
-
-not_found : (p : ℕ × Link → Bool) (n : ℕ) (links : List Link) (d : ℕ) (l : Link)
-    → find p (enumerate_from n links) ≡ None → slice_get links d ≡ Some l → p (n + d, l) ≡ false
-not_found p n [] d l h e = absurd (cc)
-not_found p n (x ∷ links) d l h e =
-    go (p (n, x)) refl d e (λ k g. not_found p (n + 1) links k l g) h
-  where
-    go : (b : Bool) → p (n, x) ≡ b → (d : ℕ) → slice_get (x ∷ links) d ≡ Some l
-        → ((k : ℕ) → find p (enumerate_from (n + 1) links) ≡ None → slice_get links k ≡ Some l
-        → p ((n + 1) + k, l) ≡ false)
-        → cond b (Some (n, x)) (find p (enumerate_from (n + 1) links)) ≡ None → p (n + d, l) ≡ false
-    go true f d e rest g = absurd (cc)
-    go false f zero e rest g =
-        (let same : x ≡ l = same_Some x l e in
-        let number : n + 0 ≡ n = omega arith in
-        ap (λ k. p (k, l)) number ∙ ap (λ k. p (n, k)) (sym same) ∙ f)
-    go false f (suc d) e rest g =
-        (let number : n + suc d ≡ (n + 1) + d = omega arith in ap (λ k. p (k, l)) number ∙ rest d g e)
+use Rattle.mp_hub.proofs.Transfers.{Joins, Steps, is_none, is_one, steps, Paired, paired, own_new, Has, has_place, sides_are, numbered, transfer_of, links_on}
 
 -- ---- each side goes over a link of its own two ranks
 
@@ -84,15 +49,14 @@ lowest_goes links sides s link h = go (find (is_for sides s) (enumerate_from 0 l
         → option_map (λ (l : ℕ × Link). l.0) o ≡ Some link → GoesFrom links s.from s.to link
     go None e g = absurd (cc)
     go (Some l) e g =
-        let passes = find_passes (is_for sides s) (enumerate_from 0 links) l e in
+        let found = first_for (is_for sides s) 0 links l e in
         let from = (l.1.from == s.from) in
         let to = (l.1.to == s.to) in
-        let p = and_parts (from && to) (not (is_reserved sides l.0)) passes in
+        let p = and_parts (from && to) (not (is_reserved sides l.0)) found.passes in
         let q = and_parts from to p.0 in
-        let d = found_numbered (is_for sides s) 0 links l e in
-        let number : d.0 ≡ link = (let a = d.1 in let b = same_Some l.0 link g in omega (arith, a, b)) in (
+        let number : found.place ≡ link = (let a = found.number in let b = same_Some l.0 link g in omega (arith, a, b)) in (
           l.1,
-          ap (slice_get links) (sym number) ∙ d.2,
+          ap (slice_get links) (sym number) ∙ found.there,
           eqb-true l.1.from s.from q.0,
           eqb-true l.1.to s.to q.1,
         )

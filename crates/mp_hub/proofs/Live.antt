@@ -1,5 +1,5 @@
 -- A post that is over is ready.
-use Rattle.std.specs.Prelude.{ℕ, zero, suc, ◌≡◌, ◌||◌, ◌&&◌, not, Bool, cond, Option, Some, None, true, false}
+use Rattle.std.specs.Prelude.{ℕ, zero, suc, ◌≡◌, ◌||◌, ◌&&◌, not, Bool, cond, Some, true, false}
 use Rattle.std.specs.List.{slice_get}
 use Rattle.std.specs.Option.{is_some}
 use Rattle.std.proofs.Common.{refl, sym, ap, ◌∙◌, subst, arith}
@@ -7,10 +7,10 @@ use Rattle.mp_match.specs.declared.posts.Line.{Line}
 use Rattle.mp_match.specs.declared.posts.Post.{Post}
 use Rattle.mp_match.specs.declared.posts.Post.TheVariants.{Send, Receive, Claim}
 use Rattle.mp_match.specs.declared.posts.Selection.{Selection}
-use Rattle.mp_match.specs.Board.{Board, claim_at, claim_in, claim_of, is_finished, is_held, is_receive, is_receive_at, is_send_of}
+use Rattle.mp_match.specs.Board.{claim_at, claim_in, claim_of, is_finished, is_held, is_receive, is_receive_at, is_send_of}
 use Rattle.mp_match.specs.Board.{is_standard, line_of, partner_of}
 use Rattle.mp_match.specs.Claimed.{is_claim_collected, open_claim}
-use Rattle.mp_match.specs.Live.{IsOver, are_exchanged}
+use Rattle.mp_match.specs.Live.{IsOver}
 use Rattle.mp_match.specs.InnerLive.{IsPast}
 use Rattle.mp_match.specs.Pairs.{partner_of_line}
 use Rattle.mp_hub.specs.Held.{AreHeld}

@@ -10,7 +10,7 @@ use Rattle.mp_transfers.specs.declared.sides.Side.{Side}
 use Rattle.mp_transfers.specs.Inits.{is_for, is_reserved, lowest_link}
 use Rattle.mp_transfers.specs.Laws.{IsTaken, Joins, LinkLaw}
 
-abbrev Test : Type 0
+abbrev pub Test : Type 0
 Test = ℕ × Link → Bool
 
 -- ---- links by their numbers
@@ -23,10 +23,10 @@ pub record IsFirst (p : Test) (n : ℕ) (links : List Link) (l : ℕ × Link) : 
   pub passes : p l ≡ true
   pub below : (k : ℕ) (x : Link) → k < place → slice_get links k ≡ Some x → p (n + k, x) ≡ false
 
-first : (p : Test) (n : ℕ) (links : List Link) (l : ℕ × Link) → find p (enumerate_from n links) ≡ Some l
+pub first_for : (p : Test) (n : ℕ) (links : List Link) (l : ℕ × Link) → find p (enumerate_from n links) ≡ Some l
     → IsFirst p n links l
-first p n [] l h = absurd (cc)
-first p n (x ∷ links) l h = go (p (n, x)) refl (λ g. first p (n + 1) links l g) h
+first_for p n [] l h = absurd (cc)
+first_for p n (x ∷ links) l h = go (p (n, x)) refl (λ g. first_for p (n + 1) links l g) h
   where
     go : (b : Bool) → p (n, x) ≡ b
         → (find p (enumerate_from (n + 1) links) ≡ Some l → IsFirst p (n + 1) links l)
@@ -62,7 +62,7 @@ first p n (x ∷ links) l h = go (p (n, x)) refl (λ g. first p (n + 1) links l 
             let number : n + suc k ≡ (n + 1) + k = omega arith in
             ap (λ z. p (z, y)) number ∙ rest k y (omega (arith, low)) at
 
-not_found : (p : Test) (n : ℕ) (links : List Link) (d : ℕ) (l : Link)
+pub not_found : (p : Test) (n : ℕ) (links : List Link) (d : ℕ) (l : Link)
     → find p (enumerate_from n links) ≡ None → slice_get links d ≡ Some l → p (n + d, l) ≡ false
 not_found p n [] d l h e = absurd (cc)
 not_found p n (x ∷ links) d l h e =
@@ -134,7 +134,7 @@ module _ (links : List Link) (sides : List Side) (s : Setup) (n : ℕ) (h : lowe
       go None e g = absurd (cc)
       go (Some l) e g =
           let same : (l.0, l.1) ≡ (n, l.1) = ap (λ k. (k, l.1)) (same_Some l.0 n g) in
-          record { link = l.1; found = subst (λ k. IsFirst (is_for sides s) 0 links k) same (first (is_for sides s) 0 links l e) }
+          record { link = l.1; found = subst (λ k. IsFirst (is_for sides s) 0 links k) same (first_for (is_for sides s) 0 links l e) }
 
   place_is : given.found.place ≡ n
   place_is = let e = given.found.number in omega (arith, e)

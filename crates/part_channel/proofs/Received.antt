@@ -15,10 +15,31 @@ use Rattle.part_channel.specs.Channels.{box_of, receiver_box}
 use Rattle.part_channel.specs.Sending.{one_if, none_marked}
 use Rattle.part_channel.specs.Receiving.{RecvView, round_of, lowest_from, is_left, overlaps, are_left, take_refusal}
 use Rattle.part_channel.specs.Receiving.{lane_shown, lane_took, shown_take, IsRecvLane, AreRecvLanes}
-use Rattle.part_channel.proofs.Lists.{some_same, get_set, there, unmarked, all_unmarked, not_le}
+use Rattle.part_channel.proofs.Lists.{read_at, some_same, get_set, there, unmarked, all_unmarked, not_le}
 
 off : true ≡ false → ⊥
 off e = cc
+
+-- the key that was read is that of its box
+pub key_read : (keys : List Receiver) (boxes : ℕ) (active : Bool) (taken : List Bool) (i : ℕ) (key : Receiver)
+    → AreRecvLanes keys boxes active taken → i < boxes → key ≡ get_or keys i key → slice_get keys i ≡ Some key
+key_read keys boxes active taken i key h low is =
+    let long : length keys ≡ 16 = h.long in
+    let most : boxes ≤ 16 = h.most in
+    read_at keys i key (omega (arith, low, long, most)) is
+
+-- what a side with these fields is seen as, after so many phases
+abbrev pub recv_view : List Receiver → ℕ → ℕ → ℕ → ℕ → ℕ → Bool → List Bool → RecvView
+recv_view keys parts size boxes bytes phase active taken = record {
+  keys = keys;
+  parts = parts;
+  size = size;
+  boxes = boxes;
+  bytes = bytes;
+  phase = phase;
+  active = active;
+  taken = taken;
+}
 
 -- A new side, its cut, and the beginning of a phase
 

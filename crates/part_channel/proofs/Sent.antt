@@ -13,7 +13,7 @@ use Rattle.part_channel.specs.Channels.{box_of, sender_box}
 use Rattle.part_channel.specs.Sending.{SendView, is_ready, ready_refusal, looks_at, looked, shown, one_freed, tested}
 use Rattle.part_channel.specs.Sending.{shown_progress, test_progress, one_if, phase_of, none_marked, IsSendLane}
 use Rattle.part_channel.specs.Sending.{AreSendLanes, IsPast}
-use Rattle.part_channel.proofs.Lists.{some_same, get_set, there, unmarked, all_unmarked, not_le}
+use Rattle.part_channel.proofs.Lists.{read_at, some_same, get_set, there, unmarked, all_unmarked, not_le}
 
 off : true ≡ false → ⊥
 off e = cc
@@ -26,6 +26,19 @@ own_at ks ps boxes i k p places keys at there = some_same k.at p.at
     (sym (slice_get-map sender_box ks i ∙ ap (λ o. option_map sender_box o) at)
     ∙ (ap (λ l. slice_get l i) (keys ∙ sym places)
     ∙ (slice_get-map box_of ps i ∙ ap (λ o. option_map box_of o) there)))
+
+-- the key that was read is that of its partition
+pub key_read : (keys : List Sender) (parts freed : ℕ) (ready : List Bool) (i : ℕ) (key : Sender)
+    → AreSendLanes keys parts freed ready → i < parts → key ≡ get_or keys i key → slice_get keys i ≡ Some key
+key_read keys parts freed ready i key h low is =
+    let long : length keys ≡ 16 = h.long in
+    let most : parts ≤ 16 = h.most in
+    read_at keys i key (omega (arith, low, long, most)) is
+
+-- what a side with these fields is seen as
+abbrev pub send_view : List Sender → ℕ → ℕ → ℕ → List Bool → SendView
+send_view keys parts size freed ready =
+    record { keys = keys; parts = parts; size = size; phase = phase_of keys ready; ready = ready; freed = freed }
 
 -- what one lane's step does to the phase
 phase_set : (keys : List Sender) (was now : List Bool) (i : ℕ) (old new : Sender) → slice_get keys i ≡ Some old

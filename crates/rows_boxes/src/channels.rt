@@ -2,6 +2,7 @@
 ghost use Rattle.std.specs.Prelude.{◌≡◌, ◌⊎◌, ◌*◌, ◌≤◌, map, IfSome};
 ghost use Rattle.part_channel.specs.Channels.{sender_box, receiver_box};
 ghost use Rattle.part_channel.specs.Sending.{IsPast};
+ghost use Rattle.rows_boxes.specs.Channels.{IsSideOf};
 
 use crate::boxes::print_left;
 use mp_types::{Code, Stamp};
@@ -49,11 +50,9 @@ fn sent_once(
     call: Sends,
     clock: Stamp,
 ) -> Option<Stamp>
-    requires own { map sender_box send.old.keys ≡ channel.now.boxes }
-    requires bytes { (send.old.size ≡ size) × (size ≤ 128) × (size ≤ 8 * channel.now.width) }
+    requires side { IsSideOf channel.now size send.old }
     requires past { IsPast send.old clock }
-    ensures own { map sender_box send.new.keys ≡ channel.now.boxes }
-    ensures size { send.new.size ≡ size }
+    ensures side { IsSideOf channel.now size send.new }
     ensures past { IfSome result (λ stamp. IsPast send.new stamp) }
 {
     if LAST_CLOCK < clock {
@@ -94,11 +93,9 @@ fn sent(
     calls: &[Sends],
     mut clock: Stamp,
 ) -> Option<Stamp>
-    requires own { map sender_box send.old.keys ≡ channel.now.boxes }
-    requires bytes { (send.old.size ≡ size) × (size ≤ 128) × (size ≤ 8 * channel.now.width) }
+    requires side { IsSideOf channel.now size send.old }
     requires past { IsPast send.old clock }
-    ensures own { map sender_box send.new.keys ≡ channel.now.boxes }
-    ensures size { send.new.size ≡ size }
+    ensures side { IsSideOf channel.now size send.new }
     ensures past { IfSome result (λ stamp. IsPast send.new stamp) }
 {
     for i in 0..calls.len() {

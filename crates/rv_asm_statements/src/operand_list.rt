@@ -1,6 +1,6 @@
 //! What stands between the commas of a statement.
 
-ghost use Rattle.std.specs.Prelude.{◌≡◌, ◌<◌, ◌≤◌, [], IfSome, false, is_some, length};
+ghost use Rattle.std.specs.Prelude.{◌≡◌, ◌<◌, ◌≤◌, [], IfSome, Some, false, is_some, length};
 ghost use Rattle.rv_asm_tokens.specs.Lexeme.{number_value};
 ghost use Rattle.rv_asm_statements.specs.Arguments.{arguments_of};
 ghost use Rattle.rv_asm_statements.specs.CodeViews.{argument_view};
@@ -32,6 +32,13 @@ pub struct Piece<'a> {
     pub more: bool,
 }
 
+#[inline(always)]
+fn taken_piece<'a>(operand: Operand<'a>, more: bool) -> Option<Piece<'a>>
+    ensures { result ≡ Some (record { operand = operand.entry; more = more }) }
+{
+    Some(Piece { operand, more })
+}
+
 /// Takes what may stand behind an operand: nothing, or a comma.
 fn ending<'a>(tokens: &mut Tokens<'a>, operand: Operand<'a>) -> Option<Piece<'a>>
     ensures front { piece_view result tokens.new ≡ ended (argument_view operand.entry) tokens.old }
@@ -39,14 +46,8 @@ fn ending<'a>(tokens: &mut Tokens<'a>, operand: Operand<'a>) -> Option<Piece<'a>
     ensures shorter { length tokens.new ≤ length tokens.old }
 {
     match tokens.next() {
-        None => Some(Piece {
-            operand,
-            more: false,
-        }),
-        Some(Token::Comma) => Some(Piece {
-            operand,
-            more: true,
-        }),
+        None => taken_piece(operand, false),
+        Some(Token::Comma) => taken_piece(operand, true),
         _ => None,
     }
 }
@@ -59,14 +60,8 @@ fn at_name<'a>(tokens: &mut Tokens<'a>, name: &'a [u8]) -> Option<Piece<'a>>
 {
     let operand = Operand::Name(name);
     match tokens.next() {
-        None => Some(Piece {
-            operand,
-            more: false,
-        }),
-        Some(Token::Comma) => Some(Piece {
-            operand,
-            more: true,
-        }),
+        None => taken_piece(operand, false),
+        Some(Token::Comma) => taken_piece(operand, true),
         Some(Token::Plus) => match tokens.next() {
             Some(Token::Number(number)) => ending(tokens, Operand::Sum(name, number)),
             _ => None,
@@ -98,14 +93,8 @@ fn at_value<'a>(tokens: &mut Tokens<'a>, number: Number) -> Option<Piece<'a>>
 {
     let operand = Operand::Number(number);
     match tokens.next() {
-        None => Some(Piece {
-            operand,
-            more: false,
-        }),
-        Some(Token::Comma) => Some(Piece {
-            operand,
-            more: true,
-        }),
+        None => taken_piece(operand, false),
+        Some(Token::Comma) => taken_piece(operand, true),
         Some(Token::Open) => at_place(tokens, number),
         _ => None,
     }

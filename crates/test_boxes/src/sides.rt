@@ -7,6 +7,7 @@ ghost use Rattle.part_channel.specs.declared.progress.Take.TheVariants.{Taken};
 ghost use Rattle.part_box.specs.Keys.{Sender, Receiver};
 ghost use Rattle.part_channel.specs.Channels.{sender_box, receiver_box};
 ghost use Rattle.part_channel.specs.Sending.{IsPast, none_marked};
+ghost use Rattle.test_boxes.specs.Sides.{MaySend, MaySendEight, MayTake};
 
 use mp_types::{Code, Stamp};
 use part_channel::{Channel, Progress, RecvSide, SendSide, Take};
@@ -39,8 +40,7 @@ pub fn a_box_is_taken_once(
     channel: &Channel,
     clock: Stamp,
 ) -> Result<Take, Code>
-    requires own { map receiver_box side.old.keys ≡ channel.now.boxes }
-    requires clock { clock < 2 ^ 62 - 1 }
+    requires own { MayTake side.old channel.now clock }
     requires taken { (side.old.boxes ≡ 2) × (side.old.active ≡ true) × (get_or side.old.taken 1 false ≡ true) }
     ensures { (result ≡ Err AlreadyReady) × (side.new ≡ side.old) }
 {
@@ -53,8 +53,7 @@ pub fn an_unready_partition_is_told(
     channel: &Channel,
     clock: Stamp,
 ) -> Progress
-    requires own { map sender_box side.old.keys ≡ channel.now.boxes }
-    requires clock { IsPast side.old clock × (clock < 2 ^ 62 - 1) }
+    requires own { MaySend side.old channel.now clock }
     requires unready { (side.old.parts ≡ 2) × (side.old.freed ≡ 1) × (get_or side.old.ready 1 false ≡ false) }
     ensures { (result ≡ NotReady) × (side.new ≡ side.old) }
 {
@@ -67,8 +66,7 @@ pub fn a_ready_partition_is_looked_at(
     channel: &Channel,
     clock: Stamp,
 ) -> Progress
-    requires own { map sender_box side.old.keys ≡ channel.now.boxes }
-    requires clock { IsPast side.old clock × (clock < 2 ^ 62 - 1) }
+    requires own { MaySend side.old channel.now clock }
     requires ready { (side.old.parts ≡ 2) × (side.old.freed ≡ 1) × (get_or side.old.ready 1 false ≡ true) }
     ensures { (result ≢ NotReady) × (result ≢ AllFreed) }
 {
@@ -108,9 +106,7 @@ pub fn a_partition_is_made_ready_once(
     channel: &Channel,
     clock: Stamp,
 ) -> Result<Stamp, Code>
-    requires own { map sender_box side.old.keys ≡ channel.now.boxes }
-    requires clock { IsPast side.old clock × (clock < 2 ^ 62 - 1) }
-    requires bytes { (side.old.size ≡ 8) × (8 ≤ 8 * channel.now.width) }
+    requires own { MaySendEight side.old channel.now clock }
     requires ready { (side.old.parts ≡ 2) × (side.old.freed ≡ 0) × (get_or side.old.ready 1 false ≡ true) }
     ensures { (result ≡ Err AlreadyReady) × (side.new ≡ side.old) }
 {
@@ -123,9 +119,7 @@ pub fn nothing_is_made_ready_between_phases(
     channel: &Channel,
     clock: Stamp,
 ) -> Result<Stamp, Code>
-    requires own { map sender_box side.old.keys ≡ channel.now.boxes }
-    requires clock { IsPast side.old clock × (clock < 2 ^ 62 - 1) }
-    requires bytes { (side.old.size ≡ 8) × (8 ≤ 8 * channel.now.width) }
+    requires own { MaySendEight side.old channel.now clock }
     requires ended { (side.old.parts ≡ 2) × (side.old.freed ≡ 2) }
     ensures { (result ≡ Err NotActive) × (side.new ≡ side.old) }
 {
@@ -138,8 +132,7 @@ pub fn the_last_freed_ends_the_phase(
     channel: &Channel,
     clock: Stamp,
 ) -> Progress
-    requires own { map sender_box side.old.keys ≡ channel.now.boxes }
-    requires clock { IsPast side.old clock × (clock < 2 ^ 62 - 1) }
+    requires own { MaySend side.old channel.now clock }
     requires last { (side.old.parts ≡ 2) × (side.old.freed ≡ 1) × (get_or side.old.ready 1 false ≡ true) }
     ensures { (stamp : ℕ) → result ≡ Freed stamp
         → (side.new.freed ≡ 2) × (side.new.phase ≡ side.old.phase + 1) × (side.new.ready ≡ none_marked) }
@@ -153,8 +146,7 @@ pub fn the_last_take_ends_the_phase(
     channel: &Channel,
     clock: Stamp,
 ) -> Result<Take, Code>
-    requires own { map receiver_box side.old.keys ≡ channel.now.boxes }
-    requires clock { clock < 2 ^ 62 - 1 }
+    requires own { MayTake side.old channel.now clock }
     requires last { (side.old.boxes ≡ 2) × (side.old.active ≡ true) × (side.old.taken ≡ set none_marked 0 true) }
     ensures { (bytes : List ℕ) (stamp : ℕ) → result ≡ Ok (Taken bytes stamp)
         → (side.new.active ≡ false) × (side.new.phase ≡ side.old.phase + 1) × (side.new.taken ≡ none_marked) }

@@ -1,4 +1,5 @@
 pub mod Reads
+pub mod Ready
 pub mod Turns
 pub mod Boxes
 pub mod Runs

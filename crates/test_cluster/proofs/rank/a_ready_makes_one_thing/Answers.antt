@@ -6,5 +6,5 @@ use Rattle.test_cluster.proofs.rank.a_ready_makes_one_thing.Goals as goal
 pub returns : goal.returns
 returns c =
     on_ok c.turn_plain.result
-    (makes_one c.args.hart (view_of c.args.rank.now) (view_of c.turn_plain.new.self) c.args.hub.now
+    (makes_one c.args.seat.now.hart (view_of c.args.seat.now.rank) (view_of c.turn_plain.new.self) c.args.seat.now.hub
     c.turn_plain.new.hub) c.turn_plain.ensures.turned

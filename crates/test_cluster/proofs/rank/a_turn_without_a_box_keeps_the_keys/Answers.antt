@@ -7,5 +7,5 @@ use Rattle.test_cluster.proofs.rank.a_turn_without_a_box_keeps_the_keys.Goals as
 pub returns : goal.returns
 returns c =
     on_ok c.turn_plain.result
-    (λ turn none. keeps_keys c.args.hart (view_of c.args.rank.now) (view_of c.turn_plain.new.self) c.args.hub.now
+    (λ turn none. keeps_keys c.args.seat.now.hart (view_of c.args.seat.now.rank) (view_of c.turn_plain.new.self) c.args.seat.now.hub
     c.turn_plain.new.hub turn (ap place_in none)) c.turn_plain.ensures.turned

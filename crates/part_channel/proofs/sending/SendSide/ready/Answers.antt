@@ -6,17 +6,18 @@ use Rattle.part_channel.specs.Channels.{ChannelView, sender_box}
 use Rattle.part_channel.specs.BoxWords.{words_of}
 use Rattle.part_channel.specs.Sending.{SendView, phase_of, one_if, made_of, readied}
 use Rattle.part_channel.proofs.Lists.{read_at, set_modified, at_set, at_end}
-use Rattle.part_channel.proofs.Sent.{own_at, phase_ready, keeps_ready, boxes_set}
+use Rattle.part_channel.proofs.Sent.{key_read, own_at, phase_ready, keeps_ready, boxes_set}
 use Rattle.part_channel.proofs.sending.SendSide.ready.Goals as goal
 
 pub put-requires-clause-own : goal.put-requires-clause-own
 put-requires-clause-own c =
     let side = c.self.inside in
     let boxes = c.channel.inside.boxes.items in
-    let longs : length side.keys.items ≡ 16 = c.self.invariant.kept.long in
     let wides : length boxes ≡ 16 = c.channel.invariant.long in
     let most : side.parts ≤ 16 = c.self.invariant.kept.most in
-    let key = read_at side.keys.items c.args.part c.index_mut.result.now (omega arith) c.index_mut.ensures.value in
+    let key =
+    key_read side.keys.items side.parts side.freed side.ready c.args.part c.index_mut.result.now c.self.invariant.kept (omega arith)
+    c.index_mut.ensures.value in
     let place = read_at boxes c.args.part c.index.result.now (omega arith) c.index.ensures in
     own_at side.keys.items boxes c.args.channel.now.boxes c.args.part c.index_mut.result.now c.index.result.now
     (ap (λ (v : ChannelView). v.boxes) c.channel.view_is)
@@ -25,19 +26,19 @@ put-requires-clause-own c =
 pub put-requires-clause-open : goal.put-requires-clause-open
 put-requires-clause-open c =
     let side = c.self.inside in
-    let longs : length side.keys.items ≡ 16 = c.self.invariant.kept.long in
-    let most : side.parts ≤ 16 = c.self.invariant.kept.most in
-    let key = read_at side.keys.items c.args.part c.index_mut.result.now (omega arith) c.index_mut.ensures.value in
+    let key =
+    key_read side.keys.items side.parts side.freed side.ready c.args.part c.index_mut.result.now c.self.invariant.kept (omega arith)
+    c.index_mut.ensures.value in
     let lane = c.self.invariant.kept.lanes c.args.part c.index_mut.result.now key in
     (lane.waiting c.if-self-at.false, lane.filled)
 
 pub invariant_of-self : goal.invariant_of-self
 invariant_of-self c =
     let side = c.self.inside in
-    let longs : length side.keys.items ≡ 16 = c.self.invariant.kept.long in
-    let most : side.parts ≤ 16 = c.self.invariant.kept.most in
     let old = c.index_mut.result.now in
-    let key = read_at side.keys.items c.args.part old (omega arith) c.index_mut.ensures.value in
+    let key =
+    key_read side.keys.items side.parts side.freed side.ready c.args.part old c.self.invariant.kept (omega arith)
+    c.index_mut.ensures.value in
     record {
       shape = c.self.invariant.shape;
       kept = keeps_ready side.keys.items side.parts side.freed side.ready c.args.part old c.put.new.key
@@ -49,10 +50,10 @@ invariant_of-self c =
 pub returns-clause-made : goal.returns-clause-made
 returns-clause-made c =
     let side = c.self.inside in
-    let longs : length side.keys.items ≡ 16 = c.self.invariant.kept.long in
-    let most : side.parts ≤ 16 = c.self.invariant.kept.most in
     let old = c.index_mut.result.now in
-    let key = read_at side.keys.items c.args.part old (omega arith) c.index_mut.ensures.value in
+    let key =
+    key_read side.keys.items side.parts side.freed side.ready c.args.part old c.self.invariant.kept (omega arith)
+    c.index_mut.ensures.value in
     let stamp : ℕ = c.args.clock + 1 in
     let words = words_of c.args.bytes.now c.args.channel.now.width in
     let made =
@@ -79,10 +80,10 @@ returns-clause-made c =
 pub returns-clause-phase : goal.returns-clause-phase
 returns-clause-phase c =
     let side = c.self.inside in
-    let longs : length side.keys.items ≡ 16 = c.self.invariant.kept.long in
-    let most : side.parts ≤ 16 = c.self.invariant.kept.most in
     let old = c.index_mut.result.now in
-    let key = read_at side.keys.items c.args.part old (omega arith) c.index_mut.ensures.value in
+    let key =
+    key_read side.keys.items side.parts side.freed side.ready c.args.part old c.self.invariant.kept (omega arith)
+    c.index_mut.ensures.value in
     let stamp : ℕ = c.args.clock + 1 in
     let words = words_of c.args.bytes.now c.args.channel.now.width in
     let made =
@@ -104,10 +105,10 @@ returns-clause-phase c =
 pub returns-clause-own : goal.returns-clause-own
 returns-clause-own c =
     let side = c.self.inside in
-    let longs : length side.keys.items ≡ 16 = c.self.invariant.kept.long in
-    let most : side.parts ≤ 16 = c.self.invariant.kept.most in
     let old = c.index_mut.result.now in
-    let key = read_at side.keys.items c.args.part old (omega arith) c.index_mut.ensures.value in
+    let key =
+    key_read side.keys.items side.parts side.freed side.ready c.args.part old c.self.invariant.kept (omega arith)
+    c.index_mut.ensures.value in
     boxes_set side.keys.items c.args.channel.now.boxes c.args.part old c.put.new.key key
     (ap (λ (k : Sender). k.at) c.put.ensures)
     (ap (λ (s : SendView). map sender_box s.keys) c.self.view_is ∙ c.requires.own)

@@ -7,7 +7,7 @@ use Rattle.part_channel.specs.Channels.{ChannelView, sender_box}
 use Rattle.part_channel.specs.declared.progress.Progress.TheVariants.{Freed}
 use Rattle.part_channel.specs.Sending.{SendView, AreSendLanes, one_if, phase_of, tested, test_progress}
 use Rattle.part_channel.proofs.Lists.{read_at, set_modified}
-use Rattle.part_channel.proofs.Sent.{own_at, phase_same, phase_freed, keeps_missed, keeps_freed, boxes_set, opened_by}
+use Rattle.part_channel.proofs.Sent.{key_read, own_at, phase_same, send_view, phase_freed, keeps_missed, keeps_freed, boxes_set, opened_by}
 use Rattle.part_channel.proofs.Sent.{tested_none, tested_some, progress_none, progress_some}
 use Rattle.part_channel.proofs.sending.SendSide.test.Goals as goal
 
@@ -15,10 +15,11 @@ pub freed-requires-clause-own : goal.freed-requires-clause-own
 freed-requires-clause-own c =
     let side = c.self.inside in
     let boxes = c.channel.inside.boxes.items in
-    let longs : length side.keys.items ≡ 16 = c.self.invariant.kept.long in
     let wides : length boxes ≡ 16 = c.channel.invariant.long in
     let most : side.parts ≤ 16 = c.self.invariant.kept.most in
-    let key = read_at side.keys.items side.freed c.index_mut.result.now (omega arith) c.index_mut.ensures.value in
+    let key =
+    key_read side.keys.items side.parts side.freed side.ready side.freed c.index_mut.result.now c.self.invariant.kept (omega arith)
+    c.index_mut.ensures.value in
     let place = read_at boxes side.freed c.index.result.now (omega arith) c.index.ensures in
     own_at side.keys.items boxes c.args.channel.now.boxes side.freed c.index_mut.result.now c.index.result.now
     (ap (λ (v : ChannelView). v.boxes) c.channel.view_is)
@@ -27,9 +28,9 @@ freed-requires-clause-own c =
 pub freed-requires-clause-made : goal.freed-requires-clause-made
 freed-requires-clause-made c =
     let side = c.self.inside in
-    let longs : length side.keys.items ≡ 16 = c.self.invariant.kept.long in
-    let most : side.parts ≤ 16 = c.self.invariant.kept.most in
-    let key = read_at side.keys.items side.freed c.index_mut.result.now (omega arith) c.index_mut.ensures.value in
+    let key =
+    key_read side.keys.items side.parts side.freed side.ready side.freed c.index_mut.result.now c.self.invariant.kept (omega arith)
+    c.index_mut.ensures.value in
     let on : get_or side.ready side.freed false ≡ true = grind (arith, c.if-not-self-at.false) in
     let count : length c.index_mut.result.now.view.made ≡ phase_of side.keys.items side.ready + 1 =
     (c.self.invariant.kept.lanes side.freed c.index_mut.result.now key).made (omega arith)
@@ -39,10 +40,10 @@ freed-requires-clause-made c =
 pub invariant_of-self : goal.invariant_of-self
 invariant_of-self c =
     let side = c.self.inside in
-    let longs : length side.keys.items ≡ 16 = c.self.invariant.kept.long in
-    let most : side.parts ≤ 16 = c.self.invariant.kept.most in
     let old = c.index_mut.result.now in
-    let key = read_at side.keys.items side.freed old (omega arith) c.index_mut.ensures.value in
+    let key =
+    key_read side.keys.items side.parts side.freed side.ready side.freed old c.self.invariant.kept (omega arith)
+    c.index_mut.ensures.value in
     let on : get_or side.ready side.freed false ≡ true = grind (arith, c.if-not-self-at.false) in
     let new = c.freed.ensures.loaded.1 in
     record {
@@ -56,10 +57,10 @@ invariant_of-self c =
 pub invariant_of-self-in-Some : goal.invariant_of-self-in-Some
 invariant_of-self-in-Some c =
     let side = c.self.inside in
-    let longs : length side.keys.items ≡ 16 = c.self.invariant.kept.long in
-    let most : side.parts ≤ 16 = c.self.invariant.kept.most in
     let old = c.index_mut.result.now in
-    let key = read_at side.keys.items side.freed old (omega arith) c.index_mut.ensures.value in
+    let key =
+    key_read side.keys.items side.parts side.freed side.ready side.freed old c.self.invariant.kept (omega arith)
+    c.index_mut.ensures.value in
     let on : get_or side.ready side.freed false ≡ true = grind (arith, c.if-not-self-at.false) in
     let load = c.freed.ensures.loaded in
     let new = load.1 in
@@ -81,23 +82,15 @@ invariant_of-self-in-Some c =
 pub returns-in-None-clause-tested : goal.returns-in-None-clause-tested
 returns-in-None-clause-tested c =
     let side = c.self.inside in
-    let longs : length side.keys.items ≡ 16 = c.self.invariant.kept.long in
-    let most : side.parts ≤ 16 = c.self.invariant.kept.most in
     let old = c.index_mut.result.now in
-    let key = read_at side.keys.items side.freed old (omega arith) c.index_mut.ensures.value in
+    let key =
+    key_read side.keys.items side.parts side.freed side.ready side.freed old c.self.invariant.kept (omega arith)
+    c.index_mut.ensures.value in
     let on : get_or side.ready side.freed false ≡ true = grind (arith, c.if-not-self-at.false) in
     let load = c.freed.ensures.loaded in
     let gate = load.0 in
     let shows = sym load.2 ∙ c.in-None.is in
-    let was : SendView =
-    record {
-      keys = side.keys.items;
-      parts = side.parts;
-      size = side.size;
-      phase = phase_of side.keys.items side.ready;
-      ready = side.ready;
-      freed = side.freed;
-    } in
+    let was = send_view side.keys.items side.parts side.size side.freed side.ready in
     let keys =
     ap (set side.keys.items side.freed) load.1
     ∙ set_modified side.keys.items side.freed (λ (k : Sender). after_freed k gate) old key in
@@ -121,23 +114,15 @@ returns-in-None-clause-tested c =
 pub returns-in-Some-clause-tested : goal.returns-in-Some-clause-tested
 returns-in-Some-clause-tested c =
     let side = c.self.inside in
-    let longs : length side.keys.items ≡ 16 = c.self.invariant.kept.long in
-    let most : side.parts ≤ 16 = c.self.invariant.kept.most in
     let old = c.index_mut.result.now in
-    let key = read_at side.keys.items side.freed old (omega arith) c.index_mut.ensures.value in
+    let key =
+    key_read side.keys.items side.parts side.freed side.ready side.freed old c.self.invariant.kept (omega arith)
+    c.index_mut.ensures.value in
     let on : get_or side.ready side.freed false ≡ true = grind (arith, c.if-not-self-at.false) in
     let load = c.freed.ensures.loaded in
     let gate = load.0 in
     let shows = sym load.2 ∙ c.in-Some.is in
-    let was : SendView =
-    record {
-      keys = side.keys.items;
-      parts = side.parts;
-      size = side.size;
-      phase = phase_of side.keys.items side.ready;
-      ready = side.ready;
-      freed = side.freed;
-    } in
+    let was = send_view side.keys.items side.parts side.size side.freed side.ready in
     let keys =
     ap (set side.keys.items side.freed) load.1
     ∙ set_modified side.keys.items side.freed (λ (k : Sender). after_freed k gate) old key in
@@ -163,10 +148,10 @@ returns-in-Some-clause-tested c =
 pub returns-in-None-clause-own : goal.returns-in-None-clause-own
 returns-in-None-clause-own c =
     let side = c.self.inside in
-    let longs : length side.keys.items ≡ 16 = c.self.invariant.kept.long in
-    let most : side.parts ≤ 16 = c.self.invariant.kept.most in
     let old = c.index_mut.result.now in
-    let key = read_at side.keys.items side.freed old (omega arith) c.index_mut.ensures.value in
+    let key =
+    key_read side.keys.items side.parts side.freed side.ready side.freed old c.self.invariant.kept (omega arith)
+    c.index_mut.ensures.value in
     boxes_set side.keys.items c.args.channel.now.boxes side.freed old c.freed.new.key key
     (ap (λ (k : Sender). k.at) c.freed.ensures.loaded.1)
     (ap (λ (s : SendView). map sender_box s.keys) c.self.view_is ∙ c.requires.own)
@@ -174,10 +159,10 @@ returns-in-None-clause-own c =
 pub returns-in-Some-clause-own : goal.returns-in-Some-clause-own
 returns-in-Some-clause-own c =
     let side = c.self.inside in
-    let longs : length side.keys.items ≡ 16 = c.self.invariant.kept.long in
-    let most : side.parts ≤ 16 = c.self.invariant.kept.most in
     let old = c.index_mut.result.now in
-    let key = read_at side.keys.items side.freed old (omega arith) c.index_mut.ensures.value in
+    let key =
+    key_read side.keys.items side.parts side.freed side.ready side.freed old c.self.invariant.kept (omega arith)
+    c.index_mut.ensures.value in
     boxes_set side.keys.items c.args.channel.now.boxes side.freed old c.freed.new.key key
     (ap (λ (k : Sender). k.at) c.freed.ensures.loaded.1)
     (ap (λ (s : SendView). map sender_box s.keys) c.self.view_is ∙ c.requires.own)
