@@ -8,7 +8,7 @@ use cl_replay::{ClusterState, replay};
 use cl_run::run_one;
 use rv_asm::assemble;
 use rv_image::Image;
-use rvmc_why::why;
+use rvmc_inspect::why;
 use std::alloc::{AllocError, Global};
 use std::io;
 use std::io::{Read, Write};

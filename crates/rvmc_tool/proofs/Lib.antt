@@ -1,2 +1,6 @@
+pub mod Places
+pub mod Reading
+pub mod Sources
+pub mod Stable
 pub mod Quiet
 pub mod Told

@@ -10,17 +10,17 @@ use Rattle.cl_replay.proofs.Runs.{run_law}
 use Rattle.cl_text.specs.Reading.{reading_record}
 use Rattle.cl_text.specs.declared.faults.RecordFault.{RecordFault}
 use Rattle.rv_image.specs.declared.images.ImageParts.{ImageParts}
-use Rattle.rvmc_answers.specs.Answers.{HasThreads, IsChecked, IsFaulty, Makes}
-use Rattle.rvmc_answers.specs.Answers.{SaysOfPlace, SaysWhy, place_asked}
-use Rattle.rvmc_answers.specs.Making.{IsFaultOf, IsMisplanned, IsRecordFault, IsDebugFault, IsNoRun, Refuses}
-use Rattle.rvmc_answers.specs.Making.{IsNoPlace, IsPlaceFault}
-use Rattle.rvmc_answers.specs.Answers.{Says, SaysOfRecord, SaysOfSteps, SaysOfWords}
-use Rattle.rvmc_answers.specs.Answers.{end_status}
+use Rattle.rvmc_tool.specs.Answers.{HasThreads, IsChecked, IsFaulty, Makes}
+use Rattle.rvmc_tool.specs.Answers.{SaysOfPlace, SaysWhy, place_asked}
+use Rattle.rvmc_tool.specs.Making.{IsFaultOf, IsMisplanned, IsRecordFault, IsDebugFault, IsNoRun, Refuses}
+use Rattle.rvmc_tool.specs.Making.{IsNoPlace, IsPlaceFault}
+use Rattle.rvmc_tool.specs.Answers.{Says, SaysOfRecord, SaysOfSteps, SaysOfWords}
+use Rattle.rvmc_tool.specs.Answers.{end_status}
 use Rattle.rvmc_line.specs.declared.debug.DebugWord.{DebugWord}
-use Rattle.rvmc_answers.specs.Images.{image_in}
-use Rattle.rvmc_answers.specs.Taking.{IsFaultIn}
-use Rattle.rvmc_answers.specs.Outputs.{output_bytes}
-use Rattle.rvmc_answers.specs.declared.answers.Answer.{Answer}
+use Rattle.rvmc_tool.specs.Images.{image_in}
+use Rattle.rvmc_tool.specs.Taking.{IsFaultIn}
+use Rattle.rvmc_tool.specs.Outputs.{output_bytes}
+use Rattle.rvmc_tool.specs.declared.answers.Answer.{Answer}
 use Rattle.rvmc_line.specs.declared.line.CommandLine.{CommandLine}
 use Rattle.rvmc_line.specs.declared.line.CommandLine.TheVariants.{Asm, Check, Debug, Dis, One, Run, Why}
 use Rattle.rvmc_report.specs.Faults.{fault_status}

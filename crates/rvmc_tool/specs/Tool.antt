@@ -2,8 +2,8 @@
 use Rattle.std.specs.Prelude.{◌≡◌, ℕ, ◌≤◌, ◌⊎◌, ◌==◌, ◌||◌, Bool, List, [], length, MatchResult, Option, Err}
 use Rattle.std.specs.Prelude.{string_bytes}
 use Rattle.std.specs.Io.KnownBytes.{Appends, Keeps}
-use Rattle.rvmc_answers.specs.Answers.{HasThreads, IsFaulty, Says}
-use Rattle.rvmc_answers.specs.Images.{image_in}
+use Rattle.rvmc_tool.specs.Answers.{HasThreads, IsFaulty, Says}
+use Rattle.rvmc_tool.specs.Images.{image_in}
 use Rattle.rvmc_cli.specs.Meaning.{Parses}
 use Rattle.rvmc_line.specs.declared.line.CommandLine.{CommandLine}
 use Rattle.rvmc_line.specs.declared.line.ParseFault.{ParseFault}

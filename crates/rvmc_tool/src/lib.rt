@@ -1,6 +1,14 @@
-//! The program over any reader and writers.
+//! What each command answers to its input, and the program over any reader and writers.
 #![tactic(auto)]
 
+pub mod answers;
+mod checks;
+mod debugging;
+mod explaining;
+mod images;
+pub mod outputs;
+pub mod plans;
 mod program;
+mod runs;
 
 pub use program::{tool, tool_plain};

@@ -2,8 +2,8 @@
 
 ghost use Rattle.std.specs.Prelude.{◌≡◌, ◌≢◌, IfErr, IfOk, List, OnOk, ℕ, None, Some, false, map, true};
 ghost use Rattle.std.specs.Io.KnownBytes.{Appends, Keeps};
-ghost use Rattle.rvmc_answers.specs.Making.{needs_threads};
-ghost use Rattle.rvmc_answers.specs.Outputs.{output_bytes};
+ghost use Rattle.rvmc_tool.specs.Making.{needs_threads};
+ghost use Rattle.rvmc_tool.specs.Outputs.{output_bytes};
 ghost use Rattle.rvmc_cli.specs.Meaning.{meaning_of};
 ghost use Rattle.rvmc_line.specs.declared.line.CommandLine.{CommandLine as Line};
 ghost use Rattle.rvmc_tool.specs.Tool.{Answers, RefusesWords, ShowsFault, is_quiet};
@@ -12,8 +12,8 @@ ghost use Rattle.rvmc_tool.specs.Plain.{plain_meaning_of};
 ghost use Rattle.rvmc_report.specs.Faults.{fault_status};
 ghost use Rattle.rvmc_report.specs.Input.{TakesAtMost};
 
-use rvmc_answers::answers::{Answer, End, answer_to, answer_with_threads, needs_threads};
-use rvmc_answers::outputs::Output;
+use crate::answers::{Answer, End, answer_to, answer_with_threads, needs_threads};
+use crate::outputs::Output;
 use rvmc_cli::parse;
 use rvmc_line::{CommandLine, ParseFault};
 use rvmc_report::faults::Fault;

@@ -2,23 +2,23 @@
 
 ghost use Rattle.std.specs.Prelude.{◌≡◌, ◌≢◌, ℕ, [], IfSome, List, Some, false, length, slice_get};
 ghost use Rattle.cl_replay.specs.declared.checking.Verdict.TheVariants.{Good};
-ghost use Rattle.rvmc_answers.specs.Answers.{IsDone, Says, end_status};
-ghost use Rattle.rvmc_answers.specs.Laws.{FitsStop};
-ghost use Rattle.rvmc_answers.specs.Making.{needs_threads};
-ghost use Rattle.rvmc_answers.specs.Outputs.{output_bytes};
-ghost use Rattle.rvmc_answers.specs.Plans.{ArePlansOf};
+ghost use Rattle.rvmc_tool.specs.Answers.{IsDone, Says, end_status};
+ghost use Rattle.rvmc_tool_laws.specs.Answers.{FitsStop};
+ghost use Rattle.rvmc_tool.specs.Making.{needs_threads};
+ghost use Rattle.rvmc_tool.specs.Outputs.{output_bytes};
+ghost use Rattle.rvmc_tool.specs.Plans.{ArePlansOf};
 ghost use Rattle.rvmc_report.specs.Report.{RankEnd, report};
 ghost use Rattle.rvmc_report.specs.Verdicts.{verdict_text};
 
 use cl_run::Plan;
 use cl_threads::{Pace, run_threads};
 use rv_image::Image;
-use rvmc_answers::answers::{Answer, answer_to};
-use rvmc_answers::laws::{recorded_is_good, stops_fit};
-use rvmc_answers::outputs::Output;
-use rvmc_answers::plans::plans;
 use rvmc_line::{CommandLine, Numbers, Written};
 use rvmc_report::report::report;
+use rvmc_tool::answers::{Answer, answer_to};
+use rvmc_tool::outputs::Output;
+use rvmc_tool::plans::plans;
+use rvmc_tool_laws::answers::{recorded_is_good, stops_fit};
 use std::alloc::Global;
 use std::sync::Wait;
 use std::thread::Threads;

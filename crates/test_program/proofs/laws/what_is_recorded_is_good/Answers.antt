@@ -1,6 +1,6 @@
 use Rattle.std.proofs.Common.{◌∙◌, refl, subst, true}
-use Rattle.rvmc_answers.specs.Answers.{Says, end_status}
-use Rattle.rvmc_answers.specs.Outputs.{output_bytes}
+use Rattle.rvmc_tool.specs.Answers.{Says, end_status}
+use Rattle.rvmc_tool.specs.Outputs.{output_bytes}
 use Rattle.rvmc_line.specs.declared.line.CommandLine.TheVariants.{Check, One}
 use Rattle.rvmc_line.specs.declared.line.Written.TheVariants.{Record}
 use Rattle.test_program.proofs.laws.what_is_recorded_is_good.Goals as goal

@@ -1,6 +1,6 @@
 use Rattle.std.proofs.Common.{◌∙◌, refl, subst, sym, Some}
 use Rattle.rv_image.specs.declared.images.ImageParts.{ImageParts}
-use Rattle.rvmc_answers.specs.Plans.{ArePlansOf}
+use Rattle.rvmc_tool.specs.Plans.{ArePlansOf}
 use Rattle.rvmc_report.specs.Report.{rank_ends, report, status_of}
 use Rattle.cl_record.specs.Records.{IsMergedRun}
 use Rattle.cl_threads.specs.Runs.{IsThreadRun}

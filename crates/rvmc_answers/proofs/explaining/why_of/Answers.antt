@@ -1,9 +1,0 @@
-use Rattle.rvmc_answers.proofs.Places.{no_break}
-use Rattle.rvmc_answers.proofs.explaining.why_of.Goals as goal
-
--- the steps are a run, so none of them is wrong
-pub unreachable-requires-in-Err-Step : goal.unreachable-requires-in-Err-Step
-unreachable-requires-in-Err-Step c =
-    no_break c.args.image.now c.args.left c.in_ok-steps.steps.items c.deref.result.now c.len.result
-    c.in-Err-Step.field-0-0 c.in-Err-Step.field-0 c.requires.merged c.in_ok-steps.ensures c.deref.ensures.value
-    c.in-Err-Step.field-0-is c.in-Err-Step.ensures.fault

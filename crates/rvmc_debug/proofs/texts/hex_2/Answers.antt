@@ -1,6 +1,0 @@
-use Rattle.std.proofs.Common.{rules}
-use Rattle.rvmc_report.proofs.Digits.{padded_by_zeros}
-use Rattle.rvmc_debug.proofs.texts.hex_2.Goals as goal
-
-pub returns : goal.returns
-returns c = search (rules, padded_by_zeros)

@@ -1,0 +1,4 @@
+pub mod Lines
+pub mod Sends
+pub mod ByteLines
+pub mod Walking

@@ -1,0 +1,7 @@
+pub mod Places
+pub mod Waits
+pub mod Texts
+pub mod Unreceived
+pub mod Why
+pub mod WordTexts
+pub mod Words

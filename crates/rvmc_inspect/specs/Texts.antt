@@ -1,0 +1,126 @@
+-- How the harts of a rank stand, as text.
+use Rattle.std.specs.Prelude.{ℕ, List, [], ◌∷◌, ◌++◌, codes, Option, Some, None}
+use Rattle.std.specs.Fmt.{decimal}
+use Rattle.std.specs.List.{enumerate_from, flat_map}
+use Rattle.rv_hart.specs.State.{State}
+use Rattle.rv_hart.specs.declared.state.Mode.{Mode}
+use Rattle.rv_hart.specs.declared.state.Mode.TheVariants.{Running, Waiting, Ended, Trapped}
+use Rattle.rv_image.specs.declared.images.Symbol.{Symbol}
+use Rattle.rv_memory.specs.Fault.{cause_number}
+use Rattle.rv_memory.specs.declared.fault.Cause.{Cause}
+use Rattle.mp_hub.specs.Hub.{HubView}
+use Rattle.part_box.specs.declared.settled.Settled.{Settled}
+use Rattle.cl_calls.specs.declared.calls.Call.{Call}
+use Rattle.cl_calls.specs.declared.calls.Call.TheVariants as call
+use Rattle.cl_calls.specs.Calls.{call_named}
+use Rattle.cl_state.specs.Rank.{Rank}
+use Rattle.rvmc_report.specs.Report.{newline}
+use Rattle.rvmc_inspect.specs.declared.awaited.Wait.{Wait}
+use Rattle.rvmc_inspect.specs.declared.awaited.Wait.TheVariants as wait
+use Rattle.rvmc_inspect.specs.Places.{named_address_text}
+use Rattle.rvmc_inspect.specs.Waits.{waits}
+
+-- ---- what is waited for
+
+abbrev pub source_text : Option ℕ → List ℕ
+source_text None = codes "any rank"
+source_text (Some rank) = codes "rank " ++ decimal rank
+
+abbrev pub tag_text : Option ℕ → List ℕ
+tag_text None = codes "any tag"
+tag_text (Some tag) = codes "tag " ++ decimal tag
+
+abbrev pub wait_text : Wait → List ℕ
+wait_text (wait.Message source tag comm) =
+    codes "a message from "
+    ++ (source_text source ++ (codes " " ++ (tag_text tag ++ (codes " comm " ++ decimal comm))))
+wait_text (wait.Receiver rank) = codes "rank " ++ (decimal rank ++ codes " to receive")
+wait_text (wait.Partition part link rank) =
+    codes "partition " ++ (decimal part ++ (codes " of link " ++ (decimal link ++ (codes " from rank " ++ decimal rank))))
+wait_text (wait.Taken part link to) =
+    codes "rank " ++ (decimal to ++ (codes " to take partition " ++ (decimal part ++ (codes " of link " ++ decimal link))))
+wait_text (wait.Shape link rank) =
+    codes "the shape of link " ++ (decimal link ++ (codes " from rank " ++ decimal rank))
+wait_text (wait.OwnPartition part link) =
+    codes "its own partition " ++ (decimal part ++ (codes " of link " ++ decimal link))
+
+-- behind other things
+abbrev pub more_text : List Wait → List ℕ
+more_text found = flat_map (λ w. codes "; " ++ wait_text w) found
+
+-- all of them. Where there is none the hart goes on in its next turn
+abbrev pub waits_text : List Wait → List ℕ
+waits_text [] = codes "nothing more"
+waits_text (w ∷ found) = wait_text w ++ more_text found
+
+-- ---- the calls
+
+abbrev pub call_name : Call → List ℕ
+call_name (call.Exit code) = codes "EXIT"
+call_name (call.Put buffer count) = codes "PUT"
+call_name (call.Rank comm) = codes "RANK"
+call_name (call.Size comm) = codes "SIZE"
+call_name call.Hart = codes "HART"
+call_name (call.Send s) = codes "SEND"
+call_name (call.Ssend s) = codes "SSEND"
+call_name (call.Recv r status) = codes "RECV"
+call_name (call.Isend s) = codes "ISEND"
+call_name (call.Issend s) = codes "ISSEND"
+call_name (call.Irecv r) = codes "IRECV"
+call_name (call.Test c) = codes "TEST"
+call_name (call.Wait c) = codes "WAIT"
+call_name (call.Iprobe p) = codes "IPROBE"
+call_name (call.Probe p) = codes "PROBE"
+call_name (call.Improbe p) = codes "IMPROBE"
+call_name (call.Mprobe p) = codes "MPROBE"
+call_name (call.Imrecv m) = codes "IMRECV"
+call_name (call.Mrecv m status) = codes "MRECV"
+call_name (call.SendInit s) = codes "SEND_INIT"
+call_name (call.RecvInit r) = codes "RECV_INIT"
+call_name (call.Start handle) = codes "START"
+call_name (call.RequestFree handle) = codes "REQUEST_FREE"
+call_name (call.Testall s) = codes "TESTALL"
+call_name (call.Waitall s) = codes "WAITALL"
+call_name (call.PsendInit t) = codes "PSEND_INIT"
+call_name (call.PrecvInit t) = codes "PRECV_INIT"
+call_name (call.Pready handle part) = codes "PREADY"
+call_name (call.Parrived handle part) = codes "PARRIVED"
+call_name call.Unknown = codes "no call"
+
+-- ---- a hart, and the harts of a rank
+
+-- in which call a hart waits, and for what
+unfoldable pub call_text : State → List Wait → List ℕ
+call_text hart found = codes " in " ++ (call_name (call_named hart) ++ (codes " for " ++ waits_text found))
+
+abbrev pub waiting_text : List Symbol → State → List Wait → List ℕ
+waiting_text symbols hart found = codes "waits at " ++ (named_address_text symbols hart.pc ++ call_text hart found)
+
+abbrev pub ended_text : ℕ → List ℕ
+ended_text code = codes "ended " ++ decimal code
+
+abbrev pub trapped_text : Cause → List ℕ
+trapped_text cause = codes "trapped " ++ (decimal (cause_number cause) ++ codes " at ")
+
+-- `runs at PC`, `waits at PC in CALL for WHAT`, `ended CODE`, or `trapped CAUSE at PC`
+abbrev pub doing_text : List Symbol → State → List Wait → Mode → List ℕ
+doing_text symbols hart found Running = codes "runs at " ++ named_address_text symbols hart.pc
+doing_text symbols hart found (Waiting w) = waiting_text symbols hart found
+doing_text symbols hart found (Ended code) = ended_text code
+doing_text symbols hart found (Trapped cause at) = trapped_text cause ++ named_address_text symbols at
+
+-- `rank R hart H `, and how the hart stands
+abbrev pub hart_head : ℕ → ℕ → List ℕ
+hart_head r number = codes "rank " ++ (decimal r ++ (codes " hart " ++ (decimal number ++ codes " ")))
+
+unfoldable pub hart_line : List Symbol → ℕ → ℕ → State → List Wait → List ℕ
+hart_line symbols r number hart found = hart_head r number ++ (doing_text symbols hart found hart.mode ++ newline)
+
+-- the lines of these harts of a rank in order, the first of which has this number
+abbrev pub harts_from : List Symbol → HubView → List (List Settled) → ℕ → Rank → ℕ → List State → List ℕ
+harts_from symbols hub boxes r rank number harts =
+    flat_map (λ hart. hart_line symbols r hart.0 hart.1 (waits hub boxes rank hart.0)) (enumerate_from number harts)
+
+-- the lines of the rank's harts
+abbrev pub hart_waits_text : List Symbol → HubView → List (List Settled) → ℕ → Rank → List ℕ
+hart_waits_text symbols hub boxes r rank = harts_from symbols hub boxes r rank 0 rank.harts

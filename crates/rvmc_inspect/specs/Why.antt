@@ -1,0 +1,55 @@
+-- What is told of a state: how its harts stand, the messages that weren't received, and the verdict.
+use Rattle.std.specs.Prelude.{ℕ, ◌≡◌, List, ◌++◌, codes, length, Option, Some, None}
+use Rattle.std.specs.Fmt.{decimal}
+use Rattle.std.specs.List.{enumerate_from, flat_map}
+use Rattle.rv_image.specs.declared.images.ImageParts.{ImageParts}
+use Rattle.rv_image.specs.declared.images.Symbol.{Symbol}
+use Rattle.mp_hub.specs.Hub.{HubView}
+use Rattle.part_box.specs.declared.settled.Settled.{Settled}
+use Rattle.cl_state.specs.declared.state.RankState.{RankState}
+use Rattle.cl_state.specs.Room.{rank_of}
+use Rattle.cl_replay.specs.declared.states.ClusterState.{ClusterState}
+use Rattle.cl_deadlock.specs.Why.{IsDeadlockVerdict}
+use Rattle.rvmc_report.specs.Report.{newline}
+use Rattle.rvmc_inspect.specs.Texts.{hart_waits_text}
+use Rattle.rvmc_inspect.specs.Unreceived.{unreceived_text}
+
+-- ---- the harts
+
+-- the lines of the harts of these ranks in order, the first of which has this number
+abbrev pub ranks_from : List Symbol → HubView → List (List Settled) → ℕ → List RankState → List ℕ
+ranks_from symbols hub boxes number ranks =
+    flat_map (λ rank. hart_waits_text symbols hub boxes rank.0 (rank_of rank.1)) (enumerate_from number ranks)
+
+-- of all ranks
+abbrev pub all_harts_text : ImageParts → ClusterState → List ℕ
+all_harts_text image state = ranks_from image.symbols state.hub state.boxes.items 0 state.ranks.items
+
+-- ---- the verdict
+
+abbrev pub rank_word : ℕ → List ℕ
+rank_word rank = codes " " ++ decimal rank
+
+abbrev pub more_ranks : List ℕ → List ℕ
+more_ranks ranks = flat_map rank_word ranks
+
+abbrev pub deadlock_text : List ℕ → List ℕ
+deadlock_text ranks = codes "deadlock: ranks" ++ (more_ranks ranks ++ newline)
+
+-- `deadlock: ranks 0 1`, or `no deadlock shown`
+abbrev pub deadlock_verdict_text : Option (List ℕ) → List ℕ
+deadlock_verdict_text None = codes "no deadlock shown" ++ newline
+deadlock_verdict_text (Some ranks) = deadlock_text ranks
+
+-- ---- all of it
+
+abbrev pub why_text : ImageParts → ClusterState → Option (List ℕ) → List ℕ
+why_text image state found =
+    all_harts_text image state
+    ++ (unreceived_text (length state.ranks.items) state.hub.board.lines ++ deadlock_verdict_text found)
+
+-- the text of the state with the verdict on it
+pub record IsWhy (image : ImageParts) (state : ClusterState) (text : List ℕ) : Type 0 where
+  pub found : Option (List ℕ)
+  pub verdict : IsDeadlockVerdict state found
+  pub is : text ≡ why_text image state found

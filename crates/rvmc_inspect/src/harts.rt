@@ -1,0 +1,152 @@
+//! The lines of harts.
+
+ghost use Rattle.std.specs.Prelude.{◌≡◌, ◌++◌, IfOk, OnOk, string_bytes};
+ghost use Rattle.cl_state.specs.Room.{rank_of};
+ghost use Rattle.rvmc_inspect.specs.Texts.{call_text, ended_text, hart_head, hart_line, hart_waits_text, doing_text};
+ghost use Rattle.rvmc_inspect.specs.Texts.{trapped_text, waiting_text};
+
+use crate::awaited::{Wait, put_waits};
+use crate::calls::call_name;
+use crate::finding::waits;
+use crate::places::put_place;
+use cl_calls::Call;
+use cl_state::RankState;
+use mp_hub::HubState;
+use part_box::Settled;
+use rv_hart::{Hart, Mode};
+use rv_image::Symbol;
+use rv_memory::Cause;
+use std::alloc::{AllocError, Global};
+
+/// `rank R hart H `, before how the hart stands.
+fn hart_head(alloc: Global, rank: usize, number: usize) -> Result<String, AllocError>
+    ensures { IfOk result (λ text. string_bytes text ≡ hart_head rank number) }
+{
+    format!(in alloc; "rank {rank} hart {number} ")
+}
+
+/// Adds in which call a hart waits, and for what.
+#[tactic(auto, unfolding(crate::specs::Texts::call_text))]
+fn put_call(
+    alloc: Global,
+    text: &mut Vec<u8>,
+    hart: &Hart,
+    found: &[Wait],
+) -> Result<(), AllocError>
+    ensures { OnOk result (text.new.items ≡ text.old.items ++ call_text hart.now found.now) }
+{
+    text.extend_from_slice(b" in ")?;
+    text.extend_from_slice(call_name(&Call::of(hart)).as_bytes())?;
+    text.extend_from_slice(b" for ")?;
+    put_waits(alloc, text, found)
+}
+
+/// Adds where a hart waits, in which call, and for what.
+fn put_waiting(
+    alloc: Global,
+    text: &mut Vec<u8>,
+    symbols: &[Symbol],
+    hart: &Hart,
+    found: &[Wait],
+) -> Result<(), AllocError>
+    ensures { OnOk result (text.new.items ≡ text.old.items ++ waiting_text symbols.now hart.now found.now) }
+{
+    text.extend_from_slice(b"waits at ")?;
+    put_place(alloc, text, symbols, hart.pc())?;
+    put_call(alloc, text, hart, found)
+}
+
+/// The code of a hart that ended.
+fn ended_text(alloc: Global, code: u64) -> Result<String, AllocError>
+    ensures { IfOk result (λ text. string_bytes text ≡ ended_text code) }
+{
+    format!(in alloc; "ended {code}")
+}
+
+/// The cause of a trap, and that its place follows.
+fn trapped_text(alloc: Global, cause: Cause) -> Result<String, AllocError>
+    ensures { IfOk result (λ text. string_bytes text ≡ trapped_text cause) }
+{
+    let number = cause.number();
+    format!(in alloc; "trapped {number} at ")
+}
+
+/// Adds how a hart stands.
+fn put_mode(
+    alloc: Global,
+    text: &mut Vec<u8>,
+    symbols: &[Symbol],
+    hart: &Hart,
+    found: &[Wait],
+) -> Result<(), AllocError>
+    ensures { OnOk result
+        (text.new.items ≡ text.old.items ++ doing_text symbols.now hart.now found.now hart.now.mode) }
+{
+    match hart.mode() {
+        Mode::Running => {
+            text.extend_from_slice(b"runs at ")?;
+            put_place(alloc, text, symbols, hart.pc())
+        }
+        Mode::Waiting(_) => put_waiting(alloc, text, symbols, hart, found),
+        Mode::Ended(code) => {
+            let ended = ended_text(alloc, code)?;
+            text.extend_from_slice(ended.as_bytes())
+        }
+        Mode::Trapped(cause, at) => {
+            let trapped = trapped_text(alloc, cause)?;
+            text.extend_from_slice(trapped.as_bytes())?;
+            put_place(alloc, text, symbols, at)
+        }
+    }
+}
+
+/// Adds the line of a hart that waits for this, if it waits.
+#[tactic(auto, unfolding(crate::specs::Texts::hart_line))]
+fn put_hart(
+    alloc: Global,
+    text: &mut Vec<u8>,
+    symbols: &[Symbol],
+    rank: usize,
+    number: usize,
+    hart: &Hart,
+    found: &[Wait],
+) -> Result<(), AllocError>
+    ensures { OnOk result
+        (text.new.items ≡ text.old.items ++ hart_line symbols.now rank number hart.now found.now) }
+{
+    let head = hart_head(alloc, rank, number)?;
+    text.extend_from_slice(head.as_bytes())?;
+    put_mode(alloc, text, symbols, hart, found)?;
+    text.push(b'\n')?;
+    Ok(())
+}
+
+/// Adds the lines of a rank's harts, in their order: how each stands, and what one that waits is waiting for. The only
+/// error is want of memory.
+pub fn put_harts(
+    alloc: Global,
+    text: &mut Vec<u8>,
+    symbols: &[Symbol],
+    hub: &HubState,
+    boxes: &[[Settled; 16]],
+    rank: usize,
+    own: &RankState,
+) -> Result<(), AllocError>
+    ensures { OnOk result
+        (text.new.items
+        ≡ text.old.items ++ hart_waits_text symbols.now hub.now boxes.now rank (rank_of own.now)) }
+{
+    for number in 0..own.harts.len() {
+        let found = waits(alloc, hub, boxes, own, number)?;
+        put_hart(
+            alloc,
+            text,
+            symbols,
+            rank,
+            number,
+            &own.harts[number],
+            found.as_slice(),
+        )?;
+    }
+    Ok(())
+}

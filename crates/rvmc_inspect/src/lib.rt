@@ -1,0 +1,27 @@
+//! What is told of a state or a record of a cluster, as text: what the words of `debug` do and print; how each hart
+//! stands, what one that waits is waiting for, and which messages weren't received; and the ranks of a deadlock.
+//!
+//! The meaning stands in specs/: the texts; what a word does or is refused for, and what all words print up to the first
+//! that is refused; what a hart waits for, and which symbol an address is told by. The verdict on a deadlock is that of
+//! `cl_deadlock`.
+#![tactic(auto)]
+
+mod awaited;
+mod calls;
+mod finding;
+mod harts;
+mod places;
+mod telling;
+mod unreceived;
+mod word_texts;
+mod words;
+
+pub use awaited::{Wait, wait_text};
+pub use calls::call_name;
+pub use finding::waits;
+pub use harts::put_harts;
+pub use places::nearest;
+pub use telling::why;
+pub use unreceived::put_unreceived;
+pub use word_texts::{bytes_text, place_text, regs_text};
+pub use words::{Told, tell_all};

@@ -1,0 +1,88 @@
+//! The text of a state.
+
+ghost use Rattle.std.specs.Prelude.{◌≡◌, ◌++◌, IfOk, OnOk, string_bytes};
+ghost use Rattle.std.specs.Option.{option_map};
+ghost use Rattle.rvmc_inspect.specs.Why.{IsWhy, all_harts_text, deadlock_text, more_ranks, rank_word, deadlock_verdict_text};
+
+use crate::harts::put_harts;
+use crate::unreceived::put_unreceived;
+use cl_deadlock::deadlock;
+use cl_replay::ClusterState;
+use rv_image::Image;
+use std::alloc::{AllocError, Global};
+
+/// Adds the lines of the harts of all ranks, in their order.
+fn put_all_harts(
+    alloc: Global,
+    text: &mut Vec<u8>,
+    image: &Image,
+    state: &ClusterState,
+) -> Result<(), AllocError>
+    ensures { OnOk result (text.new.items ≡ text.old.items ++ all_harts_text image.now state.now) }
+{
+    let symbols = image.parts().symbols.as_slice();
+    for rank in 0..state.ranks.len() {
+        put_harts(
+            alloc,
+            text,
+            symbols,
+            &state.hub,
+            state.boxes.as_slice(),
+            rank,
+            &state.ranks[rank],
+        )?;
+    }
+    Ok(())
+}
+
+/// A rank behind others.
+fn rank_text(alloc: Global, rank: u8) -> Result<String, AllocError>
+    ensures { IfOk result (λ text. string_bytes text ≡ rank_word rank) }
+{
+    format!(in alloc; " {rank}")
+}
+
+/// Adds the ranks of a deadlock.
+fn put_ranks(alloc: Global, text: &mut Vec<u8>, ranks: &[u8]) -> Result<(), AllocError>
+    ensures { OnOk result (text.new.items ≡ text.old.items ++ more_ranks ranks.now) }
+{
+    for rank in ranks {
+        let more = rank_text(alloc, *rank)?;
+        text.extend_from_slice(more.as_bytes())?;
+    }
+    Ok(())
+}
+
+/// Adds that these ranks are in a deadlock.
+fn put_deadlock(alloc: Global, text: &mut Vec<u8>, ranks: &[u8]) -> Result<(), AllocError>
+    ensures { OnOk result (text.new.items ≡ text.old.items ++ deadlock_text ranks.now) }
+{
+    text.extend_from_slice(b"deadlock: ranks")?;
+    put_ranks(alloc, text, ranks)?;
+    text.push(b'\n')?;
+    Ok(())
+}
+
+/// Adds the line of the verdict.
+fn put_verdict(alloc: Global, text: &mut Vec<u8>, found: &Option<Vec<u8>>) -> Result<(), AllocError>
+    ensures { OnOk result
+        (text.new.items ≡ text.old.items ++ deadlock_verdict_text (option_map (λ ranks. ranks.items) found.now)) }
+{
+    match found {
+        None => text.extend_from_slice(b"no deadlock shown\n"),
+        Some(ranks) => put_deadlock(alloc, text, ranks.as_slice()),
+    }
+}
+
+/// How each hart of the state stands, and what it waits for; which messages weren't received; and the ranks of a
+/// deadlock, or that none is shown. The only error is want of memory.
+pub fn why(alloc: Global, image: &Image, state: &ClusterState) -> Result<Vec<u8>, AllocError>
+    ensures { IfOk result (λ text. IsWhy image.now state.now text.items) }
+{
+    let found = deadlock(alloc, state)?;
+    let mut text = Vec::new(alloc);
+    put_all_harts(alloc, &mut text, image, state)?;
+    put_unreceived(alloc, &mut text, state.ranks.len(), &state.hub)?;
+    put_verdict(alloc, &mut text, &found)?;
+    Ok(text)
+}

@@ -1,0 +1,178 @@
+//! The words, done one after another.
+
+ghost use Rattle.std.specs.Prelude.{◌≡◌, ◌<◌, ◌++◌, IfErr, IfOk, List, OnErr, OnOk, length, ℕ};
+ghost use Rattle.cl_debug.specs.declared.faults.DebugFault.TheVariants.{NoSymbol};
+ghost use Rattle.rvmc_line.specs.declared.debug.DebugWord.TheVariants as word;
+ghost use Rattle.rvmc_inspect.specs.Words.{AddsBreak, Does, IsSpot, IsTextOfWords, IsUnknown, Refuses, TellsBytes, TellsPlace};
+ghost use Rattle.rvmc_inspect.specs.Words.{TellsRegs, WantsMemory};
+
+use crate::word_texts::{bytes_text, place_text, regs_text};
+use cl_debug::{DebugFault, Debugger};
+use rvmc_line::{DebugWord, Spot};
+use std::alloc::{AllocError, Global};
+
+/// What the words printed, and why one of them was refused, if one was: the text is then that of the words before it.
+#[derive(Drop)]
+pub struct Told {
+    pub text: Vec<u8>,
+    pub fault: Option<DebugFault>,
+}
+
+/// The text of the place where the debugger is.
+fn tell_place(alloc: Global, debugger: &Debugger) -> Result<Vec<u8>, AllocError>
+    ensures { IfOk result (λ text. TellsPlace debugger.now text.items) }
+{
+    let (n, len) = debugger.place();
+    Ok(place_text(alloc, n, len)?.into_bytes())
+}
+
+/// Goes to a place.
+fn go(alloc: Global, debugger: &mut Debugger, n: u64) -> Result<Vec<u8>, DebugFault>
+    ensures does { IfOk result (λ text. Does debugger.old (word.Go n) debugger.new text.items) }
+    ensures wanted { IfOk result (λ text. 0 < length text.items → WantsMemory debugger.old (word.Go n)) }
+    ensures fault { IfErr result (λ fault. Refuses debugger.old fault (word.Go n)) }
+{
+    debugger.go(n)?;
+    Ok(tell_place(alloc, debugger)?)
+}
+
+/// Goes a step on, or stays at the end.
+fn step(alloc: Global, debugger: &mut Debugger) -> Result<Vec<u8>, DebugFault>
+    ensures does { IfOk result (λ text. Does debugger.old word.Step debugger.new text.items) }
+    ensures fault { IfErr result (λ fault. Refuses debugger.old fault word.Step) }
+{
+    debugger.step()?;
+    Ok(tell_place(alloc, debugger)?)
+}
+
+/// Goes a step back, or stays at the start.
+fn back(alloc: Global, debugger: &mut Debugger) -> Result<Vec<u8>, DebugFault>
+    ensures does { IfOk result (λ text. Does debugger.old word.Back debugger.new text.items) }
+    ensures fault { IfErr result (λ fault. Refuses debugger.old fault word.Back) }
+{
+    debugger.back()?;
+    Ok(tell_place(alloc, debugger)?)
+}
+
+/// Runs to the next break, or to the end.
+fn run(alloc: Global, debugger: &mut Debugger) -> Result<Vec<u8>, DebugFault>
+    ensures does { IfOk result (λ text. Does debugger.old word.Run debugger.new text.items) }
+    ensures fault { IfErr result (λ fault. Refuses debugger.old fault word.Run) }
+{
+    debugger.run()?;
+    Ok(tell_place(alloc, debugger)?)
+}
+
+/// The address that a word names.
+fn address_of(debugger: &Debugger, at: &Spot) -> Result<u64, DebugFault>
+    ensures found { IfOk result (IsSpot debugger.now.image at.now) }
+    ensures unknown { IfErr result (λ fault. (fault ≡ NoSymbol) × IsUnknown debugger.now.image at.now) }
+{
+    match at {
+        Spot::Address(address) => Ok(*address),
+        Spot::Name(name) => match debugger.symbol(name.as_str()) {
+            Some(address) => Ok(address),
+            None => Err(DebugFault::NoSymbol),
+        },
+    }
+}
+
+/// Sets a break, and prints nothing.
+fn set_break(
+    alloc: Global,
+    debugger: &mut Debugger,
+    rank: u8,
+    hart: u8,
+    at: &Spot,
+) -> Result<Vec<u8>, DebugFault>
+    ensures does { IfOk result (λ text. AddsBreak debugger.old rank hart at.now debugger.new text.items) }
+    ensures wanted { IfOk result
+        (λ text. 0 < length text.items → WantsMemory debugger.old (word.Break rank hart at.now)) }
+    ensures fault { IfErr result (λ fault. Refuses debugger.old fault (word.Break rank hart at.now)) }
+{
+    let pc = address_of(debugger, at)?;
+    debugger.set_break(rank, hart, pc)?;
+    Ok(Vec::new(alloc))
+}
+
+/// Shows a hart.
+fn regs(alloc: Global, debugger: &Debugger, rank: u8, hart: u8) -> Result<Vec<u8>, DebugFault>
+    ensures does { IfOk result (λ text. TellsRegs debugger.now rank hart debugger.now text.items) }
+    ensures wanted { IfOk result (λ text. 0 < length text.items → WantsMemory debugger.now (word.Regs rank hart)) }
+    ensures fault { IfErr result (λ fault. Refuses debugger.now fault (word.Regs rank hart)) }
+{
+    let shown = debugger.regs(rank, hart)?;
+    Ok(regs_text(alloc, rank, hart, shown)?)
+}
+
+/// Shows bytes of a rank's memory.
+fn bytes(
+    alloc: Global,
+    debugger: &Debugger,
+    rank: u8,
+    at: &Spot,
+    count: u64,
+) -> Result<Vec<u8>, DebugFault>
+    ensures does { IfOk result (λ text. TellsBytes debugger.now rank at.now count debugger.now text.items) }
+    ensures wanted { IfOk result
+        (λ text. 0 < length text.items → WantsMemory debugger.now (word.Bytes rank at.now count)) }
+    ensures fault { IfErr result (λ fault. Refuses debugger.now fault (word.Bytes rank at.now count)) }
+{
+    let address = address_of(debugger, at)?;
+    let shown = debugger.bytes(rank, address, count)?;
+    if count == 0 {
+        return Ok(Vec::new(alloc));
+    }
+    Ok(bytes_text(alloc, &shown)?)
+}
+
+/// Does a word, and gives its text.
+fn tell(alloc: Global, debugger: &mut Debugger, word: &DebugWord) -> Result<Vec<u8>, DebugFault>
+    ensures does { IfOk result (λ text. Does debugger.old word.now debugger.new text.items) }
+    ensures wanted { IfOk result (λ text. 0 < length text.items → WantsMemory debugger.old word.now) }
+    ensures fault { IfErr result (λ fault. Refuses debugger.old fault word.now) }
+{
+    match word {
+        DebugWord::Go(n) => go(alloc, debugger, *n),
+        DebugWord::Step => step(alloc, debugger),
+        DebugWord::Back => back(alloc, debugger),
+        DebugWord::Run => run(alloc, debugger),
+        DebugWord::Place => Ok(tell_place(alloc, debugger)?),
+        DebugWord::Break { rank, hart, at } => set_break(alloc, debugger, *rank, *hart, at),
+        DebugWord::Regs { rank, hart } => regs(alloc, debugger, *rank, *hart),
+        DebugWord::Bytes { rank, at, count } => bytes(alloc, debugger, *rank, at, *count),
+    }
+}
+
+/// Does a word, and adds its text. After a refusal the text is as it was.
+fn put_word(
+    alloc: Global,
+    debugger: &mut Debugger,
+    text: &mut Vec<u8>,
+    word: &DebugWord,
+) -> Result<(), DebugFault>
+    ensures does { OnOk result ((more : List ℕ) × Does debugger.old word.now debugger.new more
+        × (text.new.items ≡ text.old.items ++ more)) }
+    ensures unchanged { OnErr result (text.new.items ≡ text.old.items) }
+    ensures fault { IfErr result (λ fault. Refuses debugger.old fault word.now) }
+{
+    let more = tell(alloc, debugger, word)?;
+    text.extend_from_slice(&more)?;
+    Ok(())
+}
+
+/// Does words one after another, up to the first that is refused.
+pub fn tell_all(alloc: Global, debugger: &mut Debugger, words: &[DebugWord]) -> Told
+    ensures { IsTextOfWords debugger.old words.now result.text.items result.fault }
+{
+    let mut text = Vec::new(alloc);
+    for word in words {
+        if let Err(fault) = put_word(alloc, debugger, &mut text, word) {
+            return Told {
+                text,
+                fault: Some(fault),
+            };
+        }
+    }
+    Told { text, fault: None }
+}

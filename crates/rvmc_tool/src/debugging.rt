@@ -1,0 +1,40 @@
+//! Records that are walked through, word by word.
+
+ghost use Rattle.std.specs.Prelude.{◌≡◌, IfErr, IfOk};
+ghost use Rattle.rvmc_tool.specs.Answers.{end_after};
+ghost use Rattle.rvmc_tool.specs.Making.{HasDebugged, IsDebugFault};
+ghost use Rattle.rvmc_tool.specs.Outputs.{output_bytes};
+
+use crate::answers::{Answer, End};
+use crate::outputs::Output;
+use cl_debug::{DebugFault, Debugger};
+use cl_text::read_record;
+use rvmc_inspect::tell_all;
+use rvmc_line::DebugWords;
+use rvmc_report::faults::Fault;
+use std::alloc::Global;
+
+/// How words end: all of them are done, or one is refused.
+fn end_of(fault: Option<DebugFault>) -> End
+    ensures { result ≡ end_after fault }
+{
+    match fault {
+        Some(fault) => End::Cut(Fault::from(fault)),
+        None => End::Status(0),
+    }
+}
+
+/// `debug`: the texts of the words on the record, up to the first word that is refused. The record is opened before any
+/// word is done: steps that are no run of their image are a fault of the input.
+pub(crate) fn debugged(alloc: Global, words: &DebugWords, bytes: &[u8]) -> Result<Answer, Fault>
+    ensures told { IfOk result (λ answer. HasDebugged words.now bytes.now (output_bytes answer.output) answer.end) }
+    ensures fault { IfErr result (IsDebugFault bytes.now) }
+{
+    let (image, steps) = read_record(alloc, bytes)?;
+    let mut debugger = Debugger::open(alloc, image, steps)?;
+    let told = tell_all(alloc, &mut debugger, words.as_slice());
+    Ok(Answer {
+        output: Output::Text(told.text),
+        end: end_of(told.fault),
+    })
+}

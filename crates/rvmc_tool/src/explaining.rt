@@ -1,0 +1,91 @@
+//! What harts wait for, at a place of a record, or where a run ended.
+
+ghost use Rattle.std.specs.Prelude.{◌≡◌, IfErr, IfOk};
+ghost use Rattle.cl_replay.specs.InnerReplaying.{ReplayFaultHolds};
+ghost use Rattle.rvmc_tool.specs.Answers.{IsReportWithWhy, IsWhyAt, IsWhyOf, SaysWhy, end_status, place_asked};
+ghost use Rattle.rvmc_tool.specs.Making.{IsLeft, IsPlaceFault, IsWhole};
+ghost use Rattle.rvmc_tool.specs.Outputs.{output_bytes};
+
+use crate::answers::{Answer, End};
+use crate::outputs::Output;
+use cl_machine::Step;
+use cl_merge::merge;
+use cl_record::Record;
+use cl_replay::{ReplayFault, replay};
+use cl_text::read_record;
+use rv_image::Image;
+use rvmc_inspect::why;
+use rvmc_report::faults::Fault;
+use rvmc_report::report::report;
+use std::alloc::{AllocError, Global};
+
+/// The place of which `why` tells: so many steps are done, or all.
+fn place_in(at: Option<u64>, steps: &[Step]) -> u64
+    ensures { result ≡ place_asked at steps.now }
+{
+    match at {
+        Some(number) => number,
+        None => steps.len() as u64,
+    }
+}
+
+/// What the harts wait for where the first steps lead, so many.
+fn told_at(alloc: Global, image: &Image, steps: &[Step], place: u64) -> Result<Vec<u8>, ReplayFault>
+    ensures told { IfOk result (λ text. IsWhyAt image.now steps.now place text.items) }
+    ensures fault { IfErr result (ReplayFaultHolds image.now steps.now place) }
+{
+    let _parts = image.parts();
+    let state = replay(alloc, image, steps, place)?;
+    match why(alloc, image, &state) {
+        Ok(text) => Ok(text),
+        Err(_) => Err(ReplayFault::Memory),
+    }
+}
+
+/// `why`: what the harts wait for where the first `at` steps of the record lead, or else all of them. A place that isn't
+/// there, or before which a step is wrong, is a fault of the input.
+pub(crate) fn explained(alloc: Global, at: Option<u64>, bytes: &[u8]) -> Result<Answer, Fault>
+    ensures says { IfOk result (λ answer.
+        SaysWhy at bytes.now (output_bytes answer.output) (end_status answer.end)) }
+    ensures whole { IfOk result (λ answer. IsWhole answer.end) }
+    ensures fault { IfErr result (IsPlaceFault at bytes.now) }
+{
+    let (image, steps) = read_record(alloc, bytes)?;
+    let place = place_in(at, &steps);
+    let text = told_at(alloc, &image, &steps, place)?;
+    Ok(Answer {
+        output: Output::Text(text),
+        end: End::Status(0),
+    })
+}
+
+/// What the harts wait for where a record ends. The record is dropped as soon as its steps are copied, so that only one
+/// of the two stands in memory while they are done again.
+fn why_of(alloc: Global, image: &Image, left: Record) -> Result<Vec<u8>, AllocError>
+    requires { IsLeft image.now left }
+    ensures { IfOk result (λ text. IsWhyOf image.now left text.items) }
+{
+    let steps = merge(alloc, &left)?;
+    drop(left);
+    match told_at(alloc, image, &steps, steps.len() as u64) {
+        Ok(text) => Ok(text),
+        Err(ReplayFault::Memory) => Err(AllocError),
+        Err(ReplayFault::PastEnd(_)) => unreachable!(),
+        Err(ReplayFault::Step(_)) => unreachable!(),
+    }
+}
+
+/// The report of a record, and behind it what its harts wait for at the end.
+pub(crate) fn report_with_why(
+    alloc: Global,
+    image: &Image,
+    left: Record,
+) -> Result<Vec<u8>, AllocError>
+    requires { IsLeft image.now left }
+    ensures { IfOk result (λ text. IsReportWithWhy image.now left text.items) }
+{
+    let mut text = report(alloc, &left)?;
+    let told = why_of(alloc, image, left)?;
+    text.extend_from_slice(&told)?;
+    Ok(text)
+}

@@ -1,0 +1,5 @@
+pub mod Ends
+pub mod Recorded
+pub mod Symbols
+pub mod Verdicts
+pub mod Whom

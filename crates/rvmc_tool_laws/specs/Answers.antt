@@ -1,0 +1,65 @@
+-- What follows for a report of `run`, for what `--record` leaves, and for the verdict that `why` tells.
+use Rattle.std.specs.Prelude.{ℕ, ◌≡◌, ◌≢◌, ◌<◌, Bool, true, false, List, [], length, slice_get, Option, Some}
+use Rattle.std.specs.List.{list_all}
+use Rattle.cl_rank.specs.Turns.{is_stopped}
+use Rattle.cl_rank.specs.declared.stops.Stop.{Stop}
+use Rattle.cl_rank.specs.declared.stops.Stop.TheVariants.{AllEnded, Budget}
+use Rattle.cl_record.specs.declared.plans.Plan.{Plan}
+use Rattle.cl_replay.specs.declared.checking.Verdict.TheVariants.{Good}
+use Rattle.cl_machine.specs.declared.steps.Step.{Step}
+use Rattle.cl_deadlock.specs.Why.{IsVerdictOf}
+use Rattle.rv_image.specs.declared.images.ImageParts.{ImageParts}
+use Rattle.rvmc_tool.specs.Answers.{IsDone, IsLeftByThreads, IsTextOf, IsTold, IsWhyAt, Says}
+use Rattle.rvmc_tool.specs.Plans.{ArePlansOf, listed}
+use Rattle.rvmc_line.specs.declared.line.CommandLine.{CommandLine}
+use Rattle.rvmc_line.specs.declared.line.CommandLine.TheVariants.{Check, One, Run}
+use Rattle.rvmc_line.specs.declared.line.Written.{Written}
+use Rattle.rvmc_line.specs.declared.line.Written.TheVariants as written
+use Rattle.rvmc_report.specs.Report.{RankEnd, report}
+use Rattle.rvmc_report.specs.Verdicts.{verdict_text}
+use Rattle.rvmc_inspect.specs.Why.{why_text}
+
+-- why a rank stopped, as its harts and the number of its turns have it: all harts are stopped just where that is told;
+-- the budget is used up, and there was one; and for any other cause turns were left
+abbrev pub FitsStop : ℕ → RankEnd → Stop → Type 0
+FitsStop budget end AllEnded = list_all (λ hart. is_stopped hart.mode) end.harts ≡ true
+FitsStop budget end Budget =
+    (list_all (λ hart. is_stopped hart.mode) end.harts ≡ false) × (end.turns ≡ budget) × (0 < end.turns)
+FitsStop budget end other =
+    (list_all (λ hart. is_stopped hart.mode) end.harts ≡ false) × (end.turns < budget)
+
+-- a report of a run with threads tells of each rank why it stopped, and that fits what it tells of its harts and turns.
+-- So ranks as they were loaded, with a hart that runs and without a turn, have no report that says that all harts
+-- ended, or that the budget was used
+abbrev pub StopsFitLaw : Type 0
+StopsFitLaw = (image : ImageParts) (budget : ℕ) (harts : Option (List ℕ)) (plans : List Plan) (text : List ℕ)
+    (status : ℕ)
+    → ArePlansOf image.ranks (listed harts image.harts) budget plans
+    → IsTold (IsLeftByThreads image plans) (IsTextOf written.Report image) text status
+    → (ends : List RankEnd) × (text ≡ report ends) × (length ends ≡ image.ranks)
+    × ((r : ℕ) (end : RankEnd) → slice_get ends r ≡ Some end → FitsStop budget end end.stop)
+
+-- whether a record is asked for
+abbrev pub is_record : Written → Bool
+is_record written.Record = true
+is_record other = false
+
+abbrev pub is_recorded : CommandLine → Bool
+is_recorded (Run source budget plan lead written) = is_record written
+is_recorded (One source budget plan order written) = is_record written
+is_recorded other = false
+
+-- what `run` or `one` leaves with `--record`, if it leaves anything, is good by `check`, and nothing else: it is no
+-- fault, and no step of it is bad
+abbrev pub RecordedIsGoodLaw : Type 0
+RecordedIsGoodLaw = (line : CommandLine) (bytes text told : List ℕ) (status ended : ℕ) → is_recorded line ≡ true
+    → Says line bytes text status → text ≢ [] → Says Check text told ended
+    → (count : ℕ) × IsDone (verdict_text Good count) told ended
+
+-- the verdict that is told of a place is right of the cluster to which the steps lead: ranks that are named are in a
+-- deadlock there, and no run of the machine lets any of them go on; and where none are named, nobody waits of whichever
+-- ranks are stuck together
+abbrev pub VerdictIsTrueLaw : Type 0
+VerdictIsTrueLaw =
+    (image : ImageParts) (steps : List Step) (n : ℕ) (text : List ℕ) (is : IsWhyAt image steps n text)
+    → (found : Option (List ℕ)) × (text ≡ why_text image is.state found) × IsVerdictOf is.reached.cluster found

@@ -1,4 +1,0 @@
-pub mod Lines
-pub mod Sends
-pub mod Whom
-pub mod Symbols

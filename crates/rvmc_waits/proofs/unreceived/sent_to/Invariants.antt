@@ -1,7 +1,0 @@
-use Rattle.std.proofs.Common.{◌≡◌, take}
-use Rattle.rvmc_waits.specs.Unreceived.{sent_to}
-use Rattle.rvmc_waits.proofs.unreceived.sent_to.Given as goal
-
--- those so far
-abbrev pub invariant-loop-sent : goal.invariant-loop-sent
-invariant-loop-sent l = l.own.items ≡ sent_to l.rank (take l.sent-index l.sends)

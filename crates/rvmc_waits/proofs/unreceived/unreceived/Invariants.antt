@@ -1,7 +1,0 @@
-use Rattle.std.proofs.Common.{◌≡◌, take}
-use Rattle.rvmc_waits.specs.Unreceived.{unreceived}
-use Rattle.rvmc_waits.proofs.unreceived.unreceived.Given as goal
-
--- those of the posts so far
-abbrev pub invariant-loop-place : goal.invariant-loop-place
-invariant-loop-place l = l.sends.items ≡ unreceived (take l.place l.hub.board.lines)

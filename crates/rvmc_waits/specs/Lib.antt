@@ -1,5 +1,0 @@
-pub mod Places
-pub mod Waits
-pub mod Texts
-pub mod Unreceived
-pub mod Laws
