@@ -9,15 +9,15 @@ use Rattle.clap.specs.declared.error.Error.{Error}
 use Rattle.clap.specs.declared.error.kind.ErrorKind.{ErrorKind}
 use Rattle.clap.specs.declared.error.kind.ErrorKind.TheVariants as kind
 use Rattle.clap.proofs.OnLiterals.{clap_on_literals}
-use Rattle.rvmc_cli.specs.App.{rvmc_app}
-use Rattle.rvmc_cli.specs.Meaning.{IsParseFault, Parses, command_in, faults_in, is_request, line_in, meaning_of}
+use Rattle.rvmc_cli.specs.Commands.{line_in, rvmc_app}
+use Rattle.rvmc_cli.specs.Meaning.{IsParseFault, Parses, command_in, faults_in, is_request, meaning_of}
 use Rattle.rvmc_cli.specs.Meaning.{refusals_of}
 use Rattle.rvmc_cli.specs.Parsing.{Finds, IsTold, Tells}
 use Rattle.rvmc_line.specs.declared.line.ParseFault.{ParseFault}
 use Rattle.rvmc_line.specs.declared.line.ParseFault.TheVariants as parse
 use Rattle.rvmc_line.specs.declared.line.CommandLine.{CommandLine}
-use Rattle.rvmc_cli.specs.declared.parsing.Wrong.{Wrong}
-use Rattle.rvmc_cli.specs.declared.parsing.Wrong.TheVariants as wrong
+use Rattle.rvmc_cli.specs.declared.wrong.Wrong.{Wrong}
+use Rattle.rvmc_cli.specs.declared.wrong.Wrong.TheVariants as wrong
 
 pub is_exact : is_simple_and_free rvmc_app ≡ true
 unfolding clap_on_literals

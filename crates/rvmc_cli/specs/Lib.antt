@@ -1,4 +1,6 @@
 pub mod App
+pub mod Options
+pub mod Commands
 pub mod Built
 pub mod Meaning
 pub mod Parsing

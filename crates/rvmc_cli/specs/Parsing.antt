@@ -4,8 +4,8 @@ use Rattle.clap.specs.declared.error.kind.ErrorKind.TheVariants as kind
 use Rattle.rvmc_line.specs.declared.line.CommandLine.{CommandLine}
 use Rattle.rvmc_line.specs.declared.line.ParseFault.{ParseFault}
 use Rattle.rvmc_line.specs.declared.line.ParseFault.TheVariants as parse
-use Rattle.rvmc_cli.specs.declared.parsing.Wrong.{Wrong}
-use Rattle.rvmc_cli.specs.declared.parsing.Wrong.TheVariants as wrong
+use Rattle.rvmc_cli.specs.declared.wrong.Wrong.{Wrong}
+use Rattle.rvmc_cli.specs.declared.wrong.Wrong.TheVariants as wrong
 use Rattle.rvmc_cli.specs.Meaning.{IsParseFault}
 
 -- what was found is what is meant, unless memory was refused

@@ -2,15 +2,17 @@
 use Rattle.std.specs.Prelude.{◌≡◌, [], ◌∷◌, Some, None, codes, refl}
 use Rattle.clap.specs.declared.error.kind.ErrorKind.TheVariants as kind
 use Rattle.clap.proofs.OnLiterals.{clap_on_literals}
-use Rattle.rvmc_cli.specs.Meaning.{command_in, faults_in, line_in, meaning_of, refusals_of}
+use Rattle.rvmc_cli.specs.Commands.{line_in}
+use Rattle.rvmc_cli.specs.Meaning.{command_in, faults_in, meaning_of, refusals_of}
 use Rattle.rvmc_line.specs.Debug.{bare_word, debug_word_in, spot_in, word_with}
 use Rattle.rvmc_line.specs.Number.{any_number_in}
 use Rattle.rvmc_line.specs.declared.debug.DebugWord.TheVariants.{Back, Go, Regs}
-use Rattle.rvmc_line.specs.declared.line.CommandLine.TheVariants.{Debug}
+use Rattle.rvmc_line.specs.declared.line.CommandLine.TheVariants.{OfRecord}
+use Rattle.rvmc_line.specs.declared.line.RecordCommand.TheVariants.{Debug}
 
 -- the words come in their order
 pub words_in_order : meaning_of (codes "debug" ∷ codes "go=2" ∷ codes "regs=0,1" ∷ codes "back" ∷ [])
-    ≡ Some (Debug (Go 2 ∷ Regs 0 1 ∷ Back ∷ []))
+    ≡ Some (OfRecord (Debug (Go 2 ∷ Regs 0 1 ∷ Back ∷ [])))
 unfolding faults_in command_in line_in clap_on_literals debug_word_in bare_word word_with spot_in any_number_in
 words_in_order = refl
 

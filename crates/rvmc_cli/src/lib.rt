@@ -1,7 +1,21 @@
 //! The command line of rvmc: which words are taken, and what they ask for.
+//!
+//! A command is a module of its name, which has what help says of it, builds it for clap and reads its options; a row of
+//! the table in `table`; and a row in specs/Commands.antt.
 #![tactic(auto)]
 
-mod command;
+mod asm;
+mod check;
+mod debug;
+mod dis;
+mod one;
 mod parsing;
+mod parts;
+mod run;
+mod runner;
+mod table;
+mod values;
+mod why;
+mod wrong;
 
 pub use parsing::parse;

@@ -8,6 +8,6 @@ mod list;
 mod number;
 
 pub use debug::{DebugWord, DebugWords, Name, Spot, debug_word_in};
-pub use line::{CommandLine, ParseFault, Written};
+pub use line::{CommandLine, ImageCommand, ParseFault, RecordCommand, Written};
 pub use list::{Numbers, numbers_in};
 pub use number::{any_number_in, number_in};

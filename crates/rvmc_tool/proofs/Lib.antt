@@ -1,5 +1,6 @@
 pub mod Places
 pub mod Reading
+pub mod Readings
 pub mod Sources
 pub mod Stable
 pub mod Quiet

@@ -1,13 +1,11 @@
 -- The image that a command takes from its input, or the input's fault.
-use Rattle.std.specs.Prelude.{ℕ, ◌+◌, ◌==◌, if◌then◌else◌, Bool, false, List, length, not, take, count_by, Result, Err}
+use Rattle.std.specs.Prelude.{ℕ, ◌+◌, ◌==◌, if◌then◌else◌, Bool, List, length, take, count_by, Result, Err}
 use Rattle.std.specs.Result.{result_map_both}
 use Rattle.std.specs.Str.Lossy.{utf8_valid_len}
 use Rattle.rv_asm.specs.Source.{meaning}
 use Rattle.rv_asm_tokens.specs.declared.fault.AsmFaultKind.TheVariants as kinds
 use Rattle.rv_image.specs.Reading.{reading}
 use Rattle.rv_image.specs.declared.images.ImageParts.{ImageParts}
-use Rattle.rvmc_line.specs.declared.line.CommandLine.{CommandLine}
-use Rattle.rvmc_line.specs.declared.line.CommandLine.TheVariants.{Asm, Check, Debug, Dis, One, Run, Why}
 use Rattle.rvmc_report.specs.Faults.{fault_of_image, fault_of_source}
 use Rattle.rvmc_report.specs.declared.faults.Fault.{Fault}
 use Rattle.rvmc_report.specs.declared.faults.Fault.TheVariants as faults
@@ -30,16 +28,6 @@ source_image bytes =
 abbrev pub spelled_image : List ℕ → Result ImageParts Fault
 spelled_image bytes = result_map_both (λ image. image) fault_of_image (reading bytes)
 
--- whether a command takes a source, and not an image
-abbrev pub takes_source : CommandLine → Bool
-takes_source (Asm from) = not from
-takes_source Dis = false
-takes_source (Run source budget plan lead written) = source
-takes_source (One source budget plan order written) = source
-takes_source Check = false
-takes_source (Debug words) = false
-takes_source (Why at) = false
-
--- the image that a command takes from the bytes
-abbrev pub image_in : CommandLine → List ℕ → Result ImageParts Fault
-image_in line bytes = if takes_source line then source_image bytes else spelled_image bytes
+-- the image that a command takes from the bytes: with `source` of a source
+abbrev pub image_in : Bool → List ℕ → Result ImageParts Fault
+image_in source bytes = if source then source_image bytes else spelled_image bytes

@@ -1,7 +1,9 @@
+pub mod Ends
 pub mod Plans
 pub mod Images
 pub mod Taking
 pub mod Outputs
+pub mod Records
 pub mod Answers
 pub mod Making
 pub mod Tool

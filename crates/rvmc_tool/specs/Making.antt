@@ -1,30 +1,28 @@
 -- What the calls behind each command answer, and their faults.
-use Rattle.std.specs.Prelude.{◌≡◌, ◌<◌, ◌≤◌, ⊤, ℕ, Bool, true, false, List, length, MatchResult, Option, Err}
-use Rattle.cl_debug.specs.declared.faults.DebugFault.{DebugFault}
-use Rattle.cl_debug.specs.declared.faults.DebugFault.TheVariants.{NotARun}
+use Rattle.std.specs.Prelude.{◌≡◌, ⊤, ℕ, Bool, true, false, List, length, MatchResult, Result, Err}
 use Rattle.cl_machine.specs.declared.steps.Step.{Step}
 use Rattle.cl_record.specs.Plans.{ArePlans, HasPlans}
 use Rattle.cl_record.specs.Records.{IsMergedRun}
 use Rattle.cl_record.specs.declared.records.Record.{Record}
-use Rattle.cl_replay.specs.InnerReplaying.{BreaksAt}
 use Rattle.cl_text.specs.Reading.{reading_record}
+use Rattle.cl_text.specs.declared.faults.RecordFault.{RecordFault}
 use Rattle.rv_image.specs.Image.{IsImage}
 use Rattle.rv_image.specs.declared.images.ImageParts.{ImageParts}
-use Rattle.rvmc_line.specs.declared.debug.DebugWord.{DebugWord}
 use Rattle.rvmc_line.specs.declared.line.CommandLine.{CommandLine}
-use Rattle.rvmc_line.specs.declared.line.CommandLine.TheVariants.{Check, Debug, One, Run, Why}
+use Rattle.rvmc_line.specs.declared.line.CommandLine.TheVariants.{OfImage, OfRecord}
+use Rattle.rvmc_line.specs.declared.line.ImageCommand.{ImageCommand}
+use Rattle.rvmc_line.specs.declared.line.ImageCommand.TheVariants.{One, Run}
+use Rattle.rvmc_line.specs.declared.line.RecordCommand.{RecordCommand}
 use Rattle.rvmc_report.specs.WholeRecord.{HasEachRank}
 use Rattle.rvmc_report.specs.declared.faults.Fault.{Fault}
 use Rattle.rvmc_report.specs.declared.faults.Fault.TheVariants as faults
-use Rattle.rvmc_report.specs.declared.faults.PlaceFault.{PlaceFault}
-use Rattle.rvmc_report.specs.declared.faults.PlaceFault.TheVariants.{PastEnd}
-use Rattle.rvmc_report.specs.declared.faults.PlaceFault.TheVariants as place
-use Rattle.rvmc_tool.specs.Taking.{IsFaultIn}
+use Rattle.rvmc_tool.specs.Answers.{ByPlans, HasThreads}
 use Rattle.rvmc_tool.specs.Images.{image_in}
 use Rattle.rvmc_tool.specs.Plans.{listed}
+use Rattle.rvmc_tool.specs.Records.{RefusesSteps, TellsOfSteps}
+use Rattle.rvmc_tool.specs.Taking.{IsFaultIn}
 use Rattle.rvmc_tool.specs.declared.answers.End.{End}
 use Rattle.rvmc_tool.specs.declared.answers.End.TheVariants.{Cut, Status}
-use Rattle.rvmc_tool.specs.Answers.{ByPlans, IsDebugged, HasThreads, place_asked}
 
 -- ---- how an answer ends
 
@@ -33,30 +31,33 @@ abbrev pub IsWhole : End → Type 0
 IsWhole (Status status) = ⊤
 IsWhole (Cut fault) = ⊥
 
--- ---- the commands
+-- an answer to a record is what the command tells of its image and its steps
+abbrev pub HasTold : RecordCommand → List ℕ → List ℕ → End → Type 0
+HasTold command bytes text end =
+    MatchResult (reading_record bytes) (λ read. TellsOfSteps command read.0 read.1 text end) (λ _. ⊥)
 
--- and of the record that the bytes spell
-abbrev pub HasDebugged : List DebugWord → List ℕ → List ℕ → End → Type 0
-HasDebugged words bytes text end =
-    MatchResult (reading_record bytes) (λ read. IsDebugged read.0 read.1 words text end) (λ _. ⊥)
-
--- how it ends: the words of `debug` may be cut short
+-- how it ends: what is told of a record may be cut short
 abbrev pub EndsSo : CommandLine → List ℕ → List ℕ → End → Type 0
-EndsSo (Debug words) bytes text end = HasDebugged words bytes text end
-EndsSo line bytes text end = IsWhole end
+EndsSo (OfImage source command) bytes text end = IsWhole end
+EndsSo (OfRecord command) bytes text end = HasTold command bytes text end
 
 -- ---- which fault is told
 
+-- whether a command of an image needs threads
+abbrev pub runs_threads : ImageCommand → Bool
+runs_threads (Run budget plan lead written) = true
+runs_threads other = false
+
 -- whether a command needs threads
 abbrev pub needs_threads : CommandLine → Bool
-needs_threads (Run source budget plan lead written) = true
-needs_threads other = false
+needs_threads (OfImage source command) = runs_threads command
+needs_threads (OfRecord command) = false
 
 -- the plan is wrong, or the order of the ranks
-abbrev pub IsMisplanned : CommandLine → ImageParts → Type 0
-IsMisplanned (Run source budget plan lead written) image =
+abbrev pub IsMisplanned : ImageCommand → ImageParts → Type 0
+IsMisplanned (Run budget plan lead written) image =
     ByPlans image budget plan (λ plans. ¬ (HasPlans image plans))
-IsMisplanned (One source budget plan order written) image =
+IsMisplanned (One budget plan order written) image =
     ByPlans image budget plan (λ plans. ¬ (ArePlans image plans (listed order image.ranks)))
 IsMisplanned other image = ⊥
 
@@ -70,49 +71,36 @@ IsRunFault Misplanned Threads faults.Memory = ⊤
 IsRunFault Misplanned Threads other = ⊥
 
 -- of an image
-abbrev pub Refuses : CommandLine → ImageParts → Fault → Type 0
-Refuses line image fault = IsRunFault (IsMisplanned line image) (HasThreads line image) fault
+abbrev pub RefusesImage : ImageCommand → ImageParts → Fault → Type 0
+RefusesImage command image fault = IsRunFault (IsMisplanned command image) (HasThreads command image) fault
 
 -- of the bytes that are read: their own fault, or else one of their image
-abbrev pub IsImageFault : CommandLine → List ℕ → Fault → Type 0
-IsImageFault line bytes fault =
-    MatchResult (image_in line bytes) (λ image. Refuses line image fault) (λ _. IsFaultIn (image_in line bytes) fault)
+abbrev pub IsImageFault : Bool → ImageCommand → List ℕ → Fault → Type 0
+IsImageFault source command bytes fault =
+    MatchResult (image_in source bytes) (λ image. RefusesImage command image fault)
+    (λ _. IsFaultIn (image_in source bytes) fault)
 
--- of bytes that are read as a record: their first fault, unless memory was refused
-abbrev pub IsRecordFault : List ℕ → Fault → Type 0
-IsRecordFault bytes faults.Memory = ⊤
-IsRecordFault bytes (faults.Record fault) = reading_record bytes ≡ Err fault
-IsRecordFault bytes other = ⊥
+-- of bytes that are no record: their first fault, unless memory was refused
+abbrev pub IsUnread : List ℕ → Fault → Type 0
+IsUnread bytes faults.Memory = ⊤
+IsUnread bytes (faults.Record fault) = reading_record bytes ≡ Err fault
+IsUnread bytes other = ⊥
 
--- of steps that are no run: the first that isn't the machine's
-abbrev pub IsNoRun : ImageParts → List Step → DebugFault → Type 0
-IsNoRun image steps (NotARun n) = BreaksAt image steps n
-IsNoRun image steps other = ⊥
+-- of the image and the steps of a record, unless memory was refused
+abbrev pub IsStepsFault : RecordCommand → ImageParts → List Step → Fault → Type 0
+IsStepsFault command image steps faults.Memory = ⊤
+IsStepsFault command image steps fault = RefusesSteps command image steps fault
 
--- of bytes that are read as a record whose steps are to be walked through
-abbrev pub IsDebugFault : List ℕ → Fault → Type 0
-IsDebugFault bytes (faults.Debug fault) =
-    MatchResult (reading_record bytes) (λ read. IsNoRun read.0 read.1 fault) (λ _. ⊥)
-IsDebugFault bytes fault = IsRecordFault bytes fault
-
--- of steps of which a place is wanted: there are fewer, which the fault counts, or one before the place is the first
--- that isn't the machine's
-abbrev pub IsNoPlace : ImageParts → List Step → ℕ → PlaceFault → Type 0
-IsNoPlace image steps n (PastEnd count) = (length steps < n) × (count ≡ length steps)
-IsNoPlace image steps n (place.NotARun k) = (k < n) × (n ≤ length steps) × BreaksAt image steps k
-
--- of bytes that are read as a record that has the place
-abbrev pub IsPlaceFault : Option ℕ → List ℕ → Fault → Type 0
-IsPlaceFault at bytes (faults.Why fault) =
-    MatchResult (reading_record bytes) (λ read. IsNoPlace read.0 read.1 (place_asked at read.1) fault) (λ _. ⊥)
-IsPlaceFault at bytes fault = IsRecordFault bytes fault
+-- of what was read as a record: its first fault, or else one of its image and its steps, unless memory was refused
+abbrev pub IsReadFault : RecordCommand → Result (ImageParts × List Step) RecordFault → Fault → Type 0
+IsReadFault command read faults.Memory = ⊤
+IsReadFault command read fault =
+    MatchResult read (λ found. RefusesSteps command found.0 found.1 fault) (λ meant. fault ≡ faults.Record meant)
 
 -- of what a command takes from the bytes
 abbrev pub IsFaultOf : CommandLine → List ℕ → Fault → Type 0
-IsFaultOf Check bytes fault = IsRecordFault bytes fault
-IsFaultOf (Debug words) bytes fault = IsDebugFault bytes fault
-IsFaultOf (Why at) bytes fault = IsPlaceFault at bytes fault
-IsFaultOf line bytes fault = IsImageFault line bytes fault
+IsFaultOf (OfImage source command) bytes fault = IsImageFault source command bytes fault
+IsFaultOf (OfRecord command) bytes fault = IsReadFault command (reading_record bytes) fault
 
 -- ---- the steps to an answer
 

@@ -1,17 +1,8 @@
 -- How a command takes its image from the input.
-use Rattle.std.specs.Prelude.{◌≡◌, ⊤, Bool, true, false, Result, Ok, Err}
+use Rattle.std.specs.Prelude.{◌≡◌, ⊤, Result, Ok, Err}
 use Rattle.rv_image.specs.declared.images.ImageParts.{ImageParts}
-use Rattle.rvmc_line.specs.declared.line.CommandLine.{CommandLine}
-use Rattle.rvmc_line.specs.declared.line.CommandLine.TheVariants.{Check, Debug, Why}
 use Rattle.rvmc_report.specs.declared.faults.Fault.{Fault}
 use Rattle.rvmc_report.specs.declared.faults.Fault.TheVariants as faults
-
--- whether a command takes a record, and not an image
-abbrev pub takes_record : CommandLine → Bool
-takes_record Check = true
-takes_record (Debug words) = true
-takes_record (Why at) = true
-takes_record other = false
 
 -- the fault of the input, unless memory was refused
 abbrev pub IsFaultIn : Result ImageParts Fault → Fault → Type 0

@@ -2,10 +2,12 @@
 use Rattle.std.specs.Prelude.{◌≡◌, ℕ, ◌≤◌, ◌⊎◌, ◌==◌, ◌||◌, Bool, List, [], length, MatchResult, Option, Err}
 use Rattle.std.specs.Prelude.{string_bytes}
 use Rattle.std.specs.Io.KnownBytes.{Appends, Keeps}
-use Rattle.rvmc_tool.specs.Answers.{HasThreads, IsFaulty, Says}
+use Rattle.rvmc_tool.specs.Answers.{HasThreads, Says}
+use Rattle.rvmc_tool.specs.Ends.{IsFaulty}
 use Rattle.rvmc_tool.specs.Images.{image_in}
 use Rattle.rvmc_cli.specs.Meaning.{Parses}
 use Rattle.rvmc_line.specs.declared.line.CommandLine.{CommandLine}
+use Rattle.rvmc_line.specs.declared.line.CommandLine.TheVariants.{OfImage, OfRecord}
 use Rattle.rvmc_line.specs.declared.line.ParseFault.{ParseFault}
 use Rattle.rvmc_line.specs.declared.line.ParseFault.TheVariants as parse
 
@@ -15,8 +17,9 @@ IsRefused text status = (text ≡ []) × (status ≡ 5)
 
 -- of `run` with a right plan: what its threads left doesn't fit together, so there is no report and no record of it
 abbrev pub IsUnlike : CommandLine → List ℕ → List ℕ → ℕ → Type 0
-IsUnlike line bytes text status =
-    IsFaulty text status × MatchResult (image_in line bytes) (λ image. HasThreads line image) (λ _. ⊥)
+IsUnlike (OfImage source command) bytes text status =
+    IsFaulty text status × MatchResult (image_in source bytes) (λ image. HasThreads command image) (λ _. ⊥)
+IsUnlike (OfRecord command) bytes text status = ⊥
 
 -- what a command line says of the bytes, of which there are 2^26 at most
 pub record IsSaid (line : CommandLine) (bytes : List ℕ) (text : List ℕ) (status : ℕ) : Type 0 where

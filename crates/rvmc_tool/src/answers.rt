@@ -2,22 +2,19 @@
 
 ghost use Rattle.std.specs.Prelude.{◌≡◌, IfErr, IfOk, false};
 ghost use Rattle.rv_image.specs.Text.{image_text};
-ghost use Rattle.rvmc_tool.specs.Answers.{IsDone, Makes, Says};
-ghost use Rattle.rvmc_tool.specs.Making.{EndsSo, IsFaultOf, IsImageFault, IsWhole, Refuses};
-ghost use Rattle.rvmc_tool.specs.Answers.{SaysOfImage, end_status};
-ghost use Rattle.rvmc_tool.specs.Making.{needs_threads};
-ghost use Rattle.rvmc_tool.specs.Taking.{takes_record};
-ghost use Rattle.rvmc_tool.specs.Outputs.{output_bytes};
 ghost use Rattle.rvmc_report.specs.Listing.{listing};
+ghost use Rattle.rvmc_tool.specs.Answers.{Makes, Says, SaysOfImage};
+ghost use Rattle.rvmc_tool.specs.Ends.{IsDone, end_status};
+ghost use Rattle.rvmc_tool.specs.Making.{EndsSo, IsFaultOf, IsImageFault, IsWhole, RefusesImage};
+ghost use Rattle.rvmc_tool.specs.Making.{needs_threads, runs_threads};
+ghost use Rattle.rvmc_tool.specs.Outputs.{output_bytes};
 
-use crate::checks::checked;
-use crate::debugging::debugged;
-use crate::explaining::explained;
 use crate::images::image_in;
 use crate::outputs::Output;
+use crate::records::answer_of_record;
 use crate::runs::{one, run};
 use rv_image::{Image, write_image};
-use rvmc_line::CommandLine;
+use rvmc_line::{CommandLine, ImageCommand};
 use rvmc_report::faults::Fault;
 use rvmc_report::listing::listing;
 use std::alloc::{AllocError, Global};
@@ -44,7 +41,7 @@ impl End {
     }
 }
 
-/// What stands on standard output, and how it ends. `debug` alone may be cut short.
+/// What stands on standard output, and how it ends. What is told of a record may be cut short.
 #[derive(Drop)]
 pub struct Answer {
     pub output: Output,
@@ -74,57 +71,60 @@ fn listed(alloc: Global, image: &Image) -> Result<Answer, AllocError>
 }
 
 /// What a command makes of its image that needs no threads.
-fn made(alloc: Global, line: &CommandLine, image: Image) -> Result<Answer, Fault>
-    requires plain { needs_threads line.now ≡ false }
-    requires image { takes_record line.now ≡ false }
+fn made(alloc: Global, command: &ImageCommand, image: Image) -> Result<Answer, Fault>
+    requires { runs_threads command.now ≡ false }
     ensures says { IfOk result (λ answer.
-        Makes line.now image (output_bytes answer.output) (end_status answer.end)) }
+        Makes command.now image (output_bytes answer.output) (end_status answer.end)) }
     ensures whole { IfOk result (λ answer. IsWhole answer.end) }
-    ensures fault { IfErr result (Refuses line.now image) }
+    ensures fault { IfErr result (RefusesImage command.now image) }
 {
-    match line {
-        CommandLine::Asm { from: false } => Ok(written(alloc, &image)?),
-        CommandLine::Asm { from: true } => Ok(written(alloc, &image.into_version_two())?),
-        CommandLine::Dis => Ok(listed(alloc, &image)?),
-        CommandLine::One {
+    match command {
+        ImageCommand::Asm { from: false } => Ok(written(alloc, &image)?),
+        ImageCommand::Asm { from: true } => Ok(written(alloc, &image.into_version_two())?),
+        ImageCommand::Dis => Ok(listed(alloc, &image)?),
+        ImageCommand::One {
             budget,
             plan,
             order,
             written,
-            ..
         } => one(alloc, &image, *budget, plan, order, *written),
-        CommandLine::Run { .. }
-        | CommandLine::Check
-        | CommandLine::Debug { .. }
-        | CommandLine::Why { .. } => unreachable!(),
+        ImageCommand::Run { .. } => unreachable!(),
     }
 }
 
 /// What a command answers to its input that takes an image, and needs no threads.
-fn answer_of_image(alloc: Global, line: &CommandLine, bytes: &[u8]) -> Result<Answer, Fault>
-    requires plain { needs_threads line.now ≡ false }
-    requires image { takes_record line.now ≡ false }
+fn answer_of_image(
+    alloc: Global,
+    source: bool,
+    command: &ImageCommand,
+    bytes: &[u8],
+) -> Result<Answer, Fault>
+    requires { runs_threads command.now ≡ false }
     ensures says { IfOk result (λ answer.
-        SaysOfImage line.now bytes.now (output_bytes answer.output) (end_status answer.end)) }
+        SaysOfImage source command.now bytes.now (output_bytes answer.output) (end_status answer.end)) }
     ensures whole { IfOk result (λ answer. IsWhole answer.end) }
-    ensures fault { IfErr result (IsImageFault line.now bytes.now) }
+    ensures fault { IfErr result (IsImageFault source command.now bytes.now) }
 {
-    let image = image_in(alloc, line, bytes)?;
-    made(alloc, line, image)
+    let image = image_in(alloc, source, bytes)?;
+    made(alloc, command, image)
 }
 
 /// Whether a command needs threads: `run` alone does.
 pub fn needs_threads(line: &CommandLine) -> bool
     ensures { result ≡ needs_threads line.now }
 {
-    matches!(line, CommandLine::Run { .. })
+    match line {
+        CommandLine::OfImage { command, .. } => matches!(command, ImageCommand::Run { .. }),
+        CommandLine::OfRecord(_) => false,
+    }
 }
 
 /// What a command that needs no threads answers to its input.
 ///
 /// A fault of the input is an `Err`, as want of memory is: the first fault of the source, the image or the record,
-/// `Plans` where a run's plan or order is wrong, or `Why` where the place isn't there of which `why` is to tell. A word of `debug` that is refused is no such `Err`: the answer has the
-/// texts of the words before it, and is cut short by the fault.
+/// `Plans` where a run's plan or order is wrong, or the fault for which a command tells nothing of a record's steps. A
+/// word of `debug` that is refused is no such `Err`: the answer has the texts of the words before it, and is cut short
+/// by the fault.
 pub fn answer_to(alloc: Global, line: &CommandLine, bytes: &[u8]) -> Result<Answer, Fault>
     requires plain { needs_threads line.now ≡ false }
     ensures says { IfOk result (λ answer.
@@ -133,10 +133,8 @@ pub fn answer_to(alloc: Global, line: &CommandLine, bytes: &[u8]) -> Result<Answ
     ensures fault { IfErr result (IsFaultOf line.now bytes.now) }
 {
     match line {
-        CommandLine::Check => checked(alloc, bytes),
-        CommandLine::Debug { words } => debugged(alloc, words, bytes),
-        CommandLine::Why { at } => explained(alloc, *at, bytes),
-        _ => answer_of_image(alloc, line, bytes),
+        CommandLine::OfImage { source, command } => answer_of_image(alloc, *source, command, bytes),
+        CommandLine::OfRecord(command) => answer_of_record(alloc, command, bytes),
     }
 }
 
@@ -156,14 +154,16 @@ pub fn answer_with_threads<R: Threads + Wait + Sync>(
     ensures fault { IfErr result (IsFaultOf line.now bytes.now) }
 {
     match line {
-        CommandLine::Run {
-            budget,
-            plan,
-            lead,
-            written,
-            ..
+        CommandLine::OfImage {
+            source,
+            command: ImageCommand::Run {
+                budget,
+                plan,
+                lead,
+                written,
+            },
         } => {
-            let image = image_in(alloc, line, bytes)?;
+            let image = image_in(alloc, *source, bytes)?;
             run(rt, alloc, &image, *budget, plan, *lead, *written)
         }
         _ => answer_to(alloc, line, bytes),

@@ -1,27 +1,27 @@
 //! Records that others may have written, and what is told of them.
 
 ghost use Rattle.std.specs.Prelude.{IfErr, IfOk};
-ghost use Rattle.rvmc_tool.specs.Answers.{SaysOfRecord, end_status};
-ghost use Rattle.rvmc_tool.specs.Making.{IsRecordFault, IsWhole};
+ghost use Rattle.rvmc_line.specs.declared.line.RecordCommand.TheVariants as command;
+ghost use Rattle.rvmc_tool.specs.Making.{IsStepsFault};
 ghost use Rattle.rvmc_tool.specs.Outputs.{output_bytes};
+ghost use Rattle.rvmc_tool.specs.Records.{IsChecked};
 
 use crate::answers::{Answer, End};
 use crate::outputs::Output;
+use cl_machine::Step;
 use cl_replay::check;
-use cl_text::read_record;
+use rv_image::Image;
 use rvmc_report::faults::Fault;
 use rvmc_report::verdicts::{verdict_status, verdict_text};
 use std::alloc::Global;
 
 /// `check`: whether the steps of the record are a run of its image, in order.
-pub(crate) fn checked(alloc: Global, bytes: &[u8]) -> Result<Answer, Fault>
-    ensures says { IfOk result (λ answer.
-        SaysOfRecord bytes.now (output_bytes answer.output) (end_status answer.end)) }
-    ensures whole { IfOk result (λ answer. IsWhole answer.end) }
-    ensures fault { IfErr result (IsRecordFault bytes.now) }
+pub(crate) fn checked(alloc: Global, image: &Image, steps: &[Step]) -> Result<Answer, Fault>
+    ensures tells { IfOk result (λ answer.
+        IsChecked image.now steps.now (output_bytes answer.output) answer.end) }
+    ensures fault { IfErr result (IsStepsFault command.Check image.now steps.now) }
 {
-    let (image, steps) = read_record(alloc, bytes)?;
-    let verdict = check(alloc, &image, &steps)?;
+    let verdict = check(alloc, image, steps)?;
     let text = verdict_text(alloc, verdict, steps.len())?;
     Ok(Answer {
         output: Output::Text(text.into_bytes()),

@@ -1,14 +1,16 @@
 //! Records that are walked through, word by word.
 
 ghost use Rattle.std.specs.Prelude.{◌≡◌, IfErr, IfOk};
-ghost use Rattle.rvmc_tool.specs.Answers.{end_after};
-ghost use Rattle.rvmc_tool.specs.Making.{HasDebugged, IsDebugFault};
+ghost use Rattle.rvmc_line.specs.declared.line.RecordCommand.TheVariants as command;
+ghost use Rattle.rvmc_tool.specs.Making.{IsStepsFault};
 ghost use Rattle.rvmc_tool.specs.Outputs.{output_bytes};
+ghost use Rattle.rvmc_tool.specs.Records.{IsDebugged, end_after};
 
 use crate::answers::{Answer, End};
 use crate::outputs::Output;
 use cl_debug::{DebugFault, Debugger};
-use cl_text::read_record;
+use cl_machine::Step;
+use rv_image::Image;
 use rvmc_inspect::tell_all;
 use rvmc_line::DebugWords;
 use rvmc_report::faults::Fault;
@@ -26,11 +28,16 @@ fn end_of(fault: Option<DebugFault>) -> End
 
 /// `debug`: the texts of the words on the record, up to the first word that is refused. The record is opened before any
 /// word is done: steps that are no run of their image are a fault of the input.
-pub(crate) fn debugged(alloc: Global, words: &DebugWords, bytes: &[u8]) -> Result<Answer, Fault>
-    ensures told { IfOk result (λ answer. HasDebugged words.now bytes.now (output_bytes answer.output) answer.end) }
-    ensures fault { IfErr result (IsDebugFault bytes.now) }
+pub(crate) fn debugged(
+    alloc: Global,
+    words: &DebugWords,
+    image: Image,
+    steps: Vec<Step>,
+) -> Result<Answer, Fault>
+    ensures tells { IfOk result (λ answer.
+        IsDebugged image steps.items words.now (output_bytes answer.output) answer.end) }
+    ensures fault { IfErr result (IsStepsFault (command.Debug words.now) image steps.items) }
 {
-    let (image, steps) = read_record(alloc, bytes)?;
     let mut debugger = Debugger::open(alloc, image, steps)?;
     let told = tell_all(alloc, &mut debugger, words.as_slice());
     Ok(Answer {

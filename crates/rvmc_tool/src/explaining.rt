@@ -2,9 +2,12 @@
 
 ghost use Rattle.std.specs.Prelude.{◌≡◌, IfErr, IfOk};
 ghost use Rattle.cl_replay.specs.InnerReplaying.{ReplayFaultHolds};
-ghost use Rattle.rvmc_tool.specs.Answers.{IsReportWithWhy, IsWhyAt, IsWhyOf, SaysWhy, end_status, place_asked};
-ghost use Rattle.rvmc_tool.specs.Making.{IsLeft, IsPlaceFault, IsWhole};
+ghost use Rattle.rvmc_line.specs.declared.line.RecordCommand.TheVariants as command;
+ghost use Rattle.rvmc_tool.specs.Answers.{IsReportWithWhy, IsWhyOf};
+ghost use Rattle.rvmc_tool.specs.Making.{IsLeft, IsStepsFault};
 ghost use Rattle.rvmc_tool.specs.Outputs.{output_bytes};
+ghost use Rattle.rvmc_tool.specs.Records.{IsWhyAt, place_asked};
+ghost use Rattle.rvmc_tool.specs.declared.answers.End.TheVariants.{Status};
 
 use crate::answers::{Answer, End};
 use crate::outputs::Output;
@@ -12,7 +15,6 @@ use cl_machine::Step;
 use cl_merge::merge;
 use cl_record::Record;
 use cl_replay::{ReplayFault, replay};
-use cl_text::read_record;
 use rv_image::Image;
 use rvmc_inspect::why;
 use rvmc_report::faults::Fault;
@@ -44,15 +46,19 @@ fn told_at(alloc: Global, image: &Image, steps: &[Step], place: u64) -> Result<V
 
 /// `why`: what the harts wait for where the first `at` steps of the record lead, or else all of them. A place that isn't
 /// there, or before which a step is wrong, is a fault of the input.
-pub(crate) fn explained(alloc: Global, at: Option<u64>, bytes: &[u8]) -> Result<Answer, Fault>
-    ensures says { IfOk result (λ answer.
-        SaysWhy at bytes.now (output_bytes answer.output) (end_status answer.end)) }
-    ensures whole { IfOk result (λ answer. IsWhole answer.end) }
-    ensures fault { IfErr result (IsPlaceFault at bytes.now) }
+pub(crate) fn explained(
+    alloc: Global,
+    at: Option<u64>,
+    image: &Image,
+    steps: &[Step],
+) -> Result<Answer, Fault>
+    ensures told { IfOk result (λ answer.
+        IsWhyAt image.now steps.now (place_asked at steps.now) (output_bytes answer.output)) }
+    ensures ends { IfOk result (λ answer. answer.end ≡ Status 0) }
+    ensures fault { IfErr result (IsStepsFault (command.Why at) image.now steps.now) }
 {
-    let (image, steps) = read_record(alloc, bytes)?;
-    let place = place_in(at, &steps);
-    let text = told_at(alloc, &image, &steps, place)?;
+    let place = place_in(at, steps);
+    let text = told_at(alloc, image, steps, place)?;
     Ok(Answer {
         output: Output::Text(text),
         end: End::Status(0),

@@ -2,12 +2,11 @@
 
 ghost use Rattle.std.specs.Prelude.{◌≡◌, ◌+◌, ◌==◌, Err, count_by};
 ghost use Rattle.std.specs.Str.{IsUtf8};
-ghost use Rattle.rvmc_tool.specs.Images.{image_in, source_image, spelled_image, takes_source, wrong_bytes};
+ghost use Rattle.rvmc_tool.specs.Images.{image_in, source_image, spelled_image, wrong_bytes};
 ghost use Rattle.rvmc_tool.specs.Taking.{Reads};
 
 use rv_asm::{AsmFault, AsmFaultKind, assemble};
 use rv_image::{Image, read_image};
-use rvmc_line::CommandLine;
 use rvmc_report::faults::Fault;
 use std::alloc::Global;
 
@@ -40,25 +39,11 @@ fn spelled_image(alloc: Global, bytes: &[u8]) -> Result<Image, Fault>
     Ok(read_image(alloc, bytes)?)
 }
 
-/// Whether a command takes a source, and not an image.
-fn takes_source(line: &CommandLine) -> bool
-    ensures { result ≡ takes_source line.now }
+/// The image that a command takes from the bytes: with `source` of a source.
+pub(crate) fn image_in(alloc: Global, source: bool, bytes: &[u8]) -> Result<Image, Fault>
+    ensures { Reads (image_in source bytes.now) result }
 {
-    match line {
-        CommandLine::Asm { from } => !*from,
-        CommandLine::Dis
-        | CommandLine::Check
-        | CommandLine::Debug { .. }
-        | CommandLine::Why { .. } => false,
-        CommandLine::Run { source, .. } | CommandLine::One { source, .. } => *source,
-    }
-}
-
-/// The image that a command takes from the bytes.
-pub(crate) fn image_in(alloc: Global, line: &CommandLine, bytes: &[u8]) -> Result<Image, Fault>
-    ensures { Reads (image_in line.now bytes.now) result }
-{
-    if takes_source(line) {
+    if source {
         source_image(alloc, bytes)
     } else {
         spelled_image(alloc, bytes)

@@ -9,6 +9,7 @@ mod images;
 pub mod outputs;
 pub mod plans;
 mod program;
+mod records;
 mod runs;
 
 pub use program::{tool, tool_plain};

@@ -1,5 +1,5 @@
 -- What `--record` leaves is good.
-use Rattle.std.proofs.Common.{◌≡◌, ◌∙◌, ℕ, Bool, true, false, List, [], length, refl, sym, ap, subst, true≢false}
+use Rattle.std.proofs.Common.{◌≡◌, ◌∙◌, ℕ, Bool, true, false, List, [], length, inl, inr, refl, sym, ap, subst, true≢false}
 use Rattle.std.specs.Prelude.{◌≢◌, MatchResult, Option, Result, Ok, Err}
 use Rattle.std.specs.Result.{result_unwrap_or}
 use Rattle.cl_machine.specs.declared.steps.Step.{Step}
@@ -13,12 +13,16 @@ use Rattle.cl_text.proofs.ReadAgain.{read_again}
 use Rattle.cl_text.specs.Reading.{reading_record}
 use Rattle.cl_text.specs.declared.faults.RecordFault.{RecordFault}
 use Rattle.rv_image.specs.declared.images.ImageParts.{ImageParts}
-use Rattle.rvmc_tool.specs.Answers.{IsChecked, IsDone, IsFaulty, IsOne, IsRecordOf, IsRunAnswer, IsRunBy, IsTextOf}
-use Rattle.rvmc_tool.specs.Answers.{SaysOfRecord}
+use Rattle.rvmc_tool.specs.Answers.{IsOne, IsRecordOf, IsRunAnswer, IsRunBy, IsTextOf}
+use Rattle.rvmc_tool.specs.Ends.{IsDone, IsFaulty, end_status}
 use Rattle.rvmc_tool.specs.Images.{image_in}
+use Rattle.rvmc_tool.specs.Records.{IsChecked, SaysOfRecord, SaysOfSteps}
+use Rattle.rvmc_tool.specs.declared.answers.End.{End}
 use Rattle.rvmc_tool_laws.specs.Answers.{RecordedIsGoodLaw}
 use Rattle.rvmc_tool.proofs.Reading.{ok≢err}
-use Rattle.rvmc_line.specs.declared.line.CommandLine.TheVariants.{Asm, Check, Debug, Dis, One, Run, Why}
+use Rattle.rvmc_line.specs.declared.line.CommandLine.TheVariants.{OfImage}
+use Rattle.rvmc_line.specs.declared.line.ImageCommand.TheVariants.{One, Run}
+use Rattle.rvmc_line.specs.declared.line.RecordCommand.TheVariants.{Check}
 use Rattle.rvmc_line.specs.declared.line.Written.TheVariants as written
 use Rattle.rvmc_report.specs.Verdicts.{verdict_status, verdict_text}
 use Rattle.rvmc_report.specs.declared.faults.Fault.{Fault}
@@ -42,10 +46,10 @@ is_good Good = true
 is_good (BadAt n) = false
 
 -- and no step of it is bad
-not_bad : (text : List ℕ) (image : ImageParts) (steps : List Step) (told : List ℕ) (ended : ℕ)
-    (checked : IsChecked image steps told ended) → reading_record text ≡ Ok (image, steps) → IsMergedText text
+not_bad : (text : List ℕ) (image : ImageParts) (steps : List Step) (told : List ℕ) (end : End)
+    (checked : IsChecked image steps told end) → reading_record text ≡ Ok (image, steps) → IsMergedText text
     → is_good checked.verdict ≡ true
-not_bad text image steps told ended checked read is =
+not_bad text image steps told end checked read is =
     let same : (image, steps) ≡ (is.image, is.spells.steps) =
     ap (λ (r : Read). result_unwrap_or r (image, steps)) (sym read ∙ reads text is) in
     let found = subst (λ (r : ImageParts × List Step). IsVerdict r.0 r.1 checked.verdict) same checked.found in
@@ -56,22 +60,33 @@ abbrev pub IsGood : List ℕ → ℕ → Type 0
 IsGood told ended = (count : ℕ) × IsDone (verdict_text Good count) told ended
 
 -- so it is good, wherever a fault of the input is ruled out
-pub good_text : (text told : List ℕ) (ended : ℕ) → ¬ (¬ (IsMergedText text)) → SaysOfRecord text told ended
+pub good_text : (text told : List ℕ) (ended : ℕ) → ¬ (¬ (IsMergedText text)) → SaysOfRecord Check text told ended
     → IsGood told ended
 good_text text told ended is says = go (reading_record text) refl says
   where
-    by : (image : ImageParts) (steps : List Step) (checked : IsChecked image steps told ended)
-        → reading_record text ≡ Ok (image, steps) → (v : Verdict) → checked.verdict ≡ v → IsGood told ended
-    by image steps checked read Good e = (
+    by : (image : ImageParts) (steps : List Step) (end : End) (checked : IsChecked image steps told end)
+        → ended ≡ end_status end → reading_record text ≡ Ok (image, steps) → (v : Verdict) → checked.verdict ≡ v
+        → IsGood told ended
+    by image steps end checked ends read Good e = (
       length steps,
-      (checked.told ∙ ap (λ (v : Verdict). verdict_text v (length steps)) e, checked.status_is ∙ ap verdict_status e),
+      (
+        checked.told ∙ ap (λ (v : Verdict). verdict_text v (length steps)) e,
+        ends ∙ ap end_status checked.end_is ∙ ap verdict_status e,
+      ),
     )
-    by image steps checked read (BadAt n) e =
-        absurd (is (λ m. true≢false (sym (not_bad text image steps told ended checked read m) ∙ ap is_good e)))
+    by image steps end checked ends read (BadAt n) e =
+        absurd (is (λ m. true≢false (sym (not_bad text image steps told end checked read m) ∙ ap is_good e)))
+
+    of_steps : (image : ImageParts) (steps : List Step) → reading_record text ≡ Ok (image, steps)
+        → SaysOfSteps Check image steps told ended → IsGood told ended
+    of_steps image steps read (inl (end, checked, ends)) =
+        by image steps end checked ends read checked.verdict refl
+    of_steps image steps read (inr (fault, refuses, faulty)) = absurd refuses
 
     go : (r : Read) → reading_record text ≡ r
-        → MatchResult r (λ read. IsChecked read.0 read.1 told ended) (λ _. IsFaulty told ended) → IsGood told ended
-    go (Ok read) e checked = by read.0 read.1 checked e checked.verdict refl
+        → MatchResult r (λ read. SaysOfSteps Check read.0 read.1 told ended) (λ _. IsFaulty told ended)
+        → IsGood told ended
+    go (Ok read) e says = of_steps read.0 read.1 e says
     go (Err fault) e faulty = absurd (is (λ m. ok≢err _ _ (sym (reads text m) ∙ e)))
 
 -- a run that is told of by its record, and not as a fault of the input
@@ -100,22 +115,8 @@ one_text (Ok image) budget harts ranks text status some (plans, of, by) =
 one_text (Err fault) budget harts ranks text status some faulty = λ none. some faulty.0
 
 pub recorded_is_good : RecordedIsGoodLaw
-recorded_is_good (Run source budget plan lead written.Record) bytes text told status ended asked says some checked =
-    let meant = image_in (Run source budget plan lead written.Record) bytes in
-    good_text text told ended (run_text meant budget plan text status some says) checked
-recorded_is_good (One source budget plan order written.Record) bytes text told status ended asked says some checked =
-    let meant = image_in (One source budget plan order written.Record) bytes in
-    good_text text told ended (one_text meant budget plan order text status some says) checked
-recorded_is_good (Run source budget plan lead written.Report) bytes text told status ended asked says some checked =
-    absurd (true≢false (sym asked))
-recorded_is_good (Run source budget plan lead written.Why) bytes text told status ended asked says some checked =
-    absurd (true≢false (sym asked))
-recorded_is_good (One source budget plan order written.Report) bytes text told status ended asked says some checked =
-    absurd (true≢false (sym asked))
-recorded_is_good (One source budget plan order written.Why) bytes text told status ended asked says some checked =
-    absurd (true≢false (sym asked))
-recorded_is_good (Asm from) bytes text told status ended asked says some checked = absurd (true≢false (sym asked))
-recorded_is_good Dis bytes text told status ended asked says some checked = absurd (true≢false (sym asked))
-recorded_is_good Check bytes text told status ended asked says some checked = absurd (true≢false (sym asked))
-recorded_is_good (Debug words) bytes text told status ended asked says some checked = absurd (true≢false (sym asked))
-recorded_is_good (Why at) bytes text told status ended asked says some checked = absurd (true≢false (sym asked))
+recorded_is_good (OfImage source (Run budget plan lead written.Record)) bytes text told status ended asked says some checked =
+    good_text text told ended (run_text (image_in source bytes) budget plan text status some says) checked
+recorded_is_good (OfImage source (One budget plan order written.Record)) bytes text told status ended asked says some checked =
+    good_text text told ended (one_text (image_in source bytes) budget plan order text status some says) checked
+recorded_is_good other bytes text told status ended asked says some checked = absurd (true≢false (sym asked))

@@ -9,10 +9,14 @@ use Rattle.cl_replay.specs.declared.checking.Verdict.TheVariants.{Good}
 use Rattle.cl_machine.specs.declared.steps.Step.{Step}
 use Rattle.cl_deadlock.specs.Why.{IsVerdictOf}
 use Rattle.rv_image.specs.declared.images.ImageParts.{ImageParts}
-use Rattle.rvmc_tool.specs.Answers.{IsDone, IsLeftByThreads, IsTextOf, IsTold, IsWhyAt, Says}
+use Rattle.rvmc_tool.specs.Answers.{IsLeftByThreads, IsTextOf, IsTold, Says}
+use Rattle.rvmc_tool.specs.Ends.{IsDone}
+use Rattle.rvmc_tool.specs.Records.{IsWhyAt}
 use Rattle.rvmc_tool.specs.Plans.{ArePlansOf, listed}
 use Rattle.rvmc_line.specs.declared.line.CommandLine.{CommandLine}
-use Rattle.rvmc_line.specs.declared.line.CommandLine.TheVariants.{Check, One, Run}
+use Rattle.rvmc_line.specs.declared.line.CommandLine.TheVariants.{OfImage, OfRecord}
+use Rattle.rvmc_line.specs.declared.line.ImageCommand.TheVariants.{One, Run}
+use Rattle.rvmc_line.specs.declared.line.RecordCommand.TheVariants.{Check}
 use Rattle.rvmc_line.specs.declared.line.Written.{Written}
 use Rattle.rvmc_line.specs.declared.line.Written.TheVariants as written
 use Rattle.rvmc_report.specs.Report.{RankEnd, report}
@@ -45,15 +49,15 @@ is_record written.Record = true
 is_record other = false
 
 abbrev pub is_recorded : CommandLine → Bool
-is_recorded (Run source budget plan lead written) = is_record written
-is_recorded (One source budget plan order written) = is_record written
+is_recorded (OfImage source (Run budget plan lead written)) = is_record written
+is_recorded (OfImage source (One budget plan order written)) = is_record written
 is_recorded other = false
 
 -- what `run` or `one` leaves with `--record`, if it leaves anything, is good by `check`, and nothing else: it is no
 -- fault, and no step of it is bad
 abbrev pub RecordedIsGoodLaw : Type 0
 RecordedIsGoodLaw = (line : CommandLine) (bytes text told : List ℕ) (status ended : ℕ) → is_recorded line ≡ true
-    → Says line bytes text status → text ≢ [] → Says Check text told ended
+    → Says line bytes text status → text ≢ [] → Says (OfRecord Check) text told ended
     → (count : ℕ) × IsDone (verdict_text Good count) told ended
 
 -- the verdict that is told of a place is right of the cluster to which the steps lead: ranks that are named are in a

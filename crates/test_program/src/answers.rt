@@ -4,13 +4,13 @@ ghost use Rattle.std.specs.Prelude.{◌≡◌, ◌≢◌, ◌⊎◌, ℕ, [], �
 ghost use Rattle.cl_record.specs.declared.plans.Plan.{Plan as Held};
 ghost use Rattle.cl_text.specs.declared.faults.RecordFault.TheVariants.{Short};
 ghost use Rattle.rv_asm_tokens.specs.declared.fault.AsmFault.{AsmFault};
-ghost use Rattle.rvmc_tool.specs.Answers.{end_status};
+ghost use Rattle.rvmc_tool.specs.Ends.{end_status};
 ghost use Rattle.rvmc_tool.specs.Making.{needs_threads};
 ghost use Rattle.rvmc_tool.specs.Outputs.{output_bytes};
 ghost use Rattle.rvmc_report.specs.declared.faults.Fault.TheVariants as faults;
 
 use cl_run::Plan;
-use rvmc_line::{CommandLine, Numbers, Written};
+use rvmc_line::{CommandLine, ImageCommand, Numbers, RecordCommand, Written};
 use rvmc_report::faults::Fault;
 use rvmc_tool::answers::{Answer, answer_to, answer_with_threads};
 use rvmc_tool::plans::{listed, plans};
@@ -43,12 +43,14 @@ pub fn one_wants_no_thread(
 ) -> Result<Answer, Fault>
     ensures { result ≢ Err faults.Spawn }
 {
-    let line = CommandLine::One {
+    let line = CommandLine::OfImage {
         source: true,
-        budget: 1,
-        plan,
-        order,
-        written: Written::Report,
+        command: ImageCommand::One {
+            budget: 1,
+            plan,
+            order,
+            written: Written::Report,
+        },
     };
     answer_to(alloc, &line, bytes)
 }
@@ -61,7 +63,11 @@ pub fn dis_has_no_threads<R: Threads + Wait + Sync>(
 ) -> Result<Answer, Fault>
     ensures { (rank place : ℕ) → result ≢ Err (faults.Unlike rank place) }
 {
-    answer_with_threads(rt, alloc, &CommandLine::Dis, bytes)
+    let line = CommandLine::OfImage {
+        source: false,
+        command: ImageCommand::Dis,
+    };
+    answer_with_threads(rt, alloc, &line, bytes)
 }
 
 /// An image isn't taken for a source: no bytes are no fault of a source.
@@ -73,12 +79,14 @@ pub fn images_are_no_sources(
 ) -> Result<Answer, Fault>
     ensures { (fault : AsmFault) → result ≢ Err (faults.Source fault) }
 {
-    let line = CommandLine::One {
+    let line = CommandLine::OfImage {
         source: false,
-        budget: 1,
-        plan,
-        order,
-        written: Written::Report,
+        command: ImageCommand::One {
+            budget: 1,
+            plan,
+            order,
+            written: Written::Report,
+        },
     };
     answer_to(alloc, &line, &[])
 }
@@ -89,14 +97,14 @@ pub fn nothing_is_no_record(alloc: Global) -> Result<Answer, Fault>
     ensures status { IfOk result (λ answer. end_status answer.end ≡ 1) }
     ensures short { IfErr result (λ fault. (fault ≡ faults.Memory) ⊎ (fault ≡ faults.Record (Short 0))) }
 {
-    answer_to(alloc, &CommandLine::Check, &[])
+    answer_to(alloc, &CommandLine::OfRecord(RecordCommand::Check), &[])
 }
 
 /// A check wants no plans: none are told of.
 pub fn check_has_no_plans(alloc: Global, bytes: &[u8]) -> Result<Answer, Fault>
     ensures { result ≢ Err faults.Plans }
 {
-    answer_to(alloc, &CommandLine::Check, bytes)
+    answer_to(alloc, &CommandLine::OfRecord(RecordCommand::Check), bytes)
 }
 
 /// Nor does `why`: bytes that are no record have no place.
@@ -105,14 +113,22 @@ pub fn nothing_has_no_place(alloc: Global, at: Option<u64>) -> Result<Answer, Fa
     ensures status { IfOk result (λ answer. end_status answer.end ≡ 1) }
     ensures short { IfErr result (λ fault. (fault ≡ faults.Memory) ⊎ (fault ≡ faults.Record (Short 0))) }
 {
-    answer_to(alloc, &CommandLine::Why { at }, &[])
+    answer_to(
+        alloc,
+        &CommandLine::OfRecord(RecordCommand::Why { at }),
+        &[],
+    )
 }
 
 /// A place that is there is told of with the status 0, whatever is found.
 pub fn each_place_ends_with_0(alloc: Global, at: Option<u64>, bytes: &[u8]) -> Result<Answer, Fault>
     ensures { IfOk result (λ answer. output_bytes answer.output ≢ [] → end_status answer.end ≡ 0) }
 {
-    answer_to(alloc, &CommandLine::Why { at }, bytes)
+    answer_to(
+        alloc,
+        &CommandLine::OfRecord(RecordCommand::Why { at }),
+        bytes,
+    )
 }
 
 /// Without a list all take turns, the last too.

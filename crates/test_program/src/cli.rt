@@ -3,7 +3,9 @@
 ghost use Rattle.std.specs.Prelude.{◌≡◌, [], ◌∷◌, IfErr, IfOk, IsErr, None, Ok, Some, false, true};
 ghost use Rattle.clap.specs.declared.error.kind.ErrorKind.TheVariants.{DisplayVersion};
 ghost use Rattle.rvmc_cli.specs.Meaning.{IsParseFault};
-ghost use Rattle.rvmc_line.specs.declared.line.CommandLine.TheVariants.{Asm, Check, Dis, One, Run, Why};
+ghost use Rattle.rvmc_line.specs.declared.line.CommandLine.TheVariants.{OfImage, OfRecord};
+ghost use Rattle.rvmc_line.specs.declared.line.ImageCommand.TheVariants.{Asm, Dis, One, Run};
+ghost use Rattle.rvmc_line.specs.declared.line.RecordCommand.TheVariants.{Check, Why};
 ghost use Rattle.rvmc_line.specs.declared.line.ParseFault.TheVariants as faults;
 ghost use Rattle.rvmc_line.specs.declared.line.Written.TheVariants as written;
 
@@ -13,61 +15,61 @@ use std::alloc::Global;
 
 /// Without words a source is run, with a budget of 1,000,000 turns, and no memory is needed to say so.
 pub fn no_words(alloc: Global) -> Result<CommandLine, ParseFault>
-    ensures { result ≡ Ok (One true 1000000 None None written.Report) }
+    ensures { result ≡ Ok (OfImage true (One 1000000 None None written.Report)) }
 {
     parse(alloc, &[])
 }
 
 /// `dis` lists.
-#[tactic(auto, unfolding(rvmc_cli::specs::Meaning::faults_in, rvmc_cli::specs::Meaning::command_in, rvmc_cli::specs::Meaning::line_in, clap::proofs::OnLiterals::clap_on_literals))]
+#[tactic(auto, unfolding(rvmc_cli::specs::Meaning::faults_in, rvmc_cli::specs::Meaning::command_in, rvmc_cli::specs::Commands::line_in, clap::proofs::OnLiterals::clap_on_literals))]
 pub fn dis_lists(alloc: Global) -> Result<CommandLine, ParseFault>
-    ensures { IfOk result (λ line. line ≡ Dis) }
+    ensures { IfOk result (λ line. line ≡ OfImage false Dis) }
 {
     parse(alloc, &["dis"])
 }
 
 /// `asm` makes an image.
-#[tactic(auto, unfolding(rvmc_cli::specs::Meaning::faults_in, rvmc_cli::specs::Meaning::command_in, rvmc_cli::specs::Meaning::line_in, clap::proofs::OnLiterals::clap_on_literals))]
+#[tactic(auto, unfolding(rvmc_cli::specs::Meaning::faults_in, rvmc_cli::specs::Meaning::command_in, rvmc_cli::specs::Commands::line_in, clap::proofs::OnLiterals::clap_on_literals))]
 pub fn asm_assembles(alloc: Global) -> Result<CommandLine, ParseFault>
-    ensures { IfOk result (λ line. line ≡ Asm false) }
+    ensures { IfOk result (λ line. line ≡ OfImage true (Asm false)) }
 {
     parse(alloc, &["asm"])
 }
 
 /// `--from` has it take an image.
-#[tactic(auto, unfolding(rvmc_cli::specs::Meaning::faults_in, rvmc_cli::specs::Meaning::command_in, rvmc_cli::specs::Meaning::line_in, clap::proofs::OnLiterals::clap_on_literals))]
+#[tactic(auto, unfolding(rvmc_cli::specs::Meaning::faults_in, rvmc_cli::specs::Meaning::command_in, rvmc_cli::specs::Commands::line_in, clap::proofs::OnLiterals::clap_on_literals))]
 pub fn from_takes_an_image(alloc: Global) -> Result<CommandLine, ParseFault>
-    ensures { IfOk result (λ line. line ≡ Asm true) }
+    ensures { IfOk result (λ line. line ≡ OfImage false (Asm true)) }
 {
     parse(alloc, &["asm", "--from"])
 }
 
 /// `one` runs an image, each rank for 1,000,000 turns at most.
-#[tactic(auto, unfolding(rvmc_cli::specs::Meaning::faults_in, rvmc_cli::specs::Meaning::command_in, rvmc_cli::specs::Meaning::line_in, clap::proofs::OnLiterals::clap_on_literals))]
+#[tactic(auto, unfolding(rvmc_cli::specs::Meaning::faults_in, rvmc_cli::specs::Meaning::command_in, rvmc_cli::specs::Commands::line_in, clap::proofs::OnLiterals::clap_on_literals))]
 pub fn one_runs_an_image(alloc: Global) -> Result<CommandLine, ParseFault>
-    ensures { IfOk result (λ line. line ≡ One false 1000000 None None written.Report) }
+    ensures { IfOk result (λ line. line ≡ OfImage false (One 1000000 None None written.Report)) }
 {
     parse(alloc, &["one"])
 }
 
 /// `--source` has it run a source.
-#[tactic(auto, unfolding(rvmc_cli::specs::Meaning::faults_in, rvmc_cli::specs::Meaning::command_in, rvmc_cli::specs::Meaning::line_in, clap::proofs::OnLiterals::clap_on_literals))]
+#[tactic(auto, unfolding(rvmc_cli::specs::Meaning::faults_in, rvmc_cli::specs::Meaning::command_in, rvmc_cli::specs::Commands::line_in, clap::proofs::OnLiterals::clap_on_literals))]
 pub fn source_runs_a_source(alloc: Global) -> Result<CommandLine, ParseFault>
-    ensures { IfOk result (λ line. line ≡ One true 1000000 None None written.Report) }
+    ensures { IfOk result (λ line. line ≡ OfImage true (One 1000000 None None written.Report)) }
 {
     parse(alloc, &["one", "--source"])
 }
 
 /// `--budget` bounds the turns, and nothing else.
-#[tactic(auto, unfolding(rvmc_cli::specs::Meaning::faults_in, rvmc_cli::specs::Meaning::command_in, rvmc_cli::specs::Meaning::line_in, clap::proofs::OnLiterals::clap_on_literals, rvmc_line::specs::Number::number_in))]
+#[tactic(auto, unfolding(rvmc_cli::specs::Meaning::faults_in, rvmc_cli::specs::Meaning::command_in, rvmc_cli::specs::Commands::line_in, clap::proofs::OnLiterals::clap_on_literals, rvmc_line::specs::Number::number_in))]
 pub fn budget_is_heeded(alloc: Global) -> Result<CommandLine, ParseFault>
-    ensures { IfOk result (λ line. line ≡ One false 5 None None written.Report) }
+    ensures { IfOk result (λ line. line ≡ OfImage false (One 5 None None written.Report)) }
 {
     parse(alloc, &["one", "--budget", "5"])
 }
 
 /// A budget of 0 is refused.
-#[tactic(auto, unfolding(rvmc_cli::specs::Meaning::faults_in, rvmc_cli::specs::Meaning::command_in, rvmc_cli::specs::Meaning::line_in, clap::proofs::OnLiterals::clap_on_literals, rvmc_line::specs::Number::number_in))]
+#[tactic(auto, unfolding(rvmc_cli::specs::Meaning::faults_in, rvmc_cli::specs::Meaning::command_in, rvmc_cli::specs::Commands::line_in, clap::proofs::OnLiterals::clap_on_literals, rvmc_line::specs::Number::number_in))]
 pub fn budget_of_0_is_refused(alloc: Global) -> Result<CommandLine, ParseFault>
     ensures { IsErr result }
 {
@@ -75,15 +77,15 @@ pub fn budget_of_0_is_refused(alloc: Global) -> Result<CommandLine, ParseFault>
 }
 
 /// The greatest budget is taken.
-#[tactic(auto, unfolding(rvmc_cli::specs::Meaning::faults_in, rvmc_cli::specs::Meaning::command_in, rvmc_cli::specs::Meaning::line_in, clap::proofs::OnLiterals::clap_on_literals, rvmc_line::specs::Number::number_in))]
+#[tactic(auto, unfolding(rvmc_cli::specs::Meaning::faults_in, rvmc_cli::specs::Meaning::command_in, rvmc_cli::specs::Commands::line_in, clap::proofs::OnLiterals::clap_on_literals, rvmc_line::specs::Number::number_in))]
 pub fn budget_of_16777216_is_heeded(alloc: Global) -> Result<CommandLine, ParseFault>
-    ensures { IfOk result (λ line. line ≡ One false 16777216 None None written.Report) }
+    ensures { IfOk result (λ line. line ≡ OfImage false (One 16777216 None None written.Report)) }
 {
     parse(alloc, &["one", "--budget", "16777216"])
 }
 
 /// One more is refused.
-#[tactic(auto, unfolding(rvmc_cli::specs::Meaning::faults_in, rvmc_cli::specs::Meaning::command_in, rvmc_cli::specs::Meaning::line_in, clap::proofs::OnLiterals::clap_on_literals, rvmc_line::specs::Number::number_in))]
+#[tactic(auto, unfolding(rvmc_cli::specs::Meaning::faults_in, rvmc_cli::specs::Meaning::command_in, rvmc_cli::specs::Commands::line_in, clap::proofs::OnLiterals::clap_on_literals, rvmc_line::specs::Number::number_in))]
 pub fn budget_of_16777217_is_refused(alloc: Global) -> Result<CommandLine, ParseFault>
     ensures { IsErr result }
 {
@@ -91,7 +93,7 @@ pub fn budget_of_16777217_is_refused(alloc: Global) -> Result<CommandLine, Parse
 }
 
 /// Right words are refused for want of memory alone.
-#[tactic(auto, unfolding(rvmc_cli::specs::Meaning::faults_in, rvmc_cli::specs::Meaning::command_in, rvmc_cli::specs::Meaning::line_in, clap::proofs::OnLiterals::clap_on_literals))]
+#[tactic(auto, unfolding(rvmc_cli::specs::Meaning::faults_in, rvmc_cli::specs::Meaning::command_in, rvmc_cli::specs::Commands::line_in, clap::proofs::OnLiterals::clap_on_literals))]
 pub fn right_words_are_taken(alloc: Global) -> Result<CommandLine, ParseFault>
     ensures { IfErr result (λ fault. fault ≡ faults.Memory) }
 {
@@ -99,7 +101,7 @@ pub fn right_words_are_taken(alloc: Global) -> Result<CommandLine, ParseFault>
 }
 
 /// Who asks for the version is told it, or that memory is wanting, and isn't refused.
-#[tactic(auto, unfolding(rvmc_cli::specs::Meaning::faults_in, rvmc_cli::specs::Meaning::command_in, rvmc_cli::specs::Meaning::line_in, clap::proofs::OnLiterals::clap_on_literals))]
+#[tactic(auto, unfolding(rvmc_cli::specs::Meaning::faults_in, rvmc_cli::specs::Meaning::command_in, rvmc_cli::specs::Commands::line_in, clap::proofs::OnLiterals::clap_on_literals))]
 pub fn version_is_no_refusal(alloc: Global) -> Result<CommandLine, ParseFault>
     ensures { IfErr result (IsParseFault DisplayVersion) }
 {
@@ -107,23 +109,23 @@ pub fn version_is_no_refusal(alloc: Global) -> Result<CommandLine, ParseFault>
 }
 
 /// `--plan` lists harts.
-#[tactic(auto, unfolding(rvmc_cli::specs::Meaning::faults_in, rvmc_cli::specs::Meaning::command_in, rvmc_cli::specs::Meaning::line_in, clap::proofs::OnLiterals::clap_on_literals, rvmc_line::specs::Number::number_in, rvmc_line::specs::Number::numbers_in))]
+#[tactic(auto, unfolding(rvmc_cli::specs::Meaning::faults_in, rvmc_cli::specs::Meaning::command_in, rvmc_cli::specs::Commands::line_in, clap::proofs::OnLiterals::clap_on_literals, rvmc_line::specs::Number::number_in, rvmc_line::specs::Number::numbers_in))]
 pub fn plan_is_for_harts(alloc: Global) -> Result<CommandLine, ParseFault>
-    ensures { IfOk result (λ line. line ≡ One false 1000000 (Some (0 ∷ 1 ∷ [])) None written.Report) }
+    ensures { IfOk result (λ line. line ≡ OfImage false (One 1000000 (Some (0 ∷ 1 ∷ [])) None written.Report)) }
 {
     parse(alloc, &["one", "--plan", "0,1"])
 }
 
 /// `--order` lists ranks.
-#[tactic(auto, unfolding(rvmc_cli::specs::Meaning::faults_in, rvmc_cli::specs::Meaning::command_in, rvmc_cli::specs::Meaning::line_in, clap::proofs::OnLiterals::clap_on_literals, rvmc_line::specs::Number::number_in, rvmc_line::specs::Number::numbers_in))]
+#[tactic(auto, unfolding(rvmc_cli::specs::Meaning::faults_in, rvmc_cli::specs::Meaning::command_in, rvmc_cli::specs::Commands::line_in, clap::proofs::OnLiterals::clap_on_literals, rvmc_line::specs::Number::number_in, rvmc_line::specs::Number::numbers_in))]
 pub fn order_is_for_ranks(alloc: Global) -> Result<CommandLine, ParseFault>
-    ensures { IfOk result (λ line. line ≡ One false 1000000 None (Some (1 ∷ 0 ∷ [])) written.Report) }
+    ensures { IfOk result (λ line. line ≡ OfImage false (One 1000000 None (Some (1 ∷ 0 ∷ [])) written.Report)) }
 {
     parse(alloc, &["one", "--order", "1,0"])
 }
 
 /// A list that is none is refused, and not left out.
-#[tactic(auto, unfolding(rvmc_cli::specs::Meaning::faults_in, rvmc_cli::specs::Meaning::command_in, rvmc_cli::specs::Meaning::line_in, clap::proofs::OnLiterals::clap_on_literals, rvmc_line::specs::Number::number_in, rvmc_line::specs::Number::numbers_in))]
+#[tactic(auto, unfolding(rvmc_cli::specs::Meaning::faults_in, rvmc_cli::specs::Meaning::command_in, rvmc_cli::specs::Commands::line_in, clap::proofs::OnLiterals::clap_on_literals, rvmc_line::specs::Number::number_in, rvmc_line::specs::Number::numbers_in))]
 pub fn wrong_order_is_refused(alloc: Global) -> Result<CommandLine, ParseFault>
     ensures { IsErr result }
 {
@@ -131,17 +133,17 @@ pub fn wrong_order_is_refused(alloc: Global) -> Result<CommandLine, ParseFault>
 }
 
 /// `run` runs an image with a lead of 64 turns.
-#[tactic(auto, unfolding(rvmc_cli::specs::Meaning::faults_in, rvmc_cli::specs::Meaning::command_in, rvmc_cli::specs::Meaning::line_in, clap::proofs::OnLiterals::clap_on_literals))]
+#[tactic(auto, unfolding(rvmc_cli::specs::Meaning::faults_in, rvmc_cli::specs::Meaning::command_in, rvmc_cli::specs::Commands::line_in, clap::proofs::OnLiterals::clap_on_literals))]
 pub fn run_leads_by_64(alloc: Global) -> Result<CommandLine, ParseFault>
-    ensures { IfOk result (λ line. line ≡ Run false 1000000 None 64 written.Report) }
+    ensures { IfOk result (λ line. line ≡ OfImage false (Run 1000000 None 64 written.Report)) }
 {
     parse(alloc, &["run"])
 }
 
 /// It takes a source, a budget and a plan as `one` does.
-#[tactic(auto, unfolding(rvmc_cli::specs::Meaning::faults_in, rvmc_cli::specs::Meaning::command_in, rvmc_cli::specs::Meaning::line_in, clap::proofs::OnLiterals::clap_on_literals, rvmc_line::specs::Number::number_in, rvmc_line::specs::Number::numbers_in))]
+#[tactic(auto, unfolding(rvmc_cli::specs::Meaning::faults_in, rvmc_cli::specs::Meaning::command_in, rvmc_cli::specs::Commands::line_in, clap::proofs::OnLiterals::clap_on_literals, rvmc_line::specs::Number::number_in, rvmc_line::specs::Number::numbers_in))]
 pub fn run_takes_what_one_takes(alloc: Global) -> Result<CommandLine, ParseFault>
-    ensures { IfOk result (λ line. line ≡ Run true 5 (Some (0 ∷ 1 ∷ [])) 64 written.Report) }
+    ensures { IfOk result (λ line. line ≡ OfImage true (Run 5 (Some (0 ∷ 1 ∷ [])) 64 written.Report)) }
 {
     parse(
         alloc,
@@ -150,31 +152,31 @@ pub fn run_takes_what_one_takes(alloc: Global) -> Result<CommandLine, ParseFault
 }
 
 /// `--lead` bounds the lead, and nothing else.
-#[tactic(auto, unfolding(rvmc_cli::specs::Meaning::faults_in, rvmc_cli::specs::Meaning::command_in, rvmc_cli::specs::Meaning::line_in, clap::proofs::OnLiterals::clap_on_literals, rvmc_line::specs::Number::number_in))]
+#[tactic(auto, unfolding(rvmc_cli::specs::Meaning::faults_in, rvmc_cli::specs::Meaning::command_in, rvmc_cli::specs::Commands::line_in, clap::proofs::OnLiterals::clap_on_literals, rvmc_line::specs::Number::number_in))]
 pub fn lead_of_1_is_heeded(alloc: Global) -> Result<CommandLine, ParseFault>
-    ensures { IfOk result (λ line. line ≡ Run false 1000000 None 1 written.Report) }
+    ensures { IfOk result (λ line. line ≡ OfImage false (Run 1000000 None 1 written.Report)) }
 {
     parse(alloc, &["run", "--lead", "1"])
 }
 
 /// It may stand behind an equals sign.
-#[tactic(auto, unfolding(rvmc_cli::specs::Meaning::faults_in, rvmc_cli::specs::Meaning::command_in, rvmc_cli::specs::Meaning::line_in, clap::proofs::OnLiterals::clap_on_literals, rvmc_line::specs::Number::number_in))]
+#[tactic(auto, unfolding(rvmc_cli::specs::Meaning::faults_in, rvmc_cli::specs::Meaning::command_in, rvmc_cli::specs::Commands::line_in, clap::proofs::OnLiterals::clap_on_literals, rvmc_line::specs::Number::number_in))]
 pub fn lead_behind_an_equals_sign_is_heeded(alloc: Global) -> Result<CommandLine, ParseFault>
-    ensures { IfOk result (λ line. line ≡ Run false 1000000 None 5 written.Report) }
+    ensures { IfOk result (λ line. line ≡ OfImage false (Run 1000000 None 5 written.Report)) }
 {
     parse(alloc, &["run", "--lead=5"])
 }
 
 /// The greatest lead is taken.
-#[tactic(auto, unfolding(rvmc_cli::specs::Meaning::faults_in, rvmc_cli::specs::Meaning::command_in, rvmc_cli::specs::Meaning::line_in, clap::proofs::OnLiterals::clap_on_literals, rvmc_line::specs::Number::number_in))]
+#[tactic(auto, unfolding(rvmc_cli::specs::Meaning::faults_in, rvmc_cli::specs::Meaning::command_in, rvmc_cli::specs::Commands::line_in, clap::proofs::OnLiterals::clap_on_literals, rvmc_line::specs::Number::number_in))]
 pub fn lead_of_65536_is_heeded(alloc: Global) -> Result<CommandLine, ParseFault>
-    ensures { IfOk result (λ line. line ≡ Run false 1000000 None 65536 written.Report) }
+    ensures { IfOk result (λ line. line ≡ OfImage false (Run 1000000 None 65536 written.Report)) }
 {
     parse(alloc, &["run", "--lead", "65536"])
 }
 
 /// One more is refused.
-#[tactic(auto, unfolding(rvmc_cli::specs::Meaning::faults_in, rvmc_cli::specs::Meaning::command_in, rvmc_cli::specs::Meaning::line_in, clap::proofs::OnLiterals::clap_on_literals, rvmc_line::specs::Number::number_in))]
+#[tactic(auto, unfolding(rvmc_cli::specs::Meaning::faults_in, rvmc_cli::specs::Meaning::command_in, rvmc_cli::specs::Commands::line_in, clap::proofs::OnLiterals::clap_on_literals, rvmc_line::specs::Number::number_in))]
 pub fn lead_of_65537_is_refused(alloc: Global) -> Result<CommandLine, ParseFault>
     ensures { IsErr result }
 {
@@ -182,7 +184,7 @@ pub fn lead_of_65537_is_refused(alloc: Global) -> Result<CommandLine, ParseFault
 }
 
 /// A lead of 0 is refused.
-#[tactic(auto, unfolding(rvmc_cli::specs::Meaning::faults_in, rvmc_cli::specs::Meaning::command_in, rvmc_cli::specs::Meaning::line_in, clap::proofs::OnLiterals::clap_on_literals, rvmc_line::specs::Number::number_in))]
+#[tactic(auto, unfolding(rvmc_cli::specs::Meaning::faults_in, rvmc_cli::specs::Meaning::command_in, rvmc_cli::specs::Commands::line_in, clap::proofs::OnLiterals::clap_on_literals, rvmc_line::specs::Number::number_in))]
 pub fn lead_of_0_is_refused(alloc: Global) -> Result<CommandLine, ParseFault>
     ensures { IsErr result }
 {
@@ -190,7 +192,7 @@ pub fn lead_of_0_is_refused(alloc: Global) -> Result<CommandLine, ParseFault>
 }
 
 /// A lead that is given twice is refused.
-#[tactic(auto, unfolding(rvmc_cli::specs::Meaning::faults_in, rvmc_cli::specs::Meaning::command_in, rvmc_cli::specs::Meaning::line_in, clap::proofs::OnLiterals::clap_on_literals, rvmc_line::specs::Number::number_in))]
+#[tactic(auto, unfolding(rvmc_cli::specs::Meaning::faults_in, rvmc_cli::specs::Meaning::command_in, rvmc_cli::specs::Commands::line_in, clap::proofs::OnLiterals::clap_on_literals, rvmc_line::specs::Number::number_in))]
 pub fn lead_twice_is_refused(alloc: Global) -> Result<CommandLine, ParseFault>
     ensures { IsErr result }
 {
@@ -198,7 +200,7 @@ pub fn lead_twice_is_refused(alloc: Global) -> Result<CommandLine, ParseFault>
 }
 
 /// `one` has no lead.
-#[tactic(auto, unfolding(rvmc_cli::specs::Meaning::faults_in, rvmc_cli::specs::Meaning::command_in, rvmc_cli::specs::Meaning::line_in, clap::proofs::OnLiterals::clap_on_literals, rvmc_line::specs::Number::number_in))]
+#[tactic(auto, unfolding(rvmc_cli::specs::Meaning::faults_in, rvmc_cli::specs::Meaning::command_in, rvmc_cli::specs::Commands::line_in, clap::proofs::OnLiterals::clap_on_literals, rvmc_line::specs::Number::number_in))]
 pub fn lead_of_one_is_refused(alloc: Global) -> Result<CommandLine, ParseFault>
     ensures { IsErr result }
 {
@@ -206,7 +208,7 @@ pub fn lead_of_one_is_refused(alloc: Global) -> Result<CommandLine, ParseFault>
 }
 
 /// `run` has no order.
-#[tactic(auto, unfolding(rvmc_cli::specs::Meaning::faults_in, rvmc_cli::specs::Meaning::command_in, rvmc_cli::specs::Meaning::line_in, clap::proofs::OnLiterals::clap_on_literals, rvmc_line::specs::Number::number_in, rvmc_line::specs::Number::numbers_in))]
+#[tactic(auto, unfolding(rvmc_cli::specs::Meaning::faults_in, rvmc_cli::specs::Meaning::command_in, rvmc_cli::specs::Commands::line_in, clap::proofs::OnLiterals::clap_on_literals, rvmc_line::specs::Number::number_in, rvmc_line::specs::Number::numbers_in))]
 pub fn order_of_run_is_refused(alloc: Global) -> Result<CommandLine, ParseFault>
     ensures { IsErr result }
 {
@@ -214,39 +216,39 @@ pub fn order_of_run_is_refused(alloc: Global) -> Result<CommandLine, ParseFault>
 }
 
 /// `--record` asks for the record, and for nothing else.
-#[tactic(auto, unfolding(rvmc_cli::specs::Meaning::faults_in, rvmc_cli::specs::Meaning::command_in, rvmc_cli::specs::Meaning::line_in, clap::proofs::OnLiterals::clap_on_literals))]
+#[tactic(auto, unfolding(rvmc_cli::specs::Meaning::faults_in, rvmc_cli::specs::Meaning::command_in, rvmc_cli::specs::Commands::line_in, clap::proofs::OnLiterals::clap_on_literals))]
 pub fn record_of_run(alloc: Global) -> Result<CommandLine, ParseFault>
-    ensures { IfOk result (λ line. line ≡ Run false 1000000 None 64 written.Record) }
+    ensures { IfOk result (λ line. line ≡ OfImage false (Run 1000000 None 64 written.Record)) }
 {
     parse(alloc, &["run", "--record"])
 }
 
 /// The same of a run on one thread.
-#[tactic(auto, unfolding(rvmc_cli::specs::Meaning::faults_in, rvmc_cli::specs::Meaning::command_in, rvmc_cli::specs::Meaning::line_in, clap::proofs::OnLiterals::clap_on_literals))]
+#[tactic(auto, unfolding(rvmc_cli::specs::Meaning::faults_in, rvmc_cli::specs::Meaning::command_in, rvmc_cli::specs::Commands::line_in, clap::proofs::OnLiterals::clap_on_literals))]
 pub fn record_of_one(alloc: Global) -> Result<CommandLine, ParseFault>
-    ensures { IfOk result (λ line. line ≡ One false 1000000 None None written.Record) }
+    ensures { IfOk result (λ line. line ≡ OfImage false (One 1000000 None None written.Record)) }
 {
     parse(alloc, &["one", "--record"])
 }
 
 /// A record is written of a source's run, too.
-#[tactic(auto, unfolding(rvmc_cli::specs::Meaning::faults_in, rvmc_cli::specs::Meaning::command_in, rvmc_cli::specs::Meaning::line_in, clap::proofs::OnLiterals::clap_on_literals))]
+#[tactic(auto, unfolding(rvmc_cli::specs::Meaning::faults_in, rvmc_cli::specs::Meaning::command_in, rvmc_cli::specs::Commands::line_in, clap::proofs::OnLiterals::clap_on_literals))]
 pub fn record_of_a_source(alloc: Global) -> Result<CommandLine, ParseFault>
-    ensures { IfOk result (λ line. line ≡ One true 1000000 None None written.Record) }
+    ensures { IfOk result (λ line. line ≡ OfImage true (One 1000000 None None written.Record)) }
 {
     parse(alloc, &["one", "--record", "--source"])
 }
 
 /// `check` checks.
-#[tactic(auto, unfolding(rvmc_cli::specs::Meaning::faults_in, rvmc_cli::specs::Meaning::command_in, rvmc_cli::specs::Meaning::line_in, clap::proofs::OnLiterals::clap_on_literals))]
+#[tactic(auto, unfolding(rvmc_cli::specs::Meaning::faults_in, rvmc_cli::specs::Meaning::command_in, rvmc_cli::specs::Commands::line_in, clap::proofs::OnLiterals::clap_on_literals))]
 pub fn check_checks(alloc: Global) -> Result<CommandLine, ParseFault>
-    ensures { IfOk result (λ line. line ≡ Check) }
+    ensures { IfOk result (λ line. line ≡ OfRecord Check) }
 {
     parse(alloc, &["check"])
 }
 
 /// It writes no record.
-#[tactic(auto, unfolding(rvmc_cli::specs::Meaning::faults_in, rvmc_cli::specs::Meaning::command_in, rvmc_cli::specs::Meaning::line_in, clap::proofs::OnLiterals::clap_on_literals))]
+#[tactic(auto, unfolding(rvmc_cli::specs::Meaning::faults_in, rvmc_cli::specs::Meaning::command_in, rvmc_cli::specs::Commands::line_in, clap::proofs::OnLiterals::clap_on_literals))]
 pub fn record_of_a_check_is_refused(alloc: Global) -> Result<CommandLine, ParseFault>
     ensures { IsErr result }
 {
@@ -254,23 +256,23 @@ pub fn record_of_a_check_is_refused(alloc: Global) -> Result<CommandLine, ParseF
 }
 
 /// `--why` asks for what harts wait for, behind the report.
-#[tactic(auto, unfolding(rvmc_cli::specs::Meaning::faults_in, rvmc_cli::specs::Meaning::command_in, rvmc_cli::specs::Meaning::line_in, clap::proofs::OnLiterals::clap_on_literals))]
+#[tactic(auto, unfolding(rvmc_cli::specs::Meaning::faults_in, rvmc_cli::specs::Meaning::command_in, rvmc_cli::specs::Commands::line_in, clap::proofs::OnLiterals::clap_on_literals))]
 pub fn why_of_one(alloc: Global) -> Result<CommandLine, ParseFault>
-    ensures { IfOk result (λ line. line ≡ One false 1000000 None None written.Why) }
+    ensures { IfOk result (λ line. line ≡ OfImage false (One 1000000 None None written.Why)) }
 {
     parse(alloc, &["one", "--why"])
 }
 
 /// The same of a run with threads.
-#[tactic(auto, unfolding(rvmc_cli::specs::Meaning::faults_in, rvmc_cli::specs::Meaning::command_in, rvmc_cli::specs::Meaning::line_in, clap::proofs::OnLiterals::clap_on_literals))]
+#[tactic(auto, unfolding(rvmc_cli::specs::Meaning::faults_in, rvmc_cli::specs::Meaning::command_in, rvmc_cli::specs::Commands::line_in, clap::proofs::OnLiterals::clap_on_literals))]
 pub fn why_of_run(alloc: Global) -> Result<CommandLine, ParseFault>
-    ensures { IfOk result (λ line. line ≡ Run false 1000000 None 64 written.Why) }
+    ensures { IfOk result (λ line. line ≡ OfImage false (Run 1000000 None 64 written.Why)) }
 {
     parse(alloc, &["run", "--why"])
 }
 
 /// A record has no place for it.
-#[tactic(auto, unfolding(rvmc_cli::specs::Meaning::faults_in, rvmc_cli::specs::Meaning::command_in, rvmc_cli::specs::Meaning::line_in, clap::proofs::OnLiterals::clap_on_literals))]
+#[tactic(auto, unfolding(rvmc_cli::specs::Meaning::faults_in, rvmc_cli::specs::Meaning::command_in, rvmc_cli::specs::Commands::line_in, clap::proofs::OnLiterals::clap_on_literals))]
 pub fn why_and_record_are_refused(alloc: Global) -> Result<CommandLine, ParseFault>
     ensures { IsErr result }
 {
@@ -278,7 +280,7 @@ pub fn why_and_record_are_refused(alloc: Global) -> Result<CommandLine, ParseFau
 }
 
 /// In whatever order they stand.
-#[tactic(auto, unfolding(rvmc_cli::specs::Meaning::faults_in, rvmc_cli::specs::Meaning::command_in, rvmc_cli::specs::Meaning::line_in, clap::proofs::OnLiterals::clap_on_literals))]
+#[tactic(auto, unfolding(rvmc_cli::specs::Meaning::faults_in, rvmc_cli::specs::Meaning::command_in, rvmc_cli::specs::Commands::line_in, clap::proofs::OnLiterals::clap_on_literals))]
 pub fn record_and_why_are_refused(alloc: Global) -> Result<CommandLine, ParseFault>
     ensures { IsErr result }
 {
@@ -286,23 +288,23 @@ pub fn record_and_why_are_refused(alloc: Global) -> Result<CommandLine, ParseFau
 }
 
 /// `why` tells of a record's end.
-#[tactic(auto, unfolding(rvmc_cli::specs::Meaning::faults_in, rvmc_cli::specs::Meaning::command_in, rvmc_cli::specs::Meaning::line_in, clap::proofs::OnLiterals::clap_on_literals))]
+#[tactic(auto, unfolding(rvmc_cli::specs::Meaning::faults_in, rvmc_cli::specs::Meaning::command_in, rvmc_cli::specs::Commands::line_in, clap::proofs::OnLiterals::clap_on_literals))]
 pub fn why_tells_of_the_end(alloc: Global) -> Result<CommandLine, ParseFault>
-    ensures { IfOk result (λ line. line ≡ Why None) }
+    ensures { IfOk result (λ line. line ≡ OfRecord (Why None)) }
 {
     parse(alloc, &["why"])
 }
 
 /// With `--at` of the place with so many steps done, the start too.
-#[tactic(auto, unfolding(rvmc_cli::specs::Meaning::faults_in, rvmc_cli::specs::Meaning::command_in, rvmc_cli::specs::Meaning::line_in, clap::proofs::OnLiterals::clap_on_literals, rvmc_line::specs::Number::number_in))]
+#[tactic(auto, unfolding(rvmc_cli::specs::Meaning::faults_in, rvmc_cli::specs::Meaning::command_in, rvmc_cli::specs::Commands::line_in, clap::proofs::OnLiterals::clap_on_literals, rvmc_line::specs::Number::number_in))]
 pub fn why_tells_of_the_start(alloc: Global) -> Result<CommandLine, ParseFault>
-    ensures { IfOk result (λ line. line ≡ Why (Some 0)) }
+    ensures { IfOk result (λ line. line ≡ OfRecord (Why (Some 0))) }
 {
     parse(alloc, &["why", "--at", "0"])
 }
 
 /// No record has more steps than a `u64` counts.
-#[tactic(auto, unfolding(rvmc_cli::specs::Meaning::faults_in, rvmc_cli::specs::Meaning::command_in, rvmc_cli::specs::Meaning::line_in, clap::proofs::OnLiterals::clap_on_literals, rvmc_line::specs::Number::number_in))]
+#[tactic(auto, unfolding(rvmc_cli::specs::Meaning::faults_in, rvmc_cli::specs::Meaning::command_in, rvmc_cli::specs::Commands::line_in, clap::proofs::OnLiterals::clap_on_literals, rvmc_line::specs::Number::number_in))]
 pub fn place_of_65_bits_is_refused(alloc: Global) -> Result<CommandLine, ParseFault>
     ensures { IsErr result }
 {
@@ -310,7 +312,7 @@ pub fn place_of_65_bits_is_refused(alloc: Global) -> Result<CommandLine, ParseFa
 }
 
 /// No other word is a command.
-#[tactic(auto, unfolding(rvmc_cli::specs::Meaning::faults_in, rvmc_cli::specs::Meaning::command_in, rvmc_cli::specs::Meaning::line_in, clap::proofs::OnLiterals::clap_on_literals))]
+#[tactic(auto, unfolding(rvmc_cli::specs::Meaning::faults_in, rvmc_cli::specs::Meaning::command_in, rvmc_cli::specs::Commands::line_in, clap::proofs::OnLiterals::clap_on_literals))]
 pub fn other_commands_are_refused(alloc: Global) -> Result<CommandLine, ParseFault>
     ensures { IsErr result }
 {
@@ -318,7 +320,7 @@ pub fn other_commands_are_refused(alloc: Global) -> Result<CommandLine, ParseFau
 }
 
 /// A flag without its command is refused.
-#[tactic(auto, unfolding(rvmc_cli::specs::Meaning::faults_in, rvmc_cli::specs::Meaning::command_in, rvmc_cli::specs::Meaning::line_in, clap::proofs::OnLiterals::clap_on_literals))]
+#[tactic(auto, unfolding(rvmc_cli::specs::Meaning::faults_in, rvmc_cli::specs::Meaning::command_in, rvmc_cli::specs::Commands::line_in, clap::proofs::OnLiterals::clap_on_literals))]
 pub fn flag_alone_is_refused(alloc: Global) -> Result<CommandLine, ParseFault>
     ensures { IsErr result }
 {

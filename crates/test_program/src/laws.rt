@@ -2,7 +2,8 @@
 
 ghost use Rattle.std.specs.Prelude.{◌≡◌, ◌≢◌, ℕ, [], IfSome, List, Some, false, length, slice_get};
 ghost use Rattle.cl_replay.specs.declared.checking.Verdict.TheVariants.{Good};
-ghost use Rattle.rvmc_tool.specs.Answers.{IsDone, Says, end_status};
+ghost use Rattle.rvmc_tool.specs.Answers.{Says};
+ghost use Rattle.rvmc_tool.specs.Ends.{IsDone, end_status};
 ghost use Rattle.rvmc_tool_laws.specs.Answers.{FitsStop};
 ghost use Rattle.rvmc_tool.specs.Making.{needs_threads};
 ghost use Rattle.rvmc_tool.specs.Outputs.{output_bytes};
@@ -13,7 +14,7 @@ ghost use Rattle.rvmc_report.specs.Verdicts.{verdict_text};
 use cl_run::Plan;
 use cl_threads::{Pace, run_threads};
 use rv_image::Image;
-use rvmc_line::{CommandLine, Numbers, Written};
+use rvmc_line::{CommandLine, ImageCommand, Numbers, RecordCommand, Written};
 use rvmc_report::report::report;
 use rvmc_tool::answers::{Answer, answer_to};
 use rvmc_tool::outputs::Output;
@@ -58,16 +59,18 @@ pub fn what_is_recorded_is_good(
         → (count : ℕ) × IsDone (verdict_text Good count) (output_bytes both.1.output) (end_status both.1.end)) }
 {
     recorded_is_good();
-    let line = CommandLine::One {
+    let line = CommandLine::OfImage {
         source: true,
-        budget,
-        plan,
-        order,
-        written: Written::Record,
+        command: ImageCommand::One {
+            budget,
+            plan,
+            order,
+            written: Written::Record,
+        },
     };
     let recorded = answered(alloc, &line, bytes)?;
     let text = bytes_of(alloc, &recorded.output)?;
-    let checked = answered(alloc, &CommandLine::Check, &text)?;
+    let checked = answered(alloc, &CommandLine::OfRecord(RecordCommand::Check), &text)?;
     Some((text, checked))
 }
 

@@ -8,7 +8,7 @@ use std::sync::Wait;
 use std::thread::Threads;
 
 /// Words that are no command line leave the output as it was, and nothing is read.
-#[tactic(auto, unfolding(rvmc_cli::specs::Meaning::faults_in, rvmc_cli::specs::Meaning::command_in, rvmc_cli::specs::Meaning::line_in, clap::proofs::OnLiterals::clap_on_literals))]
+#[tactic(auto, unfolding(rvmc_cli::specs::Meaning::faults_in, rvmc_cli::specs::Meaning::command_in, rvmc_cli::specs::Commands::line_in, clap::proofs::OnLiterals::clap_on_literals))]
 pub fn refused_words_read_nothing(
     alloc: Global,
     input: &mut &[u8],
@@ -21,7 +21,7 @@ pub fn refused_words_read_nothing(
 }
 
 /// Nor is anything put out but on standard error.
-#[tactic(auto, unfolding(rvmc_cli::specs::Meaning::faults_in, rvmc_cli::specs::Meaning::command_in, rvmc_cli::specs::Meaning::line_in, clap::proofs::OnLiterals::clap_on_literals))]
+#[tactic(auto, unfolding(rvmc_cli::specs::Meaning::faults_in, rvmc_cli::specs::Meaning::command_in, rvmc_cli::specs::Commands::line_in, clap::proofs::OnLiterals::clap_on_literals))]
 pub fn refused_words_leave_the_output(
     alloc: Global,
     input: &mut &[u8],
@@ -34,7 +34,7 @@ pub fn refused_words_leave_the_output(
 }
 
 /// Where there are no threads, `run` leaves the input as it was.
-#[tactic(auto, unfolding(rvmc_cli::specs::Meaning::faults_in, rvmc_cli::specs::Meaning::command_in, rvmc_cli::specs::Meaning::line_in, clap::proofs::OnLiterals::clap_on_literals))]
+#[tactic(auto, unfolding(rvmc_cli::specs::Meaning::faults_in, rvmc_cli::specs::Meaning::command_in, rvmc_cli::specs::Commands::line_in, clap::proofs::OnLiterals::clap_on_literals))]
 pub fn run_needs_threads(
     alloc: Global,
     input: &mut &[u8],
@@ -48,7 +48,7 @@ pub fn run_needs_threads(
 }
 
 /// Where there are, refused words still read nothing.
-#[tactic(auto, unfolding(rvmc_cli::specs::Meaning::faults_in, rvmc_cli::specs::Meaning::command_in, rvmc_cli::specs::Meaning::line_in, clap::proofs::OnLiterals::clap_on_literals))]
+#[tactic(auto, unfolding(rvmc_cli::specs::Meaning::faults_in, rvmc_cli::specs::Meaning::command_in, rvmc_cli::specs::Commands::line_in, clap::proofs::OnLiterals::clap_on_literals))]
 pub fn threads_read_nothing_of_refused_words<R: Threads + Wait + Sync>(
     rt: &R,
     alloc: Global,

@@ -1,0 +1,9 @@
+use Rattle.std.proofs.Common.{◌≡◌, ◌++◌, drop, map}
+use Rattle.std.specs.Prelude.{option_map}
+use Rattle.rvmc_line.specs.Debug.{debug_words_in}
+use Rattle.rvmc_cli.proofs.debug.words.Given as goal
+
+-- the words so far, and those of the texts that are left
+abbrev pub invariant-loop-text : goal.invariant-loop-text
+invariant-loop-text l =
+    debug_words_in (map (λ text. text.now) l.texts) ≡ option_map (λ rest. l.words ++ rest) (debug_words_in (map (λ text. text.now) (drop l.text-index l.texts)))

@@ -1,0 +1,140 @@
+-- The commands, one row each: its name, what clap reads for it, and what it asks for.
+use Rattle.std.specs.Prelude.{ℕ, false, List, [], ◌∷◌, ◌++◌, Option, Some, None, if◌then◌else◌, codes, map, not, option_map}
+use Rattle.std.specs.Prelude.{option_and_then}
+use Rattle.std.specs.Str.{bytes_eq}
+use Rattle.clap.specs.Words.{App, Row, Rule, Text, all_of, new_app}
+use Rattle.rvmc_cli.specs.App.{flag, option, texts, top_app, with_commands, with_rules}
+use Rattle.rvmc_cli.specs.Options.{flag_in, list_option, number_option, optional_number}
+use Rattle.rvmc_line.specs.Debug.{debug_words_in}
+use Rattle.rvmc_line.specs.declared.line.CommandLine.{CommandLine}
+use Rattle.rvmc_line.specs.declared.line.CommandLine.TheVariants.{OfImage, OfRecord}
+use Rattle.rvmc_line.specs.declared.line.ImageCommand.TheVariants.{Asm, Dis, One, Run}
+use Rattle.rvmc_line.specs.declared.line.RecordCommand.TheVariants.{Check, Debug, Why}
+use Rattle.rvmc_line.specs.declared.line.Written.{Written}
+use Rattle.rvmc_line.specs.declared.line.Written.TheVariants as written
+
+-- a command's name, its flags, options and texts, and what it asks for, of what clap found for it
+pub record CommandRow : Type 0 where
+  pub name : Text
+  pub rules : List Rule
+  pub meaning : List Row → Option CommandLine
+
+-- ---- commands of an image
+
+-- `asm [--from]`
+abbrev pub asm_row : CommandRow
+asm_row =
+    record {
+      name = codes "asm";
+      rules = flag (codes "from") ∷ [];
+      meaning = λ rows. let from = flag_in (codes "from") rows in Some (OfImage (not from) (Asm from));
+    }
+
+-- `dis`
+abbrev pub dis_row : CommandRow
+dis_row =
+    record {
+      name = codes "dis";
+      rules = [];
+      meaning = λ rows. Some (OfImage false Dis);
+    }
+
+-- what `run` and `one` share: `[--source] [--budget N] [--plan HARTS] [--record] [--why]`
+abbrev pub runner_rules : List Rule
+runner_rules =
+    flag (codes "source") ∷ option (codes "budget") ∷ option (codes "plan") ∷ flag (codes "record")
+    ∷ flag (codes "why") ∷ []
+
+-- `--budget N`, from 1 to 2^24; without it 1,000,000
+abbrev pub budget_in : List Row → Option ℕ
+budget_in rows = number_option (codes "budget") 1 16777216 1000000 rows
+
+-- `--record` or `--why`, without both the report alone; they don't go together
+abbrev pub written_in : List Row → Option Written
+written_in rows =
+    if flag_in (codes "record") rows
+    then (if flag_in (codes "why") rows then None else Some written.Record)
+    else (if flag_in (codes "why") rows then Some written.Why else Some written.Report)
+
+-- `--lead N`, from 1 to 2^16; without it 64
+abbrev pub lead_in : List Row → Option ℕ
+lead_in rows = number_option (codes "lead") 1 65536 64 rows
+
+-- `run [--source] [--budget N] [--plan HARTS] [--record] [--why] [--lead N]`
+abbrev pub run_row : CommandRow
+run_row =
+    record {
+      name = codes "run";
+      rules = runner_rules ++ option (codes "lead") ∷ [];
+      meaning = λ rows.
+          option_and_then (λ budget. option_and_then (λ lead. option_and_then (λ written. option_map (λ plan.
+          OfImage (flag_in (codes "source") rows) (Run budget plan lead written))
+          (list_option (codes "plan") rows)) (written_in rows)) (lead_in rows)) (budget_in rows);
+    }
+
+-- `one [--source] [--budget N] [--plan HARTS] [--record] [--why] [--order RANKS]`
+abbrev pub one_row : CommandRow
+one_row =
+    record {
+      name = codes "one";
+      rules = runner_rules ++ option (codes "order") ∷ [];
+      meaning = λ rows.
+          option_and_then (λ budget. option_and_then (λ written. option_and_then (λ plan. option_map (λ order.
+          OfImage (flag_in (codes "source") rows) (One budget plan order written))
+          (list_option (codes "order") rows)) (list_option (codes "plan") rows)) (written_in rows)) (budget_in rows);
+    }
+
+-- ---- commands of a record
+
+-- `check`
+abbrev pub check_row : CommandRow
+check_row =
+    record {
+      name = codes "check";
+      rules = [];
+      meaning = λ rows. Some (OfRecord Check);
+    }
+
+-- `debug CMD..`
+abbrev pub debug_row : CommandRow
+debug_row =
+    record {
+      name = codes "debug";
+      rules = texts (codes "words") ∷ [];
+      meaning = λ rows.
+          option_and_then (λ words. option_map (λ words. OfRecord (Debug words)) (debug_words_in words))
+          (all_of (codes "words") rows);
+    }
+
+-- `why [--at N]`, N below 2^64
+abbrev pub why_row : CommandRow
+why_row =
+    record {
+      name = codes "why";
+      rules = option (codes "at") ∷ [];
+      meaning = λ rows.
+          option_map (λ at. OfRecord (Why at)) (optional_number (codes "at") 0 18446744073709551615 rows);
+    }
+
+-- ---- all of them
+
+-- in the order in which help lists them
+abbrev pub commands : List CommandRow
+commands = asm_row ∷ dis_row ∷ run_row ∷ one_row ∷ check_row ∷ debug_row ∷ why_row ∷ []
+
+-- what clap reads of a command
+abbrev pub app_of : CommandRow → App
+app_of row = with_rules (new_app row.name) row.rules
+
+-- the whole command line
+abbrev pub rvmc_app : App
+rvmc_app = with_commands top_app (map app_of commands)
+
+-- what the command of this name asks for, of what was found for it
+abbrev pub line_among : List CommandRow → Text → List Row → Option CommandLine
+line_among [] name found = None
+line_among (row ∷ rows) name found =
+    if bytes_eq name row.name then row.meaning found else line_among rows name found
+
+unfoldable pub line_in : Text → List Row → Option CommandLine
+line_in name found = line_among commands name found

@@ -1,0 +1,55 @@
+//! `asm [--from]`.
+
+ghost use Rattle.std.specs.Prelude.{IfOk};
+ghost use Rattle.clap.specs.Walk.{rows_of};
+ghost use Rattle.clap.specs.Words.{found_of};
+ghost use Rattle.rvmc_cli.specs.Built.{StandsFor};
+ghost use Rattle.rvmc_cli.specs.Commands.{app_of, asm_row};
+ghost use Rattle.rvmc_cli.specs.Parsing.{Finds};
+
+use crate::parts::{command as new_command, flag};
+use crate::values;
+use crate::wrong::Wrong;
+use clap::{ArgMatches, Command};
+use rvmc_line::{CommandLine, ImageCommand};
+use std::alloc::{AllocError, Global};
+
+/// What help says below its options.
+const EXAMPLES: &str = "\
+The image is written in version 2 of the format. Each label that the source
+names by .globl is a symbol of it: a name that `rvmc dis` shows.
+
+With --from an image of version 1 or 2 is taken in place of a source. It is
+written in version 2, with the symbols that it has, and is otherwise the same.
+
+Examples:
+  rvmc asm <hi.s >hi.image
+  rvmc asm --from <old.image >new.image";
+
+/// The command as clap builds it.
+pub fn command<'a>(alloc: Global) -> Result<Command<'a>, AllocError>
+    ensures { IfOk result (StandsFor (app_of asm_row)) }
+{
+    new_command(
+        alloc,
+        "asm",
+        "Assembles the source on standard input into an image",
+        EXAMPLES,
+    )
+    .arg(flag(
+        alloc,
+        "from",
+        "Takes an image of either version in place of a source",
+    ))
+}
+
+/// What it asks for, of what clap found.
+pub fn line<'a>(_alloc: Global, matches: &ArgMatches<'a>) -> Result<CommandLine, Wrong<'a>>
+    ensures { Finds (asm_row.meaning (rows_of (found_of matches.now))) result }
+{
+    let from = values::flag(matches, "from");
+    Ok(CommandLine::OfImage {
+        source: !from,
+        command: ImageCommand::Asm { from },
+    })
+}

@@ -1,0 +1,45 @@
+//! `dis`.
+
+ghost use Rattle.std.specs.Prelude.{IfOk};
+ghost use Rattle.clap.specs.Walk.{rows_of};
+ghost use Rattle.clap.specs.Words.{found_of};
+ghost use Rattle.rvmc_cli.specs.Built.{StandsFor};
+ghost use Rattle.rvmc_cli.specs.Commands.{app_of, dis_row};
+ghost use Rattle.rvmc_cli.specs.Parsing.{Finds};
+
+use crate::parts::command as new_command;
+use crate::wrong::Wrong;
+use clap::{ArgMatches, Command};
+use rvmc_line::{CommandLine, ImageCommand};
+use std::alloc::{AllocError, Global};
+
+/// What help says below its options.
+const EXAMPLES: &str = "\
+A line is an address, the word there and its instruction. A word that is no
+instruction is shown as `.word`. Before a word stand the names of the symbols
+at its address, as `go:`, a line each.
+
+Example:
+  rvmc asm <hi.s | rvmc dis";
+
+/// The command as clap builds it.
+pub fn command<'a>(alloc: Global) -> Result<Command<'a>, AllocError>
+    ensures { IfOk result (StandsFor (app_of dis_row)) }
+{
+    Ok(new_command(
+        alloc,
+        "dis",
+        "Lists the instructions of the image on standard input",
+        EXAMPLES,
+    ))
+}
+
+/// What it asks for, of what clap found.
+pub fn line<'a>(_alloc: Global, _matches: &ArgMatches<'a>) -> Result<CommandLine, Wrong<'a>>
+    ensures { Finds (dis_row.meaning (rows_of (found_of _matches.now))) result }
+{
+    Ok(CommandLine::OfImage {
+        source: false,
+        command: ImageCommand::Dis,
+    })
+}

@@ -1,0 +1,75 @@
+//! `one [--source] [--budget N] [--plan HARTS] [--record] [--why] [--order RANKS]`.
+
+ghost use Rattle.std.specs.Prelude.{IfOk};
+ghost use Rattle.clap.specs.Walk.{rows_of};
+ghost use Rattle.clap.specs.Words.{found_of};
+ghost use Rattle.rvmc_cli.specs.Built.{StandsFor};
+ghost use Rattle.rvmc_cli.specs.Commands.{app_of, one_row};
+ghost use Rattle.rvmc_cli.specs.Parsing.{Finds};
+
+use crate::parts::option;
+use crate::runner::{budget, runner, written};
+use crate::values::{self, list};
+use crate::wrong::Wrong;
+use clap::{ArgMatches, Command};
+use rvmc_line::{CommandLine, ImageCommand};
+use std::alloc::{AllocError, Global};
+
+/// What help says below its options.
+const EXAMPLES: &str = "\
+The ranks take turns in the order that --order lists, round and round, and a
+rank that has stopped is passed over. In its turn a rank gives one hart a turn:
+the next in the list that --plan gives, round and round, the same for each rank.
+A list is decimal numbers from 0 to 255 with one comma between them. A hart may
+be listed more than once, or not at all. Each rank has to be listed.
+
+The report has the bytes that each rank put out, how each hart ended, and why
+and after how many turns each rank stopped. With --record the record is written
+in its place: the image, and each step in order. `rvmc check` reads it. With
+--why it is told behind the report what each hart waits for, as `rvmc why` tells
+it.
+
+Examples:
+  rvmc one --source <hi.s
+  rvmc one --budget 100 <hi.image
+  rvmc one --order 1,0 <hi.image       rank 1 takes the first turn
+  rvmc one --plan 0,0,1 <hi.image      hart 0 takes two turns, then hart 1 one
+  rvmc one --record <hi.image >hi.record
+  rvmc one --why <hi.image             a deadlock is told behind the report";
+
+/// The command as clap builds it.
+pub fn command<'a>(alloc: Global) -> Result<Command<'a>, AllocError>
+    ensures { IfOk result (StandsFor (app_of one_row)) }
+{
+    runner(
+        alloc,
+        "one",
+        "Runs the image on standard input on one thread and reports",
+        EXAMPLES,
+    )?
+    .arg(option(
+        alloc,
+        "order",
+        "RANKS",
+        "The ranks that take turns, as 0,1 [default: all in order]",
+    ))
+}
+
+/// What it asks for, of what clap found.
+pub fn line<'a>(alloc: Global, matches: &ArgMatches<'a>) -> Result<CommandLine, Wrong<'a>>
+    ensures { Finds (one_row.meaning (rows_of (found_of matches.now))) result }
+{
+    let budget = budget(matches)?;
+    let written = written(matches)?;
+    let plan = list(alloc, matches, "plan")?;
+    let order = list(alloc, matches, "order")?;
+    Ok(CommandLine::OfImage {
+        source: values::flag(matches, "source"),
+        command: ImageCommand::One {
+            budget,
+            plan,
+            order,
+            written,
+        },
+    })
+}

@@ -1,0 +1,85 @@
+//! `run [--source] [--budget N] [--plan HARTS] [--record] [--why] [--lead N]`.
+
+ghost use Rattle.std.specs.Prelude.{IfOk};
+ghost use Rattle.clap.specs.Walk.{rows_of};
+ghost use Rattle.clap.specs.Words.{found_of};
+ghost use Rattle.rvmc_cli.specs.Built.{StandsFor};
+ghost use Rattle.rvmc_cli.specs.Commands.{app_of, lead_in, run_row};
+ghost use Rattle.rvmc_cli.specs.Parsing.{Finds, Reads};
+
+use crate::parts::option;
+use crate::runner::{budget, runner, written};
+use crate::values::{self, list, number};
+use crate::wrong::Wrong;
+use clap::{ArgMatches, Command};
+use rvmc_line::{CommandLine, ImageCommand};
+use std::alloc::{AllocError, Global};
+
+/// What help says below its options.
+const EXAMPLES: &str = "\
+The ranks run side by side, each on a thread of its own. A rank that is more
+than N turns ahead of the slowest rank that hasn't ended is held back, where N
+is that of --lead. In each of its turns a rank gives one hart a turn: the next
+in the list that --plan gives, round and round, the same for each rank. A list
+is decimal numbers from 0 to 255 with one comma between them. A hart may be
+listed more than once, or not at all.
+
+Where the program leaves the order of messages open, it may differ from run to
+run, and with it the report. `rvmc one` runs the same image in an order that is
+laid down, and its report has the same form.
+
+With --record the record is written in place of the report: the image, and each
+step of each rank in the order of their stamps. `rvmc check` reads it. With --why
+it is told behind the report what each hart waits for, as `rvmc why` tells it.
+
+Examples:
+  rvmc run --source <hi.s
+  rvmc run --budget 100 <hi.image
+  rvmc run --lead 1 <hi.image          the ranks keep close together
+  rvmc run --plan 0,0,1 <hi.image      hart 0 takes two turns, then hart 1 one
+  rvmc run --record <hi.image >hi.record
+  rvmc run --why <hi.image             a deadlock is told behind the report";
+
+/// The command as clap builds it.
+pub fn command<'a>(alloc: Global) -> Result<Command<'a>, AllocError>
+    ensures { IfOk result (StandsFor (app_of run_row)) }
+{
+    runner(
+        alloc,
+        "run",
+        "Runs the image on standard input with a thread for each rank and reports",
+        EXAMPLES,
+    )?
+    .arg(option(
+        alloc,
+        "lead",
+        "N",
+        "Holds back a rank more than N turns ahead, from 1 to 65536 [default: 64]",
+    ))
+}
+
+/// How many turns a rank may be ahead.
+fn lead<'a>(matches: &ArgMatches<'a>) -> Result<u64, Wrong<'a>>
+    ensures { Reads (lead_in (rows_of (found_of matches.now))) result }
+{
+    number(matches, "lead", 1, 65_536, 64)
+}
+
+/// What it asks for, of what clap found.
+pub fn line<'a>(alloc: Global, matches: &ArgMatches<'a>) -> Result<CommandLine, Wrong<'a>>
+    ensures { Finds (run_row.meaning (rows_of (found_of matches.now))) result }
+{
+    let budget = budget(matches)?;
+    let lead = lead(matches)?;
+    let written = written(matches)?;
+    let plan = list(alloc, matches, "plan")?;
+    Ok(CommandLine::OfImage {
+        source: values::flag(matches, "source"),
+        command: ImageCommand::Run {
+            budget,
+            plan,
+            lead,
+            written,
+        },
+    })
+}

@@ -1,0 +1,138 @@
+//! The table of commands, and what is made of it: the whole command line, a command by its name, and what a command asks
+//! for.
+
+ghost use Rattle.std.specs.Prelude.{IfOk, IsOkAnd};
+ghost use Rattle.clap.specs.Walk.{rows_of};
+ghost use Rattle.clap.specs.Words.{AddsSubcommand, found_of};
+ghost use Rattle.rvmc_cli.specs.App.{top_app};
+ghost use Rattle.rvmc_cli.specs.Built.{StandsFor, app_below, app_named};
+ghost use Rattle.rvmc_cli.specs.Commands.{line_in, rvmc_app};
+ghost use Rattle.rvmc_cli.specs.Parsing.{Finds};
+
+use crate::parts::command as new_command;
+use crate::wrong::Wrong;
+use crate::{asm, check, debug, dis, one, run, why};
+use clap::{ArgMatches, Command};
+use rvmc_line::CommandLine;
+use std::alloc::{AllocError, Global};
+
+/// The commands, one row each, in the order in which help lists them. A row is the command's name, which is that of the
+/// module that builds and reads it too.
+macro_rules! commands {
+    ($made:ident($($given:tt)*)) => {
+        $made!($($given)*; asm, dis, run, one, check, debug, why)
+    };
+}
+
+/// The names of the commands.
+macro_rules! names {
+    (; $($command:ident),*) => {
+        &[$(stringify!($command)),*]
+    };
+}
+
+/// Calls a function of the module of the command of this name, if there is one, and returns what it gives.
+macro_rules! of_command {
+    ($name:ident, $call:ident, $arguments:tt; $($command:ident),*) => {
+        $(if $name == stringify!($command) {
+            return $command::$call $arguments;
+        })*
+    };
+}
+
+/// Returns the command of this name, if there is one, as it is by itself.
+macro_rules! alone {
+    ($name:ident, $alloc:ident; $($command:ident),*) => {
+        $(if $name == stringify!($command) {
+            return $command::command($alloc)?.bin_name(concat!("rvmc ", stringify!($command)));
+        })*
+    };
+}
+
+static NAMES: &[&str] = commands!(names());
+
+const EXAMPLES: &str = "\
+Without a command rvmc does as `rvmc one --source`.
+
+Examples:
+  rvmc <hi.s                  assembles the source and runs it
+  rvmc asm <hi.s >hi.image    makes an image of it
+  rvmc dis <hi.image          lists the image's instructions
+  rvmc one <hi.image          runs the image on one thread
+  rvmc run --source <hi.s     runs the source with a thread for each rank
+  rvmc run --record <hi.image | rvmc check
+                              checks each step that the threads took
+  rvmc debug go=2 regs=0,0 <hi.record
+                              shows the registers after two steps
+  rvmc one --source --why <hi.s
+                              tells behind the report what each hart waits for
+
+Status:
+  0 done, 1 fault of the input, 2 fault of the command line, 3 a hart trapped,
+  4 a rank stopped by its budget, a full clock or too many calls,
+  5 out of memory, 6 a read or write failed";
+
+fn top<'a>(alloc: Global) -> Result<Command<'a>, AllocError>
+    ensures { IfOk result (StandsFor top_app) }
+{
+    new_command(
+        alloc,
+        "rvmc",
+        "Emulates a small cluster of RISC-V machines (RV64IM) that pass messages",
+        EXAMPLES,
+    )
+    .version("0.1.0")
+    .no_binary_name(true)
+    .subcommand_required(true)
+    .bin_name("rvmc")
+}
+
+/// The command of this name below the whole command line. Any other name is of one without options.
+fn below<'a>(alloc: Global, name: &'a str) -> Result<Command<'a>, AllocError>
+    ensures { IfOk result (StandsFor (app_below name.entry.now)) }
+{
+    commands!(of_command(name, command, (alloc)));
+    Ok(new_command(alloc, name, "", ""))
+}
+
+/// The command with another below it, where there was memory to build that one.
+fn with_command<'a>(
+    command: Command<'a>,
+    below: Result<Command<'a>, AllocError>,
+) -> Result<Command<'a>, AllocError>
+    ensures { IfOk result (λ new. IsOkAnd below.entry (λ sub. AddsSubcommand command.entry sub new)) }
+{
+    command.subcommand(below?)
+}
+
+/// The whole command line.
+pub fn rvmc<'a>(alloc: Global) -> Result<Command<'a>, AllocError>
+    ensures { IfOk result (StandsFor rvmc_app) }
+{
+    let mut command = top(alloc)?;
+    for name in NAMES {
+        command = with_command(command, below(alloc, name))?;
+    }
+    Ok(command)
+}
+
+/// The command of this name by itself, whose usage a refusal shows; any other name stands for the whole command line.
+pub fn named<'a>(alloc: Global, name: &str) -> Result<Command<'a>, AllocError>
+    ensures { IfOk result (StandsFor (app_named name.now)) }
+{
+    commands!(alone(name, alloc));
+    rvmc(alloc)
+}
+
+/// The command line of the command that clap found.
+#[tactic(auto, unfolding(crate::specs::Commands::line_in))]
+pub fn line<'a>(
+    alloc: Global,
+    name: &str,
+    matches: &ArgMatches<'a>,
+) -> Result<CommandLine, Wrong<'a>>
+    ensures { Finds (line_in name.now (rows_of (found_of matches.now))) result }
+{
+    commands!(of_command(name, line, (alloc, matches)));
+    Err(Wrong::Command)
+}

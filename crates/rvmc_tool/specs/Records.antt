@@ -1,0 +1,106 @@
+-- What a command says of the image and the steps of a record, and for which fault it says nothing: one definition of each
+-- a command.
+use Rattle.std.specs.Prelude.{◌≡◌, ◌≤◌, ◌⊎◌, ℕ, List, [], length, MatchResult, Option, None, Some}
+use Rattle.cl_debug.specs.declared.faults.DebugFault.{DebugFault}
+use Rattle.cl_debug.specs.declared.faults.DebugFault.TheVariants as debug
+use Rattle.cl_machine.specs.declared.steps.Step.{Step}
+use Rattle.cl_replay.specs.Checks.{IsVerdict}
+use Rattle.cl_replay.specs.InnerReplaying.{BreaksAt, ReplayFaultHolds}
+use Rattle.cl_replay.specs.Replaying.{IsReached}
+use Rattle.cl_replay.specs.Replays.{IsRunUpTo}
+use Rattle.cl_replay.specs.declared.checking.Verdict.{Verdict}
+use Rattle.cl_replay.specs.declared.replaying.ReplayFault.TheVariants as replay
+use Rattle.cl_replay.specs.declared.states.ClusterState.{ClusterState}
+use Rattle.cl_text.specs.Reading.{reading_record}
+use Rattle.rv_image.specs.Image.{IsImage}
+use Rattle.rv_image.specs.declared.images.ImageParts.{ImageParts}
+use Rattle.rvmc_inspect.specs.Why.{IsWhy}
+use Rattle.rvmc_inspect.specs.Words.{IsTextOfWords}
+use Rattle.rvmc_line.specs.declared.debug.DebugWord.{DebugWord}
+use Rattle.rvmc_line.specs.declared.line.RecordCommand.{RecordCommand}
+use Rattle.rvmc_line.specs.declared.line.RecordCommand.TheVariants.{Check, Debug, Why}
+use Rattle.rvmc_report.specs.Faults.{fault_of_debug, fault_status}
+use Rattle.rvmc_report.specs.Verdicts.{verdict_status, verdict_text}
+use Rattle.rvmc_report.specs.declared.faults.Fault.{Fault}
+use Rattle.rvmc_report.specs.declared.faults.Fault.TheVariants as faults
+use Rattle.rvmc_report.specs.declared.faults.PlaceFault.TheVariants as place
+use Rattle.rvmc_tool.specs.Ends.{IsFaulty, end_status}
+use Rattle.rvmc_tool.specs.declared.answers.End.{End}
+use Rattle.rvmc_tool.specs.declared.answers.End.TheVariants.{Cut, Status}
+
+-- ---- `check`
+
+-- the verdict on the steps, and its status
+pub record IsChecked (image : ImageParts) (steps : List Step) (text : List ℕ) (end : End) : Type 0 where
+  pub verdict : Verdict
+  pub found : IsVerdict image steps verdict
+  pub told : text ≡ verdict_text verdict (length steps)
+  pub end_is : end ≡ Status (verdict_status verdict)
+
+-- ---- `debug`
+
+-- the words end: all are done, or one is refused for this
+abbrev pub end_after : Option DebugFault → End
+end_after None = Status 0
+end_after (Some fault) = Cut (fault_of_debug fault)
+
+-- what the words of `debug` tell of steps, which are a run of the image, from the start of the run on
+pub record IsDebugged (image : ImageParts) (steps : List Step) (words : List DebugWord) (text : List ℕ) (end : End)
+    : Type 0 where
+  pub run : IsRunUpTo image steps (length steps)
+  pub fault : Option DebugFault
+  pub told : IsTextOfWords (record { image = image; steps = steps; place = 0; breaks = [] }) words text fault
+  pub end_is : end ≡ end_after fault
+
+-- steps that are no run are a fault: the first that isn't the machine's
+abbrev pub IsNoRun : ImageParts → List Step → Fault → Type 0
+IsNoRun image steps (faults.Debug (debug.NotARun n)) = BreaksAt image steps n
+IsNoRun image steps other = ⊥
+
+-- ---- `why`
+
+-- the place of which `why` tells: so many steps are done, or all
+abbrev pub place_asked : Option ℕ → List Step → ℕ
+place_asked (Some n) steps = n
+place_asked None steps = length steps
+
+-- what the harts wait for in a state to which the first n steps lead, which are a run of the image
+pub record IsWhyAt (image : ImageParts) (steps : List Step) (n : ℕ) (text : List ℕ) : Type 0 where
+  pub limits : IsImage image
+  pub within : n ≤ length steps
+  pub state : ClusterState
+  pub reached : IsReached image steps n state
+  pub told : IsWhy image state text
+
+-- a place that isn't there is a fault: there are fewer steps, or one before the place is the first that isn't the
+-- machine's
+abbrev pub IsNoPlace : ImageParts → List Step → ℕ → Fault → Type 0
+IsNoPlace image steps n (faults.Why (place.PastEnd count)) = ReplayFaultHolds image steps n (replay.PastEnd count)
+IsNoPlace image steps n (faults.Why (place.NotARun k)) = ReplayFaultHolds image steps n (replay.Step k)
+IsNoPlace image steps n other = ⊥
+
+-- ---- all of them
+
+-- what stands on the output, and how it ends. The status of `why` tells nothing of the verdict
+abbrev pub TellsOfSteps : RecordCommand → ImageParts → List Step → List ℕ → End → Type 0
+TellsOfSteps Check image steps text end = IsChecked image steps text end
+TellsOfSteps (Debug words) image steps text end = IsDebugged image steps words text end
+TellsOfSteps (Why at) image steps text end = IsWhyAt image steps (place_asked at steps) text × (end ≡ Status 0)
+
+-- for which fault of the input nothing does
+abbrev pub RefusesSteps : RecordCommand → ImageParts → List Step → Fault → Type 0
+RefusesSteps Check image steps fault = ⊥
+RefusesSteps (Debug words) image steps fault = IsNoRun image steps fault
+RefusesSteps (Why at) image steps fault = IsNoPlace image steps (place_asked at steps) fault
+
+-- the one or the other
+abbrev pub SaysOfSteps : RecordCommand → ImageParts → List Step → List ℕ → ℕ → Type 0
+SaysOfSteps command image steps text status =
+    ((end : End) × TellsOfSteps command image steps text end × (status ≡ end_status end))
+    ⊎ ((fault : Fault) × RefusesSteps command image steps fault × (text ≡ []) × (status ≡ fault_status fault))
+
+-- of the record that the bytes spell. Bytes that spell none are a fault of the input
+abbrev pub SaysOfRecord : RecordCommand → List ℕ → List ℕ → ℕ → Type 0
+SaysOfRecord command bytes text status =
+    MatchResult (reading_record bytes) (λ read. SaysOfSteps command read.0 read.1 text status)
+    (λ _. IsFaulty text status)

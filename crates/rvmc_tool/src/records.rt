@@ -1,0 +1,63 @@
+//! What a command answers that takes a record: it is read here once, for all of them.
+
+ghost use Rattle.std.specs.Prelude.{◌≡◌, IfErr, IfOk, Ok};
+ghost use Rattle.cl_text.specs.Reading.{reading_record};
+ghost use Rattle.rvmc_tool.specs.Ends.{end_status};
+ghost use Rattle.rvmc_tool.specs.Making.{HasTold, IsReadFault, IsStepsFault, IsUnread};
+ghost use Rattle.rvmc_tool.specs.Outputs.{output_bytes};
+ghost use Rattle.rvmc_tool.specs.Records.{SaysOfRecord, TellsOfSteps};
+
+use crate::answers::Answer;
+use crate::checks::checked;
+use crate::debugging::debugged;
+use crate::explaining::explained;
+use cl_machine::Step;
+use cl_text::read_record;
+use rv_image::Image;
+use rvmc_line::RecordCommand;
+use rvmc_report::faults::Fault;
+use std::alloc::Global;
+
+/// The image and the steps of the record that the bytes spell, or its first fault.
+fn read(alloc: Global, bytes: &[u8]) -> Result<(Image, Vec<Step>), Fault>
+    ensures read { IfOk result (λ found. reading_record bytes.now ≡ Ok (found.0, found.1.items)) }
+    ensures fault { IfErr result (IsUnread bytes.now) }
+{
+    Ok(read_record(alloc, bytes)?)
+}
+
+/// What a command tells of the image and the steps of a record, or the fault for which it tells nothing: one case a
+/// command.
+fn told(
+    alloc: Global,
+    command: &RecordCommand,
+    image: Image,
+    steps: Vec<Step>,
+) -> Result<Answer, Fault>
+    ensures tells { IfOk result (λ answer.
+        TellsOfSteps command.now image steps.items (output_bytes answer.output) answer.end) }
+    ensures fault { IfErr result (IsStepsFault command.now image steps.items) }
+{
+    match command {
+        RecordCommand::Check => checked(alloc, &image, &steps),
+        RecordCommand::Debug { words } => debugged(alloc, words, image, steps),
+        RecordCommand::Why { at } => explained(alloc, *at, &image, &steps),
+    }
+}
+
+/// What a command answers to the bytes of a record.
+#[tactic(auto, using(crate::proofs::Readings::has_told, crate::proofs::Readings::of_steps, crate::proofs::Readings::says, crate::proofs::Readings::unread))]
+pub(crate) fn answer_of_record(
+    alloc: Global,
+    command: &RecordCommand,
+    bytes: &[u8],
+) -> Result<Answer, Fault>
+    ensures says { IfOk result (λ answer.
+        SaysOfRecord command.now bytes.now (output_bytes answer.output) (end_status answer.end)) }
+    ensures ends { IfOk result (λ answer. HasTold command.now bytes.now (output_bytes answer.output) answer.end) }
+    ensures fault { IfErr result (IsReadFault command.now (reading_record bytes.now)) }
+{
+    let (image, steps) = read(alloc, bytes)?;
+    let answer = told(alloc, command, image, steps)?;
+    Ok(answer)
+}
