@@ -102,11 +102,7 @@ tells_none (parse.Refused text) meant none is = none
 -- or that memory was wanting for it
 pub tells : (w : Wrong) (r : ParseFault) (meant : Option CommandLine) → Finds meant (Err w) → IsTold w r → Tells meant (Err r)
 tells wrong.Memory r meant found memory = subst (λ (x : ParseFault). Tells meant (Err x)) (sym memory) tt
-tells wrong.Command r meant found shown = tells_none r meant found shown
-tells (wrong.Number option least most text) r meant found shown = tells_none r meant found shown
-tells (wrong.List option text) r meant found shown = tells_none r meant found shown
-tells (wrong.Word text) r meant found shown = tells_none r meant found shown
-tells (wrong.Both flag other) r meant found shown = tells_none r meant found shown
+tells other r meant found shown = tells_none r meant found shown
 
 -- what is told of the command is what is told of the words, which clap took
 pub told : (ws : List (Bor Text)) (r : Result CommandLine ParseFault) (meant : Option CommandLine) → meaning_of (texts ws) ≡ meant → faults_in (texts ws) ≡ [] → Tells meant r

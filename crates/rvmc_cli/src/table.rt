@@ -1,10 +1,10 @@
 //! The table of commands, and what is made of it: the whole command line, a command by its name, and what a command asks
 //! for.
 
-ghost use Rattle.std.specs.Prelude.{IfOk, IsOkAnd};
+ghost use Rattle.std.specs.Prelude.{IfOk, IsOkAnd, map};
 ghost use Rattle.clap.specs.Walk.{rows_of};
 ghost use Rattle.clap.specs.Words.{AddsSubcommand, found_of};
-ghost use Rattle.rvmc_cli.specs.App.{top_app};
+ghost use Rattle.rvmc_cli.specs.App.{top_app, with_commands};
 ghost use Rattle.rvmc_cli.specs.Built.{StandsFor, app_below, app_named};
 ghost use Rattle.rvmc_cli.specs.Commands.{line_in, rvmc_app};
 ghost use Rattle.rvmc_cli.specs.Parsing.{Finds};
@@ -105,15 +105,22 @@ fn with_command<'a>(
     command.subcommand(below?)
 }
 
+/// The whole command line, with the commands of these names.
+fn with_all<'a>(alloc: Global, names: &[&'a str]) -> Result<Command<'a>, AllocError>
+    ensures { IfOk result (StandsFor (with_commands top_app (map (λ name. app_below name.now) names.now))) }
+{
+    let mut command = top(alloc)?;
+    for name in names {
+        command = with_command(command, below(alloc, name))?;
+    }
+    Ok(command)
+}
+
 /// The whole command line.
 pub fn rvmc<'a>(alloc: Global) -> Result<Command<'a>, AllocError>
     ensures { IfOk result (StandsFor rvmc_app) }
 {
-    let mut command = top(alloc)?;
-    for name in NAMES {
-        command = with_command(command, below(alloc, name))?;
-    }
-    Ok(command)
+    with_all(alloc, NAMES)
 }
 
 /// The command of this name by itself, whose usage a refusal shows; any other name stands for the whole command line.

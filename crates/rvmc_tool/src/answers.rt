@@ -109,12 +109,19 @@ fn answer_of_image(
     made(alloc, command, image)
 }
 
-/// Whether a command needs threads: `run` alone does.
+/// Whether a command of an image needs threads: `run` alone does.
+fn runs_threads(command: &ImageCommand) -> bool
+    ensures { result ≡ runs_threads command.now }
+{
+    matches!(command, ImageCommand::Run { .. })
+}
+
+/// Whether a command needs threads.
 pub fn needs_threads(line: &CommandLine) -> bool
     ensures { result ≡ needs_threads line.now }
 {
     match line {
-        CommandLine::OfImage { command, .. } => matches!(command, ImageCommand::Run { .. }),
+        CommandLine::OfImage { command, .. } => runs_threads(command),
         CommandLine::OfRecord(_) => false,
     }
 }
@@ -138,6 +145,33 @@ pub fn answer_to(alloc: Global, line: &CommandLine, bytes: &[u8]) -> Result<Answ
     }
 }
 
+/// What any command answers to its input that takes an image.
+fn answer_of_image_with_threads<R: Threads + Wait + Sync>(
+    rt: &R,
+    alloc: Global,
+    source: bool,
+    command: &ImageCommand,
+    bytes: &[u8],
+) -> Result<Answer, Fault>
+    ensures says { IfOk result (λ answer.
+        SaysOfImage source command.now bytes.now (output_bytes answer.output) (end_status answer.end)) }
+    ensures whole { IfOk result (λ answer. IsWhole answer.end) }
+    ensures fault { IfErr result (IsImageFault source command.now bytes.now) }
+{
+    match command {
+        ImageCommand::Run {
+            budget,
+            plan,
+            lead,
+            written,
+        } => {
+            let image = image_in(alloc, source, bytes)?;
+            run(rt, alloc, &image, *budget, plan, *lead, *written)
+        }
+        _ => answer_of_image(alloc, source, command, bytes),
+    }
+}
+
 /// What any command answers to its input. It waits for the threads of `run`, and what it promises holds if it returns.
 ///
 /// Beside the faults of `answer_to`, `run` answers `Spawn` where a thread is refused, and `Unlike` where what the
@@ -154,18 +188,9 @@ pub fn answer_with_threads<R: Threads + Wait + Sync>(
     ensures fault { IfErr result (IsFaultOf line.now bytes.now) }
 {
     match line {
-        CommandLine::OfImage {
-            source,
-            command: ImageCommand::Run {
-                budget,
-                plan,
-                lead,
-                written,
-            },
-        } => {
-            let image = image_in(alloc, *source, bytes)?;
-            run(rt, alloc, &image, *budget, plan, *lead, *written)
+        CommandLine::OfImage { source, command } => {
+            answer_of_image_with_threads(rt, alloc, *source, command, bytes)
         }
-        _ => answer_to(alloc, line, bytes),
+        CommandLine::OfRecord(command) => answer_of_record(alloc, command, bytes),
     }
 }

@@ -49,16 +49,15 @@ fn told_at(alloc: Global, image: &Image, steps: &[Step], place: u64) -> Result<V
 pub(crate) fn explained(
     alloc: Global,
     at: Option<u64>,
-    image: &Image,
-    steps: &[Step],
+    image: Image,
+    steps: Vec<Step>,
 ) -> Result<Answer, Fault>
-    ensures told { IfOk result (λ answer.
-        IsWhyAt image.now steps.now (place_asked at steps.now) (output_bytes answer.output)) }
-    ensures ends { IfOk result (λ answer. answer.end ≡ Status 0) }
-    ensures fault { IfErr result (IsStepsFault (command.Why at) image.now steps.now) }
+    ensures tells { IfOk result (λ answer.
+        IsWhyAt image steps.items (place_asked at steps.items) (output_bytes answer.output) × (answer.end ≡ Status 0)) }
+    ensures fault { IfErr result (IsStepsFault (command.Why at) image steps.items) }
 {
-    let place = place_in(at, steps);
-    let text = told_at(alloc, image, steps, place)?;
+    let place = place_in(at, &steps);
+    let text = told_at(alloc, &image, &steps, place)?;
     Ok(Answer {
         output: Output::Text(text),
         end: End::Status(0),

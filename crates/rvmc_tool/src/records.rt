@@ -39,9 +39,9 @@ fn told(
     ensures fault { IfErr result (IsStepsFault command.now image steps.items) }
 {
     match command {
-        RecordCommand::Check => checked(alloc, &image, &steps),
+        RecordCommand::Check => checked(alloc, image, steps),
         RecordCommand::Debug { words } => debugged(alloc, words, image, steps),
-        RecordCommand::Why { at } => explained(alloc, *at, &image, &steps),
+        RecordCommand::Why { at } => explained(alloc, *at, image, steps),
     }
 }
 

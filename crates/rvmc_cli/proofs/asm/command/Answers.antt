@@ -3,4 +3,4 @@ use Rattle.rvmc_cli.proofs.Building.{with_arg}
 use Rattle.rvmc_cli.proofs.asm.command.Goals as goal
 
 pub returns : goal.returns
-returns c = IfOk-weaker c.arg.result _ _ (λ new adds. with_arg _ _ _ new _ c.new_command.ensures c.flag.ensures.rule c.flag.ensures.local adds) c.arg.ensures
+returns c = IfOk-weaker c.arg.result _ _ (λ new adds. with_arg _ _ _ new _ c.command.ensures c.flag.ensures.rule c.flag.ensures.local adds) c.arg.ensures

@@ -4,7 +4,7 @@ use Rattle.rvmc_cli.proofs.runner.runner.Goals as goal
 
 pub returns : goal.returns
 returns c =
-    let source = with_arg _ _ _ _ _ c.new_command.ensures c.flag.ensures.rule c.flag.ensures.local c.in_ok-arg.ensures in
+    let source = with_arg _ _ _ _ _ c.command.ensures c.flag.ensures.rule c.flag.ensures.local c.in_ok-arg.ensures in
     let budget = with_arg _ _ _ _ _ source c.option.ensures.rule c.option.ensures.local c.in_ok-arg-2.ensures in
     let plan = with_arg _ _ _ _ _ budget c.option-2.ensures.rule c.option-2.ensures.local c.in_ok-arg-3.ensures in
     let recorded = with_arg _ _ _ _ _ plan c.flag-2.ensures.rule c.flag-2.ensures.local c.in_ok-arg-4.ensures in

@@ -1,6 +1,6 @@
 use Rattle.std.proofs.Common.{◌≡◌, ◌∙◌, ◌++◌, ap, append_assoc, rules}
 use Rattle.std.specs.Prelude.{codes}
-use Rattle.rvmc_inspect.specs.Texts.{newline}
+use Rattle.rvmc_report.specs.Report.{newline}
 use Rattle.rvmc_inspect.specs.Why.{more_ranks}
 use Rattle.rvmc_inspect.proofs.telling.put_deadlock.Goals as goal
 
