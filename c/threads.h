@@ -9,7 +9,7 @@
 typedef int (*thrd_start_t)(void *);
 typedef int thrd_t;                               /* the hart's number */
 typedef struct {
-	int number, kind, owner, depth;
+    int number, kind, owner, depth;
 } mtx_t;
 
 enum { thrd_success, thrd_busy, thrd_error, thrd_nomem, thrd_timedout };

@@ -8,56 +8,57 @@
 #define RVMC_INLINE static inline __attribute__((always_inline, unused))
 
 typedef struct {
-	long code, value;
+    long code, value;
 } rvmc_answer;
 
 enum {
-	RVMC_EXIT, RVMC_PUT, RVMC_RANK, RVMC_SIZE, RVMC_HART,
-	RVMC_SEND = 16, RVMC_SSEND, RVMC_RECV, RVMC_ISEND, RVMC_ISSEND, RVMC_IRECV, RVMC_TEST, RVMC_WAIT,
-	RVMC_IPROBE, RVMC_PROBE, RVMC_IMPROBE, RVMC_MPROBE, RVMC_IMRECV, RVMC_MRECV,
-	RVMC_SEND_INIT, RVMC_RECV_INIT, RVMC_START, RVMC_REQUEST_FREE, RVMC_TESTALL, RVMC_WAITALL,
-	RVMC_PSEND_INIT = 40, RVMC_PRECV_INIT, RVMC_PREADY, RVMC_PARRIVED
+    RVMC_EXIT, RVMC_PUT, RVMC_RANK, RVMC_SIZE, RVMC_HART,
+    RVMC_SEND = 16, RVMC_SSEND, RVMC_RECV, RVMC_ISEND, RVMC_ISSEND, RVMC_IRECV, RVMC_TEST, RVMC_WAIT,
+    RVMC_IPROBE, RVMC_PROBE, RVMC_IMPROBE, RVMC_MPROBE, RVMC_IMRECV, RVMC_MRECV,
+    RVMC_SEND_INIT, RVMC_RECV_INIT, RVMC_START, RVMC_REQUEST_FREE, RVMC_TESTALL, RVMC_WAITALL,
+    RVMC_PSEND_INIT = 40, RVMC_PRECV_INIT, RVMC_PREADY, RVMC_PARRIVED
 };
 
-/* The codes that the library tells apart by name. The last three are its own, behind those of the machine. */
+/* The codes that the library tells apart by name: those of the machine, and behind them its own. */
 enum {
-	RVMC_OK = 0, RVMC_BAD_COUNT = 2, RVMC_BAD_RANK = 4, RVMC_BAD_REQUEST = 6, RVMC_TRUNCATED = 7, RVMC_FULL = 8,
-	RVMC_BAD_MESSAGE = 14, RVMC_CODES = 17,
-	RVMC_LARGE_PROBE = RVMC_CODES, RVMC_BAD_ROOT, RVMC_BAD_OP, RVMC_OTHER_COUNT, RVMC_NO_MEMORY, RVMC_IN_PLACE,
-	RVMC_PARTS_AMONG, RVMC_ALL_CODES
+    RVMC_OK = 0, RVMC_BAD_BUFFER = 1, RVMC_BAD_COUNT = 2, RVMC_BAD_TAG = 3, RVMC_BAD_COMM = 5, RVMC_TRUNCATED = 7, RVMC_CODES = 17,
+    RVMC_LARGE_PROBE = RVMC_CODES, RVMC_BAD_ROOT, RVMC_BAD_OP, RVMC_OTHER_COUNT, RVMC_NO_MEMORY, RVMC_IN_PLACE,
+    RVMC_PARTS_AMONG
 };
 
 /* The tags of the twin communicators. A rank sends itself those of harts and mutexes in the twin of communicator 0. */
 enum {
-	RVMC_TAG_COLLECTIVE = 0,                  /* and the kind of collective, below 32 */
-	RVMC_TAG_FREE = 96,                       /* a hart that has no thread */
-	RVMC_TAG_WORK = 104,                      /* and the hart: there is work for it, or the end; start.S has it too */
-	RVMC_TAG_DONE = 108,                      /* and the hart: its thread has returned */
-	RVMC_TAG_AGAIN = 112,                     /* and the hart: a message that was claimed, on its way to a request */
-	RVMC_TAG_MUTEX = 116,                     /* and the mutex, below 800 */
-	RVMC_TAG_REST = 1024                      /* and the number of a large message: its pieces behind the first */
+    RVMC_TAG_COLLECTIVE = 0,                  /* and the kind of collective, below 32 */
+    RVMC_TAG_FREE = 96,                       /* a hart that has no thread */
+    RVMC_TAG_HEAP = 97,                       /* the heap, which no hart is at work on */
+    RVMC_TAG_WORK = 104,                      /* and the hart: there is work for it, or the end; start.S has it too */
+    RVMC_TAG_DONE = 108,                      /* and the hart: its thread has returned */
+    RVMC_TAG_AGAIN = 112,                     /* and the hart: a message that was claimed, on its way to a request */
+    RVMC_TAG_MUTEX = 116,                     /* and the mutex, below 800 */
+    RVMC_TAG_REST = 1024                      /* and the number of a large message: its pieces behind the first */
 };
+#define RVMC_MOST_TAG 32767
 
 #define RVMC_PIECE 4096                           /* the most bytes of a message of the machine */
 
 RVMC_INLINE rvmc_answer rvmc_call(long number, long x0, long x1, long x2, long x3, long x4, long x5)
 {
-	register long a0 __asm__("a0") = x0;
-	register long a1 __asm__("a1") = x1;
-	register long a2 __asm__("a2") = x2;
-	register long a3 __asm__("a3") = x3;
-	register long a4 __asm__("a4") = x4;
-	register long a5 __asm__("a5") = x5;
-	register long a7 __asm__("a7") = number;
-	__asm__ volatile("ecall"
-			 : "+r"(a0), "+r"(a1)
-			 : "r"(a2), "r"(a3), "r"(a4), "r"(a5), "r"(a7)
-			 : "memory", "ra");
-	return (rvmc_answer){a0, a1};
+    register long a0 __asm__("a0") = x0;
+    register long a1 __asm__("a1") = x1;
+    register long a2 __asm__("a2") = x2;
+    register long a3 __asm__("a3") = x3;
+    register long a4 __asm__("a4") = x4;
+    register long a5 __asm__("a5") = x5;
+    register long a7 __asm__("a7") = number;
+    __asm__ volatile("ecall"
+                     : "+r"(a0), "+r"(a1)
+                     : "r"(a2), "r"(a3), "r"(a4), "r"(a5), "r"(a7)
+                     : "memory", "ra");
+    return (rvmc_answer){a0, a1};
 }
 
 /* What the linker is told of the image: numbers in the place of addresses. */
-extern char rvmc_harts[], rvmc_stack[], rvmc_communicators[], rvmc_stacks[];
+extern char rvmc_harts[], rvmc_stack[], rvmc_communicators[], rvmc_stacks[], rvmc_memory[];
 #define RVMC_NUMBER(symbol) ((long)(symbol))
 /* User communicators are 0 to rvmc_communicators - 1, and the twin of each stands as many places behind it. */
 #define RVMC_TWIN(c) ((c) + RVMC_NUMBER(rvmc_communicators))

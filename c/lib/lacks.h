@@ -4,23 +4,28 @@
 
 #define RVMC_LACKS(name, why) int name() __attribute__((unavailable("rvmc: " why)))
 #define RVMC_LACKS_TYPE(name, why) typedef int name __attribute__((unavailable("rvmc: " why)))
+#define RVMC_LACKS_CONSTANT(name, why) extern const int name __attribute__((unavailable("rvmc: " why)))
 
 #define RVMC_NO_CLOCK "there is no clock: a run is a list of steps, and the report counts turns"
 #define RVMC_NO_COMM "communicators are declared by rvmc-cc --comm and named RVMC_COMM(1) and so on"
 #define RVMC_NO_TYPE "only the basic datatypes are served"
 #define RVMC_NO_MODE "the modes are standard and synchronous: MPI_Send, MPI_Ssend"
 #define RVMC_NO_COLLECTIVE "this collective isn't served; docs/C.md lists those that are"
+#define RVMC_NO_OP "this operation isn't served; docs/C.md lists those that are"
 #define RVMC_NO_WINDOW "one-sided communication isn't served"
 #define RVMC_NO_FILE "there are no files"
 
 RVMC_LACKS(MPI_Wtime, RVMC_NO_CLOCK);
 RVMC_LACKS(MPI_Wtick, RVMC_NO_CLOCK);
 
+RVMC_LACKS_CONSTANT(MPI_COMM_SELF, RVMC_NO_COMM);
 RVMC_LACKS_TYPE(MPI_Group, RVMC_NO_COMM);
 RVMC_LACKS(MPI_Comm_split, RVMC_NO_COMM);
 RVMC_LACKS(MPI_Comm_split_type, RVMC_NO_COMM);
 RVMC_LACKS(MPI_Comm_dup, RVMC_NO_COMM);
 RVMC_LACKS(MPI_Comm_create, RVMC_NO_COMM);
+RVMC_LACKS(MPI_Comm_compare, RVMC_NO_COMM);
+RVMC_LACKS(MPI_Intercomm_create, RVMC_NO_COMM);
 RVMC_LACKS(MPI_Comm_create_group, RVMC_NO_COMM);
 RVMC_LACKS(MPI_Comm_free, RVMC_NO_COMM);
 RVMC_LACKS(MPI_Comm_group, RVMC_NO_COMM);
@@ -34,6 +39,14 @@ RVMC_LACKS(MPI_Dims_create, RVMC_NO_COMM);
 RVMC_LACKS(MPI_Graph_create, RVMC_NO_COMM);
 RVMC_LACKS(MPI_Dist_graph_create, RVMC_NO_COMM);
 
+RVMC_LACKS_CONSTANT(MPI_PACKED, RVMC_NO_TYPE);
+RVMC_LACKS_CONSTANT(MPI_LONG_DOUBLE, RVMC_NO_TYPE);
+RVMC_LACKS_CONSTANT(MPI_C_COMPLEX, RVMC_NO_TYPE);
+RVMC_LACKS_CONSTANT(MPI_C_DOUBLE_COMPLEX, RVMC_NO_TYPE);
+RVMC_LACKS_CONSTANT(MPI_2INT, RVMC_NO_TYPE);
+RVMC_LACKS_CONSTANT(MPI_FLOAT_INT, RVMC_NO_TYPE);
+RVMC_LACKS_CONSTANT(MPI_DOUBLE_INT, RVMC_NO_TYPE);
+RVMC_LACKS_CONSTANT(MPI_LONG_INT, RVMC_NO_TYPE);
 RVMC_LACKS(MPI_Type_contiguous, RVMC_NO_TYPE);
 RVMC_LACKS(MPI_Type_vector, RVMC_NO_TYPE);
 RVMC_LACKS(MPI_Type_indexed, RVMC_NO_TYPE);
@@ -73,8 +86,11 @@ RVMC_LACKS(MPI_Iallgather, RVMC_NO_COLLECTIVE);
 RVMC_LACKS(MPI_Ialltoall, RVMC_NO_COLLECTIVE);
 RVMC_LACKS(MPI_Ireduce, RVMC_NO_COLLECTIVE);
 RVMC_LACKS(MPI_Iallreduce, RVMC_NO_COLLECTIVE);
-RVMC_LACKS(MPI_Op_create, RVMC_NO_COLLECTIVE);
-RVMC_LACKS(MPI_Op_free, RVMC_NO_COLLECTIVE);
+RVMC_LACKS_CONSTANT(MPI_MAXLOC, RVMC_NO_OP);
+RVMC_LACKS_CONSTANT(MPI_MINLOC, RVMC_NO_OP);
+RVMC_LACKS_CONSTANT(MPI_REPLACE, RVMC_NO_OP);
+RVMC_LACKS(MPI_Op_create, RVMC_NO_OP);
+RVMC_LACKS(MPI_Op_free, RVMC_NO_OP);
 
 RVMC_LACKS_TYPE(MPI_Win, RVMC_NO_WINDOW);
 RVMC_LACKS(MPI_Win_create, RVMC_NO_WINDOW);

@@ -11,29 +11,29 @@ _Thread_local int rvmc_hart;
 /* Puts out what the hart has printed. An output that is full can take no message either, so the trap is all there is. */
 void rvmc_put_line(void)
 {
-	struct rvmc_page *page = &rvmc_pages[rvmc_hart];
+    struct rvmc_page *page = &rvmc_pages[rvmc_hart];
 
-	if (page->filled && rvmc_call(RVMC_PUT, (long)page->line, page->filled, 0, 0, 0, 0).code)
-		__asm__ volatile("ebreak");
-	page->filled = 0;
+    if (page->filled && rvmc_call(RVMC_PUT, (long)page->line, page->filled, 0, 0, 0, 0).code)
+        __asm__ volatile("ebreak");
+    page->filled = 0;
 }
 
 static int put_character(char c, FILE *stream)
 {
-	struct rvmc_page *page = &rvmc_pages[rvmc_hart];
+    struct rvmc_page *page = &rvmc_pages[rvmc_hart];
 
-	(void)stream;
-	page->line[page->filled++] = c;
-	if (c == '\n' || page->filled == sizeof page->line)
-		rvmc_put_line();
-	return (unsigned char)c;
+    (void)stream;
+    page->line[page->filled++] = c;
+    if (c == '\n' || page->filled == sizeof page->line)
+        rvmc_put_line();
+    return (unsigned char)c;
 }
 
 static int flush(FILE *stream)
 {
-	(void)stream;
-	rvmc_put_line();
-	return 0;
+    (void)stream;
+    rvmc_put_line();
+    return 0;
 }
 
 static FILE out = FDEV_SETUP_STREAM(put_character, NULL, flush, _FDEV_SETUP_WRITE);
@@ -44,57 +44,47 @@ FILE *const stderr = &out;
 /* One line that names the rank: what went wrong, before a trap. */
 void rvmc_tell(const char *what, const char *more)
 {
-	if (rvmc_pages[rvmc_hart].filled)
-		putchar('\n');
-	fputs("rank ", stdout);
-	putchar('0' + rvmc_rank);
-	fputs(": ", stdout);
-	fputs(what, stdout);
-	fputs(more, stdout);
-	putchar('\n');
+    if (rvmc_pages[rvmc_hart].filled)
+        putchar('\n');
+    fputs("rank ", stdout);
+    putchar('0' + rvmc_rank);
+    fputs(": ", stdout);
+    fputs(what, stdout);
+    fputs(more, stdout);
+    putchar('\n');
 }
 
 /* rvmc-cc calls this where a compiler's check of a pointer has failed. The trap stands behind the call, in the function
    whose check it is. */
 void rvmc_null_pointer(void)
 {
-	rvmc_tell("a null pointer is read or written", "");
+    rvmc_tell("a null pointer is read or written", "");
 }
 
-/* Without threads.c no hart gets work: what wakes it is the end of main. */
-__attribute__((weak)) void rvmc_work(long hart)
+void rvmc_null_call(void)
 {
-	(void)hart;
-	rvmc_call(RVMC_EXIT, 0, 0, 0, 0, 0, 0);
-}
-
-__attribute__((weak)) void rvmc_threads_begin(void)
-{
-}
-
-__attribute__((weak)) void rvmc_threads_end(void)
-{
+    rvmc_tell("a null pointer is called", "");
 }
 
 /* The end of hart 0 is the end of those that wait for work; one that works ends when it comes to ask for more. The machine
    has no call that ends another hart. */
 void _exit(int code)
 {
-	rvmc_put_line();
-	if (rvmc_hart == 0) {
-		rvmc_threads_end();
-		for (long hart = 1; hart < RVMC_NUMBER(rvmc_harts); hart++)
-			rvmc_call(RVMC_SEND, 0, 0, rvmc_rank, RVMC_TAG_WORK + hart, RVMC_TWIN(0), 0);
-	}
-	for (;;)
-		rvmc_call(RVMC_EXIT, code, 0, 0, 0, 0, 0);
+    rvmc_put_line();
+    if (rvmc_hart == 0) {
+        rvmc_threads_end();
+        for (long hart = 1; hart < RVMC_NUMBER(rvmc_harts); hart++)
+            rvmc_call(RVMC_SEND, 0, 0, rvmc_rank, RVMC_TAG_WORK + hart, RVMC_TWIN(0), 0);
+    }
+    for (;;)
+        rvmc_call(RVMC_EXIT, code, 0, 0, 0, 0, 0);
 }
 
 void abort(void)
 {
-	rvmc_tell("abort", "");
-	for (;;)
-		__asm__ volatile("ebreak");
+    rvmc_tell("abort", "");
+    for (;;)
+        __asm__ volatile("ebreak");
 }
 
 int main(int argc, char **argv);
@@ -103,11 +93,11 @@ void rvmc_begin(long rank) __attribute__((noreturn));
 
 void rvmc_begin(long rank)
 {
-	static char name[] = "guest";
-	static char *words[] = {name, NULL};
+    static char name[] = "guest";
+    static char *words[] = {name, NULL};
 
-	rvmc_rank = (int)rank;
-	rvmc_threads_begin();
-	__libc_init_array();
-	exit(main(1, words));
+    rvmc_rank = (int)rank;
+    rvmc_threads_begin();
+    __libc_init_array();
+    exit(main(1, words));
 }

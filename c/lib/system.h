@@ -5,15 +5,16 @@
 /* What each hart has to itself outside its stack, made by guest.ld: the line that it prints, and the first piece of a
    large message that it sends. */
 struct rvmc_page {
-	char line[4096];
-	char first[4096];
-	long filled, count;
+    char line[4096];
+    char first[4096];
+    long filled, count;
 };
 extern struct rvmc_page rvmc_pages[];
 
 void rvmc_put_line(void);
 void rvmc_tell(const char *what, const char *more);
 void rvmc_null_pointer(void);
+void rvmc_null_call(void);
 void rvmc_work(long hart);
 void rvmc_threads_begin(void);
 void rvmc_threads_end(void);
