@@ -3,6 +3,7 @@ use Rattle.std.specs.List.Sorted.{IsStrictlySortedBy}
 use Rattle.std.specs.Prelude.{All, ℕ, ◌≡◌, ◌+◌, ◌%◌, ◌<◌, ◌≤◌, List, [], ◌∷◌, length}
 use Rattle.std.proofs.Common.{refl, arith}
 use Rattle.std.proofs.lemmas.List.Elements.{All-nil, All-cons}
+use mathlib.Core.Logic.{inr}
 use Rattle.rv_image.specs.Image.{IsImage, IsLink, data_start}
 use Rattle.rv_decode.specs.Decoded.{decoded}
 use Rattle.rv_hart.specs.Effect.{gives}
@@ -10,7 +11,8 @@ use Rattle.rv_hart.specs.Results.{imm_result}
 use Rattle.rv_hart.specs.Stepped.{stepped}
 use Rattle.cl_state.specs.Asked.{asked, doing}
 use Rattle.cl_state.specs.Told.{arrived, part_readied, phase_begun, returned, seen_one, taken_one, told}
-use Rattle.cl_arrival_laws.specs.AloneRows.{ReadyRow, TakeRow, linked, receiving_words, sending_words}
+use Rattle.cl_arrival_laws.specs.AloneRows.{ReadyRow, TakeRow, WaitRow, linked, receiving_words, sending_words}
+use Rattle.cl_arrival_laws.specs.AloneRows.{waiting_words}
 
 one_link : All (IsLink 2) (record { from = 0; to = 1 } ∷ [])
 one_link =
@@ -50,6 +52,9 @@ sending_is_image = linked_is_image sending_words (omega arith) refl (omega arith
 
 receiving_is_image : IsImage (linked receiving_words)
 receiving_is_image = linked_is_image receiving_words (omega arith) refl (omega arith) (omega arith)
+
+waiting_is_image : IsImage (linked waiting_words)
+waiting_is_image = linked_is_image waiting_words (omega arith) refl (omega arith) (omega arith)
 
 pub ready : ReadyRow
 unfolding asked told doing returned stepped decoded gives imm_result phase_begun part_readied
@@ -176,7 +181,69 @@ take = (
       ),
     ),
     (omega arith, omega arith, refl, refl, refl),
-    record { handle = 1; side = _; calls = refl; names = refl; on = refl; registers = refl; flag = refl },
+    record { handle = 1; side = _; calls = refl; names = refl; on = refl; flag = refl },
+    refl,
+  ),
+)
+
+pub wait : WaitRow
+unfolding asked told doing returned stepped decoded gives imm_result phase_begun arrived taken_one
+wait = (
+  waiting_is_image,
+  (
+    _,
+    _,
+    (
+      _,
+      (omega arith, omega arith, refl, refl, refl),
+      (
+        _,
+        (omega arith, omega arith, refl, refl, refl),
+        (
+          _,
+          (omega arith, omega arith, refl, refl, refl),
+          (
+            _,
+            (omega arith, omega arith, refl, refl, refl),
+            (
+              _,
+              (omega arith, omega arith, refl, (refl, omega arith), refl),
+              (
+                _,
+                (omega arith, omega arith, refl, refl, refl),
+                (
+                  _,
+                  (omega arith, omega arith, refl, refl, refl),
+                  (
+                    _,
+                    (omega arith, omega arith, refl, refl, refl),
+                    (
+                      _,
+                      (omega arith, omega arith, refl, refl, refl),
+                      (
+                        _,
+                        (omega arith, omega arith, refl, refl, refl),
+                        (
+                          _,
+                          (omega arith, omega arith, refl, refl, refl),
+                          (
+                            _,
+                            (omega arith, omega arith, refl, (refl, omega arith), refl),
+                            refl,
+                          ),
+                        ),
+                      ),
+                    ),
+                  ),
+                ),
+              ),
+            ),
+          ),
+        ),
+      ),
+    ),
+    (omega arith, omega arith, refl, refl, refl),
+    record { completing = _; side = _; calls = inr refl; names = refl; on = refl; going = refl; complete = refl },
     refl,
   ),
 )

@@ -18,7 +18,8 @@ use Rattle.cl_machine.specs.Joined.{got_of, thing_of}
 use Rattle.cl_machine.specs.Parts.{PartRunAt, is_index, own}
 use Rattle.cl_machine.specs.Product.{box_at}
 use Rattle.cl_stamp_laws.proofs.Ranks.{starts}
-use Rattle.cl_arrival_laws.specs.Arrival.{ArrivalLaw, IsMadeIn, made_at, taken_at}
+use Rattle.cl_arrival_laws.specs.Arrival.{IsMadeIn}
+use Rattle.cl_arrival_laws.specs.Laws.{ArrivalLaw, made_at, taken_at}
 use Rattle.cl_arrival_laws.proofs.Arrived.{arrived}
 use Rattle.cl_arrival_laws.proofs.Counting.{one_more_deed}
 use Rattle.cl_arrival_laws.proofs.Found.{made_in, taken_in}

@@ -7,15 +7,20 @@ use Rattle.rv_image.specs.declared.images.ImageParts.{ImageParts}
 use Rattle.rv_image.specs.declared.images.ImageVersion.{ImageVersion}
 use Rattle.part_phase.specs.declared.receiving.RecvPhase.{RecvPhase}
 use Rattle.part_phase.specs.Phases.{receiving_at}
-use Rattle.part_phase.specs.Receiving.{begun_receiving, is_left, lowest_from, next_box_of, overlaps}
+use Rattle.part_phase.specs.Receiving.{begun_receiving, is_left, lowest_from, next_box, next_box_of, overlaps}
 use Rattle.part_phase.specs.Sending.{none_marked}
 use Rattle.part_phase.proofs.Arrivals.{below, begins, cut as knows_cut, ends, marked_back}
 use Rattle.part_phase.proofs.Lowest.{none_pass}
 use Rattle.cl_state.specs.Rank.{Rank, loaded}
-use Rattle.cl_rank.specs.Deeds.{Act, Deed}
+use Rattle.cl_state_laws.specs.Registers.{HasRegisters}
+use Rattle.cl_state_laws.proofs.Registers.{registers}
+use Rattle.cl_rank.specs.Deeds.{Act, Deed, RankMoves, answer_of}
 use Rattle.cl_rank.specs.Alone.{IsAlone}
 use Rattle.cl_machine.specs.Boxes.{box_number}
-use Rattle.cl_arrival_laws.specs.Arrival.{ArrivedLaw, IsTakenTimes, is_receiving, phases_begun, taken_at}
+use Rattle.cl_arrival_laws.specs.Arrival.{ReportsArrived, is_receiving, phases_begun}
+use Rattle.cl_arrival_laws.specs.Laws.{ArrivedLaw, IsTakenTimes}
+use Rattle.cl_arrival_laws.specs.Laws.{taken_at}
+use Rattle.cl_arrival_laws.proofs.Completes.{has_all}
 use Rattle.cl_arrival_laws.proofs.Counting.{one_more_deed}
 use Rattle.cl_arrival_laws.proofs.Receives.{ActDoes, SideMoves, does}
 use Rattle.cl_arrival_laws.proofs.Reports.{is_its_part, waits_for_none}
@@ -92,6 +97,16 @@ either : (b : Bool) → ((b ≡ true) ⊎ (b ≡ false))
 either true = inl refl
 either false = inr refl
 
+-- the boxes that a partition overlaps were taken, while the phase is going on
+abbrev Gone : RecvPhase → ℕ → Type 0
+Gone q part =
+    (box : ℕ) → q.active ≡ true → box < q.boxes → box * q.bytes < (part + 1) * q.size
+    → part * q.size < (box + 1) * q.bytes → get_or q.taken box false ≡ true
+
+-- the phase has ended, or they were
+abbrev HasWaited : RecvPhase → ℕ → Type 0
+HasWaited q part = (q.active ≡ false) ⊎ ((0 < q.boxes) × Gone q part)
+
 module _ (image : ImageParts) (r : ℕ) (ds : List Deed) (new : Rank) (link part n : ℕ)
     (run : IsAlone (loaded image r) ds new) (some : 0 < n)
     (begun : phases_begun (is_receiving link) (loaded image r) ds ≡ n) where
@@ -106,12 +121,11 @@ module _ (image : ImageParts) (r : ℕ) (ds : List Deed) (new : Rank) (link part
   few : q.boxes ≤ 16
   few = (its_counts 0 (omega arith)).few
 
-  known : ((q.active ≡ false) ⊎ ((0 < q.boxes) × (next_box_of q part ≡ None))) → 0 < q.boxes
+  known : HasWaited q part → 0 < q.boxes
   known (inl off) = (its_counts 0 (omega arith)).known off some
   known (inr h) = h.0
 
-  taken_times : ((q.active ≡ false) ⊎ ((0 < q.boxes) × (next_box_of q part ≡ None))) → part < q.parts
-      → IsTakenTimes n q link part ds
+  taken_times : HasWaited q part → part < q.parts → IsTakenTimes n q link part ds
   taken_times waits its byte within =
       let total = (its_counts 0 (omega arith)).total (known waits) in
       let box = byte / q.bytes in
@@ -121,25 +135,66 @@ module _ (image : ImageParts) (r : ℕ) (ds : List Deed) (new : Rank) (link part
       let c = its_counts box (let most = few in omega (arith, low, most)) in
       (box, (from, to), low, go waits box low c (omega (arith, from, within.1)) (omega (arith, to, within.0)))
     where
-      go : ((q.active ≡ false) ⊎ ((0 < q.boxes) × (next_box_of q part ≡ None))) → (box : ℕ) → box < q.boxes
+      go : HasWaited q part → (box : ℕ) → box < q.boxes
           → Counts box q n (length (taken_at (box_number link box) ds))
           → box * q.bytes < (part + 1) * q.size → part * q.size < (box + 1) * q.bytes
           → length (taken_at (box_number link box) ds) ≡ n
       go (inl off) box low c first second = c.idle (λ k. low) off
       go (inr h) box low c first second =
           elim (either q.active) [
-            | inl on ↦ c.gone (λ k. low) on (taken_there q part box on h.1 low first second)
+            | inl on ↦ c.gone (λ k. low) on (h.1 box on low first second)
             | inr off ↦ c.idle (λ k. low) off
           ]
 
+-- ---- each report
+
+-- a rank that goes alone from its start has its registers
+has_registers : (rank : Rank) (ds : List Deed) (new : Rank) → IsAlone rank ds new → HasRegisters rank
+    → HasRegisters new
+has_registers rank [] new run has = subst HasRegisters (sym run) has
+has_registers rank (d ∷ ds) new run has =
+    has_registers run.0 ds new run.2
+    (subst HasRegisters (sym run.1.4) (registers.kept rank d.hart (answer_of d.act) d.stamp has))
+
+seen_gone : (q : RecvPhase) (part : ℕ) → next_box_of q part ≡ None → Gone q part
+seen_gone q part none box on low first second = taken_there q part box on none low first second
+
+all_gone : (q : RecvPhase) (part : ℕ) → next_box q ≡ None → Gone q part
+all_gone q part none box on low first second =
+    let no_box : lowest_from (is_left q.taken) 0 q.boxes ≡ None =
+    sym (ap (λ (b : Bool). if b then lowest_from (is_left q.taken) 0 q.boxes else None) on) ∙ none in
+    marked_back (get_or q.taken box false)
+    (none_pass (is_left q.taken) 0 q.boxes no_box box (omega arith) (omega (arith, low)))
+
+module _ (image : ImageParts) (r : ℕ) (ds : List Deed) (old new : Rank) (d : Deed) (link part : ℕ)
+    (run : IsAlone (loaded image r) ds old) (move : RankMoves old d new) where
+  abbrev p : RecvPhase
+  p = receiving_at old.phases link
+
+  abbrev then_q : RecvPhase
+  then_q = receiving_at new.phases link
+
+  keeps : Keeps p then_q
+  keeps = act_keeps old.site.version link d.act p then_q (does link old new d move)
+
+  old_has : HasRegisters old
+  old_has = has_registers (loaded image r) ds old run (registers.first image r)
+
+  waited : ReportsArrived old d link part → HasWaited then_q part
+  waited (inl seen) =
+      elim (waits_for_none old new d link part move old_has seen)
+      [ inl off ↦ inl off | inr h ↦ inr (keeps.1 h.0, seen_gone then_q part h.1) ]
+  waited (inr complete) =
+      elim (has_all old new d link move complete.0)
+      [ inl off ↦ inl off | inr h ↦ inr (keeps.1 h.0, all_gone then_q part h.1) ]
+
+  its : ReportsArrived old d link part → part < p.parts
+  its (inl seen) = is_its_part old new d link part move old_has seen
+  its (inr complete) = complete.1
+
 pub arrived : ArrivedLaw
 arrived image r ds old new d link part k run move reports begun =
-    let p = receiving_at old.phases link in
-    let q = receiving_at new.phases link in
-    let keeps : Keeps p q = act_keeps old.site.version link d.act p q (does link old new d move) in
-    let its = is_its_part old new d link part move reports in
-    let same = keeps.0 (omega (arith, its)) in
+    let its = its image r ds old new d link part run move reports in
+    let same = (keeps image r ds old new d link part run move).0 (omega (arith, its)) in
     taken_times image r (ds ++ d ∷ []) new link part (k + 1) (one_more_deed ds (loaded image r) old new d run move)
-    (omega arith) begun
-    (elim (waits_for_none old new d link part move reports) [ inl off ↦ inl off | inr h ↦ inr (keeps.1 h.0, h.1) ])
-    (omega (arith, its, same))
+    (omega arith) begun (waited image r ds old new d link part run move reports) (omega (arith, its, same))

@@ -13,7 +13,8 @@ use Rattle.cl_machine.specs.Boxes.{box_number}
 use Rattle.cl_machine.specs.Joined.{got_of, made_of, thing_of}
 use Rattle.cl_machine.specs.Parts.{is_index}
 use Rattle.cl_machine.specs.Product.{box_at}
-use Rattle.cl_arrival_laws.specs.Arrival.{after, begun_between, made_at, phases_begun, taken_at}
+use Rattle.cl_arrival_laws.specs.Arrival.{told_of, begun_between, phases_begun}
+use Rattle.cl_arrival_laws.specs.Laws.{made_at, taken_at}
 
 -- a phase begins where none was going on, and now one is
 abbrev pub edge : Bool → Bool → ℕ
@@ -128,13 +129,13 @@ module _ (P : Rank → ℕ → ℕ → Type 0) (going : Rank → Bool) where
       (subst (λ m. P old n m) (let e : c ≡ c + count [] = omega (arith, none) in e) h))
   along count counted none more step (d ∷ ds) old new n c run h =
       let is = run.1.4 in
-      let rest = along count counted none more step ds (after old d) new (n + begun_between going old (after old d))
+      let rest = along count counted none more step ds (told_of old d) new (n + begun_between going old (told_of old d))
       (c + counted d) (subst (λ (r : Rank). IsAlone r ds new) is run.2)
-      (step old (after old d) d n c (subst (λ (r : Rank). RankMoves old d r) is run.1) h) in
+      (step old (told_of old d) d n c (subst (λ (r : Rank). RankMoves old d r) is run.1) h) in
       subst (λ m. P new m (c + count (d ∷ ds)))
-      (let e : n + begun_between going old (after old d) + phases_begun going (after old d) ds
-      ≡ n + (begun_between going old (after old d) + phases_begun going (after old d) ds) = omega arith in e)
-      (subst (λ m. P new (n + begun_between going old (after old d) + phases_begun going (after old d) ds) m)
+      (let e : n + begun_between going old (told_of old d) + phases_begun going (told_of old d) ds
+      ≡ n + (begun_between going old (told_of old d) + phases_begun going (told_of old d) ds) = omega arith in e)
+      (subst (λ m. P new (n + begun_between going old (told_of old d) + phases_begun going (told_of old d) ds) m)
       (let e : c + counted d + count ds ≡ c + count (d ∷ ds) = omega (arith, more d ds) in e) rest)
 
   pub along_takes : (b : ℕ) → Steps (takes b) → (ds : List Deed) (old new : Rank) → IsAlone old ds new → P old 0 0

@@ -18,8 +18,9 @@ use Rattle.cl_machine.specs.Parts.{is_index, own}
 use Rattle.cl_machine.specs.Product.{box_at, box_for}
 use Rattle.cl_box_laws.specs.Gates.{MayAsk}
 use Rattle.cl_box_laws.proofs.Kept.{questions}
-use Rattle.cl_arrival_laws.specs.Arrival.{after, IsInPhase, IsMadeIn, IsTakenIn, is_receiving, is_sending, made_at}
-use Rattle.cl_arrival_laws.specs.Arrival.{taken_at}
+use Rattle.cl_arrival_laws.specs.Arrival.{told_of, IsInPhase, IsMadeIn, IsTakenIn, is_receiving, is_sending}
+use Rattle.cl_arrival_laws.specs.Laws.{made_at}
+use Rattle.cl_arrival_laws.specs.Laws.{taken_at}
 use Rattle.cl_arrival_laws.proofs.Readies.{made}
 use Rattle.cl_arrival_laws.proofs.Takes.{taken}
 use Rattle.cl_arrival_laws.proofs.Writes.{writes}
@@ -171,7 +172,7 @@ module _ (image : ImageParts) (r : ℕ) (ds : List Deed) (end : Rank) (run : IsA
               phase = subst (λ n. IsInPhase (is_receiving link) n (loaded image r) h.before up.rank)
                   (length_map (filter_map got_of (own box_at b h.before)) ∙ h.number) phase;
             },
-            writes up.rank (after up.rank d) d link box thing.stamp thing.bytes
+            writes up.rank (told_of up.rank d) d link box thing.stamp thing.bytes
                 (subst (RankMoves up.rank d) up.moves.4 up.moves) act_is,
           )
         where

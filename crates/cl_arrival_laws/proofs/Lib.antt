@@ -5,8 +5,10 @@ pub mod Takes
 pub mod Sends
 pub mod Readies
 pub mod Reports
+pub mod Completes
 pub mod Arrived
 pub mod Found
 pub mod Arrival
 pub mod Writes
 pub mod AloneRows
+pub mod Runs

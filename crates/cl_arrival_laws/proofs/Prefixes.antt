@@ -10,7 +10,7 @@ use Rattle.cl_rank.specs.Deeds.{Deed}
 use Rattle.cl_machine.specs.Boxes.{Box, Thing, box_number}
 use Rattle.cl_machine.specs.Joined.{BoxJoined, BoxJoinedAt, Got, link_of_box, thing_of}
 use Rattle.cl_stamp_laws.proofs.Joinings.{joined}
-use Rattle.cl_arrival_laws.specs.Arrival.{BeginsWith, PrefixLaw, made_at, taken_at}
+use Rattle.cl_arrival_laws.specs.Laws.{BeginsWith, PrefixLaw, made_at, taken_at}
 
 -- a list that has each of these at its place begins with them
 begins : (got : List Got) (made : List Thing)

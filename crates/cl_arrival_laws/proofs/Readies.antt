@@ -22,7 +22,8 @@ use Rattle.cl_box_laws.specs.Gates.{MayAsk}
 use Rattle.cl_box_laws.proofs.Kept.{questions}
 use Rattle.cl_box_laws.proofs.Moves.{moves}
 use Rattle.cl_box_laws.proofs.Sides.{none_sends}
-use Rattle.cl_arrival_laws.specs.Arrival.{IsInPhase, ReadyLaw, begun_between, is_sending, made_at, phases_begun}
+use Rattle.cl_arrival_laws.specs.Arrival.{IsInPhase, begun_between, is_sending, phases_begun}
+use Rattle.cl_arrival_laws.specs.Laws.{ReadyLaw, made_at}
 use Rattle.cl_arrival_laws.proofs.Counting.{along_makes, deed, one_more_deed, edge, makes, makes_none, makes_nothing}
 use Rattle.cl_arrival_laws.proofs.Counting.{makes_one, no_edge}
 use Rattle.cl_arrival_laws.proofs.Sends.{ActDoes, SideMoves, does}

@@ -31,11 +31,12 @@ use Rattle.cl_state.specs.Rank.{Rank}
 use Rattle.cl_state.specs.Table.{row_arrived, row_of_part}
 use Rattle.cl_state.specs.Told.{ended, not_yet, returned, seen_one, told, told_in, told_row, with_taken_box}
 use Rattle.cl_state.proofs.Passed.{HasPassed, passed}
+use Rattle.cl_state_laws.specs.Registers.{HasRegisters}
 use Rattle.cl_rank.specs.Deeds.{Deed, RankMoves, answer_of}
-use Rattle.cl_arrival_laws.specs.Arrival.{ReportsArrived}
+use Rattle.cl_arrival_laws.specs.Arrival.{SeesArrived}
 
 -- what is awaited, with the reason
-by_reason : (P : Awaited → Type 0) (link : ℕ) (p : RecvPhase) (next : Option ℕ)
+pub by_reason : (P : Awaited → Type 0) (link : ℕ) (p : RecvPhase) (next : Option ℕ)
     → (p.active ≡ false → P Nothing)
     → (p.boxes ≢ 0 → next ≡ None → P Nothing)
     → P (Cut link)
@@ -131,53 +132,53 @@ module _ (site : Site) (side : Partitions) (part : ℕ) (old : Part) (long : len
 
 -- ---- a rank's turn
 
-module _ (old new : Rank) (d : Deed) (link part : ℕ) (move : RankMoves old d new) (h : ReportsArrived old d link part)
-  where
-    abbrev turned : Doing → Part
-    turned doing = told_in old.site d.hart doing (answer_of d.act) (part_of old d.hart)
+module _ (old new : Rank) (d : Deed) (link part : ℕ) (move : RankMoves old d new) (has : HasRegisters old)
+    (h : SeesArrived old d link part) where
+  abbrev turned : Doing → Part
+  turned doing = told_in old.site d.hart doing (answer_of d.act) (part_of old d.hart)
 
-    abbrev row_told : Part
-    row_told =
-        told_row old.site (row_of_part h.side part (awaited_of_part h.side.link
-        (receiving_at old.phases h.side.link) part))
-        (answer_of d.act) (part_of old d.hart)
+  abbrev row_told : Part
+  row_told =
+      told_row old.site (row_of_part h.side part (awaited_of_part h.side.link
+      (receiving_at old.phases h.side.link) part))
+      (answer_of d.act) (part_of old d.hart)
 
-    same : turned (doing old.site (part_of old d.hart)) ≡ row_told
-    same =
-        ap turned h.calls
-        ∙ ap (λ o. told_row old.site (row_arrived old.phases part o) (answer_of d.act) (part_of old d.hart)) h.names
+  same : turned (doing old.site (part_of old d.hart)) ≡ row_told
+  same =
+      ap turned h.calls
+      ∙ ap (λ o. told_row old.site (row_arrived old.phases part o) (answer_of d.act) (part_of old d.hart)) h.names
 
-    flag_is : read row_told.hart 11 ≡ 1
-    unfolding told
-    flag_is =
-        ap (λ (t : Part). read t.hart 11) (sym same)
-        ∙ (ap (λ (x : State). read x 11)
-        (sym (get_or-set_same old.harts d.hart (turned (doing old.site
-        (part_of old d.hart))).hart no_hart move.0)) ∙ h.flag)
+  flag_is : read row_told.hart 11 ≡ 1
+  unfolding told
+  flag_is =
+      ap (λ (t : Part). read t.hart 11) (sym same)
+      ∙ (ap (λ (x : State). read x 11)
+      (sym (get_or-set_same old.harts d.hart (turned (doing old.site
+      (part_of old d.hart))).hart no_hart move.0)) ∙ h.flag)
 
-    phases_are : new.phases ≡ row_told.phases
-    unfolding told
-    phases_are = ap (λ (r : Rank). r.phases) move.4 ∙ ap (λ (t : Part). t.phases) same
+  phases_are : new.phases ≡ row_told.phases
+  unfolding told
+  phases_are = ap (λ (r : Rank). r.phases) move.4 ∙ ap (λ (t : Part). t.phases) same
 
-    -- after a turn that reports a partition the phase has ended, or the partition waits for no box
-    pub waits_for_none : ((receiving_at new.phases link).active ≡ false)
-        ⊎ (((receiving_at old.phases link).boxes ≢ 0) × (next_box_of (receiving_at new.phases link) part ≡ None))
-    waits_for_none =
-        subst (λ l. ((receiving_at new.phases l).active ≡ false)
-        ⊎ (((receiving_at old.phases l).boxes ≢ 0) × (next_box_of (receiving_at new.phases l) part ≡ None))) h.on
-        (subst (λ ps. ((receiving_at ps h.side.link).active ≡ false)
-        ⊎ (((receiving_at old.phases h.side.link).boxes ≢ 0)
-        × (next_box_of (receiving_at ps h.side.link) part ≡ None)))
-        (sym phases_are)
-        (says old.site h.side part (part_of old d.hart) h.registers (answer_of d.act) flag_is))
+  -- after a turn that reports a partition the phase has ended, or the partition waits for no box
+  pub waits_for_none : ((receiving_at new.phases link).active ≡ false)
+      ⊎ (((receiving_at old.phases link).boxes ≢ 0) × (next_box_of (receiving_at new.phases link) part ≡ None))
+  waits_for_none =
+      subst (λ l. ((receiving_at new.phases l).active ≡ false)
+      ⊎ (((receiving_at old.phases l).boxes ≢ 0) × (next_box_of (receiving_at new.phases l) part ≡ None))) h.on
+      (subst (λ ps. ((receiving_at ps h.side.link).active ≡ false)
+      ⊎ (((receiving_at old.phases h.side.link).boxes ≢ 0)
+      × (next_box_of (receiving_at ps h.side.link) part ≡ None)))
+      (sym phases_are)
+      (says old.site h.side part (part_of old d.hart) (has d.hart move.0) (answer_of d.act) flag_is))
 
-    -- and it is one of the side's
-    pub is_its_part : part < (receiving_at old.phases link).parts
-    is_its_part =
-        subst (λ l. part < (receiving_at old.phases l).parts) h.on
-        (ltb-true part (receiving_at old.phases h.side.link).parts
-        (subst (λ o. IsTrue (holds_of_receiver
-        (λ p. nat_lt part p.parts) old.phases o)) h.names checked.1.1.1.1.1.1.1.0))
-      where
-        checked : HasPassed old.site (part_of old d.hart) (Go (call.Parrived h.handle part))
-        checked = subst (HasPassed old.site (part_of old d.hart)) h.calls (passed old.site (part_of old d.hart))
+  -- and it is one of the side's
+  pub is_its_part : part < (receiving_at old.phases link).parts
+  is_its_part =
+      subst (λ l. part < (receiving_at old.phases l).parts) h.on
+      (ltb-true part (receiving_at old.phases h.side.link).parts
+      (subst (λ o. IsTrue (holds_of_receiver
+      (λ p. nat_lt part p.parts) old.phases o)) h.names checked.1.1.1.1.1.1.1.0))
+    where
+      checked : HasPassed old.site (part_of old d.hart) (Go (call.Parrived h.handle part))
+      checked = subst (HasPassed old.site (part_of old d.hart)) h.calls (passed old.site (part_of old d.hart))

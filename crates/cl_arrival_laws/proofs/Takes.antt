@@ -33,7 +33,8 @@ use Rattle.cl_machine.specs.Product.{box_for}
 use Rattle.cl_box_laws.specs.Gates.{MayAsk}
 use Rattle.cl_box_laws.proofs.Kept.{questions}
 use Rattle.cl_box_laws.proofs.Sides.{few_boxes}
-use Rattle.cl_arrival_laws.specs.Arrival.{IsInPhase, TakeLaw, begun_between, is_receiving, phases_begun, taken_at}
+use Rattle.cl_arrival_laws.specs.Arrival.{IsInPhase, begun_between, is_receiving, phases_begun}
+use Rattle.cl_arrival_laws.specs.Laws.{TakeLaw, taken_at}
 use Rattle.cl_arrival_laws.proofs.Counting.{along_takes, deed, edge, no_edge, one_more_deed, takes, takes_none}
 use Rattle.cl_arrival_laws.proofs.Counting.{takes_nothing, takes_one}
 use Rattle.cl_arrival_laws.proofs.Receives.{ActDoes, SideMoves, does}

@@ -9,7 +9,7 @@ use Rattle.mp_types.specs.declared.requests.Request.TheVariants as request
 use Rattle.cl_state.specs.Rank.{Rank, loaded}
 use Rattle.cl_rank.specs.Deeds.{Act, Deed, RankMoves}
 use Rattle.cl_rank.specs.Alone.{IsAlone}
-use Rattle.cl_arrival_laws.specs.Arrival.{ReportsArrived, is_receiving, phases_begun}
+use Rattle.cl_arrival_laws.specs.Arrival.{CompletesReceive, SeesArrived, is_receiving, phases_begun}
 
 -- an image of two ranks with a link from rank 0 to rank 1, whose text is these words
 abbrev pub linked : List ℕ → ImageParts
@@ -86,5 +86,36 @@ TakeRow =
     IsImage (linked receiving_words)
     × ((old : Rank) × (new : Rank) × IsAlone (loaded (linked receiving_words) 1) receiving_deeds old
     × RankMoves old taking new
-    × ReportsArrived old taking 0 0
+    × SeesArrived old taking 0 0
     × (phases_begun (is_receiving 0) (loaded (linked receiving_words) 1) (receiving_deeds ++ taking ∷ []) ≡ 1))
+
+-- ---- or waits for it
+
+-- PRECV_INIT and START as above, and WAIT of the request, with no status
+abbrev pub waiting_words : List ℕ
+waiting_words =
+    0x04000513 ∷ 0x00100593 ∷ 0x00800613 ∷ 0x02900893 ∷ 0x73
+    ∷ 0x00100513 ∷ 0x02000893 ∷ 0x73
+    ∷ 0x00100513 ∷ 0x00000593 ∷ 0x01700893 ∷ 0x73
+    ∷ []
+
+-- the WAIT asked for the sender's cut and was told it, and its hart waits
+abbrev pub waiting_deeds : List Deed
+waiting_deeds =
+    instructions 1 1 4
+    ++ deed 1 5 (Act.Hub 4 (request.Init false 0 0 0 1 8) (reply.Link 0))
+    ∷ instructions 1 6 2 ++ deed 1 8 Act.Local
+    ∷ instructions 1 9 3 ++ deed 1 12 (Act.Hub 11 (request.Cut 0) (reply.Cut 1 8))
+    ∷ []
+
+-- in its next turn it takes what was made ready at 13, and completes
+abbrev pub completing : Deed
+completing = deed 1 14 (Act.Take 0 0 13 (replicate 64 0))
+
+abbrev pub WaitRow : Type 0
+WaitRow =
+    IsImage (linked waiting_words)
+    × ((old : Rank) × (new : Rank) × IsAlone (loaded (linked waiting_words) 1) waiting_deeds old
+    × RankMoves old completing new
+    × CompletesReceive old completing 0
+    × (phases_begun (is_receiving 0) (loaded (linked waiting_words) 1) (waiting_deeds ++ completing ∷ []) ≡ 1))

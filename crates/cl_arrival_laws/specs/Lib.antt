@@ -1,2 +1,4 @@
 pub mod Arrival
+pub mod Laws
 pub mod AloneRows
+pub mod Runs

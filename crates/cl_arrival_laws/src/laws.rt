@@ -1,6 +1,6 @@
 //! What is taken from a box is what was made ready there, in the phase of the same number.
 
-ghost use Rattle.cl_arrival_laws.specs.Arrival.{ArrivalLaw, ArrivedLaw, PrefixLaw, ReadyLaw, TakeLaw, WriteLaw};
+ghost use Rattle.cl_arrival_laws.specs.Laws.{ArrivalLaw, ArrivedLaw, PrefixLaw, ReadyLaw, TakeLaw, WriteLaw};
 
 /// In every run of an image, what was taken from a box is a beginning of what was made ready there, stamps included.
 pub fn prefix_law()
@@ -17,14 +17,15 @@ pub fn ready_law()
     ensures { ReadyLaw }
 {}
 
-/// Before PARRIVED reports a partition in a receiver's phase k, from 0, each byte of it lies in a box that was taken
-/// k + 1 times, however sender and receiver cut the total.
+/// Before PARRIVED reports a partition in a receiver's phase k, from 0, or TEST or WAIT completes the receive, each byte
+/// of it lies in a box that was taken k + 1 times, however sender and receiver cut the total.
 pub fn arrived_law()
     ensures { ArrivedLaw }
 {}
 
-/// In every run of an image, before PARRIVED reports a partition in a receiver's phase k, the Takes of that phase wrote
-/// to its place what the sender made ready in its phase k, however the two cut the total.
+/// In every run of an image, before PARRIVED reports a partition in a receiver's phase k, or TEST or WAIT completes the
+/// receive, the Takes of that phase wrote to its place what the sender made ready in its phase k, however the two cut
+/// the total.
 pub fn arrival_law()
     ensures { ArrivalLaw }
 {}

@@ -1,10 +1,11 @@
 -- A run stops at one place, and the worked spacings.
-use Rattle.std.specs.Prelude.{ℕ, zero, suc, ◌+◌, ◌*◌, ◌/◌, ◌^◌, ◌<◌, List}
-use Rattle.std.proofs.Common.{refl, arith, inl, inr}
+use Rattle.std.specs.Prelude.{ℕ, zero, suc, ◌≡◌, ◌+◌, ◌*◌, ◌/◌, ◌^◌, ◌<◌, List, [], ◌∷◌, Contains}
+use Rattle.std.proofs.Common.{refl, sym, ap, ◌∙◌, arith, inl, inr}
+use Rattle.std.proofs.lemmas.Option.{same_Some}
 use Rattle.rv_image.specs.declared.images.ImageParts.{ImageParts}
 use Rattle.cl_machine.specs.declared.steps.Step.{Step}
 use Rattle.cl_debug.specs.Places.{IsStop}
-use Rattle.cl_debug.specs.Laws.{OneStopLaw}
+use Rattle.cl_debug.specs.Laws.{OneStopLaw, OwnBreakLaw}
 use Rattle.cl_debug.specs.Spacing.{SpacingRows}
 use Rattle.cl_debug.specs.declared.breaks.Break.{Break}
 use Rattle.cl_debug.proofs.Stopping.{stop_inside}
@@ -24,6 +25,19 @@ one_stop image steps breaks from one other a b =
     let first = not_below image steps breaks from one other a b in
     let second = not_below image steps breaks from other one b a in
     omega (arith, first, second)
+
+-- the only break of a list is that which is set
+only_break : (added set : Break) → Contains (added ∷ []) set → added ≡ set
+only_break added set (zero, low, is) = is
+only_break added set (suc k, low, is) = absurd (omega (arith, low))
+
+pub own_break : OwnBreakLaw
+own_break image steps added n step place next =
+    let same = same_Some place.step step (sym place.next ∙ next) in
+    let is = only_break added _ place.is_set in (
+      ap (λ (s : Step). s.rank) (sym same) ∙ ap (λ (b : Break). b.rank) (sym is),
+      ap (λ (s : Step). s.hart) (sym same) ∙ ap (λ (b : Break). b.hart) (sym is),
+    )
 
 pub spacing_rows : SpacingRows
 spacing_rows = record {

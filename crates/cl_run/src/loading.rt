@@ -1,6 +1,7 @@
 //! Ranks that are loaded, and their run.
 
 ghost use Rattle.std.specs.Prelude.{◌≡◌, ◌↔◌, ◌⊎◌, Err, IfErr, IfOk, length};
+ghost use Rattle.cl_arrival_laws.specs.Runs.{IsArrivedRun};
 ghost use Rattle.cl_run.specs.Driver.{IsLoaded};
 ghost use Rattle.cl_record.specs.Plans.{ArePlans};
 ghost use Rattle.cl_record.specs.Records.{IsMergedRun};
@@ -85,6 +86,7 @@ impl<'a> Loaded<'a> {
         ensures plans { ArePlans self.entry.image self.entry.plans self.entry.order }
         ensures run { IsOneRun self.entry.image self.entry.plans self.entry.order result }
         ensures merged { IsMergedRun self.entry.image result }
+        ensures arrived { IsArrivedRun self.entry.image result }
     {
         let Loaded {
             image,

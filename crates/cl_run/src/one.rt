@@ -1,6 +1,7 @@
 //! All ranks on one thread.
 
 ghost use Rattle.std.specs.Prelude.{◌≡◌, ◌↔◌, ◌⊎◌, IfErr, IfOk, OnOk, Err};
+ghost use Rattle.cl_arrival_laws.specs.Runs.{IsArrivedRun};
 ghost use Rattle.cl_record.specs.Plans.{ArePlans};
 ghost use Rattle.cl_record.specs.Records.{IsMergedRun};
 ghost use Rattle.cl_run.specs.Runs.{IsOneRun};
@@ -23,6 +24,7 @@ pub fn run_one(
 ) -> Result<Record, RunFault>
     ensures run { IfOk result (IsOneRun image.now plans.now order.now) }
     ensures merged { IfOk result (IsMergedRun image.now) }
+    ensures arrived { IfOk result (IsArrivedRun image.now) }
     ensures right { OnOk result (ArePlans image.now plans.now order.now) }
     ensures plans { (result ≡ Err RunFault.Plans) ↔ ¬ ArePlans image.now plans.now order.now }
     ensures fault { IfErr result (λ fault. (fault ≡ RunFault.Plans) ⊎ (fault ≡ RunFault.Memory)) }

@@ -600,17 +600,21 @@ left_turn i rank hart a d call =
     left_row i rank.site _ a (part_of rank hart)
     (turn_no_step rank.site hart rank.memory rank.requests rank.phases d call)
 
+-- what a turn that is no instruction leaves of its hart
+pub left_hart : (rank : Rank) (hart : ℕ) (a : Answer) (d : Doing) → IsNoStep d
+    → IsLeft (part_of rank hart).hart (told_in rank.site hart d a (part_of rank hart)).hart
+left_hart rank hart a d call = (left_turn 0 rank hart a d call).hart
+
 -- ---- the laws
 
 pub hart_law : HartLaw
 unfolding told
 hart_law = record {
   own = λ rank hart a stamp call there.
-      (let l = left_turn 0 rank hart a (doing rank.site (part_of rank hart)) call in
       subst (λ s. IsLeft (part_of rank hart).hart s)
       (sym (get_or-set_same rank.harts hart
       (told_in rank.site hart (doing rank.site (part_of rank hart)) a (part_of rank hart)).hart no_hart there))
-      l.hart);
+      (left_hart rank hart a (doing rank.site (part_of rank hart)) call);
   others = λ rank hart other a stamp apart.
       get_or-set_other rank.harts hart other
       (told_in rank.site hart (doing rank.site (part_of rank hart)) a (part_of rank hart)).hart no_hart apart;

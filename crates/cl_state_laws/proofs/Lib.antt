@@ -10,3 +10,4 @@ pub mod Leaves
 pub mod Delays
 pub mod Vain
 pub mod Members
+pub mod Registers

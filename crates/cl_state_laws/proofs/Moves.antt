@@ -1,12 +1,15 @@
 -- What a call that ends changes.
-use Rattle.std.proofs.Common.{◌≡◌, ◌∙◌, ℕ, List, get_or, refl, ap, set, arith}
+use Rattle.std.proofs.Common.{◌≡◌, ◌∙◌, ℕ, List, get_or, length, refl, ap, set, arith}
 use Rattle.std.specs.Prelude.{◌≢◌, ◌==◌, if◌then◌else◌}
 use Rattle.std.proofs.Math.ListN.{length-set}
 use Rattle.std.proofs.lemmas.List.{get_or-set_same, get_or-set_other}
+use Rattle.rv_hart.specs.State.{State}
 use Rattle.mp_types.specs.Codes.{code_number}
+use Rattle.mp_types.specs.declared.codes.Code.{Code}
 use Rattle.cl_state.specs.Asked.{part_of, asked, asked_in}
 use Rattle.cl_state.specs.Told.{returned, told, told_in, with_part}
-use Rattle.cl_state_laws.specs.Laws.{RefusalLaw, ReturnLaw}
+use Rattle.cl_state_laws.specs.Laws.{IsReturned, RefusalLaw, ReturnLaw}
+use Rattle.cl_state_laws.proofs.Registers.{registers}
 
 pub refused : RefusalLaw
 unfolding told asked returned
@@ -27,9 +30,9 @@ other_read : (regs : List ℕ) (a b register : ℕ) → register ≢ 10 → regi
 other_read regs a b register first second =
     ap (λ (x : ℕ). if (register == 0) then 0 else x) (two_set regs a b register first second)
 
-pub returns : ReturnLaw
+returns_so : (c : Code) (v : ℕ) (hart : State) → length hart.regs ≡ 32 → IsReturned c v hart (returned c v hart)
 unfolding returned
-returns c v hart long = record {
+returns_so c v hart long = record {
   code =
       get_or-set_other (set hart.regs 10 (code_number c)) 11 10 v 0
       (λ same. omega (arith, same)) ∙ get_or-set_same hart.regs 10 (code_number c) 0 (omega (arith, long));
@@ -39,3 +42,6 @@ returns c v hart long = record {
   others = other_read hart.regs (code_number c) v;
   pc = refl;
 }
+
+pub returns : ReturnLaw
+returns c v rank hart is there = returns_so c v (part_of rank hart).hart (registers.reached rank is hart there)

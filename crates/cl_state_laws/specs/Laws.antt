@@ -1,5 +1,5 @@
 -- Laws of asked and told ranks.
-use Rattle.std.specs.Prelude.{◌≡◌, ◌≢◌, ◌≤◌, ℕ, List, length, set}
+use Rattle.std.specs.Prelude.{◌≡◌, ◌≢◌, ◌<◌, ◌≤◌, ℕ, List, length, set}
 use Rattle.rv_hart.specs.State.{State, in_mode, read}
 use Rattle.rv_hart.specs.declared.state.Mode.TheVariants.{Waiting}
 use Rattle.rv_hart.specs.declared.state.Wait.TheVariants.{Again}
@@ -18,6 +18,7 @@ use Rattle.cl_state.specs.declared.asking.Doing.TheVariants.{Go, Refused}
 use Rattle.cl_state.specs.Rank.{Rank}
 use Rattle.cl_state.specs.Asked.{part_of, doing, asked}
 use Rattle.cl_state.specs.Told.{returned, told}
+use Rattle.cl_state_laws.specs.Registers.{IsReached}
 
 -- a0 has the code, a1 the value, the pc is behind the call, and every other register is as it was
 pub record IsReturned (c : Code) (v : ℕ) (old new : State) : Type 0 where
@@ -26,8 +27,11 @@ pub record IsReturned (c : Code) (v : ℕ) (old new : State) : Type 0 where
   pub others : (register : ℕ) → register ≢ 10 → register ≢ 11 → read new register ≡ read old register
   pub pc : new.pc ≡ next old
 
+-- of each hart of a rank that turns lead to
 abbrev pub ReturnLaw : Type 0
-ReturnLaw = (c : Code) (v : ℕ) (hart : State) → length hart.regs ≡ 32 → IsReturned c v hart (returned c v hart)
+ReturnLaw =
+    (c : Code) (v : ℕ) (rank : Rank) (hart : ℕ) → IsReached rank → hart < length rank.harts
+    → IsReturned c v (part_of rank hart).hart (returned c v (part_of rank hart).hart)
 
 -- the rank in which the hart's call ended with this code: no memory, request, output or other hart changed
 abbrev pub refused_with : Code → Rank → ℕ → ℕ → Rank

@@ -8,3 +8,4 @@ pub mod PartitionRows
 pub mod RequestRows
 pub mod SeveralRows
 pub mod VainLaws
+pub mod Registers

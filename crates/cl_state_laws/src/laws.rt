@@ -4,6 +4,7 @@ ghost use Rattle.cl_state.specs.Laws.{ToldLaw};
 ghost use Rattle.cl_state.specs.Moves.{KnownLaw, MovedLaw};
 ghost use Rattle.cl_state_laws.specs.Leaves.{BytesLaw, DelayLaw, HartLaw};
 ghost use Rattle.cl_state_laws.specs.Members.{MembersLaw};
+ghost use Rattle.cl_state_laws.specs.Registers.{RegistersLaw};
 ghost use Rattle.cl_state_laws.specs.VainLaws.{VainLaw};
 ghost use Rattle.cl_state_laws.specs.Laws.{HubRefusalLaw, MissLaw, NotYetLaw, PostsLaw, RefusalLaw, ReturnLaw};
 
@@ -12,7 +13,12 @@ pub fn told_law()
     ensures { ToldLaw }
 {}
 
-/// A call that ends changes a0, a1 and the pc, and no other register.
+/// Each hart has 32 registers: where an image is loaded, after each turn, and so in every state that turns lead to.
+pub fn registers_law()
+    ensures { RegistersLaw }
+{}
+
+/// A call that ends changes a0, a1 and the pc, and no other register, of each hart of a rank that turns lead to.
 pub fn return_law()
     ensures { ReturnLaw }
 {}

@@ -35,10 +35,10 @@ use Rattle.cl_stamp_laws.proofs.Ranks.{starts}
 use Rattle.cl_record.proofs.Elements.{at_below}
 use Rattle.cl_record.proofs.Leaves.{shows}
 use Rattle.cl_threads.specs.OnThreads.{AreDone}
-use Rattle.cl_threads.specs.Leaving.{IsRecordOf}
+use Rattle.cl_threads.specs.Leaving.{AreOf, IsRecordOf}
 use Rattle.cl_threads.specs.Loading.{IsCluster}
 use Rattle.cl_threads.specs.Runs.{IsBoxOf, IsTracedRank, IsThreadRun}
-use Rattle.cl_threads.specs.Ties.{AreOf, AreTied}
+use Rattle.cl_threads.specs.Ties.{AreTied}
 use Rattle.cl_threads.specs.declared.loading.Cluster.{Cluster}
 use Rattle.cl_threads.specs.declared.turns.Done.{Done}
 use Rattle.cl_threads.proofs.BoxesJoined.{box_joined}

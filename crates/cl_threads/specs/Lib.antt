@@ -5,3 +5,4 @@ pub mod Leaving
 pub mod Ties
 pub mod Worked
 pub mod Runs
+pub mod Refusals

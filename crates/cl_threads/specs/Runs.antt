@@ -24,8 +24,6 @@ use Rattle.cl_record.specs.Plans.{HasPlans}
 use Rattle.cl_record.specs.Records.{FollowsPlan, IsEndOf}
 use Rattle.cl_record.specs.declared.plans.Plan.{Plan}
 use Rattle.cl_record.specs.declared.records.Record.{Record}
-use Rattle.cl_record.specs.declared.records.RunFault.{RunFault}
-use Rattle.cl_record.specs.declared.records.RunFault.TheVariants as fault
 use Rattle.cl_threads.specs.Alone.{StopsFor}
 
 -- what a thread left of a rank: its events are its deeds, by its plan, and it stopped for a cause
@@ -84,8 +82,3 @@ pub record IsThreadRun (image : ImageParts) (plans : List Plan) (left : Record) 
   pub boxes : (link part : ℕ) (l : Link) (settled : List Settled) (b : Settled) → part < 16
       → slice_get image.links link ≡ Some l → slice_get left.boxes.items link ≡ Some settled
       → slice_get settled part ≡ Some b → IsBoxOf image.version deeds link part l b
-
--- a run may be refused for its plans where one is wrong, and only where all are right for anything else
-abbrev pub IsRefusal : ImageParts → List Plan → RunFault → Type 0
-IsRefusal image plans fault.Plans = ¬ (HasPlans image plans)
-IsRefusal image plans other = HasPlans image plans

@@ -1,15 +1,17 @@
 //! All ranks, each on a thread of its own.
 
-ghost use Rattle.std.specs.Prelude.{◌≡◌, ◌↔◌, ◌≤◌, ◌⊎◌, Err, IfErr, IfOk, OnOk, length, map};
+ghost use Rattle.std.specs.Prelude.{◌≡◌, ◌↔◌, ◌≤◌, Err, IfErr, IfOk, OnOk, length, map};
+ghost use Rattle.cl_arrival_laws.specs.Runs.{IsArrivedRun};
 ghost use Rattle.cl_journal.specs.Replaying.{Replays};
 ghost use Rattle.cl_record.specs.Plans.{HasPlans};
 ghost use Rattle.cl_record.specs.Records.{IsMergedRun};
 ghost use Rattle.cl_record.specs.Room.{HaveRoom};
 ghost use Rattle.cl_record.specs.Settling.{MaySettle};
-ghost use Rattle.cl_threads.specs.Leaving.{IsRecordOf, ends_of, trace_of};
+ghost use Rattle.cl_threads.specs.Leaving.{AreOf, IsRecordOf, ends_of, trace_of};
 ghost use Rattle.cl_threads.specs.Loading.{IsCluster};
-ghost use Rattle.cl_threads.specs.Runs.{IsRefusal, IsThreadRun};
-ghost use Rattle.cl_threads.specs.Ties.{AreOf, AreTied, IsUnlikeFault, IsUnlikeLeft};
+ghost use Rattle.cl_threads.specs.Refusals.{IsRefusal};
+ghost use Rattle.cl_threads.specs.Runs.{IsThreadRun};
+ghost use Rattle.cl_threads.specs.Ties.{AreTied, IsUnlikeLeft};
 
 use crate::driver::{passages, run_all};
 use crate::gates::{Gate, Passage};
@@ -43,7 +45,7 @@ fn gather(
     ensures left { IfOk result (IsRecordOf image.now.links channels.items hub.entries done.items) }
     ensures tied { IfOk result (λ left. AreTied left.journal.items left.traces.items) }
     ensures of { IfOk result (λ left. AreOf image.now.ranks left.journal.items) }
-    ensures unlike { IfErr result (IsUnlikeLeft image.now hub (map trace_of done.items)) }
+    ensures unlike { IfErr result (IsUnlikeLeft image.now hub.links hub.entries (map trace_of done.items)) }
 {
     let parts = image.parts();
     if !are_same_links(hub.links(), parts.links.as_slice()) {
@@ -71,7 +73,7 @@ fn run_cluster<R: Threads + Wait + Sync, G: Gate>(
     requires loaded { IsCluster image.now plans.now cluster }
     requires passages { length passages.items ≡ image.now.ranks }
     ensures run { IfOk result (IsThreadRun image.now plans.now) }
-    ensures fault { IfErr result (λ fault. (fault ≡ RunFault.Spawn) ⊎ IsUnlikeFault fault) }
+    ensures fault { IfErr result (IsRefusal image.now plans.now) }
 {
     // whoever asks for the parts knows that there are 8 ranks at most
     let _parts = image.parts();
@@ -108,6 +110,7 @@ pub fn run_threads<R: Threads + Wait + Sync, G: Gate>(
 ) -> Result<Record, RunFault>
     ensures run { IfOk result (IsThreadRun image.now plans.now) }
     ensures merged { IfOk result (IsMergedRun image.now) }
+    ensures arrived { IfOk result (IsArrivedRun image.now) }
     ensures plans { (result ≡ Err RunFault.Plans) ↔ ¬ HasPlans image.now plans.now }
     ensures fault { IfErr result (IsRefusal image.now plans.now) }
 {

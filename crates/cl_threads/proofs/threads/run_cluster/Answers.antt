@@ -1,6 +1,6 @@
 use Rattle.std.proofs.Common.{arith, length, subst, sym}
 use Rattle.cl_record.specs.Room.{HaveRoom}
-use Rattle.cl_threads.proofs.Gathered.{gathered}
+use Rattle.cl_threads.proofs.Gathered.{gathered, refused}
 use Rattle.cl_threads.proofs.Settled.{count, may_settle}
 use Rattle.cl_threads.proofs.threads.run_cluster.Goals as goal
 
@@ -26,3 +26,9 @@ returns-clause-run g c =
     gathered c.args.image.now c.args.plans.now c.args.cluster c.in-Ok.done.items c.into_inner.result c.gather.result
     c.requires.planned c.requires.loaded (rw c.as_slice.ensures.value at c.in-Ok.ensures.done)
     c.gather.ensures.links c.gather.ensures.replays c.gather.ensures.left c.gather.ensures.tied c.gather.ensures.of
+
+pub returns-clause-fault : goal.returns-clause-fault
+returns-clause-fault g c =
+    refused c.args.image.now c.args.plans.now c.args.cluster c.in-Ok.done.items c.into_inner.result
+    c.requires.planned c.requires.loaded (rw c.as_slice.ensures.value at c.in-Ok.ensures.done)
+    c.gather.result c.gather.ensures.unlike

@@ -1,5 +1,7 @@
 use Rattle.std.proofs.Common.{◌∙◌, List, length, subst, sym}
+use Rattle.rv_image.specs.Image.{IsImage}
 use Rattle.rv_image.specs.declared.images.Link.{Link}
+use Rattle.cl_arrival_laws.proofs.Runs.{arrived_run}
 use Rattle.cl_record.specs.Room.{HaveRoom}
 use Rattle.cl_record.specs.Records.{IsMergedRun}
 use Rattle.cl_run.specs.Setups.{Setup}
@@ -49,3 +51,9 @@ returns-clause-merged c =
     subst (λ (s : Setup). IsMergedRun s.image c.into_record.result) c.self.view_is
     (one_merged l.image.now l.plans.now l.order.now c.into_record.result c.parts-parts.ensures.limits
     (one_run l.image.now l.plans.now l.order.now are c.run.new.self c.into_record.result c.into_record.ensures end.0 end.1 c.run.ensures.seated))
+
+pub returns-clause-arrived : goal.returns-clause-arrived
+returns-clause-arrived c =
+    arrived_run _ c.into_record.result
+    (subst (λ (s : Setup). IsImage s.image) c.self.view_is c.parts-parts.ensures.limits)
+    (returns-clause-merged c)
