@@ -1,0 +1,194 @@
+-- Steps that are told one after another.
+use Rattle.std.specs.Prelude.{ℕ, zero, suc, ◌+◌, ◌-◌, ◌<◌, ◌≤◌, ◌≡◌, List, [], ◌∷◌, ◌++◌, length, map, slice_get, take}
+use Rattle.std.specs.Prelude.{Option, Some, None, false, max, option_map}
+use Rattle.std.proofs.Common.{refl, sym, ap, ◌∙◌, subst, append_assoc, append-nil, arith}
+use Rattle.std.proofs.lemmas.List.{length-append, length-map}
+use Rattle.std.proofs.lemmas.Option.{same_Some, slice_get-map, slice_get_within}
+use Rattle.rv_image.specs.declared.images.ImageParts.{ImageParts}
+use Rattle.cl_debug.proofs.Ranks.{run_sized}
+use Rattle.cl_machine.proofs.Tables.{run_more}
+use Rattle.cl_machine.specs.Cluster.{loaded_cluster}
+use Rattle.cl_machine.specs.declared.steps.Step.{Step}
+use Rattle.cl_replay.proofs.Runs.{breaks, reached_more}
+use Rattle.cl_replay.specs.InnerReplaying.{BreaksAt}
+use Rattle.cl_replay.specs.Replaying.{IsReached}
+use Rattle.cl_replay.specs.Steps.{Leads}
+use Rattle.cl_replay.specs.declared.states.ClusterState.{ClusterState}
+use Rattle.cl_state.specs.Rank.{Rank}
+use Rattle.cl_state.specs.Room.{rank_of}
+use Rattle.cl_state.specs.declared.state.RankState.{RankState}
+use Rattle.rvmc_list.specs.Lines.{Sight, sight_of}
+use Rattle.rvmc_list.specs.Folding.{is_wanted, line_of, lines_of, sights_text}
+use Rattle.rvmc_list.specs.List.{AreSights, IsSightAt, ListFaultHolds, is_past, last_place, names_no_rank}
+use Rattle.rvmc_list.specs.Pieces.{behind, closing, opened_by, piece_of}
+use Rattle.rvmc_list.specs.Putting.{ArePut, AreTold, IsPut, PutFaultHolds, Puts, StepsFaultHolds}
+use Rattle.rvmc_list.specs.declared.folding.Wanted.{Wanted}
+use Rattle.rvmc_list.specs.declared.listing.ListFault.{ListFault}
+use Rattle.rvmc_list.specs.declared.listing.ListFault.TheVariants as fault
+use Rattle.rvmc_list.proofs.Folds.{behind_none, sight_more}
+
+-- what holds of each holds of each with one more
+each_more : {X : Type 0} (P : ℕ → X → Type 0) (xs : List X) (y : X)
+    → ((k : ℕ) (x : X) → slice_get xs k ≡ Some x → P k x) → P (length xs) y
+    → (k : ℕ) (x : X) → slice_get (xs ++ y ∷ []) k ≡ Some x → P k x
+each_more P [] y each last zero x at = subst (P zero) (same_Some y x at) last
+each_more P [] y each last (suc k) x at = absurd (cc)
+each_more P (z ∷ xs) y each last zero x at = each zero x at
+each_more P (z ∷ xs) y each last (suc k) x at =
+    each_more (λ m w. P (suc m) w) xs y (λ m w h. each (suc m) w h) last k x at
+
+-- an element stands wherever a list isn't over
+is_there : {X : Type 0} (xs : List X) (n : ℕ) → n < length xs → (x : X) × (slice_get xs n ≡ Some x)
+is_there [] n below = absurd (omega (arith, below))
+is_there (x ∷ xs) zero below = (x, refl)
+is_there (x ∷ xs) (suc n) below = is_there xs n (omega (arith, below))
+
+-- the state of a rank that a cluster has
+module _ (ranks : List Rank) (states : List RankState) (are : ranks ≡ map rank_of states) (r : ℕ) (rank : Rank)
+    (there : slice_get ranks r ≡ Some rank) where
+  state_there : (s : RankState) × (slice_get states r ≡ Some s) × (rank_of s ≡ rank)
+  state_there =
+      go (slice_get states r) refl (sym (slice_get-map rank_of states r) ∙ sym (ap (λ rs. slice_get rs r) are) ∙ there)
+    where
+      go : (o : Option RankState) → slice_get states r ≡ o → option_map rank_of o ≡ Some rank
+          → (s : RankState) × (slice_get states r ≡ Some s) × (rank_of s ≡ rank)
+      go None is same = absurd (cc)
+      go (Some s) is same = (s, is, same_Some (rank_of s) rank same)
+
+-- what was seen of one step more: the states of its rank before and after it, and its sight
+record IsSeen (image : ImageParts) (steps : List Step) (n : ℕ) (state : ClusterState) (e : Step) (new : ClusterState) : Type 0 where
+  s : RankState
+  t : RankState
+  s_there : slice_get state.ranks.items e.rank ≡ Some s
+  t_there : slice_get new.ranks.items e.rank ≡ Some t
+  s_hart : e.hart < length s.harts.items
+  t_hart : e.hart < length t.harts.items
+  sight : IsSightAt image steps n (sight_of n e (rank_of s) (rank_of t))
+
+seen_at : (image : ImageParts) (steps : List Step) (n : ℕ) (state : ClusterState) → IsReached image steps n state
+    → (e : Step) → slice_get steps n ≡ Some e → (new : ClusterState) → Leads state e new
+    → IsSeen image steps n state e new
+seen_at image steps n state reached e there new leads =
+    let led = leads image reached.cluster reached.stands in
+    let step = led.1 in
+    let run = run_more (take n steps) (loaded_cluster image) reached.cluster led.0 e reached.run led.1 in
+    let sized = run_sized image (take n steps) reached.cluster reached.run in
+    let sized_after = run_sized image (take n steps ++ e ∷ []) led.0 run in
+    let s = state_there reached.cluster.ranks state.ranks.items reached.stands.ranks_are e.rank step.0 step.1 in
+    let below : e.rank < length reached.cluster.ranks = slice_get_within reached.cluster.ranks e.rank step.0 step.1 in
+    let counts : length reached.cluster.ranks ≡ length led.0.ranks = sized.count ∙ sym sized_after.count in
+    let t = is_there led.0.ranks e.rank (omega (arith, below, counts)) in
+    let u = state_there led.0.ranks new.ranks.items led.2.ranks_are e.rank t.0 t.1 in
+    let harts : length step.0.harts ≡ image.harts = sized.harts e.rank step.0 step.1 in
+    let harts_after : length t.0.harts ≡ image.harts = sized_after.harts e.rank t.0 t.1 in
+    let s_same : length s.0.harts.items ≡ length step.0.harts = ap (λ (r : Rank). length r.harts) s.2 in
+    let u_same : length u.0.harts.items ≡ length t.0.harts = ap (λ (r : Rank). length r.harts) u.2 in
+    let hart : e.hart < length step.0.harts = step.2 in
+    record {
+      s = s.0;
+      t = u.0;
+      s_there = s.1;
+      t_there = u.1;
+      s_hart = omega (arith, hart, s_same);
+      t_hart = omega (arith, hart, u_same, harts, harts_after);
+      sight = record {
+        old = reached.cluster;
+        run = reached.run;
+        step = e;
+        there = there;
+        new = led.0;
+        leads = led.1;
+        before = rank_of s.0;
+        after = rank_of u.0;
+        before_there = step.1 ∙ ap Some (sym s.2);
+        after_there = t.1 ∙ ap Some (sym u.2);
+        is = refl;
+      };
+    }
+
+-- one step more
+module _ (image : ImageParts) (steps : List Step) (wanted : Wanted) (from n : ℕ) (forwards : from ≤ n)
+    (state : ClusterState) (begun : Option ℕ) (old text : List ℕ)
+    (put : ArePut image steps wanted from n state begun old text) (e : Step) (there : slice_get steps n ≡ Some e)
+    (new : ClusterState) (leads : Leads state e new) (next : Option ℕ) (after : List ℕ)
+    (puts : Puts image.symbols wanted state n e new text begun after next) where
+  seen : IsSeen image steps n state e new
+  seen = seen_at image steps n state put.reached e there new leads
+
+  abbrev sight : Sight
+  sight = sight_of n e (rank_of seen.s) (rank_of seen.t)
+
+  is_put : IsPut wanted begun (line_of image.symbols wanted sight) e text after next
+  is_put = puts seen.s seen.t seen.s_there seen.t_there seen.s_hart seen.t_hart
+
+  here : from + length put.sights ≡ n
+  here = let count = put.are.count in omega arith
+
+  text_more : (rest : List Sight)
+      → old ++ sights_text image.symbols wanted ((put.sights ++ sight ∷ []) ++ rest)
+      ≡ after ++ behind next (lines_of image.symbols wanted rest)
+  text_more rest =
+      let lines = lines_of image.symbols wanted rest in
+      let piece = piece_of begun (line_of image.symbols wanted sight) (is_wanted wanted e) in
+      ap (λ sights. old ++ sights_text image.symbols wanted sights) (append_assoc put.sights (sight ∷ []) rest)
+      ∙ put.text (sight ∷ rest)
+      ∙ ap (λ more. text ++ more) (sight_more image.symbols wanted begun sight rest)
+      ∙ sym (append_assoc text piece (behind (opened_by wanted begun e) lines))
+      ∙ ap (λ t. t ++ behind (opened_by wanted begun e) lines) (sym is_put.text)
+      ∙ ap (λ o. after ++ behind o lines) (sym is_put.open_is)
+
+  pub put_more : ArePut image steps wanted from (n + 1) new next old after
+  put_more = record {
+    reached = reached_more image steps n state put.reached e there new leads;
+    sights = put.sights ++ sight ∷ [];
+    are = record {
+      count = (let count = put.are.count in omega (arith, length-append put.sights (sight ∷ [])));
+      each = each_more (λ k x. IsSightAt image steps (from + k) x) put.sights sight put.are.each
+          (subst (λ k. IsSightAt image steps k sight) (sym here) seen.sight);
+    };
+    text = text_more;
+  }
+
+-- before the first step
+pub put_none : (image : ImageParts) (steps : List Step) (wanted : Wanted) (from : ℕ) (state : ClusterState)
+    (text : List ℕ) → IsReached image steps from state → ArePut image steps wanted from from state None text text
+put_none image steps wanted from state text reached = record {
+  reached = reached;
+  sights = [];
+  are = record { count = omega arith; each = λ k x at. absurd (cc) };
+  text = λ rest. refl;
+}
+
+-- behind the last one
+pub told_all : (image : ImageParts) (steps : List Step) (wanted : Wanted) (n to : ℕ) (state : ClusterState)
+    (begun : Option ℕ) (old text after : List ℕ) → ArePut image steps wanted wanted.from n state begun old text
+    → n - wanted.from ≡ to - wanted.from → after ≡ text ++ closing begun → AreTold image steps wanted to old after
+told_all image steps wanted n to state begun old text after put same closed = record {
+  sights = put.sights;
+  are = record { count = put.are.count ∙ same; each = put.are.each };
+  text = closed ∙ ap (λ more. text ++ more) (sym (behind_none begun)) ∙ sym (put.text [])
+      ∙ ap (λ sights. old ++ sights_text image.symbols wanted sights) (append-nil put.sights);
+}
+
+-- why a step wasn't put is why those before a place behind it weren't all done
+pub step_fault : (image : ImageParts) (steps : List Step) (n to : ℕ) (state : ClusterState)
+    → IsReached image steps n state → (e : Step) → slice_get steps n ≡ Some e → n < to → (fault : ListFault)
+    → PutFaultHolds state n e fault → StepsFaultHolds image steps to fault
+step_fault image steps n to state reached e there below (fault.NotARun k) h = (
+  subst (λ m. m < to) (sym h.0) below,
+  subst (λ m. BreaksAt image steps m) (sym h.0) (breaks image steps n state reached e there h.1),
+)
+step_fault image steps n to state reached e there below fault.Memory h = tt
+step_fault image steps n to state reached e there below fault.NoRank h = absurd h
+step_fault image steps n to state reached e there below (fault.PastEnd len) h = absurd h
+
+-- and why there is no list
+pub list_fault : (image : ImageParts) (steps : List Step) (wanted : Wanted) (to : ℕ)
+    → to ≤ max wanted.from (last_place wanted steps) → names_no_rank wanted.rank image.ranks ≡ false
+    → is_past wanted steps ≡ false → (fault : ListFault) → StepsFaultHolds image steps to fault
+    → ListFaultHolds image steps wanted fault
+list_fault image steps wanted to most rank past (fault.NotARun n) h =
+    (rank, past, (let below = h.0 in omega (arith, below, most)), h.1)
+list_fault image steps wanted to most rank past fault.Memory h = (rank, past)
+list_fault image steps wanted to most rank past fault.NoRank h = absurd h
+list_fault image steps wanted to most rank past (fault.PastEnd len) h = absurd h

@@ -1,0 +1,10 @@
+pub mod Names
+pub mod Arguments
+pub mod Instructions
+pub mod Gave
+pub mod Lines
+pub mod Folding
+pub mod Laws
+pub mod List
+pub mod Pieces
+pub mod Putting

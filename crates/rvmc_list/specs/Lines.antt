@@ -1,0 +1,120 @@
+-- The line of a step.
+use Rattle.std.specs.Prelude.{ℕ, if◌then◌else◌, List, [], ◌∷◌, ◌++◌, codes, get_or, Option, Some, None, ◌≡◌, ◌≤◌, length}
+use Rattle.std.specs.Fmt.{decimal}
+use Rattle.rv_hart.specs.State.{State, read}
+use Rattle.rv_image.specs.declared.images.Symbol.{Symbol}
+use Rattle.rv_memory.specs.Access.{word_at}
+use Rattle.cl_calls.specs.declared.calls.Call.{Call}
+use Rattle.cl_calls.specs.Calls.{call_named}
+use Rattle.cl_state.specs.Asked.{asked, no_hart}
+use Rattle.cl_state.specs.Rank.{Rank}
+use Rattle.cl_state.specs.declared.asking.Ask.{Ask}
+use Rattle.cl_state.specs.declared.asking.Ask.TheVariants as ask
+use Rattle.cl_trace.specs.declared.events.Kind.{Kind}
+use Rattle.cl_machine.specs.declared.steps.Step.{Step}
+use Rattle.rvmc_inspect.specs.Places.{named_address_text}
+use Rattle.rvmc_inspect.specs.Texts.{call_name}
+use Rattle.rvmc_list.specs.Arguments.{arguments_text}
+use Rattle.rvmc_list.specs.Gave.{box_text, end_text, is_refused, kind_text}
+use Rattle.rvmc_list.specs.Instructions.{instruction_text}
+use Rattle.rvmc_list.specs.Names.{code_name}
+use Rattle.rvmc_list.specs.declared.lines.Seen.{Seen}
+
+-- ---- what is seen of a step
+
+-- its place; the step; its hart before it, the word at that hart's pc, and the box that the hart asks; its hart after it
+pub record Sight : Type 0 where
+  pub place : ℕ
+  pub step : Step
+  pub before : State
+  pub word : Option ℕ
+  pub box : Option (ℕ × ℕ)
+  pub after : State
+
+-- the link and the number of the box that is asked
+abbrev pub box_in : Ask → Option (ℕ × ℕ)
+box_in (ask.Ready link part bytes) = Some (link, part)
+box_in (ask.Look link part) = Some (link, part)
+box_in (ask.Freed link part) = Some (link, part)
+box_in _ = None
+
+-- of the kinds of steps that ask one
+abbrev pub box_of : Kind → Ask → Option (ℕ × ℕ)
+box_of Kind.Ready a = box_in a
+box_of Kind.Take a = box_in a
+box_of Kind.Miss a = box_in a
+box_of Kind.Freed a = box_in a
+box_of _ a = None
+
+-- the step's hart in its rank
+abbrev pub hart_of : Step → Rank → State
+hart_of e rank = get_or rank.harts e.hart no_hart
+
+-- of a step whose rank is this before it, and that after it
+abbrev pub sight_of : ℕ → Step → Rank → Rank → Sight
+sight_of place e before after = record {
+  place = place;
+  step = e;
+  before = hart_of e before;
+  word = word_at before.memory (hart_of e before).pc;
+  box = box_of e.kind (asked before e.hart);
+  after = hart_of e after;
+}
+
+-- ---- how the code has it
+
+-- what was seen before a step, and its hart after it
+abbrev pub seen : ℕ → Step → Seen → State → Sight
+seen place e before after = record {
+  place = place;
+  step = e;
+  before = before.hart;
+  word = before.word;
+  box = before.asks;
+  after = after;
+}
+
+-- nothing is seen only where the rank hasn't the step's hart
+abbrev pub IsSeenBefore : Step → Rank → Option Seen → Type 0
+IsSeenBefore e rank None = length rank.harts ≤ e.hart
+IsSeenBefore e rank (Some s) =
+    (s.hart ≡ hart_of e rank)
+    × (s.word ≡ word_at rank.memory (hart_of e rank).pc)
+    × (s.asks ≡ box_of e.kind (asked rank e.hart))
+
+-- ---- its text
+
+-- a refused call: `SEND refused: BAD_COUNT`, and its arguments
+abbrev pub refused_text : Call → State → List ℕ
+refused_text c after = call_name c ++ (codes " refused: " ++ (code_name (read after 10) ++ arguments_text c))
+
+-- a call that wasn't: its arguments, the box that it asked, what the hub told, and how it ended
+abbrev pub done_text : Call → Sight → List ℕ
+done_text c sight =
+    call_name c
+    ++ (arguments_text c
+    ++ (box_text sight.box ++ (kind_text sight.step.kind ++ end_text c sight.after sight.after.mode)))
+
+abbrev pub call_text : Call → Sight → List ℕ
+call_text c sight =
+    if is_refused sight.after sight.after.mode then refused_text c sight.after else done_text c sight
+
+-- an instruction, a turn of a stopped hart, or a call
+abbrev pub deed_text : Kind → Sight → List ℕ
+deed_text Kind.Plain sight = instruction_text sight.word sight.before sight.after
+deed_text Kind.Idle sight = codes "stopped"
+deed_text _ sight = call_text (call_named sight.before) sight
+
+-- `PLACE rank R hart H stamp S at `, before the address of the hart's pc
+abbrev pub head_text : ℕ → Step → List ℕ
+head_text place e =
+    decimal place
+    ++ (codes " rank "
+    ++ (decimal e.rank
+    ++ (codes " hart " ++ (decimal e.hart ++ (codes " stamp " ++ (decimal e.stamp ++ codes " at "))))))
+
+-- without the newline
+unfoldable pub sight_text : List Symbol → Sight → List ℕ
+sight_text symbols sight =
+    head_text sight.place sight.step
+    ++ (named_address_text symbols sight.before.pc ++ (codes ": " ++ deed_text sight.step.kind sight))

@@ -1,0 +1,68 @@
+-- A record in words.
+use Rattle.std.specs.Prelude.{ℕ, ◌≡◌, ◌<◌, ◌+◌, ◌-◌, ◌||◌, nat_le, nat_lt, Bool, true, false, max, List, length, slice_get}
+use Rattle.std.specs.Prelude.{take, Option, Some, None}
+use Rattle.std.specs.Option.{unwrap_or}
+use Rattle.rv_image.specs.declared.images.ImageParts.{ImageParts}
+use Rattle.cl_state.specs.Rank.{Rank}
+use Rattle.cl_machine.specs.Cluster.{Cluster, IsRun, IsStep, loaded_cluster}
+use Rattle.cl_machine.specs.declared.steps.Step.{Step}
+use Rattle.cl_replay.specs.InnerReplaying.{BreaksAt}
+use Rattle.rvmc_list.specs.Folding.{sights_text}
+use Rattle.rvmc_list.specs.Lines.{Sight, sight_of}
+use Rattle.rvmc_list.specs.declared.folding.Wanted.{Wanted}
+use Rattle.rvmc_list.specs.declared.listing.ListFault.{ListFault}
+use Rattle.rvmc_list.specs.declared.listing.ListFault.TheVariants as fault
+
+-- ---- what is seen of a record
+
+-- step n of a run of the image, and its rank in the clusters before and after it
+pub record IsSightAt (image : ImageParts) (steps : List Step) (n : ℕ) (sight : Sight) : Type 0 where
+  pub old : Cluster
+  pub run : IsRun (loaded_cluster image) (take n steps) old
+  pub step : Step
+  pub there : slice_get steps n ≡ Some step
+  pub new : Cluster
+  pub leads : IsStep old step new
+  pub before : Rank
+  pub after : Rank
+  pub before_there : slice_get old.ranks step.rank ≡ Some before
+  pub after_there : slice_get new.ranks step.rank ≡ Some after
+  pub is : sight ≡ sight_of n step before after
+
+-- those of the steps from one place to another, in order
+pub record AreSights (image : ImageParts) (steps : List Step) (from to : ℕ) (sights : List Sight) : Type 0 where
+  pub count : length sights ≡ to - from
+  pub each : (k : ℕ) (sight : Sight) → slice_get sights k ≡ Some sight → IsSightAt image steps (from + k) sight
+
+-- where the list ends: all steps are told where no end is given
+abbrev pub last_place : Wanted → List Step → ℕ
+last_place wanted steps = unwrap_or wanted.to (length steps)
+
+-- the text of a record
+pub record IsList (image : ImageParts) (steps : List Step) (wanted : Wanted) (text : List ℕ) : Type 0 where
+  pub sights : List Sight
+  pub are : AreSights image steps wanted.from (last_place wanted steps) sights
+  pub is : text ≡ sights_text image.symbols wanted sights
+
+-- ---- why there is none
+
+-- the rank isn't one of the image's
+abbrev pub names_no_rank : Option ℕ → ℕ → Bool
+names_no_rank None ranks = false
+names_no_rank (Some rank) ranks = nat_le ranks rank
+
+-- the list would begin or end behind the last step
+abbrev pub is_past : Wanted → List Step → Bool
+is_past wanted steps = nat_lt (length steps) wanted.from || nat_lt (length steps) (last_place wanted steps)
+
+-- why there is no text: no such rank; places behind the end; a step before the list's end that the machine doesn't have
+-- where those before it lead; or memory
+abbrev pub ListFaultHolds : ImageParts → List Step → Wanted → ListFault → Type 0
+ListFaultHolds image steps wanted fault.NoRank = names_no_rank wanted.rank image.ranks ≡ true
+ListFaultHolds image steps wanted (fault.PastEnd len) =
+    (names_no_rank wanted.rank image.ranks ≡ false) × (is_past wanted steps ≡ true) × (len ≡ length steps)
+ListFaultHolds image steps wanted (fault.NotARun n) =
+    (names_no_rank wanted.rank image.ranks ≡ false) × (is_past wanted steps ≡ false)
+    × (n < max wanted.from (last_place wanted steps)) × BreaksAt image steps n
+ListFaultHolds image steps wanted fault.Memory =
+    (names_no_rank wanted.rank image.ranks ≡ false) × (is_past wanted steps ≡ false)

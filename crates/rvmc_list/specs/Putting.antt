@@ -1,0 +1,68 @@
+-- How the text of a record is put together, one step after another.
+use Rattle.std.specs.Prelude.{ℕ, ◌≡◌, ◌<◌, ◌++◌, List, Option, Some, length, slice_get}
+use Rattle.rv_hart.specs.State.{State}
+use Rattle.rv_image.specs.declared.images.ImageParts.{ImageParts}
+use Rattle.rv_image.specs.declared.images.Symbol.{Symbol}
+use Rattle.cl_machine.specs.declared.steps.Step.{Step}
+use Rattle.cl_replay.specs.InnerReplaying.{BreaksAt}
+use Rattle.cl_replay.specs.Replaying.{IsReached}
+use Rattle.cl_replay.specs.Steps.{LeadsNowhere}
+use Rattle.cl_replay.specs.declared.states.ClusterState.{ClusterState}
+use Rattle.cl_state.specs.Room.{rank_of}
+use Rattle.cl_state.specs.declared.state.RankState.{RankState}
+use Rattle.rvmc_list.specs.Folding.{Line, is_wanted, line_of, lines_of, sights_text}
+use Rattle.rvmc_list.specs.Lines.{IsSeenBefore, Sight, hart_of, sight_of}
+use Rattle.rvmc_list.specs.List.{AreSights}
+use Rattle.rvmc_list.specs.Pieces.{behind, opened_by, piece_of}
+use Rattle.rvmc_list.specs.declared.folding.Wanted.{Wanted}
+use Rattle.rvmc_list.specs.declared.lines.Seen.{Seen}
+use Rattle.rvmc_list.specs.declared.listing.ListFault.{ListFault}
+use Rattle.rvmc_list.specs.declared.listing.ListFault.TheVariants as fault
+
+-- a step was put: whatever its rank was before and after it, its sight was added, and this line is begun behind it
+pub record IsPut (wanted : Wanted) (begun : Option ℕ) (line : Line) (e : Step) (old new : List ℕ)
+    (next : Option ℕ) : Type 0 where
+  pub text : new ≡ old ++ piece_of begun line (is_wanted wanted e)
+  pub open_is : next ≡ opened_by wanted begun e
+
+abbrev pub Puts : List Symbol → Wanted → ClusterState → ℕ → Step → ClusterState → List ℕ → Option ℕ → List ℕ → Option ℕ → Type 0
+Puts symbols wanted old place e new text begun after next =
+    (s t : RankState) → slice_get old.ranks.items e.rank ≡ Some s → slice_get new.ranks.items e.rank ≡ Some t
+    → e.hart < length s.harts.items → e.hart < length t.harts.items
+    → IsPut wanted begun (line_of symbols wanted (sight_of place e (rank_of s) (rank_of t))) e text after next
+
+-- what was seen of a step in whichever rank has it
+abbrev pub IsLook : ClusterState → Step → Option Seen → Type 0
+IsLook state e seen = (s : RankState) → slice_get state.ranks.items e.rank ≡ Some s → IsSeenBefore e (rank_of s) seen
+
+abbrev pub IsHartAfter : ClusterState → Step → Option State → Type 0
+IsHartAfter state e hart =
+    (t : RankState) → slice_get state.ranks.items e.rank ≡ Some t → e.hart < length t.harts.items
+    → hart ≡ Some (hart_of e (rank_of t))
+
+-- why a step wasn't put
+abbrev pub PutFaultHolds : ClusterState → ℕ → Step → ListFault → Type 0
+PutFaultHolds old place e (fault.NotARun n) = (n ≡ place) × LeadsNowhere old e
+PutFaultHolds old place e fault.Memory = Unit {0}
+PutFaultHolds old place e _ = ⊥
+
+-- why the steps before a place weren't all done
+abbrev pub StepsFaultHolds : ImageParts → List Step → ℕ → ListFault → Type 0
+StepsFaultHolds image steps to (fault.NotARun n) = (n < to) × BreaksAt image steps n
+StepsFaultHolds image steps to fault.Memory = Unit {0}
+StepsFaultHolds image steps to _ = ⊥
+
+-- the steps from one place to another were put, and the state is the cluster there
+pub record ArePut (image : ImageParts) (steps : List Step) (wanted : Wanted) (from n : ℕ) (state : ClusterState)
+    (begun : Option ℕ) (old new : List ℕ) : Type 0 where
+  pub reached : IsReached image steps n state
+  pub sights : List Sight
+  pub are : AreSights image steps from n sights
+  pub text : (rest : List Sight) → old ++ sights_text image.symbols wanted (sights ++ rest)
+      ≡ new ++ behind begun (lines_of image.symbols wanted rest)
+
+-- what was told of the steps from one place to another was added to a text, each line with its end
+pub record AreTold (image : ImageParts) (steps : List Step) (wanted : Wanted) (to : ℕ) (old new : List ℕ) : Type 0 where
+  pub sights : List Sight
+  pub are : AreSights image steps wanted.from to sights
+  pub text : new ≡ old ++ sights_text image.symbols wanted sights

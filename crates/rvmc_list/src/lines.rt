@@ -1,0 +1,184 @@
+//! What is seen of a step, and its line.
+
+ghost use Rattle.std.specs.Prelude.{◌≡◌, ◌++◌, ◌<◌, IfOk, OnOk, vec_len};
+ghost use Rattle.cl_calls.specs.Calls.{call_named};
+ghost use Rattle.cl_machine.specs.SameSteps.{kind_seen};
+ghost use Rattle.cl_state.specs.Asked.{asked};
+ghost use Rattle.cl_state.specs.Room.{rank_of};
+ghost use Rattle.rvmc_inspect.specs.Places.{name_text, named_address_text};
+ghost use Rattle.rvmc_list.specs.Lines.{box_of as box_asked, call_text, deed_text, done_text, hart_of, head_text};
+ghost use Rattle.rvmc_list.specs.Lines.{IsSeenBefore, box_in as box_in_ask, refused_text, seen, sight_text};
+
+use crate::arguments::put_arguments;
+use crate::gave::{BoxNumber, is_refused, put_box, put_end, put_kind};
+use crate::instructions::put_instruction;
+use crate::names::code_name;
+use cl_calls::Call;
+use cl_machine::{KindRef, Step};
+use cl_state::{Ask, RankState};
+use cl_trace::Bare;
+use rv_decode::Reg;
+use rv_hart::Hart;
+use rv_image::Symbol;
+use rvmc_inspect::{call_name, nearest};
+use std::alloc::AllocError;
+use std::io;
+use std::io::Write;
+
+/// What is seen of a step before it is done: its hart, the word at the hart's pc, and the box that it asks.
+#[derive(Clone, Copy, Drop)]
+pub(crate) struct Seen {
+    pub(crate) hart: Hart,
+    pub(crate) word: Option<u32>,
+    pub(crate) asks: Option<BoxNumber>,
+}
+
+/// The box that is asked.
+fn box_in(ask: &Ask) -> Option<BoxNumber>
+    ensures { result ≡ box_in_ask ask.now }
+{
+    match ask {
+        Ask::Ready { link, part, .. } => Some((*link, *part)),
+        Ask::Look { link, part } => Some((*link, *part)),
+        Ask::Freed { link, part } => Some((*link, *part)),
+        Ask::Plain | Ask::Local | Ask::Hub(_) | Ask::Held | Ask::Idle => None,
+    }
+}
+
+/// The box that a step asks, if it is of a kind that asks one.
+fn box_of(own: &RankState, step: &Step) -> Result<Option<BoxNumber>, AllocError>
+    requires { step.now.hart < vec_len own.now.harts }
+    ensures { IfOk result (λ number.
+        number ≡ box_asked step.now.kind (asked (rank_of own.now) step.now.hart)) }
+{
+    match step.kind() {
+        KindRef::Bare(kind) => match kind {
+            Bare::Ready | Bare::Take | Bare::Miss | Bare::Freed => {
+                let ask = own.ask(step.hart())?;
+                Ok(box_in(&ask))
+            }
+            Bare::Plain | Bare::Local | Bare::Held | Bare::Idle => Ok(None),
+        },
+        KindRef::Hub(_) => Ok(None),
+    }
+}
+
+/// What is seen of a step before it is done. None where its rank hasn't that hart.
+pub(crate) fn look(own: &RankState, step: &Step) -> Result<Option<Seen>, AllocError>
+    ensures { IfOk result (λ seen. IsSeenBefore step.now (rank_of own.now) seen) }
+{
+    let Some(hart) = own.harts.get(usize::from(step.hart())) else {
+        return Ok(None);
+    };
+    Ok(Some(Seen {
+        hart: *hart,
+        word: own.memory.text_word(hart.pc()),
+        asks: box_of(own, step)?,
+    }))
+}
+
+/// Adds a symbol, as ` (go+0x4)`.
+fn put_name(text: &mut Vec<u8>, symbol: &Symbol, at: u64) -> io::Result<()>
+    ensures { OnOk result (text.new.items ≡ text.old.items ++ name_text at symbol.now) }
+{
+    text.extend_from_slice(b" (")?;
+    text.extend_from_slice(symbol.name.as_slice())?;
+    let offset = at.saturating_sub(u64::from(symbol.address));
+    write!(text, "+0x{offset:x})")
+}
+
+/// Adds an address and the symbol nearest before it, as `0x1c (go+0x4)`.
+#[tactic(auto, unfolding(rvmc_inspect::specs::Places::named_address_text))]
+fn put_place(text: &mut Vec<u8>, symbols: &[Symbol], at: u64) -> io::Result<()>
+    ensures { OnOk result (text.new.items ≡ text.old.items ++ named_address_text symbols.now at) }
+{
+    write!(text, "0x{at:x}")?;
+    match nearest(symbols, at) {
+        None => Ok(()),
+        Some(symbol) => put_name(text, symbol, at),
+    }
+}
+
+/// Adds where a step stands, and whose it is.
+fn put_head(text: &mut Vec<u8>, place: u64, step: &Step) -> io::Result<()>
+    ensures { OnOk result (text.new.items ≡ text.old.items ++ head_text place step.now) }
+{
+    let rank = step.rank();
+    let hart = step.hart();
+    let stamp = step.stamp();
+    write!(text, "{place} rank {rank} hart {hart} stamp {stamp} at ")
+}
+
+/// Adds a refused call.
+fn put_refused(text: &mut Vec<u8>, call: &Call, after: &Hart) -> io::Result<()>
+    ensures { OnOk result (text.new.items ≡ text.old.items ++ refused_text call.now after.now) }
+{
+    text.extend_from_slice(call_name(call).as_bytes())?;
+    text.extend_from_slice(b" refused: ")?;
+    text.extend_from_slice(code_name(after.get(Reg::new(10))).as_bytes())?;
+    put_arguments(text, call)
+}
+
+/// Adds a call, and what it gave.
+fn put_done(
+    text: &mut Vec<u8>,
+    call: &Call,
+    step: &Step,
+    before: &Seen,
+    after: &Hart,
+) -> io::Result<()>
+    ensures { OnOk result (text.new.items ≡ text.old.items ++ done_text call.now (seen 0 step.now before.now after.now)) }
+{
+    text.extend_from_slice(call_name(call).as_bytes())?;
+    put_arguments(text, call)?;
+    put_box(text, before.asks)?;
+    put_kind(text, step.kind())?;
+    put_end(text, call, after)
+}
+
+/// Adds a call.
+fn put_call(text: &mut Vec<u8>, step: &Step, before: &Seen, after: &Hart) -> io::Result<()>
+    ensures { OnOk result (text.new.items
+        ≡ text.old.items ++ call_text (call_named before.now.hart) (seen 0 step.now before.now after.now)) }
+{
+    let call = Call::of(&before.hart);
+    if is_refused(after) {
+        put_refused(text, &call, after)
+    } else {
+        put_done(text, &call, step, before, after)
+    }
+}
+
+/// Adds what a step did.
+fn put_deed(text: &mut Vec<u8>, step: &Step, before: &Seen, after: &Hart) -> io::Result<()>
+    ensures { OnOk result (text.new.items
+        ≡ text.old.items ++ deed_text step.now.kind (seen 0 step.now before.now after.now)) }
+{
+    match step.kind() {
+        KindRef::Bare(Bare::Plain) => put_instruction(text, before.word, &before.hart, after),
+        KindRef::Bare(Bare::Idle) => {
+            text.extend_from_slice(b"stopped")?;
+            Ok(())
+        }
+        _ => put_call(text, step, before, after),
+    }
+}
+
+/// Adds the line of a step, without a newline.
+#[tactic(auto, unfolding(crate::specs::Lines::sight_text))]
+pub(crate) fn put_sight(
+    text: &mut Vec<u8>,
+    symbols: &[Symbol],
+    place: u64,
+    step: &Step,
+    before: &Seen,
+    after: &Hart,
+) -> io::Result<()>
+    ensures { OnOk result (text.new.items
+        ≡ text.old.items ++ sight_text symbols.now (seen place step.now before.now after.now)) }
+{
+    put_head(text, place, step)?;
+    put_place(text, symbols, before.hart.pc())?;
+    text.extend_from_slice(b": ")?;
+    put_deed(text, step, before, after)
+}
