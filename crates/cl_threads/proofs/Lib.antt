@@ -16,3 +16,4 @@ pub mod Passed
 pub mod Readied
 pub mod Settled
 pub mod Gathered
+pub mod Paced

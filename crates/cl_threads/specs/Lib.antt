@@ -2,6 +2,8 @@ pub mod Alone
 pub mod OnThreads
 pub mod Loading
 pub mod Leaving
+pub mod Pacing
+pub mod PacingRows
 pub mod Ties
 pub mod Worked
 pub mod Runs

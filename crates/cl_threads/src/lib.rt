@@ -7,6 +7,7 @@ mod leaving;
 mod loading;
 mod pace;
 mod rests;
+mod sights;
 mod threads;
 mod ties;
 mod turns;

@@ -1,8 +1,10 @@
 //! A gate that keeps ranks together.
 
-ghost use Rattle.std.specs.Prelude.{◌<◌, ◌≤◌, IfSome};
+ghost use Rattle.std.specs.Prelude.{◌≡◌, ◌<◌, ◌≤◌, ◌^◌, ◌⊎◌, None, min};
+ghost use Rattle.cl_threads.specs.Pacing.{MayTake};
 
 use crate::gates::{Gate, Point};
+use crate::sights::{RANKS, Sight, Slowest};
 use crossbeam_utils::CachePadded;
 use once_cell::race::OnceBool;
 use std::hint::spin_loop;
@@ -17,9 +19,6 @@ const SPINS: u32 = 16;
 
 /// The most turns between two counts of a rank that the others can see, and the longest rest between two looks.
 const MOST: u64 = 64;
-
-/// The most ranks that there are.
-const RANKS: u8 = 8;
 
 /// What is known of one rank.
 #[derive(Drop)]
@@ -47,11 +46,11 @@ impl Runner {
     }
 }
 
-/// What a rank saw of the slowest of the others.
-#[derive(Clone, Copy, PartialEq, Eq, Drop)]
-struct Slowest {
-    rank: u8,
-    turns: u64,
+/// What a rank that was held saw of the others last, and how often it had looked before.
+#[derive(Drop)]
+struct Held {
+    sight: Sight,
+    looks: u32,
 }
 
 /// Holds a rank that is more than `lead` turns ahead of the slowest rank that hasn't ended, begun or not, for at most
@@ -79,7 +78,10 @@ pub struct Pace {
 
 impl Pace {
     /// For the ranks below this number, or for 8 where it is more. A lead of 2^64 - 1 turns holds nobody.
-    pub fn new(ranks: u8, lead: u64) -> Pace {
+    pub fn new(ranks: u8, lead: u64) -> Pace
+        ensures ranks { result.ranks ≡ min ranks 8 }
+        ensures lead { result.lead ≡ lead }
+    {
         Pace {
             ranks: ranks.min(RANKS),
             lead,
@@ -98,46 +100,66 @@ impl Pace {
         }
     }
 
-    /// The slowest of the other ranks that haven't ended, None where there is none.
-    fn slowest_other(&self, rank: u8) -> Option<Slowest>
-        ensures { IfSome result (λ slowest. slowest.rank < self.now.ranks) }
+    /// How many turns another rank came to, as it told last: None of the rank itself, of one that isn't held, and of one
+    /// that takes no turn any more.
+    fn seen(&self, rank: u8, other: u8) -> Option<u64>
+        requires { other < 8 }
+        ensures { (other ≡ rank) ⊎ (self.now.ranks ≤ other) → result ≡ None }
     {
-        let mut slowest: Option<Slowest> = None;
-        for other in 0..self.ranks {
-            let runner = &self.runners[usize::from(other)];
-            if other == rank || runner.ended.get().is_some() {
-                continue;
+        let runner = &self.runners[usize::from(other)];
+        if other == rank || other >= self.ranks || runner.ended.get().is_some() {
+            return None;
+        }
+        Some(runner.turns.load(Ordering::SeqCst))
+    }
+
+    /// What a rank sees of the others now.
+    fn look(&self, rank: u8) -> Sight {
+        Sight {
+            counts: [
+                self.seen(rank, 0),
+                self.seen(rank, 1),
+                self.seen(rank, 2),
+                self.seen(rank, 3),
+                self.seen(rank, 4),
+                self.seen(rank, 5),
+                self.seen(rank, 6),
+                self.seen(rank, 7),
+            ],
+        }
+    }
+
+    /// Asks the slowest for its count where it stands as it did before: it may have taken turns since it told that.
+    fn ask(&self, before: Option<Slowest>, sight: &Sight) -> Option<Slowest> {
+        let slowest = sight.slowest();
+        if let Some(seen) = slowest {
+            if before == slowest {
+                self.runners[usize::from(seen.rank)]
+                    .due
+                    .store(0, Ordering::SeqCst);
             }
-            let turns = runner.turns.load(Ordering::SeqCst);
-            slowest = match slowest {
-                Some(seen) if seen.turns <= turns => Some(seen),
-                _ => Some(Slowest { rank: other, turns }),
-            };
         }
         slowest
     }
 
-    /// Looks at the others until the rank isn't too far ahead for this turn: the last turn that it may take then.
-    fn reach_of(&self, rank: u8, number: u64) -> u64 {
-        let mut before: Option<Slowest> = None;
-        for look in 0..LOOKS {
-            let Some(slowest) = self.slowest_other(rank) else {
-                return u64::MAX;
-            };
-            let reach = slowest.turns.saturating_add(self.lead);
-            if number <= reach {
-                return reach;
+    /// Looks at the others until the rank may take the turn of this number by what it sees, for 2^24 looks at most.
+    fn wait(&self, rank: u8, number: u64) -> Held
+        ensures { result.looks < 2 ^ 24 → MayTake self.now.lead result.sight.counts number }
+    {
+        let mut before = None;
+        let mut sight = self.look(rank);
+        for looks in 0..LOOKS {
+            if number <= sight.reach(self.lead) {
+                return Held { sight, looks };
             }
-            if before == Some(slowest) {
-                // it may have taken turns since it told its count
-                self.runners[usize::from(slowest.rank)]
-                    .due
-                    .store(0, Ordering::SeqCst);
-            }
-            before = Some(slowest);
-            self.rest_after(look);
+            before = self.ask(before, &sight);
+            self.rest_after(looks);
+            sight = self.look(rank);
         }
-        number
+        Held {
+            sight,
+            looks: LOOKS,
+        }
     }
 
     /// A rest between two looks, which leaves the slowest the line that both need.
@@ -151,13 +173,17 @@ impl Pace {
         }
     }
 
-    /// Holds a rank at the turn of this number if it is too far ahead of what it saw last.
-    fn hold(&self, rank: u8, runner: &Runner, number: u64) -> u64 {
+    /// Holds a rank at the turn of this number if it is too far ahead of what it saw last: the last turn that it may take
+    /// without a look at the others.
+    fn hold(&self, rank: u8, runner: &Runner, number: u64) -> u64
+        ensures { number ≤ result }
+    {
         let reach = runner.reach.load(Ordering::SeqCst);
         if number <= reach {
             return reach;
         }
-        let reach = self.reach_of(rank, number);
+        let held = self.wait(rank, number);
+        let reach = held.sight.reach(self.lead).max(number);
         runner.reach.store(reach, Ordering::SeqCst);
         reach
     }

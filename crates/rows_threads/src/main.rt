@@ -1,7 +1,7 @@
 //! Runs two ranks on threads of their own and prints what they leave. Each waits at its first turn until the other has
 //! come to its own: that they run at the same time no clause says, and a driver that runs one rank after the other, or
-//! gives them turns on one thread, doesn't get past it. Then two ranks loop under a pace, and the turns are counted
-//! that were further ahead than its lead. `stdout` was written by hand.
+//! gives them turns on one thread, doesn't get past it. Then two ranks and three loop under a pace, and the turns are
+//! counted that were further ahead than its lead. `stdout` was written by hand.
 #![tactic(auto)]
 
 mod watching;
@@ -30,6 +30,12 @@ const IMAGE: [u8; 68] = [
 /// An image of 2 ranks of 4096 bytes each, whose harts jump to where they are, for ever.
 const LOOP: [u8; 32] = [
     0x52, 0x56, 0x4d, 0x43, 0x01, 0x00, 0x02, 0x01, 0x00, 0x10, 0x00, 0x00, 0x00, 0x00, 0x00, 0x00,
+    0x04, 0x00, 0x00, 0x00, 0x00, 0x00, 0x00, 0x00, 0x00, 0x00, 0x00, 0x00, 0x6f, 0x00, 0x00, 0x00,
+];
+
+/// The same of 3 ranks.
+const LOOP_OF_THREE: [u8; 32] = [
+    0x52, 0x56, 0x4d, 0x43, 0x01, 0x00, 0x03, 0x01, 0x00, 0x10, 0x00, 0x00, 0x00, 0x00, 0x00, 0x00,
     0x04, 0x00, 0x00, 0x00, 0x00, 0x00, 0x00, 0x00, 0x00, 0x00, 0x00, 0x00, 0x6f, 0x00, 0x00, 0x00,
 ];
 
@@ -96,10 +102,10 @@ impl Gate for Meet {
     }
 }
 
-/// A plan of hart 0 for each of two ranks.
-fn plans(alloc: Global, budget: u64) -> Result<Vec<Plan>, AllocError> {
+/// A plan of hart 0 for each of so many ranks.
+fn plans(alloc: Global, ranks: u8, budget: u64) -> Result<Vec<Plan>, AllocError> {
     let mut plans = Vec::new(alloc);
-    for _rank in 0..2u8 {
+    for _rank in 0..ranks {
         let order = vec![in alloc; 0]?;
         plans.push(Plan { order, budget })?;
     }
@@ -117,7 +123,7 @@ fn run_of<R: Threads + Wait + Sync, G: Gate>(
     let Ok(image) = read_image(alloc, bytes) else {
         return Err(RunFault::Memory);
     };
-    let Ok(plans) = plans(alloc, budget) else {
+    let Ok(plans) = plans(alloc, image.parts().ranks, budget) else {
         return Err(RunFault::Memory);
     };
     run_threads(rt, alloc, &image, plans.as_slice(), gate)
@@ -133,16 +139,32 @@ fn run<R: Threads + Wait + Sync, G: Gate>(
     run_of(rt, alloc, &IMAGE, budget, gate)
 }
 
-/// A run of two ranks that loop for so many turns under a pace of this lead: how many turns were too far ahead.
+/// A run of ranks that loop for so many turns, under a pace of this lead: how many turns were too far ahead.
 fn far<R: Threads + Wait + Sync>(
     rt: &R,
     alloc: Global,
-    lead: u64,
+    bytes: &[u8],
+    watched: &Watched,
     budget: u64,
 ) -> Result<u64, RunFault> {
-    let watched = Watched::new(lead);
-    run_of(rt, alloc, &LOOP, budget, &watched)?;
+    run_of(rt, alloc, bytes, budget, watched)?;
     Ok(watched.far())
+}
+
+/// Prints how many turns of two ranks and of three were too far ahead.
+fn print_leads(rt: &HostRuntime, alloc: Global) -> io::Result<()> {
+    println!(rt;
+        "lead 1, turns too far ahead: {:?}",
+        far(rt, alloc, &LOOP, &Watched::new(2, 1), 1000)
+    )?;
+    println!(rt;
+        "lead 100, turns too far ahead: {:?}",
+        far(rt, alloc, &LOOP, &Watched::new(2, 100), 100_000)
+    )?;
+    println!(rt;
+        "three ranks, lead 5, turns too far ahead: {:?}",
+        far(rt, alloc, &LOOP_OF_THREE, &Watched::new(3, 5), 10_000)
+    )
 }
 
 /// Prints what each rank put out, after how many turns it stopped, and why.
@@ -186,12 +208,5 @@ fn main(rt: HostRuntime) -> io::Result<()> {
     print_record(&rt, "no gate", run(&rt, alloc, 1000, &NoGate))?;
     print_record(&rt, "pace", run(&rt, alloc, 3, &Pace::new(2, 1)))?;
     print_record(&rt, "no turns", run(&rt, alloc, 0, &NoGate))?;
-    println!(rt;
-        "lead 1, turns too far ahead: {:?}",
-        far(&rt, alloc, 1, 1000)
-    )?;
-    println!(rt;
-        "lead 100, turns too far ahead: {:?}",
-        far(&rt, alloc, 100, 100_000)
-    )
+    print_leads(&rt, alloc)
 }

@@ -4,10 +4,10 @@ ghost use Rattle.std.specs.Prelude.{◌≡◌, ◌≢◌, ◌<◌, [], ◌∷◌
 ghost use Rattle.std.specs.Prelude.{string_bytes, true};
 ghost use Rattle.std.specs.List.{list_any};
 ghost use Rattle.cl_rank.specs.declared.stops.Stop.{Stop};
-ghost use Rattle.cl_rank.specs.declared.stops.Stop.TheVariants.{ClockFull};
+ghost use Rattle.cl_rank.specs.declared.stops.Stop.TheVariants.{AllEnded, Budget, Memory, ClockFull, Calls};
 ghost use Rattle.cl_state.specs.declared.state.RankState.{RankState};
 ghost use Rattle.cl_trace.specs.Traces.{TraceView};
-ghost use Rattle.rvmc_report.specs.Report.{ends_of, has_trapped, is_cut_short, wants_memory};
+ghost use Rattle.rvmc_report.specs.Report.{ends_of, has_trapped, is_cut_short, stop_line, wants_memory};
 ghost use Rattle.rvmc_report.specs.WholeRecord.{HasEachRank};
 ghost use Rattle.rvmc_report.specs.declared.faults.Fault.TheVariants as faults;
 ghost use Rattle.rvmc_report.specs.declared.faults.PlaceFault.TheVariants.{PastEnd};
@@ -50,6 +50,21 @@ pub fn failed_write_ends_with_6() -> u8
     ensures { result ≡ 6 }
 {
     Fault::Write.status()
+}
+
+/// A thread that is refused ends with 5.
+pub fn refused_thread_ends_with_5() -> u8
+    ensures { result ≡ 5 }
+{
+    Fault::from(RunFault::Spawn).status()
+}
+
+/// Threads that left what doesn't fit together are a fault of the input, whatever rank and place are told: 1, and
+/// neither want of memory nor a stream that failed.
+pub fn unlike_threads_end_with_1(rank: u8, place: u64) -> u8
+    ensures { result ≡ 1 }
+{
+    Fault::from(RunFault::Unlike { rank, place }).status()
 }
 
 /// Plans that a run refuses are told as plans, and not as want of memory.
@@ -176,6 +191,20 @@ pub fn cut_short_ends_with_4(left: &Record) -> u8
 /// A full clock cuts a rank short, as a budget does.
 pub fn full_clock_cuts_short(clock: u64)
     ensures { is_cut_short (ClockFull clock) ≡ true }
+{}
+
+/// So do too many calls.
+pub fn too_many_calls_cut_short(count: u64)
+    ensures { is_cut_short (Calls count) ≡ true }
+{}
+
+/// The line of a rank that stopped, for each reason: no guest that a test can wait for fills a clock.
+pub fn each_stop_has_its_word()
+    ensures { map (λ stop. stop_line 1 stop 9)
+        (AllEnded ∷ Budget ∷ Memory ∷ ClockFull 4611686018427387903 ∷ Calls 1048576 ∷ [])
+        ≡ codes "rank 1 stop all-ended turns 9\n" ∷ codes "rank 1 stop budget turns 9\n"
+        ∷ codes "rank 1 stop memory turns 9\n" ∷ codes "rank 1 stop clock turns 9\n"
+        ∷ codes "rank 1 stop calls turns 9\n" ∷ [] }
 {}
 
 /// The turns of a rank are those of its own trace.
