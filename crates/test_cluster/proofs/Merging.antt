@@ -27,7 +27,7 @@ traced (x ∷ y ∷ []) a b h (suc zero) = let same : y.events ≡ b = (cc) in a
 traced (x ∷ y ∷ []) a b h (suc (suc rank)) = refl
 traced (x ∷ y ∷ z ∷ ts) a b h rank = absurd (cc)
 
-pub few : (ts : List TraceView) (a b : List Event) → map (λ (t : TraceView). t.events) ts ≡ a ∷ b ∷ [] → length ts ≤ 8
+pub few : (ts : List TraceView) (a b : List Event) → map (λ (t : TraceView). t.events) ts ≡ a ∷ b ∷ [] → length ts ≤ 256
 few ts a b h = let count = sym (length-map ts (λ (t : TraceView). t.events)) ∙ ap length h in omega (arith, count)
 
 unlike : (a b : ℕ) → a < b → eqb a b ≡ false

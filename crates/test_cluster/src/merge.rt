@@ -39,13 +39,13 @@ pub fn the_lower_rank_comes_first(
     merge(alloc, left)
 }
 
-/// Of eight ranks with one event each, all of the same stamp, the events stand by their ranks, and so of fewer ranks.
+/// Of 256 ranks with one event each, all of the same stamp, the events stand by their ranks, and so of fewer ranks.
 pub fn equal_stamps_come_by_rank(
     alloc: Global,
     left: &Record,
     events: &[Event],
 ) -> Result<Vec<Step>, AllocError>
-    requires few { length events.now ≤ 8 }
+    requires few { length events.now ≤ 256 }
     requires stamps { (stamp : ℕ) × All (λ event. event.stamp ≡ stamp) events.now }
     requires traces { map (λ trace. trace.events) left.now.traces.items ≡ map (λ event. event ∷ []) events.now }
     ensures { IfOk result (λ steps. steps.items ≡ one_of_each 0 events.now) }
@@ -59,7 +59,6 @@ pub fn a_send_stands_between_post_and_collect(
     alloc: Global,
     left: &Record,
 ) -> Result<Vec<Step>, AllocError>
-    requires few { length left.now.traces.items ≤ 8 }
     ensures { (one two three send receive collect : Event) → SendAndReceive one two three send receive collect
         → map (λ trace. trace.events) left.now.traces.items
         ≡ (one ∷ two ∷ three ∷ send ∷ []) ∷ (receive ∷ collect ∷ []) ∷ []

