@@ -3,6 +3,7 @@
 
 import re
 
+import frames
 from cluster import Walk
 
 MOST, MOST_SMALL = (1 << 64) - 1, 255
@@ -13,6 +14,7 @@ NAME = re.compile(r"[A-Za-z_.$][A-Za-z0-9_.$]*")
 # texts that are no words, beside those with a wrong number of arguments
 NO_WORDS = ["", "fly", "Step", " step", "step=1", "place=", "go", "go=", "go=x", "go=0x", "go=0X1", "go=+1", "go=1 "]
 NO_WORDS += ["go=18446744073709551616", "regs=0", "regs=0,256", "regs=0x100,0", "regs=0,0,", "bytes=0,1", "go=1=1"]
+NO_WORDS += ["output", "output=", "output=0,0", "output=256", "output=x", "frames", "frames=0", "frames=0,0,0"]
 NO_WORDS += ["bytes=0,1a,1", "bytes=0,,1", "bytes=0,a-b,1", "break=0,0", "break=a,0,0", "break=0,0,", "go=\u0661"]
 
 
@@ -34,6 +36,7 @@ def spot(text):
 # how the arguments of each word are read
 SMALL, LARGE = (lambda text: number(text, MOST_SMALL)), (lambda text: number(text, MOST))
 ARGUMENTS = {"go": [LARGE], "break": [SMALL, SMALL, spot], "regs": [SMALL, SMALL], "bytes": [SMALL, spot, LARGE]}
+ARGUMENTS |= {"frames": [SMALL, SMALL], "output": [SMALL]}
 ALONE = ["step", "back", "run", "place"]
 
 
@@ -122,6 +125,20 @@ class Debugger:
         told = f"rank {rank} hart {hart} {at.told()}\n"
         return (told + "".join(f"x{n} {value:016x}\n" for n, value in enumerate(at.regs))).encode()
 
+    def does_frames(self, rank, hart):
+        """Shows a hart, and the calls that led to where it is."""
+        owner = self.rank(rank)
+        if hart >= self.image.harts:
+            raise Refused("NoHart")
+        at = owner.harts[hart]
+        lines = [f"rank {rank} hart {hart} {at.told()}", *frames.calls(self.image, at, owner.memory)]
+        return "".join(f"{line}\n" for line in lines).encode()
+
+    def does_output(self, rank):
+        """Shows what a rank has put out."""
+        out = bytes(self.rank(rank).out)
+        return f"rank {rank} output {len(out)}\n".encode() + out + b"\n"
+
     def does_bytes(self, rank, at, count):
         """Shows bytes."""
         at = self.address(at)
@@ -180,15 +197,17 @@ class Words:
 
     def word(self):
         """A word."""
-        kind = self.random.choice(["go", "go", "run", "run", "break", "break", "regs", "bytes", *ALONE])
+        kind = self.random.choice(["go", "go", "run", "run", "break", "break", "regs", "bytes", "frames", "output", *ALONE])
         if kind in ALONE:
             return kind
         if kind == "go":
             last = len(self.steps)
             places = [0, last // 2, last - 1, last, self.random.randrange(last + 1), self.random.randrange(last + 1)]
             return "go=" + self.written(self.random.choice([*3 * places, last + 1, MOST]))
-        if kind == "regs":
-            return f"regs={self.rank()},{self.hart()}"
+        if kind in ("regs", "frames"):
+            return f"{kind}={self.rank()},{self.hart()}"
+        if kind == "output":
+            return f"output={self.rank()}"
         if kind == "bytes":
             memory = self.image.memory
             count = self.random.choice([0, 1, 8, 15, 16, 17, 40])

@@ -28,9 +28,10 @@ COMMANDS = {
     "asm": (("--from",), ()),
     "dis": ((), ()),
     "check": ((), ()),
+    "report": ((), ()),
     "one": (("--source", "--record", "--why"), (BUDGET, PLAN, ("--order", listed))),
     "run": (("--source", "--record", "--why"), (BUDGET, PLAN, ("--lead", lambda text: bounded(text, MOST_LEAD)))),
-    "why": ((), (("--at", lambda text: bounded(text, MOST_PLACE, 0)),)),
+    "why": (("--frames",), (("--at", lambda text: bounded(text, MOST_PLACE, 0)),)),
 }
 
 # flags that don't go together
@@ -94,7 +95,7 @@ class Lines:
         """Some words."""
         if self.random.randrange(30) == 0:
             return [self.random.choice(WORDS)]
-        command = self.random.choice(["one", "one", "run", "run", "asm", "dis", "check", "why"])
+        command = self.random.choice(["one", "one", "run", "run", "asm", "dis", "check", "report", "why"])
         flags, options = COMMANDS[command]
         words = [command]
         for flag in flags:
@@ -105,7 +106,7 @@ class Lines:
                 words += self.option(name)
         if self.random.randrange(6) == 0:
             options = ["--budget", "--plan", "--order", "--lead", "--at"]
-            other = self.random.choice([*options, "--source", "--record", "--from", "--why"])
+            other = self.random.choice([*options, "--source", "--record", "--from", "--why", "--frames"])
             extra = self.option(other) if other in options else [other]
             extra = self.random.choice([extra, [self.random.choice(WORDS)]])
             at = 1 + self.random.randrange(len(words))

@@ -2,6 +2,7 @@
 
 import copy
 
+import frames
 from cluster import Walk
 from formats import HELD, HUB, MISS
 from hub import NOT_YET
@@ -111,10 +112,10 @@ def place(image, at):
     return f"{at:#x}" + (f" ({found[1].decode()}+{at - found[0]:#x})" if found else "")
 
 
-def hart_line(image, rank, number, waits):
-    """How a hart is."""
+def hart_line(image, rank, number, waits, framed):
+    """How a hart is, perhaps with the calls that led there."""
     hart = rank.harts[number]
-    at = place(image, hart.pc)
+    at = " ".join([place(image, hart.pc), *(frames.calls(image, hart, rank.memory) if framed else [])])
     told = f"runs at {at}"
     if hart.mode == ENDED:
         told = f"ended {hart.why}"
@@ -155,20 +156,20 @@ def verdict(cluster, waits):
     return f"deadlock: ranks {' '.join(map(str, sorted(among)))}\n"
 
 
-def told(cluster):
-    """What is told of a cluster."""
+def told(cluster, framed=False):
+    """What is told of a cluster, perhaps with calls."""
     waits = {
         (rank.number, number): Tried(cluster, rank.number, number).waits() if hart.mode == WAITING else []
         for rank in cluster.ranks
         for number, hart in enumerate(rank.harts)
     }
-    lines = [hart_line(cluster.image, cluster.ranks[rank], hart, found) for (rank, hart), found in waits.items()]
+    lines = [hart_line(cluster.image, cluster.ranks[rank], hart, found, framed) for (rank, hart), found in waits.items()]
     lines += [unreceived(cluster.hub, rank.number) for rank in cluster.ranks]
     return ("".join(lines) + verdict(cluster, waits)).encode()
 
 
-def told_at(at, image, steps):
-    """What `why` tells of a record, after so many steps or after all: the status and both texts."""
+def told_at(at, image, steps, framed=False):
+    """What `why` tells of a record, after so many steps or after all, perhaps with calls: the status and both texts."""
     count = len(steps) if at is None else at
     if count > len(steps):
         return 1, b"", f"rvmc: why: PastEnd {len(steps)}\n".encode()
@@ -176,4 +177,4 @@ def told_at(at, image, steps):
     for number, step in enumerate(steps[:count]):
         if not walk.takes(step):
             return 1, b"", f"rvmc: why: NotARun {number}\n".encode()
-    return 0, told(walk.cluster), b""
+    return 0, told(walk.cluster, framed), b""

@@ -16,6 +16,12 @@ ShowsHart debugging rank hart state =
     (cluster : Cluster) → IsAt debugging.image debugging.steps debugging.place cluster
     → IsHartOf cluster rank hart state
 
+-- the rank of this number, as it is at the place
+abbrev pub ShowsRank : Debugging → ℕ → Rank → Type 0
+ShowsRank debugging rank owner =
+    (cluster : Cluster) → IsAt debugging.image debugging.steps debugging.place cluster
+    → slice_get cluster.ranks rank ≡ Some owner
+
 -- the bytes of a rank's memory from an address on, as they are at the place
 abbrev pub ShowsBytes : Debugging → ℕ → ℕ → ℕ → List ℕ → Type 0
 ShowsBytes debugging rank address count bytes =

@@ -97,6 +97,13 @@ impl Debugger {
         (self.place, self.steps.len() as u64)
     }
 
+    /// The image whose steps they are.
+    pub fn image(&self) -> &Image
+        ensures { result.now ≡ self.now.image }
+    {
+        &self.image
+    }
+
     /// How far apart the kept states are, in steps.
     pub fn spacing(&self) -> u64
         ensures { IsSpacing (length self.now.steps) result }

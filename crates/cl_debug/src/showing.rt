@@ -2,10 +2,12 @@
 
 ghost use Rattle.std.specs.Prelude.{◌≡◌, ◌↔◌, ◌<◌, ◌≤◌, Err, IfErr, IfOk, IsOk};
 ghost use Rattle.cl_debug.specs.Faults.{IsBytesFault, IsNameFault};
-ghost use Rattle.cl_debug.specs.Shown.{IsOutside, ShowsBytes, ShowsHart};
+ghost use Rattle.cl_debug.specs.Shown.{IsOutside, ShowsBytes, ShowsHart, ShowsRank};
+ghost use Rattle.cl_state.specs.Room.{rank_of};
 
 use crate::debugging::Debugger;
 use crate::faults::DebugFault;
+use cl_state::RankState;
 use rv_hart::Hart;
 use rv_memory::BytesFault;
 
@@ -27,6 +29,18 @@ impl Debugger {
         }
         let owner = &self.state.ranks[usize::from(rank)];
         Ok(&owner.harts[usize::from(hart)])
+    }
+
+    /// A rank as it is at the place: its output, its harts and its memory. The only refusal is NoRank. Takes no memory.
+    pub fn rank(&self, rank: u8) -> Result<&RankState, DebugFault>
+        ensures shown { IfOk result (λ shown. ShowsRank self.now rank (rank_of shown.now)) }
+        ensures no_rank { (result ≡ Err DebugFault.NoRank) ↔ (self.now.image.ranks ≤ rank) }
+        ensures fault { IfErr result (λ fault. fault ≡ DebugFault.NoRank) }
+    {
+        if rank >= self.image.parts().ranks {
+            return Err(DebugFault::NoRank);
+        }
+        Ok(&self.state.ranks[usize::from(rank)])
     }
 
     /// So many bytes of a rank's memory from an address on, as they are at the place. Refusals, in this order: NoRank;

@@ -1,5 +1,6 @@
 //! Runs each of the sources on standard input, which a line `====` parts, for 200 turns a rank, and prints who waits for
-//! whom where it stands then. That the text is the written one is proved; here it is read.
+//! whom where it stands then, of one that begins so also which calls led there. That the text is the written one is
+//! proved; here it is read.
 #![tactic(auto)]
 
 use cl_merge::merge;
@@ -15,6 +16,9 @@ use std::io::{Read, Write};
 
 /// The most turns of a rank.
 const BUDGET: u64 = 200;
+
+/// How a source begins of which calls are told.
+const CALLS: &str = "# calls";
 
 /// What stands between two sources.
 const BETWEEN: &str = "====\n";
@@ -57,7 +61,7 @@ fn told(alloc: Global, source: &str) -> Option<Vec<u8>> {
     let plans = plans(alloc, parts.ranks, parts.harts).ok()?;
     let left = run_one(alloc, &image, &plans, &order).ok()?;
     let state = end_of(alloc, &image, &left)?;
-    why(alloc, &image, &state).ok()
+    why(alloc, &image, &state, source.starts_with(CALLS)).ok()
 }
 
 fn main(rt: HostRuntime) -> io::Result<()> {

@@ -9,7 +9,7 @@ use Rattle.rvmc_line.specs.Debug.{debug_words_in}
 use Rattle.rvmc_line.specs.declared.line.CommandLine.{CommandLine}
 use Rattle.rvmc_line.specs.declared.line.CommandLine.TheVariants.{OfImage, OfRecord}
 use Rattle.rvmc_line.specs.declared.line.ImageCommand.TheVariants.{Asm, Dis, One, Run}
-use Rattle.rvmc_line.specs.declared.line.RecordCommand.TheVariants.{Check, Debug, Why}
+use Rattle.rvmc_line.specs.declared.line.RecordCommand.TheVariants.{Check, Debug, Report, Why}
 use Rattle.rvmc_line.specs.declared.line.Written.{Written}
 use Rattle.rvmc_line.specs.declared.line.Written.TheVariants as written
 
@@ -95,6 +95,15 @@ check_row =
       meaning = λ rows. Some (OfRecord Check);
     }
 
+-- `report`
+abbrev pub report_row : CommandRow
+report_row =
+    record {
+      name = codes "report";
+      rules = [];
+      meaning = λ rows. Some (OfRecord Report);
+    }
+
 -- `debug CMD..`
 abbrev pub debug_row : CommandRow
 debug_row =
@@ -106,21 +115,22 @@ debug_row =
           (all_of (codes "words") rows);
     }
 
--- `why [--at N]`, N below 2^64
+-- `why [--at N] [--frames]`, N below 2^64
 abbrev pub why_row : CommandRow
 why_row =
     record {
       name = codes "why";
-      rules = option (codes "at") ∷ [];
+      rules = option (codes "at") ∷ flag (codes "frames") ∷ [];
       meaning = λ rows.
-          option_map (λ at. OfRecord (Why at)) (optional_number (codes "at") 0 18446744073709551615 rows);
+          option_map (λ at. OfRecord (Why at (flag_in (codes "frames") rows)))
+          (optional_number (codes "at") 0 18446744073709551615 rows);
     }
 
 -- ---- all of them
 
 -- in the order in which help lists them
 abbrev pub commands : List CommandRow
-commands = asm_row ∷ dis_row ∷ run_row ∷ one_row ∷ check_row ∷ debug_row ∷ why_row ∷ []
+commands = asm_row ∷ dis_row ∷ run_row ∷ one_row ∷ check_row ∷ report_row ∷ debug_row ∷ why_row ∷ []
 
 -- what clap reads of a command
 abbrev pub app_of : CommandRow → App

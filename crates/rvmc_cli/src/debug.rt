@@ -28,6 +28,8 @@ one, each at the place where the one before it left off:
   break=R,H,PC     lets `run` stop where hart H of rank R is next, at PC
   break=R,H,NAME   the same at the address of the image's symbol
   regs=R,H         shows how the hart is, and its registers
+  frames=R,H       shows how the hart is, and the calls that led there
+  output=R         shows what rank R has put out
   bytes=R,A,N      shows N bytes of rank R's memory from address A on
   bytes=R,NAME,N   the same from the address of the image's symbol
 

@@ -11,6 +11,7 @@ mod dis;
 mod one;
 mod parsing;
 mod parts;
+mod report;
 mod run;
 mod runner;
 mod table;

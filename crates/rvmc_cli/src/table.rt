@@ -11,7 +11,7 @@ ghost use Rattle.rvmc_cli.specs.Parsing.{Finds};
 
 use crate::parts::command as new_command;
 use crate::wrong::Wrong;
-use crate::{asm, check, debug, dis, one, run, why};
+use crate::{asm, check, debug, dis, one, report, run, why};
 use clap::{ArgMatches, Command};
 use rvmc_line::CommandLine;
 use std::alloc::{AllocError, Global};
@@ -20,7 +20,7 @@ use std::alloc::{AllocError, Global};
 /// module that builds and reads it too.
 macro_rules! commands {
     ($made:ident($($given:tt)*)) => {
-        $made!($($given)*; asm, dis, run, one, check, debug, why)
+        $made!($($given)*; asm, dis, run, one, check, report, debug, why)
     };
 }
 
@@ -62,6 +62,7 @@ Examples:
   rvmc run --source <hi.s     runs the source with a thread for each rank
   rvmc run --record <hi.image | rvmc check
                               checks each step that the threads took
+  rvmc report <hi.record      tells what a recorded run put out
   rvmc debug go=2 regs=0,0 <hi.record
                               shows the registers after two steps
   rvmc one --source --why <hi.s

@@ -1,4 +1,4 @@
-//! `why [--at N]`.
+//! `why [--at N] [--frames]`.
 
 ghost use Rattle.std.specs.Prelude.{IfOk};
 ghost use Rattle.clap.specs.Walk.{rows_of};
@@ -7,8 +7,8 @@ ghost use Rattle.rvmc_cli.specs.Built.{StandsFor};
 ghost use Rattle.rvmc_cli.specs.Commands.{app_of, why_row};
 ghost use Rattle.rvmc_cli.specs.Parsing.{Finds};
 
-use crate::parts::{command as new_command, option};
-use crate::values::optional_number;
+use crate::parts::{command as new_command, flag, option};
+use crate::values::{self, optional_number};
 use crate::wrong::Wrong;
 use clap::{ArgMatches, Command};
 use rvmc_line::{CommandLine, RecordCommand};
@@ -25,7 +25,9 @@ line for each hart tells how it is there:
   rank 0 hart 0 waits at 0x2c in RECV for a message from rank 1 tag 7 comm 0
 
 Behind an address stands the nearest symbol of the image at or before it, if
-there is one, as `0x2c (loop+0x8)`. Where a hart waits for several things, `; `
+there is one, as `0x2c (loop+0x8)`. With --frames the calls that led there stand
+behind it, by the frame pointers of the hart's stack, the last one first, as
+`0x1a4 (MPI_Barrier+0x94) called from 0xdc (life.c.41)`. Where a hart waits for several things, `; `
 stands between them. Behind the harts the messages are counted that no receive
 has taken yet, those of each sender and tag. The last line is the verdict:
 
@@ -42,7 +44,8 @@ run of its image, as `rvmc: why: NotARun 3`: both have status 1.
 Examples:
   rvmc one --record <hi.image >hi.record
   rvmc why <hi.record
-  rvmc why --at 6 <hi.record           what each hart waits for after six steps";
+  rvmc why --at 6 <hi.record           what each hart waits for after six steps
+  rvmc why --frames <hi.record         and which calls led there";
 
 /// The command as clap builds it.
 pub fn command<'a>(alloc: Global) -> Result<Command<'a>, AllocError>
@@ -59,6 +62,11 @@ pub fn command<'a>(alloc: Global) -> Result<Command<'a>, AllocError>
         "at",
         "N",
         "Tells of the place with N steps done [default: all steps]",
+    ))?
+    .arg(flag(
+        alloc,
+        "frames",
+        "Tells also which calls led to where each hart is",
     ))
 }
 
@@ -67,5 +75,6 @@ pub fn line<'a>(_alloc: Global, matches: &ArgMatches<'a>) -> Result<CommandLine,
     ensures { Finds (why_row.meaning (rows_of (found_of matches.now))) result }
 {
     let at = optional_number(matches, "at", 0, u64::MAX)?;
-    Ok(CommandLine::OfRecord(RecordCommand::Why { at }))
+    let frames = values::flag(matches, "frames");
+    Ok(CommandLine::OfRecord(RecordCommand::Why { at, frames }))
 }

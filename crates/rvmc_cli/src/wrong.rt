@@ -62,8 +62,8 @@ impl fmt::Display for Wrong<'_> {
             ),
             Wrong::Word(text) => write!(
                 f,
-                "a CMD is go=N, step, back, run, place, break=R,H,PC, break=R,H,NAME, regs=R,H, bytes=R,A,N \
-                 or bytes=R,NAME,N, with R and H from 0 to 255, not '{text}'"
+                "a CMD is go=N, step, back, run, place, break=R,H,PC, break=R,H,NAME, regs=R,H, frames=R,H, \
+                 output=R, bytes=R,A,N or bytes=R,NAME,N, with R and H from 0 to 255, not '{text}'"
             ),
             Wrong::Both { flag, other } => write!(
                 f,

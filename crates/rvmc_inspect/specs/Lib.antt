@@ -1,7 +1,10 @@
 pub mod Places
+pub mod Frames
+pub mod Callers
 pub mod Waits
 pub mod Texts
 pub mod Unreceived
 pub mod Why
 pub mod WordTexts
 pub mod Words
+pub mod WorkedFrames

@@ -1,5 +1,5 @@
 -- How the harts of a rank stand, as text.
-use Rattle.std.specs.Prelude.{ℕ, List, [], ◌∷◌, ◌++◌, codes, Option, Some, None}
+use Rattle.std.specs.Prelude.{ℕ, Bool, List, [], ◌∷◌, ◌++◌, codes, Option, Some, None}
 use Rattle.std.specs.Fmt.{decimal}
 use Rattle.std.specs.List.{enumerate_from, flat_map}
 use Rattle.rv_hart.specs.State.{State}
@@ -7,6 +7,7 @@ use Rattle.rv_hart.specs.declared.state.Mode.{Mode}
 use Rattle.rv_hart.specs.declared.state.Mode.TheVariants.{Running, Waiting, Ended, Trapped}
 use Rattle.rv_image.specs.declared.images.Symbol.{Symbol}
 use Rattle.rv_memory.specs.Fault.{cause_number}
+use Rattle.rv_memory.specs.Memory.{Memory}
 use Rattle.rv_memory.specs.declared.fault.Cause.{Cause}
 use Rattle.mp_hub.specs.Hub.{HubView}
 use Rattle.part_box.specs.declared.settled.Settled.{Settled}
@@ -17,6 +18,7 @@ use Rattle.cl_state.specs.Rank.{Rank}
 use Rattle.rvmc_report.specs.Report.{newline}
 use Rattle.rvmc_inspect.specs.declared.awaited.Wait.{Wait}
 use Rattle.rvmc_inspect.specs.declared.awaited.Wait.TheVariants as wait
+use Rattle.rvmc_inspect.specs.Callers.{callers_text}
 use Rattle.rvmc_inspect.specs.Places.{named_address_text}
 use Rattle.rvmc_inspect.specs.Waits.{waits}
 
@@ -93,8 +95,14 @@ call_name call.Unknown = codes "no call"
 unfoldable pub call_text : State → List Wait → List ℕ
 call_text hart found = codes " in " ++ (call_name (call_named hart) ++ (codes " for " ++ waits_text found))
 
-abbrev pub waiting_text : List Symbol → State → List Wait → List ℕ
-waiting_text symbols hart found = codes "waits at " ++ (named_address_text symbols hart.pc ++ call_text hart found)
+-- where a hart is, and with `framed` the calls that led there
+abbrev pub standing_text : Bool → List Symbol → Memory → State → ℕ → List ℕ
+standing_text framed symbols memory hart at =
+    named_address_text symbols at ++ callers_text framed symbols memory hart
+
+abbrev pub waiting_text : Bool → List Symbol → Memory → State → List Wait → List ℕ
+waiting_text framed symbols memory hart found =
+    codes "waits at " ++ (standing_text framed symbols memory hart hart.pc ++ call_text hart found)
 
 abbrev pub ended_text : ℕ → List ℕ
 ended_text code = codes "ended " ++ decimal code
@@ -102,25 +110,30 @@ ended_text code = codes "ended " ++ decimal code
 abbrev pub trapped_text : Cause → List ℕ
 trapped_text cause = codes "trapped " ++ (decimal (cause_number cause) ++ codes " at ")
 
--- `runs at PC`, `waits at PC in CALL for WHAT`, `ended CODE`, or `trapped CAUSE at PC`
-abbrev pub doing_text : List Symbol → State → List Wait → Mode → List ℕ
-doing_text symbols hart found Running = codes "runs at " ++ named_address_text symbols hart.pc
-doing_text symbols hart found (Waiting w) = waiting_text symbols hart found
-doing_text symbols hart found (Ended code) = ended_text code
-doing_text symbols hart found (Trapped cause at) = trapped_text cause ++ named_address_text symbols at
+-- `runs at PC`, `waits at PC in CALL for WHAT`, `ended CODE`, or `trapped CAUSE at PC`; behind a PC may stand the calls
+-- that led there
+abbrev pub doing_text : Bool → List Symbol → Memory → State → List Wait → Mode → List ℕ
+doing_text framed symbols memory hart found Running =
+    codes "runs at " ++ standing_text framed symbols memory hart hart.pc
+doing_text framed symbols memory hart found (Waiting w) = waiting_text framed symbols memory hart found
+doing_text framed symbols memory hart found (Ended code) = ended_text code
+doing_text framed symbols memory hart found (Trapped cause at) =
+    trapped_text cause ++ standing_text framed symbols memory hart at
 
 -- `rank R hart H `, and how the hart stands
 abbrev pub hart_head : ℕ → ℕ → List ℕ
 hart_head r number = codes "rank " ++ (decimal r ++ (codes " hart " ++ (decimal number ++ codes " ")))
 
-unfoldable pub hart_line : List Symbol → ℕ → ℕ → State → List Wait → List ℕ
-hart_line symbols r number hart found = hart_head r number ++ (doing_text symbols hart found hart.mode ++ newline)
+unfoldable pub hart_line : Bool → List Symbol → Memory → ℕ → ℕ → State → List Wait → List ℕ
+hart_line framed symbols memory r number hart found =
+    hart_head r number ++ (doing_text framed symbols memory hart found hart.mode ++ newline)
 
 -- the lines of these harts of a rank in order, the first of which has this number
-abbrev pub harts_from : List Symbol → HubView → List (List Settled) → ℕ → Rank → ℕ → List State → List ℕ
-harts_from symbols hub boxes r rank number harts =
-    flat_map (λ hart. hart_line symbols r hart.0 hart.1 (waits hub boxes rank hart.0)) (enumerate_from number harts)
+abbrev pub harts_from : Bool → List Symbol → HubView → List (List Settled) → ℕ → Rank → ℕ → List State → List ℕ
+harts_from framed symbols hub boxes r rank number harts =
+    flat_map (λ hart. hart_line framed symbols rank.memory r hart.0 hart.1 (waits hub boxes rank hart.0))
+    (enumerate_from number harts)
 
 -- the lines of the rank's harts
-abbrev pub hart_waits_text : List Symbol → HubView → List (List Settled) → ℕ → Rank → List ℕ
-hart_waits_text symbols hub boxes r rank = harts_from symbols hub boxes r rank 0 rank.harts
+abbrev pub hart_waits_text : Bool → List Symbol → HubView → List (List Settled) → ℕ → Rank → List ℕ
+hart_waits_text framed symbols hub boxes r rank = harts_from framed symbols hub boxes r rank 0 rank.harts

@@ -1,5 +1,5 @@
 -- What is told of a state: how its harts stand, the messages that weren't received, and the verdict.
-use Rattle.std.specs.Prelude.{ℕ, ◌≡◌, List, ◌++◌, codes, length, Option, Some, None}
+use Rattle.std.specs.Prelude.{ℕ, ◌≡◌, Bool, List, ◌++◌, codes, length, Option, Some, None}
 use Rattle.std.specs.Fmt.{decimal}
 use Rattle.std.specs.List.{enumerate_from, flat_map}
 use Rattle.rv_image.specs.declared.images.ImageParts.{ImageParts}
@@ -17,13 +17,13 @@ use Rattle.rvmc_inspect.specs.Unreceived.{unreceived_text}
 -- ---- the harts
 
 -- the lines of the harts of these ranks in order, the first of which has this number
-abbrev pub ranks_from : List Symbol → HubView → List (List Settled) → ℕ → List RankState → List ℕ
-ranks_from symbols hub boxes number ranks =
-    flat_map (λ rank. hart_waits_text symbols hub boxes rank.0 (rank_of rank.1)) (enumerate_from number ranks)
+abbrev pub ranks_from : Bool → List Symbol → HubView → List (List Settled) → ℕ → List RankState → List ℕ
+ranks_from framed symbols hub boxes number ranks =
+    flat_map (λ rank. hart_waits_text framed symbols hub boxes rank.0 (rank_of rank.1)) (enumerate_from number ranks)
 
 -- of all ranks
-abbrev pub all_harts_text : ImageParts → ClusterState → List ℕ
-all_harts_text image state = ranks_from image.symbols state.hub state.boxes.items 0 state.ranks.items
+abbrev pub all_harts_text : Bool → ImageParts → ClusterState → List ℕ
+all_harts_text framed image state = ranks_from framed image.symbols state.hub state.boxes.items 0 state.ranks.items
 
 -- ---- the verdict
 
@@ -43,13 +43,13 @@ deadlock_verdict_text (Some ranks) = deadlock_text ranks
 
 -- ---- all of it
 
-abbrev pub why_text : ImageParts → ClusterState → Option (List ℕ) → List ℕ
-why_text image state found =
-    all_harts_text image state
+abbrev pub why_text : Bool → ImageParts → ClusterState → Option (List ℕ) → List ℕ
+why_text framed image state found =
+    all_harts_text framed image state
     ++ (unreceived_text (length state.ranks.items) state.hub.board.lines ++ deadlock_verdict_text found)
 
--- the text of the state with the verdict on it
-pub record IsWhy (image : ImageParts) (state : ClusterState) (text : List ℕ) : Type 0 where
+-- the text of the state with the verdict on it, with `framed` also of the calls that led to where each hart is
+pub record IsWhy (framed : Bool) (image : ImageParts) (state : ClusterState) (text : List ℕ) : Type 0 where
   pub found : Option (List ℕ)
   pub verdict : IsDeadlockVerdict state found
-  pub is : text ≡ why_text image state found
+  pub is : text ≡ why_text framed image state found

@@ -3,6 +3,10 @@ use Rattle.std.specs.Prelude.{ℕ, ◌+◌, ◌-◌, ◌*◌, ◌/◌, List, ◌
 use Rattle.std.specs.Fmt.{decimal, digits}
 use Rattle.std.specs.List.{flat_map, join_with_byte, range_with_len}
 use Rattle.rv_hart.specs.State.{State, read}
+use Rattle.rv_image.specs.declared.images.Symbol.{Symbol}
+use Rattle.rv_memory.specs.Memory.{Memory}
+use Rattle.rvmc_inspect.specs.Callers.{calls_text}
+use Rattle.rvmc_inspect.specs.Frames.{frames}
 use Rattle.rvmc_report.specs.Report.{hart_text, newline}
 
 -- a number in hex, in lower case, with zeros before it up to a width
@@ -24,6 +28,11 @@ registers_text hart = flat_map (λ number. register_line number (read hart numbe
 -- the hart's line of the report, and its registers
 abbrev pub regs_text : ℕ → ℕ → State → List ℕ
 regs_text rank number hart = hart_text rank number hart ++ registers_text hart
+
+-- the hart's line of the report, and a line for each call that led to where it is, as `called from 0xdc (life.c.41)`
+abbrev pub frames_text : List Symbol → ℕ → ℕ → Memory → State → List ℕ
+frames_text symbols rank number memory hart =
+    hart_text rank number hart ++ calls_text (codes "called from ") newline symbols (frames memory hart)
 
 -- a line of bytes: two digits each, one space between
 abbrev pub bytes_line : List ℕ → List ℕ

@@ -5,14 +5,16 @@ use Rattle.rv_hart.specs.State.{State}
 use Rattle.rv_image.specs.declared.images.ImageParts.{ImageParts}
 use Rattle.cl_debug.specs.Debugging.{Debugging, at_place, with_break}
 use Rattle.cl_debug.specs.Moves.{MovedBack, MovedOn, RanOn}
-use Rattle.cl_debug.specs.Shown.{HasNoSymbol, IsOutside, IsSymbolOf, ShowsBytes, ShowsHart}
+use Rattle.cl_debug.specs.Shown.{HasNoSymbol, IsOutside, IsSymbolOf, ShowsBytes, ShowsHart, ShowsRank}
 use Rattle.cl_debug.specs.declared.faults.DebugFault.{DebugFault}
 use Rattle.cl_debug.specs.declared.faults.DebugFault.TheVariants as faults
 use Rattle.rvmc_line.specs.declared.debug.DebugWord.{DebugWord}
-use Rattle.rvmc_line.specs.declared.debug.DebugWord.TheVariants.{Back, Break, Bytes, Go, Place, Regs, Run, Step}
+use Rattle.rvmc_line.specs.declared.debug.DebugWord.TheVariants.{Back, Break, Bytes, Frames, Go, Output, Place, Regs, Run, Step}
 use Rattle.rvmc_line.specs.declared.debug.Spot.{Spot}
 use Rattle.rvmc_line.specs.declared.debug.Spot.TheVariants as spot
-use Rattle.rvmc_inspect.specs.WordTexts.{bytes_text, place_text, regs_text}
+use Rattle.cl_state.specs.Rank.{Rank}
+use Rattle.rvmc_report.specs.Report.{output_text}
+use Rattle.rvmc_inspect.specs.WordTexts.{bytes_text, frames_text, place_text, regs_text}
 
 -- the address that a word names, as a number or as a symbol of the image
 abbrev pub IsSpot : ImageParts → Spot → ℕ → Type 0
@@ -41,6 +43,17 @@ abbrev pub TellsRegs : Debugging → ℕ → ℕ → Debugging → List ℕ → 
 TellsRegs old rank hart new text =
     (new ≡ old) × (state : State) × ShowsHart old rank hart state × (text ≡ regs_text rank hart state)
 
+-- the debugger stays, and a hart is shown with the calls that led to where it is, by the memory of its rank at the place
+abbrev pub TellsFrames : Debugging → ℕ → ℕ → Debugging → List ℕ → Type 0
+TellsFrames old rank hart new text =
+    (new ≡ old) × (owner : Rank) × ShowsRank old rank owner × (state : State) × ShowsHart old rank hart state
+    × (text ≡ frames_text old.image.symbols rank hart owner.memory state)
+
+-- the debugger stays, and what a rank has put out up to the place is shown, as in a report
+abbrev pub TellsOutput : Debugging → ℕ → Debugging → List ℕ → Type 0
+TellsOutput old rank new text =
+    (new ≡ old) × (owner : Rank) × ShowsRank old rank owner × (text ≡ output_text rank owner.out)
+
 -- the debugger stays, and bytes are shown as they are at the place, all of which are inside the memory
 abbrev pub TellsBytes : Debugging → ℕ → Spot → ℕ → Debugging → List ℕ → Type 0
 TellsBytes old rank at count new text =
@@ -57,6 +70,8 @@ Does old Run new text = RanOn old new × TellsPlace new text
 Does old Place new text = (new ≡ old) × TellsPlace new text
 Does old (Break rank hart at) new text = AddsBreak old rank hart at new text
 Does old (Regs rank hart) new text = TellsRegs old rank hart new text
+Does old (Frames rank hart) new text = TellsFrames old rank hart new text
+Does old (Output rank) new text = TellsOutput old rank new text
 Does old (Bytes rank at count) new text = TellsBytes old rank at count new text
 
 -- memory is wanted for a word that isn't refused otherwise, and that prints something or keeps a break: so for all but
@@ -66,6 +81,8 @@ WantsMemory old (Go n) = n ≤ length old.steps
 WantsMemory old (Break rank hart at) =
     (pc : ℕ) × IsSpot old.image at pc × (rank < old.image.ranks) × (hart < old.image.harts)
 WantsMemory old (Regs rank hart) = (rank < old.image.ranks) × (hart < old.image.harts)
+WantsMemory old (Frames rank hart) = (rank < old.image.ranks) × (hart < old.image.harts)
+WantsMemory old (Output rank) = rank < old.image.ranks
 WantsMemory old (Bytes rank at count) =
     (address : ℕ) × IsSpot old.image at address × (rank < old.image.ranks) × (¬ IsOutside old rank address count)
     × (0 < count)
@@ -80,11 +97,14 @@ Refuses old faults.NoSymbol (Break rank hart at) = IsUnknown old.image at
 Refuses old faults.NoSymbol (Bytes rank at count) = IsUnknown old.image at
 Refuses old faults.NoRank (Break rank hart at) = (pc : ℕ) × IsSpot old.image at pc × (old.image.ranks ≤ rank)
 Refuses old faults.NoRank (Regs rank hart) = old.image.ranks ≤ rank
+Refuses old faults.NoRank (Frames rank hart) = old.image.ranks ≤ rank
+Refuses old faults.NoRank (Output rank) = old.image.ranks ≤ rank
 Refuses old faults.NoRank (Bytes rank at count) =
     (address : ℕ) × IsSpot old.image at address × (old.image.ranks ≤ rank)
 Refuses old faults.NoHart (Break rank hart at) =
     (pc : ℕ) × IsSpot old.image at pc × (rank < old.image.ranks) × (old.image.harts ≤ hart)
 Refuses old faults.NoHart (Regs rank hart) = (rank < old.image.ranks) × (old.image.harts ≤ hart)
+Refuses old faults.NoHart (Frames rank hart) = (rank < old.image.ranks) × (old.image.harts ≤ hart)
 Refuses old faults.Range (Bytes rank at count) =
     (address : ℕ) × IsSpot old.image at address × (rank < old.image.ranks) × IsOutside old rank address count
 Refuses old fault word = ⊥

@@ -3,9 +3,10 @@
 ghost use Rattle.std.specs.Prelude.{◌≡◌, ◌++◌, IfOk, OnOk, string_bytes};
 ghost use Rattle.cl_state.specs.Room.{rank_of};
 ghost use Rattle.rvmc_inspect.specs.Texts.{call_text, ended_text, hart_head, hart_line, hart_waits_text, doing_text};
-ghost use Rattle.rvmc_inspect.specs.Texts.{trapped_text, waiting_text};
+ghost use Rattle.rvmc_inspect.specs.Texts.{standing_text, trapped_text, waiting_text};
 
 use crate::awaited::{Wait, put_waits};
+use crate::callers::put_callers;
 use crate::calls::call_name;
 use crate::finding::waits;
 use crate::places::put_place;
@@ -15,7 +16,7 @@ use mp_hub::HubState;
 use part_box::Settled;
 use rv_hart::{Hart, Mode};
 use rv_image::Symbol;
-use rv_memory::Cause;
+use rv_memory::{Cause, RankMemory};
 use std::alloc::{AllocError, Global};
 
 /// `rank R hart H `, before how the hart stands.
@@ -41,18 +42,38 @@ fn put_call(
     put_waits(alloc, text, found)
 }
 
+/// Adds where a hart is, and with `framed` the calls that led there.
+fn put_standing(
+    alloc: Global,
+    text: &mut Vec<u8>,
+    symbols: &[Symbol],
+    memory: &RankMemory,
+    hart: &Hart,
+    at: u64,
+    framed: bool,
+) -> Result<(), AllocError>
+    ensures { OnOk result
+        (text.new.items ≡ text.old.items ++ standing_text framed symbols.now memory.now hart.now at) }
+{
+    put_place(alloc, text, symbols, at)?;
+    put_callers(alloc, text, symbols, memory, hart, framed)
+}
+
 /// Adds where a hart waits, in which call, and for what.
 fn put_waiting(
     alloc: Global,
     text: &mut Vec<u8>,
     symbols: &[Symbol],
+    memory: &RankMemory,
     hart: &Hart,
     found: &[Wait],
+    framed: bool,
 ) -> Result<(), AllocError>
-    ensures { OnOk result (text.new.items ≡ text.old.items ++ waiting_text symbols.now hart.now found.now) }
+    ensures { OnOk result
+        (text.new.items ≡ text.old.items ++ waiting_text framed symbols.now memory.now hart.now found.now) }
 {
     text.extend_from_slice(b"waits at ")?;
-    put_place(alloc, text, symbols, hart.pc())?;
+    put_standing(alloc, text, symbols, memory, hart, hart.pc(), framed)?;
     put_call(alloc, text, hart, found)
 }
 
@@ -76,18 +97,21 @@ fn put_mode(
     alloc: Global,
     text: &mut Vec<u8>,
     symbols: &[Symbol],
+    memory: &RankMemory,
     hart: &Hart,
     found: &[Wait],
+    framed: bool,
 ) -> Result<(), AllocError>
     ensures { OnOk result
-        (text.new.items ≡ text.old.items ++ doing_text symbols.now hart.now found.now hart.now.mode) }
+        (text.new.items
+        ≡ text.old.items ++ doing_text framed symbols.now memory.now hart.now found.now hart.now.mode) }
 {
     match hart.mode() {
         Mode::Running => {
             text.extend_from_slice(b"runs at ")?;
-            put_place(alloc, text, symbols, hart.pc())
+            put_standing(alloc, text, symbols, memory, hart, hart.pc(), framed)
         }
-        Mode::Waiting(_) => put_waiting(alloc, text, symbols, hart, found),
+        Mode::Waiting(_) => put_waiting(alloc, text, symbols, memory, hart, found, framed),
         Mode::Ended(code) => {
             let ended = ended_text(alloc, code)?;
             text.extend_from_slice(ended.as_bytes())
@@ -95,7 +119,7 @@ fn put_mode(
         Mode::Trapped(cause, at) => {
             let trapped = trapped_text(alloc, cause)?;
             text.extend_from_slice(trapped.as_bytes())?;
-            put_place(alloc, text, symbols, at)
+            put_standing(alloc, text, symbols, memory, hart, at, framed)
         }
     }
 }
@@ -106,23 +130,26 @@ fn put_hart(
     alloc: Global,
     text: &mut Vec<u8>,
     symbols: &[Symbol],
+    memory: &RankMemory,
     rank: usize,
     number: usize,
     hart: &Hart,
     found: &[Wait],
+    framed: bool,
 ) -> Result<(), AllocError>
     ensures { OnOk result
-        (text.new.items ≡ text.old.items ++ hart_line symbols.now rank number hart.now found.now) }
+        (text.new.items
+        ≡ text.old.items ++ hart_line framed symbols.now memory.now rank number hart.now found.now) }
 {
     let head = hart_head(alloc, rank, number)?;
     text.extend_from_slice(head.as_bytes())?;
-    put_mode(alloc, text, symbols, hart, found)?;
+    put_mode(alloc, text, symbols, memory, hart, found, framed)?;
     text.push(b'\n')?;
     Ok(())
 }
 
-/// Adds the lines of a rank's harts, in their order: how each stands, and what one that waits is waiting for. The only
-/// error is want of memory.
+/// Adds the lines of a rank's harts, in their order: how each stands, what one that waits is waiting for, and with
+/// `framed` the calls that led there. The only error is want of memory.
 pub fn put_harts(
     alloc: Global,
     text: &mut Vec<u8>,
@@ -131,10 +158,11 @@ pub fn put_harts(
     boxes: &[[Settled; 16]],
     rank: usize,
     own: &RankState,
+    framed: bool,
 ) -> Result<(), AllocError>
     ensures { OnOk result
         (text.new.items
-        ≡ text.old.items ++ hart_waits_text symbols.now hub.now boxes.now rank (rank_of own.now)) }
+        ≡ text.old.items ++ hart_waits_text framed symbols.now hub.now boxes.now rank (rank_of own.now)) }
 {
     for number in 0..own.harts.len() {
         let found = waits(alloc, hub, boxes, own, number)?;
@@ -142,10 +170,12 @@ pub fn put_harts(
             alloc,
             text,
             symbols,
+            &own.memory,
             rank,
             number,
             &own.harts[number],
             found.as_slice(),
+            framed,
         )?;
     }
     Ok(())

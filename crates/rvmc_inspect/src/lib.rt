@@ -2,13 +2,16 @@
 //! stands, what one that waits is waiting for, and which messages weren't received; and the ranks of a deadlock.
 //!
 //! The meaning stands in specs/: the texts; what a word does or is refused for, and what all words print up to the first
-//! that is refused; what a hart waits for, and which symbol an address is told by. The verdict on a deadlock is that of
+//! that is refused; what a hart waits for, which frames lead to where it is, and
+//! which symbol an address is told by. The verdict on a deadlock is that of
 //! `cl_deadlock`.
 #![tactic(auto)]
 
 mod awaited;
+mod callers;
 mod calls;
 mod finding;
+mod frames;
 mod harts;
 mod places;
 mod telling;
@@ -19,6 +22,7 @@ mod words;
 pub use awaited::{Wait, wait_text};
 pub use calls::call_name;
 pub use finding::waits;
+pub use frames::{Frame, frame_above, own_frame};
 pub use harts::put_harts;
 pub use places::nearest;
 pub use telling::why;

@@ -33,7 +33,7 @@ pub fn nearest(symbols: &[Symbol], at: u64) -> Option<&Symbol>
 }
 
 /// The address, as `0x1c`.
-fn address_text(alloc: Global, at: u64) -> Result<String, AllocError>
+pub(crate) fn address_text(alloc: Global, at: u64) -> Result<String, AllocError>
     ensures { IfOk result (λ text. string_bytes text ≡ hex_text at) }
 {
     format!(in alloc; "0x{at:x}")

@@ -17,8 +17,9 @@ fn put_all_harts(
     text: &mut Vec<u8>,
     image: &Image,
     state: &ClusterState,
+    framed: bool,
 ) -> Result<(), AllocError>
-    ensures { OnOk result (text.new.items ≡ text.old.items ++ all_harts_text image.now state.now) }
+    ensures { OnOk result (text.new.items ≡ text.old.items ++ all_harts_text framed image.now state.now) }
 {
     let symbols = image.parts().symbols.as_slice();
     for rank in 0..state.ranks.len() {
@@ -30,6 +31,7 @@ fn put_all_harts(
             state.boxes.as_slice(),
             rank,
             &state.ranks[rank],
+            framed,
         )?;
     }
     Ok(())
@@ -74,14 +76,19 @@ fn put_verdict(alloc: Global, text: &mut Vec<u8>, found: &Option<Vec<u8>>) -> Re
     }
 }
 
-/// How each hart of the state stands, and what it waits for; which messages weren't received; and the ranks of a
-/// deadlock, or that none is shown. The only error is want of memory.
-pub fn why(alloc: Global, image: &Image, state: &ClusterState) -> Result<Vec<u8>, AllocError>
-    ensures { IfOk result (λ text. IsWhy image.now state.now text.items) }
+/// How each hart of the state stands, and what it waits for, with `framed` also the calls that led there; which messages
+/// weren't received; and the ranks of a deadlock, or that none is shown. The only error is want of memory.
+pub fn why(
+    alloc: Global,
+    image: &Image,
+    state: &ClusterState,
+    framed: bool,
+) -> Result<Vec<u8>, AllocError>
+    ensures { IfOk result (λ text. IsWhy framed image.now state.now text.items) }
 {
     let found = deadlock(alloc, state)?;
     let mut text = Vec::new(alloc);
-    put_all_harts(alloc, &mut text, image, state)?;
+    put_all_harts(alloc, &mut text, image, state, framed)?;
     put_unreceived(alloc, &mut text, state.ranks.len(), &state.hub)?;
     put_verdict(alloc, &mut text, &found)?;
     Ok(text)

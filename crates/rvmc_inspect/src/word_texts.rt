@@ -1,12 +1,16 @@
 //! What the words of `debug` print.
 
 ghost use Rattle.std.specs.Prelude.{◌≡◌, ◌++◌, ◌<◌, IfOk, OnOk, length, string_bytes};
-ghost use Rattle.rvmc_inspect.specs.WordTexts.{bytes_line, bytes_text, padded_hex, place_text, register_line};
-ghost use Rattle.rvmc_inspect.specs.WordTexts.{regs_text, registers_text};
+ghost use Rattle.rvmc_inspect.specs.WordTexts.{bytes_line, bytes_text, frames_text, padded_hex, place_text};
+ghost use Rattle.rvmc_report.specs.Report.{output_text};
+ghost use Rattle.rvmc_inspect.specs.WordTexts.{register_line, regs_text, registers_text};
 
+use crate::callers::put_calls;
 use rv_decode::Reg;
 use rv_hart::Hart;
-use rvmc_report::report::hart_line;
+use rv_image::Symbol;
+use rv_memory::RankMemory;
+use rvmc_report::report::{hart_line, put_output};
 use std::alloc::{AllocError, Global};
 
 /// Where the debugger stands: `at N of LEN`, with a newline behind it.
@@ -42,6 +46,40 @@ pub fn regs_text(alloc: Global, rank: u8, number: u8, hart: &Hart) -> Result<Vec
     let line = hart_line(alloc, usize::from(rank), usize::from(number), hart)?;
     let mut text = line.into_bytes();
     put_registers(alloc, &mut text, hart)?;
+    Ok(text)
+}
+
+/// The hart's line of the report, and a line for each call that led to where it is.
+pub fn frames_text(
+    alloc: Global,
+    symbols: &[Symbol],
+    rank: u8,
+    number: u8,
+    memory: &RankMemory,
+    hart: &Hart,
+) -> Result<Vec<u8>, AllocError>
+    ensures { IfOk result (λ text. text.items ≡ frames_text symbols.now rank number memory.now hart.now) }
+{
+    let line = hart_line(alloc, usize::from(rank), usize::from(number), hart)?;
+    let mut text = line.into_bytes();
+    put_calls(
+        alloc,
+        &mut text,
+        symbols,
+        memory,
+        hart,
+        b"called from ",
+        b"\n",
+    )?;
+    Ok(text)
+}
+
+/// What a rank has put out, as in a report.
+pub fn output_text(alloc: Global, rank: u8, output: &[u8]) -> Result<Vec<u8>, AllocError>
+    ensures { IfOk result (λ text. text.items ≡ output_text rank output.now) }
+{
+    let mut text = Vec::new(alloc);
+    put_output(alloc, &mut text, usize::from(rank), output)?;
     Ok(text)
 }
 

@@ -4,9 +4,9 @@ ghost use Rattle.std.specs.Prelude.{◌≡◌, ◌<◌, ◌++◌, IfErr, IfOk, L
 ghost use Rattle.cl_debug.specs.declared.faults.DebugFault.TheVariants.{NoSymbol};
 ghost use Rattle.rvmc_line.specs.declared.debug.DebugWord.TheVariants as word;
 ghost use Rattle.rvmc_inspect.specs.Words.{AddsBreak, Does, IsSpot, IsTextOfWords, IsUnknown, Refuses, TellsBytes, TellsPlace};
-ghost use Rattle.rvmc_inspect.specs.Words.{TellsRegs, WantsMemory};
+ghost use Rattle.rvmc_inspect.specs.Words.{TellsFrames, TellsOutput, TellsRegs, WantsMemory};
 
-use crate::word_texts::{bytes_text, place_text, regs_text};
+use crate::word_texts::{bytes_text, frames_text, output_text, place_text, regs_text};
 use cl_debug::{DebugFault, Debugger};
 use rvmc_line::{DebugWord, Spot};
 use std::alloc::{AllocError, Global};
@@ -105,6 +105,29 @@ fn regs(alloc: Global, debugger: &Debugger, rank: u8, hart: u8) -> Result<Vec<u8
     Ok(regs_text(alloc, rank, hart, shown)?)
 }
 
+/// Shows a hart, and the calls that led to where it is.
+fn frames(alloc: Global, debugger: &Debugger, rank: u8, hart: u8) -> Result<Vec<u8>, DebugFault>
+    ensures does { IfOk result (λ text. TellsFrames debugger.now rank hart debugger.now text.items) }
+    ensures wanted { IfOk result
+        (λ text. 0 < length text.items → WantsMemory debugger.now (word.Frames rank hart)) }
+    ensures fault { IfErr result (λ fault. Refuses debugger.now fault (word.Frames rank hart)) }
+{
+    let shown = debugger.regs(rank, hart)?;
+    let owner = debugger.rank(rank)?;
+    let symbols = debugger.image().parts().symbols.as_slice();
+    Ok(frames_text(alloc, symbols, rank, hart, &owner.memory, shown)?)
+}
+
+/// Shows what a rank has put out.
+fn output(alloc: Global, debugger: &Debugger, rank: u8) -> Result<Vec<u8>, DebugFault>
+    ensures does { IfOk result (λ text. TellsOutput debugger.now rank debugger.now text.items) }
+    ensures wanted { IfOk result (λ text. 0 < length text.items → WantsMemory debugger.now (word.Output rank)) }
+    ensures fault { IfErr result (λ fault. Refuses debugger.now fault (word.Output rank)) }
+{
+    let owner = debugger.rank(rank)?;
+    Ok(output_text(alloc, rank, owner.out.as_slice())?)
+}
+
 /// Shows bytes of a rank's memory.
 fn bytes(
     alloc: Global,
@@ -140,6 +163,8 @@ fn tell(alloc: Global, debugger: &mut Debugger, word: &DebugWord) -> Result<Vec<
         DebugWord::Place => Ok(tell_place(alloc, debugger)?),
         DebugWord::Break { rank, hart, at } => set_break(alloc, debugger, *rank, *hart, at),
         DebugWord::Regs { rank, hart } => regs(alloc, debugger, *rank, *hart),
+        DebugWord::Frames { rank, hart } => frames(alloc, debugger, *rank, *hart),
+        DebugWord::Output(rank) => output(alloc, debugger, *rank),
         DebugWord::Bytes { rank, at, count } => bytes(alloc, debugger, *rank, at, *count),
     }
 }

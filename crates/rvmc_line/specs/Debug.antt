@@ -6,7 +6,7 @@ use Rattle.std.specs.Str.{bytes_eq}
 use Rattle.rv_image.specs.Names.{begins_with_digit, is_name_byte}
 use Rattle.rvmc_line.specs.Number.{any_number_in}
 use Rattle.rvmc_line.specs.declared.debug.DebugWord.{DebugWord}
-use Rattle.rvmc_line.specs.declared.debug.DebugWord.TheVariants.{Back, Break, Bytes, Go, Place, Regs, Run, Step}
+use Rattle.rvmc_line.specs.declared.debug.DebugWord.TheVariants.{Back, Break, Bytes, Frames, Go, Output, Place, Regs, Run, Step}
 use Rattle.rvmc_line.specs.declared.debug.Spot.{Spot}
 use Rattle.rvmc_line.specs.declared.debug.Spot.TheVariants.{Address, Name}
 
@@ -48,6 +48,17 @@ regs_in (r ∷ h ∷ []) =
     option_and_then (λ rank. option_map (λ hart. Regs rank hart) (small_number_in h)) (small_number_in r)
 regs_in others = None
 
+-- `frames=R,H`
+abbrev pub frames_in : List (List ℕ) → Option DebugWord
+frames_in (r ∷ h ∷ []) =
+    option_and_then (λ rank. option_map (λ hart. Frames rank hart) (small_number_in h)) (small_number_in r)
+frames_in others = None
+
+-- `output=R`
+abbrev pub output_in : List (List ℕ) → Option DebugWord
+output_in (r ∷ []) = option_map Output (small_number_in r)
+output_in others = None
+
 -- `bytes=R,A,N` and `bytes=R,NAME,N`
 abbrev pub bytes_word_in : List (List ℕ) → Option DebugWord
 bytes_word_in (r ∷ at ∷ n ∷ []) =
@@ -70,8 +81,10 @@ word_with name arguments =
     if bytes_eq name (codes "go") then go_in arguments
     else (if bytes_eq name (codes "break") then break_in arguments
     else (if bytes_eq name (codes "regs") then regs_in arguments
+    else (if bytes_eq name (codes "frames") then frames_in arguments
     else (if bytes_eq name (codes "bytes") then bytes_word_in arguments
-    else None)))
+    else (if bytes_eq name (codes "output") then output_in arguments
+    else None)))))
 
 -- what stands before, between and behind the equals signs: a word alone, or a word and its arguments with commas
 -- between them

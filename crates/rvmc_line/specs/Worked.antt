@@ -3,7 +3,7 @@ use Rattle.std.specs.Prelude.{◌≡◌, List, ℕ, None, Option, Some, codes, r
 use Rattle.rvmc_line.specs.Debug.{bare_word, debug_word_in, spot_in, word_with}
 use Rattle.rvmc_line.specs.Number.{any_number_in}
 use Rattle.rvmc_line.specs.declared.debug.DebugWord.{DebugWord}
-use Rattle.rvmc_line.specs.declared.debug.DebugWord.TheVariants.{Back, Break, Bytes, Go, Place, Regs, Run, Step}
+use Rattle.rvmc_line.specs.declared.debug.DebugWord.TheVariants.{Back, Break, Bytes, Frames, Go, Output, Place, Regs, Run, Step}
 use Rattle.rvmc_line.specs.declared.debug.Spot.TheVariants.{Address, Name}
 
 abbrev Reads : List ℕ → Option DebugWord → Type 0
@@ -64,6 +64,14 @@ a_break_at_a_name = refl
 pub the_greatest_rank_and_hart : Reads (codes "regs=255,0xff") (Some (Regs 255 255))
 unfolding debug_word_in bare_word word_with spot_in any_number_in
 the_greatest_rank_and_hart = refl
+
+pub frames_of_a_hart : Reads (codes "frames=0x7,3") (Some (Frames 7 3))
+unfolding debug_word_in bare_word word_with spot_in any_number_in
+frames_of_a_hart = refl
+
+pub output_of_a_rank : Reads (codes "output=7") (Some (Output 7))
+unfolding debug_word_in bare_word word_with spot_in any_number_in
+output_of_a_rank = refl
 
 pub bytes_at_an_address : Reads (codes "bytes=0,0xfff8,4") (Some (Bytes 0 (Address 65528) 4))
 unfolding debug_word_in bare_word word_with spot_in any_number_in
@@ -167,6 +175,18 @@ a_hart_of_256 = refl
 pub a_rank_of_256 : Reads (codes "regs=0x100,0") None
 unfolding debug_word_in bare_word word_with spot_in any_number_in
 a_rank_of_256 = refl
+
+pub frames_of_a_rank : Reads (codes "frames=0") None
+unfolding debug_word_in bare_word word_with spot_in any_number_in
+frames_of_a_rank = refl
+
+pub output_of_a_hart : Reads (codes "output=0,0") None
+unfolding debug_word_in bare_word word_with spot_in any_number_in
+output_of_a_hart = refl
+
+pub output_of_rank_256 : Reads (codes "output=256") None
+unfolding debug_word_in bare_word word_with spot_in any_number_in
+output_of_rank_256 = refl
 
 pub three_numbers : Reads (codes "regs=0,0,0") None
 unfolding debug_word_in bare_word word_with spot_in any_number_in

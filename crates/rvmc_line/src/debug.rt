@@ -3,8 +3,8 @@
 ghost use Rattle.std.specs.Prelude.{◌≡◌, ◌++◌, ◌∷◌, [], IfOk, OnErr, OnOk, map};
 ghost use Rattle.std.specs.List.{list_all};
 ghost use Rattle.rv_image.specs.Names as names;
-ghost use Rattle.rvmc_line.specs.Debug.{bare_word, break_in, bytes_word_in, debug_word_in, go_in, is_name, large_number_in};
-ghost use Rattle.rvmc_line.specs.Debug.{regs_in, small_number_in, spot_in, word_of, word_with};
+ghost use Rattle.rvmc_line.specs.Debug.{bare_word, break_in, bytes_word_in, debug_word_in, frames_in, go_in, is_name};
+ghost use Rattle.rvmc_line.specs.Debug.{large_number_in, output_in, regs_in, small_number_in, spot_in, word_of, word_with};
 
 use crate::list::parts;
 use crate::number::any_number_in;
@@ -59,6 +59,10 @@ pub enum DebugWord {
     Break { rank: u8, hart: u8, at: Spot },
     /// Shows how a hart is, and its registers.
     Regs { rank: u8, hart: u8 },
+    /// Shows how a hart is, and the calls that led there.
+    Frames { rank: u8, hart: u8 },
+    /// Shows what a rank has put out.
+    Output(u8),
     /// Shows so many bytes of a rank's memory.
     Bytes { rank: u8, at: Spot, count: u64 },
 }
@@ -194,6 +198,27 @@ fn regs_in(arguments: &[&str]) -> Option<DebugWord>
     Some(DebugWord::Regs { rank, hart })
 }
 
+fn frames_in(arguments: &[&str]) -> Option<DebugWord>
+    ensures { result ≡ frames_in (map (λ argument. argument.now) arguments.now) }
+{
+    let [r, h] = arguments else {
+        return None;
+    };
+    let rank = small_number_in(r)?;
+    let hart = small_number_in(h)?;
+    Some(DebugWord::Frames { rank, hart })
+}
+
+fn output_in(arguments: &[&str]) -> Option<DebugWord>
+    ensures { result ≡ output_in (map (λ argument. argument.now) arguments.now) }
+{
+    let [r] = arguments else {
+        return None;
+    };
+    let rank = small_number_in(r)?;
+    Some(DebugWord::Output(rank))
+}
+
 fn bytes_in(alloc: Global, arguments: &[&str]) -> Result<Option<DebugWord>, AllocError>
     ensures { IfOk result (λ found. found ≡ bytes_word_in (map (λ argument. argument.now) arguments.now)) }
 {
@@ -232,13 +257,15 @@ fn word_with(alloc: Global, name: &str, arguments: &[&str]) -> Result<Option<Deb
         "go" => Ok(go_in(arguments)),
         "break" => break_in(alloc, arguments),
         "regs" => Ok(regs_in(arguments)),
+        "frames" => Ok(frames_in(arguments)),
         "bytes" => bytes_in(alloc, arguments),
+        "output" => Ok(output_in(arguments)),
         _ => Ok(None),
     }
 }
 
 /// The word that a text writes: `step`, `back`, `run` or `place`, or `go=N`, `break=R,H,PC`, `break=R,H,NAME`,
-/// `regs=R,H`, `bytes=R,A,N` or `bytes=R,NAME,N`. R and H are numbers from 0 to 255, the others are up to 2^64-1; each
+/// `regs=R,H`, `frames=R,H`, `output=R`, `bytes=R,A,N` or `bytes=R,NAME,N`. R and H are numbers from 0 to 255, the others are up to 2^64-1; each
 /// is in decimal, or in hexadecimal behind `0x`. A name is one of the source language, of any length. Any other text is
 /// no word.
 #[tactic(auto, unfolding(crate::specs::Debug::debug_word_in))]

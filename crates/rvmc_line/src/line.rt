@@ -64,11 +64,14 @@ pub enum ImageCommand {
 pub enum RecordCommand {
     /// It is written whether the steps are a run in order.
     Check,
+    /// The report of the state to which the steps lead is written.
+    Report,
     /// The text of each word is written, in order, as far as no word is refused.
     Debug { words: DebugWords },
     /// It is written how each hart is after the first `at` steps, or else after all, what it waits for,
-    /// and which ranks are in a deadlock. Whether there are so many steps is not known here.
-    Why { at: Option<u64> },
+    /// and which ranks are in a deadlock; with `frames` also which calls led there. Whether there are so
+    /// many steps is not known here.
+    Why { at: Option<u64>, frames: bool },
 }
 
 /// Why there is no command line.

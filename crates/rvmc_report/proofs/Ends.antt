@@ -1,6 +1,7 @@
 -- The ends of ranks, of their states, their traces and their stops.
 use Rattle.std.proofs.Common.{◌≡◌, ◌||◌, if◌then◌else◌, Bool, List, [], ◌∷◌, length, refl, ap, arith}
 use Rattle.std.specs.List.{list_any}
+use Rattle.std.specs.Prelude.{Option, Some}
 use Rattle.cl_rank.specs.declared.stops.Stop.{Stop}
 use Rattle.cl_record.specs.declared.records.Record.{Record}
 use Rattle.cl_state.specs.declared.state.RankState.{RankState}
@@ -10,13 +11,13 @@ use Rattle.rvmc_report.specs.Report.{ends_of, has_trapped, is_cut_short, rank_en
 use Rattle.rvmc_report.specs.WholeRecord.{HasEachRank}
 
 -- the stops are those of the ends
-pub any_of_stops : (p : Stop → Bool) (states : List RankState) (traces : List TraceView) (stops : List Stop) → length traces ≡ length states → length stops ≡ length states
-    → list_any (λ end. p end.stop) (ends_of states traces stops) ≡ list_any p stops
+pub any_of_stops : (p : Option Stop → Bool) (states : List RankState) (traces : List TraceView) (stops : List Stop) → length traces ≡ length states → length stops ≡ length states
+    → list_any (λ end. p end.stop) (ends_of states traces stops) ≡ list_any (λ stop. p (Some stop)) stops
 any_of_stops p [] traces [] t s = refl
 any_of_stops p [] traces (stop ∷ stops) t s = absurd (omega (arith, s))
 any_of_stops p (state ∷ states) [] stops t s = absurd (omega (arith, t))
 any_of_stops p (state ∷ states) (trace ∷ traces) [] t s = absurd (omega (arith, s))
-any_of_stops p (state ∷ states) (trace ∷ traces) (stop ∷ stops) t s = ap (λ rest. p stop || rest) (any_of_stops p states traces stops (omega (arith, t)) (omega (arith, s)))
+any_of_stops p (state ∷ states) (trace ∷ traces) (stop ∷ stops) t s = ap (λ rest. p (Some stop) || rest) (any_of_stops p states traces stops (omega (arith, t)) (omega (arith, s)))
 
 -- and the harts
 pub any_of_harts : (p : List State → Bool) (states : List RankState) (traces : List TraceView) (stops : List Stop) → length traces ≡ length states → length stops ≡ length states
@@ -29,9 +30,9 @@ any_of_harts p (state ∷ states) (trace ∷ traces) (stop ∷ stops) t s =
 
 -- the status by the lists of the record
 pub status_by_lists : (left : Record) → HasEachRank left
-    → status_of (rank_ends left) ≡ (if list_any wants_memory left.stops.items then 5
+    → status_of (rank_ends left) ≡ (if list_any (λ stop. wants_memory (Some stop)) left.stops.items then 5
     else (if list_any (λ (state : RankState). has_trapped state.harts.items) left.ranks.items then 3
-    else (if list_any is_cut_short left.stops.items then 4
+    else (if list_any (λ stop. is_cut_short (Some stop)) left.stops.items then 4
     else 0)))
 status_by_lists left each =
     rw (

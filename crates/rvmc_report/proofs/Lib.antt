@@ -2,3 +2,4 @@ pub mod Digits
 pub mod Ends
 pub mod Known
 pub mod Names
+pub mod Reached

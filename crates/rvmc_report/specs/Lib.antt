@@ -6,3 +6,5 @@ pub mod Faults
 pub mod OtherFaults
 pub mod Input
 pub mod Verdicts
+pub mod Recorded
+pub mod RecordedLaws

@@ -1,5 +1,6 @@
 -- What the report of a run tells.
 use Rattle.std.specs.Prelude.{ℕ, Bool, true, false, if◌then◌else◌, List, [], ◌∷◌, ◌++◌, length, codes}
+use Rattle.std.specs.Prelude.{Option, Some, None}
 use Rattle.std.specs.Fmt.{decimal, digits}
 use Rattle.std.specs.List.{enumerate_from, flat_map, list_any}
 use Rattle.cl_rank.specs.declared.stops.Stop.{Stop}
@@ -14,21 +15,21 @@ use Rattle.rv_memory.specs.Fault.{cause_number}
 
 -- ---- the ranks
 
--- a rank whose run has ended
+-- a rank whose run has ended, and why it stopped, where that is known
 pub record RankEnd : Type 0 where
   pub output : List ℕ
   pub harts : List State
-  pub stop : Stop
+  pub stop : Option Stop
   pub turns : ℕ
 
 -- the end of a rank in this state
-abbrev pub rank_end : RankState → ℕ → Stop → RankEnd
+abbrev pub rank_end : RankState → ℕ → Option Stop → RankEnd
 rank_end state turns stop = record { output = state.out.items; harts = state.harts.items; stop = stop; turns = turns }
 
 -- the end of each rank, of the ranks' states, their events and their stops
 abbrev pub ends_of : List RankState → List TraceView → List Stop → List RankEnd
 ends_of (state ∷ states) (trace ∷ traces) (stop ∷ stops) =
-    rank_end state (length trace.events) stop ∷ ends_of states traces stops
+    rank_end state (length trace.events) (Some stop) ∷ ends_of states traces stops
 ends_of states traces stops = []
 
 -- the end of each rank of a record
@@ -52,12 +53,13 @@ mode_text (Ended code) pc = codes "ended " ++ decimal code
 mode_text (Trapped cause at) pc =
     codes "trapped " ++ (decimal (cause_number cause) ++ (codes " at " ++ hex_text at))
 
-abbrev pub stop_text : Stop → List ℕ
-stop_text AllEnded = codes "all-ended"
-stop_text Budget = codes "budget"
-stop_text Memory = codes "memory"
-stop_text (ClockFull clock) = codes "clock"
-stop_text (Calls count) = codes "calls"
+abbrev pub stop_text : Option Stop → List ℕ
+stop_text (Some AllEnded) = codes "all-ended"
+stop_text (Some Budget) = codes "budget"
+stop_text (Some Memory) = codes "memory"
+stop_text (Some (ClockFull clock)) = codes "clock"
+stop_text (Some (Calls count)) = codes "calls"
+stop_text None = codes "unknown"
 
 -- `rank R output N`
 abbrev pub output_head : ℕ → ℕ → List ℕ
@@ -75,7 +77,7 @@ hart_text rank number hart =
     ++ (codes " hart " ++ (decimal number ++ (codes " " ++ (mode_text hart.mode hart.pc ++ newline)))))
 
 -- `rank R stop WHY turns T`
-abbrev pub stop_line : ℕ → Stop → ℕ → List ℕ
+abbrev pub stop_line : ℕ → Option Stop → ℕ → List ℕ
 stop_line rank stop turns =
     codes "rank "
     ++ (decimal rank ++ (codes " stop " ++ (stop_text stop ++ (codes " turns " ++ (decimal turns ++ newline)))))
@@ -99,15 +101,16 @@ report ranks = ranks_text 0 ranks
 -- ---- their status
 
 -- the rank stopped for want of memory
-abbrev pub wants_memory : Stop → Bool
-wants_memory Memory = true
+abbrev pub wants_memory : Option Stop → Bool
+wants_memory (Some Memory) = true
 wants_memory other = false
 
 -- the rank stopped before all its harts did
-abbrev pub is_cut_short : Stop → Bool
-is_cut_short Budget = true
-is_cut_short (ClockFull clock) = true
-is_cut_short (Calls count) = true
+abbrev pub is_cut_short : Option Stop → Bool
+is_cut_short (Some Budget) = true
+is_cut_short (Some (ClockFull clock)) = true
+is_cut_short (Some (Calls count)) = true
+is_cut_short None = true
 is_cut_short other = false
 
 abbrev pub is_trapped : Mode → Bool
@@ -118,7 +121,7 @@ abbrev pub has_trapped : List State → Bool
 has_trapped harts = list_any (λ hart. is_trapped hart.mode) harts
 
 -- 5 where memory was wanting for a rank, else 3 where a hart trapped, else 4 where a rank stopped by its budget, a full
--- clock or too many calls, else 0
+-- clock or too many calls, or for what isn't known, else 0
 abbrev pub status_of : List RankEnd → ℕ
 status_of ranks =
     if list_any (λ rank. wants_memory rank.stop) ranks then 5

@@ -51,6 +51,10 @@ pub enum Fault {
     /// Why `why` has no place to tell of.
     #[error("why: {0}")]
     Why(PlaceFault),
+    /// Why there is no report of a record: its steps are no run of the image. Carries the number, from 0, of the first
+    /// that isn't the machine's.
+    #[error("report: NotARun {0}")]
+    Report(u64),
     /// Memory was refused.
     #[error("memory")]
     Memory,
@@ -78,7 +82,8 @@ impl Fault {
             | Fault::Plans
             | Fault::Unlike { .. }
             | Fault::Debug(_)
-            | Fault::Why(_) => 1,
+            | Fault::Why(_)
+            | Fault::Report(_) => 1,
             Fault::Memory | Fault::Spawn => 5,
             Fault::Read | Fault::Write => 6,
         }

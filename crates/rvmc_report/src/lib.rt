@@ -1,4 +1,4 @@
-//! What rvmc tells and what it takes: the report of a run, the verdict on a record, the listing of an image, the
+//! What rvmc tells and what it takes: the report of a run and of a record, the verdict on a record, the listing of an image, the
 //! faults, and the whole input.
 #![tactic(auto)]
 
@@ -6,5 +6,6 @@ pub mod faults;
 pub mod input;
 pub mod laws;
 pub mod listing;
+pub mod recorded;
 pub mod report;
 pub mod verdicts;

@@ -49,20 +49,26 @@ fn output_line(alloc: Global, rank: usize, count: usize) -> Result<String, Alloc
 }
 
 /// Why a rank stopped, in a word.
-fn stop_name(stop: Stop) -> &'static str
+fn stop_name(stop: Option<Stop>) -> &'static str
     ensures { result.now ≡ stop_text stop }
 {
     match stop {
-        Stop::AllEnded => "all-ended",
-        Stop::Budget => "budget",
-        Stop::Memory => "memory",
-        Stop::ClockFull(_) => "clock",
-        Stop::Calls(_) => "calls",
+        Some(Stop::AllEnded) => "all-ended",
+        Some(Stop::Budget) => "budget",
+        Some(Stop::Memory) => "memory",
+        Some(Stop::ClockFull(_)) => "clock",
+        Some(Stop::Calls(_)) => "calls",
+        None => "unknown",
     }
 }
 
 /// The line of a rank's stop.
-fn stop_text(alloc: Global, rank: usize, stop: Stop, turns: u64) -> Result<String, AllocError>
+fn stop_text(
+    alloc: Global,
+    rank: usize,
+    stop: Option<Stop>,
+    turns: u64,
+) -> Result<String, AllocError>
     ensures { IfOk result (λ text. string_bytes text ≡ stop_line rank stop turns) }
 {
     let name = stop_name(stop);
@@ -70,7 +76,7 @@ fn stop_text(alloc: Global, rank: usize, stop: Stop, turns: u64) -> Result<Strin
 }
 
 /// Adds a rank's output, with the line before it.
-fn put_output(
+pub fn put_output(
     alloc: Global,
     report: &mut Vec<u8>,
     rank: usize,
@@ -102,13 +108,13 @@ fn put_harts(
 }
 
 /// Adds what is told of a rank.
-fn put_rank(
+pub(crate) fn put_rank(
     alloc: Global,
     report: &mut Vec<u8>,
     rank: usize,
     state: &RankState,
     turns: u64,
-    stop: Stop,
+    stop: Option<Stop>,
 ) -> Result<(), AllocError>
     ensures { OnOk result (report.new.items ≡ report.old.items ++ rank_text rank (rank_end state.now turns stop)) }
 {
@@ -132,20 +138,20 @@ pub fn report(alloc: Global, left: &Record) -> Result<Vec<u8>, AllocError>
             rank,
             &left.ranks[rank],
             turns,
-            left.stops[rank],
+            Some(left.stops[rank]),
         )?;
     }
     Ok(text)
 }
 
 fn wants_memory(stop: Stop) -> bool
-    ensures { result ≡ wants_memory stop }
+    ensures { result ≡ wants_memory (Some stop) }
 {
     matches!(stop, Stop::Memory)
 }
 
 fn is_cut_short(stop: Stop) -> bool
-    ensures { result ≡ is_cut_short stop }
+    ensures { result ≡ is_cut_short (Some stop) }
 {
     match stop {
         Stop::AllEnded | Stop::Memory => false,
@@ -166,19 +172,19 @@ fn has_trapped(state: &RankState) -> bool
 }
 
 fn any_wants_memory(stops: &[Stop]) -> bool
-    ensures { result ≡ list_any wants_memory stops.now }
+    ensures { result ≡ list_any (λ stop. wants_memory (Some stop)) stops.now }
 {
     stops.iter().any(|stop| wants_memory(*stop))
 }
 
-fn any_has_trapped(states: &[RankState]) -> bool
+pub(crate) fn any_has_trapped(states: &[RankState]) -> bool
     ensures { result ≡ list_any (λ state. has_trapped state.harts.items) states.now }
 {
     states.iter().any(|state| has_trapped(state))
 }
 
 fn any_is_cut_short(stops: &[Stop]) -> bool
-    ensures { result ≡ list_any is_cut_short stops.now }
+    ensures { result ≡ list_any (λ stop. is_cut_short (Some stop)) stops.now }
 {
     stops.iter().any(|stop| is_cut_short(*stop))
 }

@@ -40,7 +40,7 @@ pub record IsRecordOf (image : ImageParts) (left : Record) (text : List ℕ) : T
 pub record IsWhyOf (image : ImageParts) (left : Record) (text : List ℕ) : Type 0 where
   pub steps : List Step
   pub sorted : IsMerge (steps_in left) steps
-  pub why : IsWhyAt image steps (length steps) text
+  pub why : IsWhyAt false image steps (length steps) text
 
 -- the report of a record, and that behind it
 pub record IsReportWithWhy (image : ImageParts) (left : Record) (text : List ℕ) : Type 0 where

@@ -1,6 +1,6 @@
 -- What a command says of the image and the steps of a record, and for which fault it says nothing: one definition of each
 -- a command.
-use Rattle.std.specs.Prelude.{◌≡◌, ◌≤◌, ◌⊎◌, ℕ, List, [], length, MatchResult, Option, None, Some}
+use Rattle.std.specs.Prelude.{◌≡◌, ◌≤◌, ◌⊎◌, ℕ, Bool, List, [], length, MatchResult, Option, None, Some}
 use Rattle.cl_debug.specs.declared.faults.DebugFault.{DebugFault}
 use Rattle.cl_debug.specs.declared.faults.DebugFault.TheVariants as debug
 use Rattle.cl_machine.specs.declared.steps.Step.{Step}
@@ -18,8 +18,9 @@ use Rattle.rvmc_inspect.specs.Why.{IsWhy}
 use Rattle.rvmc_inspect.specs.Words.{IsTextOfWords}
 use Rattle.rvmc_line.specs.declared.debug.DebugWord.{DebugWord}
 use Rattle.rvmc_line.specs.declared.line.RecordCommand.{RecordCommand}
-use Rattle.rvmc_line.specs.declared.line.RecordCommand.TheVariants.{Check, Debug, Why}
+use Rattle.rvmc_line.specs.declared.line.RecordCommand.TheVariants.{Check, Debug, Report, Why}
 use Rattle.rvmc_report.specs.Faults.{fault_of_debug, fault_status}
+use Rattle.rvmc_report.specs.Recorded.{IsReportOf}
 use Rattle.rvmc_report.specs.Verdicts.{verdict_status, verdict_text}
 use Rattle.rvmc_report.specs.declared.faults.Fault.{Fault}
 use Rattle.rvmc_report.specs.declared.faults.Fault.TheVariants as faults
@@ -36,6 +37,19 @@ pub record IsChecked (image : ImageParts) (steps : List Step) (text : List ℕ) 
   pub found : IsVerdict image steps verdict
   pub told : text ≡ verdict_text verdict (length steps)
   pub end_is : end ≡ Status (verdict_status verdict)
+
+-- ---- `report`
+
+-- the report of a state to which all steps lead, which are a run of the image, and its status
+pub record IsReported (image : ImageParts) (steps : List Step) (text : List ℕ) (end : End) : Type 0 where
+  pub status : ℕ
+  pub told : IsReportOf image steps text status
+  pub end_is : end ≡ Status status
+
+-- steps that are no run are a fault: the first that isn't the machine's
+abbrev pub IsNoReport : ImageParts → List Step → Fault → Type 0
+IsNoReport image steps (faults.Report n) = ReplayFaultHolds image steps (length steps) (replay.Step n)
+IsNoReport image steps other = ⊥
 
 -- ---- `debug`
 
@@ -64,13 +78,14 @@ abbrev pub place_asked : Option ℕ → List Step → ℕ
 place_asked (Some n) steps = n
 place_asked None steps = length steps
 
--- what the harts wait for in a state to which the first n steps lead, which are a run of the image
-pub record IsWhyAt (image : ImageParts) (steps : List Step) (n : ℕ) (text : List ℕ) : Type 0 where
+-- what the harts wait for in a state to which the first n steps lead, which are a run of the image; with `framed` also
+-- the calls that led to where they are
+pub record IsWhyAt (framed : Bool) (image : ImageParts) (steps : List Step) (n : ℕ) (text : List ℕ) : Type 0 where
   pub limits : IsImage image
   pub within : n ≤ length steps
   pub state : ClusterState
   pub reached : IsReached image steps n state
-  pub told : IsWhy image state text
+  pub told : IsWhy framed image state text
 
 -- a place that isn't there is a fault: there are fewer steps, or one before the place is the first that isn't the
 -- machine's
@@ -84,14 +99,17 @@ IsNoPlace image steps n other = ⊥
 -- what stands on the output, and how it ends. The status of `why` tells nothing of the verdict
 abbrev pub TellsOfSteps : RecordCommand → ImageParts → List Step → List ℕ → End → Type 0
 TellsOfSteps Check image steps text end = IsChecked image steps text end
+TellsOfSteps Report image steps text end = IsReported image steps text end
 TellsOfSteps (Debug words) image steps text end = IsDebugged image steps words text end
-TellsOfSteps (Why at) image steps text end = IsWhyAt image steps (place_asked at steps) text × (end ≡ Status 0)
+TellsOfSteps (Why at frames) image steps text end =
+    IsWhyAt frames image steps (place_asked at steps) text × (end ≡ Status 0)
 
 -- for which fault of the input nothing does
 abbrev pub RefusesSteps : RecordCommand → ImageParts → List Step → Fault → Type 0
 RefusesSteps Check image steps fault = ⊥
+RefusesSteps Report image steps fault = IsNoReport image steps fault
 RefusesSteps (Debug words) image steps fault = IsNoRun image steps fault
-RefusesSteps (Why at) image steps fault = IsNoPlace image steps (place_asked at steps) fault
+RefusesSteps (Why at frames) image steps fault = IsNoPlace image steps (place_asked at steps) fault
 
 -- the one or the other
 abbrev pub SaysOfSteps : RecordCommand → ImageParts → List Step → List ℕ → ℕ → Type 0

@@ -31,14 +31,20 @@ fn place_in(at: Option<u64>, steps: &[Step]) -> u64
     }
 }
 
-/// What the harts wait for where the first steps lead, so many.
-fn told_at(alloc: Global, image: &Image, steps: &[Step], place: u64) -> Result<Vec<u8>, ReplayFault>
-    ensures told { IfOk result (λ text. IsWhyAt image.now steps.now place text.items) }
+/// What the harts wait for where the first steps lead, so many, and with `framed` the calls that led there.
+fn told_at(
+    alloc: Global,
+    framed: bool,
+    image: &Image,
+    steps: &[Step],
+    place: u64,
+) -> Result<Vec<u8>, ReplayFault>
+    ensures told { IfOk result (λ text. IsWhyAt framed image.now steps.now place text.items) }
     ensures fault { IfErr result (ReplayFaultHolds image.now steps.now place) }
 {
     let _parts = image.parts();
     let state = replay(alloc, image, steps, place)?;
-    match why(alloc, image, &state) {
+    match why(alloc, image, &state, framed) {
         Ok(text) => Ok(text),
         Err(_) => Err(ReplayFault::Memory),
     }
@@ -49,15 +55,17 @@ fn told_at(alloc: Global, image: &Image, steps: &[Step], place: u64) -> Result<V
 pub(crate) fn explained(
     alloc: Global,
     at: Option<u64>,
+    framed: bool,
     image: Image,
     steps: Vec<Step>,
 ) -> Result<Answer, Fault>
     ensures tells { IfOk result (λ answer.
-        IsWhyAt image steps.items (place_asked at steps.items) (output_bytes answer.output) × (answer.end ≡ Status 0)) }
-    ensures fault { IfErr result (IsStepsFault (command.Why at) image steps.items) }
+        IsWhyAt framed image steps.items (place_asked at steps.items) (output_bytes answer.output)
+        × (answer.end ≡ Status 0)) }
+    ensures fault { IfErr result (IsStepsFault (command.Why at framed) image steps.items) }
 {
     let place = place_in(at, &steps);
-    let text = told_at(alloc, &image, &steps, place)?;
+    let text = told_at(alloc, framed, &image, &steps, place)?;
     Ok(Answer {
         output: Output::Text(text),
         end: End::Status(0),
@@ -72,7 +80,7 @@ fn why_of(alloc: Global, image: &Image, left: Record) -> Result<Vec<u8>, AllocEr
 {
     let steps = merge(alloc, &left)?;
     drop(left);
-    match told_at(alloc, image, &steps, steps.len() as u64) {
+    match told_at(alloc, false, image, &steps, steps.len() as u64) {
         Ok(text) => Ok(text),
         Err(ReplayFault::Memory) => Err(AllocError),
         Err(ReplayFault::PastEnd(_)) => unreachable!(),

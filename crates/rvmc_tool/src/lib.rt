@@ -10,6 +10,7 @@ pub mod outputs;
 pub mod plans;
 mod program;
 mod records;
+mod reporting;
 mod runs;
 
 pub use program::{tool, tool_plain};

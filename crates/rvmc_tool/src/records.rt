@@ -11,6 +11,7 @@ use crate::answers::Answer;
 use crate::checks::checked;
 use crate::debugging::debugged;
 use crate::explaining::explained;
+use crate::reporting::reported;
 use cl_machine::Step;
 use cl_text::read_record;
 use rv_image::Image;
@@ -40,8 +41,9 @@ fn told(
 {
     match command {
         RecordCommand::Check => checked(alloc, image, steps),
+        RecordCommand::Report => reported(alloc, image, steps),
         RecordCommand::Debug { words } => debugged(alloc, words, image, steps),
-        RecordCommand::Why { at } => explained(alloc, *at, image, steps),
+        RecordCommand::Why { at, frames } => explained(alloc, *at, *frames, image, steps),
     }
 }
 

@@ -22,7 +22,7 @@ record IsEndAt (states : List RankState) (traces : List TraceView) (stops : List
   pub state_at : slice_get states r ≡ Some state
   pub trace_at : slice_get traces r ≡ Some trace
   pub stop_at : slice_get stops r ≡ Some stop
-  pub is : rank_end state (length trace.events) stop ≡ end
+  pub is : rank_end state (length trace.events) (Some stop) ≡ end
 
 end_at : (states : List RankState) (traces : List TraceView) (stops : List Stop) (r : ℕ) (end : RankEnd) → slice_get (ends_of states traces stops) r ≡ Some end → IsEndAt states traces stops r end
 end_at [] traces stops r end e = absurd (cc)
@@ -59,7 +59,7 @@ not_true : (b : Bool) → ¬ (b ≡ true) → b ≡ false
 not_true true isnt = absurd (isnt refl)
 not_true false isnt = refl
 
-fits : (plan : Plan) (state : RankState) (trace : TraceView) (stop : Stop) → 1 ≤ plan.budget → StopsFor plan (rank_of state) trace.events stop → FitsStop plan.budget (rank_end state (length trace.events) stop) stop
+fits : (plan : Plan) (state : RankState) (trace : TraceView) (stop : Stop) → 1 ≤ plan.budget → StopsFor plan (rank_of state) trace.events stop → FitsStop plan.budget (rank_end state (length trace.events) (Some stop)) (Some stop)
 fits plan state trace AllEnded least is = is
 fits plan state trace Budget least is = (not_true _ is.0, is.1, omega (arith, is.1, least))
 fits plan state trace Memory least is = (not_true _ is.runs, is.left)

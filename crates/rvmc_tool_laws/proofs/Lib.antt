@@ -3,3 +3,4 @@ pub mod Recorded
 pub mod Symbols
 pub mod Verdicts
 pub mod Whom
+pub mod Chains

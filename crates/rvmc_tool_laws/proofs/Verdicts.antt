@@ -4,7 +4,7 @@ use Rattle.rvmc_tool.specs.Records.{IsWhyAt}
 use Rattle.rvmc_tool_laws.specs.Answers.{VerdictIsTrueLaw}
 
 pub verdict_is_true : VerdictIsTrueLaw
-verdict_is_true image steps n text is = (
+verdict_is_true framed image steps n text is = (
   is.told.found,
   is.told.is,
   is.told.verdict image is.reached.cluster (record {

@@ -1,5 +1,5 @@
 -- What follows for a report of `run`, for what `--record` leaves, and for the verdict that `why` tells.
-use Rattle.std.specs.Prelude.{ℕ, ◌≡◌, ◌≢◌, ◌<◌, Bool, true, false, List, [], length, slice_get, Option, Some}
+use Rattle.std.specs.Prelude.{ℕ, ◌≡◌, ◌≢◌, ◌<◌, Bool, true, false, List, [], length, slice_get, Option, None, Some}
 use Rattle.std.specs.List.{list_all}
 use Rattle.cl_rank.specs.Turns.{is_stopped}
 use Rattle.cl_rank.specs.declared.stops.Stop.{Stop}
@@ -24,13 +24,14 @@ use Rattle.rvmc_report.specs.Verdicts.{verdict_text}
 use Rattle.rvmc_inspect.specs.Why.{why_text}
 
 -- why a rank stopped, as its harts and the number of its turns have it: all harts are stopped just where that is told;
--- the budget is used up, and there was one; and for any other cause turns were left
-abbrev pub FitsStop : ℕ → RankEnd → Stop → Type 0
-FitsStop budget end AllEnded = list_all (λ hart. is_stopped hart.mode) end.harts ≡ true
-FitsStop budget end Budget =
+-- the budget is used up, and there was one; for any other cause turns were left; and the cause is known
+abbrev pub FitsStop : ℕ → RankEnd → Option Stop → Type 0
+FitsStop budget end (Some AllEnded) = list_all (λ hart. is_stopped hart.mode) end.harts ≡ true
+FitsStop budget end (Some Budget) =
     (list_all (λ hart. is_stopped hart.mode) end.harts ≡ false) × (end.turns ≡ budget) × (0 < end.turns)
-FitsStop budget end other =
+FitsStop budget end (Some other) =
     (list_all (λ hart. is_stopped hart.mode) end.harts ≡ false) × (end.turns < budget)
+FitsStop budget end None = ⊥
 
 -- a report of a run with threads tells of each rank why it stopped, and that fits what it tells of its harts and turns.
 -- So ranks as they were loaded, with a hart that runs and without a turn, have no report that says that all harts
@@ -65,5 +66,6 @@ RecordedIsGoodLaw = (line : CommandLine) (bytes text told : List ℕ) (status en
 -- ranks are stuck together
 abbrev pub VerdictIsTrueLaw : Type 0
 VerdictIsTrueLaw =
-    (image : ImageParts) (steps : List Step) (n : ℕ) (text : List ℕ) (is : IsWhyAt image steps n text)
-    → (found : Option (List ℕ)) × (text ≡ why_text image is.state found) × IsVerdictOf is.reached.cluster found
+    (framed : Bool) (image : ImageParts) (steps : List Step) (n : ℕ) (text : List ℕ)
+    (is : IsWhyAt framed image steps n text)
+    → (found : Option (List ℕ)) × (text ≡ why_text framed image is.state found) × IsVerdictOf is.reached.cluster found

@@ -3,4 +3,5 @@
 #![tactic(auto)]
 
 pub mod answers;
+pub mod frames;
 pub mod waits;

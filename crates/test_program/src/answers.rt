@@ -115,7 +115,7 @@ pub fn nothing_has_no_place(alloc: Global, at: Option<u64>) -> Result<Answer, Fa
 {
     answer_to(
         alloc,
-        &CommandLine::OfRecord(RecordCommand::Why { at }),
+        &CommandLine::OfRecord(RecordCommand::Why { at, frames: false }),
         &[],
     )
 }
@@ -126,7 +126,7 @@ pub fn each_place_ends_with_0(alloc: Global, at: Option<u64>, bytes: &[u8]) -> R
 {
     answer_to(
         alloc,
-        &CommandLine::OfRecord(RecordCommand::Why { at }),
+        &CommandLine::OfRecord(RecordCommand::Why { at, frames: false }),
         bytes,
     )
 }

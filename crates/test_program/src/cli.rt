@@ -239,6 +239,14 @@ pub fn record_of_a_source(alloc: Global) -> Result<CommandLine, ParseFault>
     parse(alloc, &["one", "--record", "--source"])
 }
 
+/// `report` tells of a record.
+#[tactic(auto, unfolding(rvmc_cli::specs::Meaning::faults_in, rvmc_cli::specs::Meaning::command_in, rvmc_cli::specs::Commands::line_in, clap::proofs::OnLiterals::clap_on_literals))]
+pub fn report_tells_of_a_record(alloc: Global) -> Result<CommandLine, ParseFault>
+    ensures { IfOk result (λ line. line ≡ OfRecord Report) }
+{
+    parse(alloc, &["report"])
+}
+
 /// `check` checks.
 #[tactic(auto, unfolding(rvmc_cli::specs::Meaning::faults_in, rvmc_cli::specs::Meaning::command_in, rvmc_cli::specs::Commands::line_in, clap::proofs::OnLiterals::clap_on_literals))]
 pub fn check_checks(alloc: Global) -> Result<CommandLine, ParseFault>
@@ -290,7 +298,7 @@ pub fn record_and_why_are_refused(alloc: Global) -> Result<CommandLine, ParseFau
 /// `why` tells of a record's end.
 #[tactic(auto, unfolding(rvmc_cli::specs::Meaning::faults_in, rvmc_cli::specs::Meaning::command_in, rvmc_cli::specs::Commands::line_in, clap::proofs::OnLiterals::clap_on_literals))]
 pub fn why_tells_of_the_end(alloc: Global) -> Result<CommandLine, ParseFault>
-    ensures { IfOk result (λ line. line ≡ OfRecord (Why None)) }
+    ensures { IfOk result (λ line. line ≡ OfRecord (Why None false)) }
 {
     parse(alloc, &["why"])
 }
@@ -298,9 +306,17 @@ pub fn why_tells_of_the_end(alloc: Global) -> Result<CommandLine, ParseFault>
 /// With `--at` of the place with so many steps done, the start too.
 #[tactic(auto, unfolding(rvmc_cli::specs::Meaning::faults_in, rvmc_cli::specs::Meaning::command_in, rvmc_cli::specs::Commands::line_in, clap::proofs::OnLiterals::clap_on_literals, rvmc_line::specs::Number::number_in))]
 pub fn why_tells_of_the_start(alloc: Global) -> Result<CommandLine, ParseFault>
-    ensures { IfOk result (λ line. line ≡ OfRecord (Why (Some 0))) }
+    ensures { IfOk result (λ line. line ≡ OfRecord (Why (Some 0) false)) }
 {
     parse(alloc, &["why", "--at", "0"])
+}
+
+/// With `--frames` also of calls.
+#[tactic(auto, unfolding(rvmc_cli::specs::Meaning::faults_in, rvmc_cli::specs::Meaning::command_in, rvmc_cli::specs::Commands::line_in, clap::proofs::OnLiterals::clap_on_literals))]
+pub fn why_tells_of_calls(alloc: Global) -> Result<CommandLine, ParseFault>
+    ensures { IfOk result (λ line. line ≡ OfRecord (Why None true)) }
+{
+    parse(alloc, &["why", "--frames"])
 }
 
 /// No record has more steps than a `u64` counts.

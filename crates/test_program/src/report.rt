@@ -1,7 +1,7 @@
 //! The faults, the status of a run, the verdict on a record, and the input.
 
 ghost use Rattle.std.specs.Prelude.{◌≡◌, ◌≢◌, ◌<◌, [], ◌∷◌, Err, IfOk, IsErr, codes, false, length, map};
-ghost use Rattle.std.specs.Prelude.{string_bytes, true};
+ghost use Rattle.std.specs.Prelude.{None, Some, string_bytes, true};
 ghost use Rattle.std.specs.List.{list_any};
 ghost use Rattle.cl_rank.specs.declared.stops.Stop.{Stop};
 ghost use Rattle.cl_rank.specs.declared.stops.Stop.TheVariants.{AllEnded, Budget, Memory, ClockFull, Calls};
@@ -151,7 +151,7 @@ pub fn bad_step_is_named(alloc: Global, count: usize) -> Result<String, AllocErr
 #[tactic(auto, using(rvmc_report::proofs::Ends::status_by_lists))]
 pub fn want_of_memory_outweighs_all(left: &Record) -> u8
     requires { HasEachRank left.now }
-    ensures { list_any wants_memory left.now.stops.items ≡ true → result ≡ 5 }
+    ensures { list_any (λ stop. wants_memory (Some stop)) left.now.stops.items ≡ true → result ≡ 5 }
 {
     status(left)
 }
@@ -160,7 +160,7 @@ pub fn want_of_memory_outweighs_all(left: &Record) -> u8
 #[tactic(auto, using(rvmc_report::proofs::Ends::status_by_lists))]
 pub fn trap_outweighs_a_budget(left: &Record) -> u8
     requires { HasEachRank left.now }
-    ensures { list_any wants_memory left.now.stops.items ≡ false
+    ensures { list_any (λ stop. wants_memory (Some stop)) left.now.stops.items ≡ false
         → list_any (λ state. has_trapped state.harts.items) left.now.ranks.items ≡ true → result ≡ 3 }
 {
     status(left)
@@ -170,9 +170,9 @@ pub fn trap_outweighs_a_budget(left: &Record) -> u8
 #[tactic(auto, using(rvmc_report::proofs::Ends::status_by_lists))]
 pub fn all_is_well(left: &Record) -> u8
     requires { HasEachRank left.now }
-    ensures { list_any wants_memory left.now.stops.items ≡ false
+    ensures { list_any (λ stop. wants_memory (Some stop)) left.now.stops.items ≡ false
         → list_any (λ state. has_trapped state.harts.items) left.now.ranks.items ≡ false
-        → list_any is_cut_short left.now.stops.items ≡ false → result ≡ 0 }
+        → list_any (λ stop. is_cut_short (Some stop)) left.now.stops.items ≡ false → result ≡ 0 }
 {
     status(left)
 }
@@ -181,31 +181,43 @@ pub fn all_is_well(left: &Record) -> u8
 #[tactic(auto, using(rvmc_report::proofs::Ends::status_by_lists))]
 pub fn cut_short_ends_with_4(left: &Record) -> u8
     requires { HasEachRank left.now }
-    ensures { list_any wants_memory left.now.stops.items ≡ false
+    ensures { list_any (λ stop. wants_memory (Some stop)) left.now.stops.items ≡ false
         → list_any (λ state. has_trapped state.harts.items) left.now.ranks.items ≡ false
-        → list_any is_cut_short left.now.stops.items ≡ true → result ≡ 4 }
+        → list_any (λ stop. is_cut_short (Some stop)) left.now.stops.items ≡ true → result ≡ 4 }
 {
     status(left)
 }
 
 /// A full clock cuts a rank short, as a budget does.
 pub fn full_clock_cuts_short(clock: u64)
-    ensures { is_cut_short (ClockFull clock) ≡ true }
+    ensures { is_cut_short (Some (ClockFull clock)) ≡ true }
 {}
 
 /// So do too many calls.
 pub fn too_many_calls_cut_short(count: u64)
-    ensures { is_cut_short (Calls count) ≡ true }
+    ensures { is_cut_short (Some (Calls count)) ≡ true }
 {}
 
 /// The line of a rank that stopped, for each reason: no guest that a test can wait for fills a clock.
 pub fn each_stop_has_its_word()
-    ensures { map (λ stop. stop_line 1 stop 9)
+    ensures { map (λ stop. stop_line 1 (Some stop) 9)
         (AllEnded ∷ Budget ∷ Memory ∷ ClockFull 4611686018427387903 ∷ Calls 1048576 ∷ [])
         ≡ codes "rank 1 stop all-ended turns 9\n" ∷ codes "rank 1 stop budget turns 9\n"
         ∷ codes "rank 1 stop memory turns 9\n" ∷ codes "rank 1 stop clock turns 9\n"
         ∷ codes "rank 1 stop calls turns 9\n" ∷ [] }
 {}
+
+/// So does what isn't known of a rank in a record.
+pub fn unknown_stop_cuts_short()
+    ensures { is_cut_short None ≡ true }
+{}
+
+/// A step of a record that is none is a fault of the input.
+pub fn wrong_step_of_a_report_ends_with_1(n: u64) -> u8
+    ensures { result ≡ 1 }
+{
+    Fault::Report(n).status()
+}
 
 /// The turns of a rank are those of its own trace.
 pub fn each_rank_has_its_turns()

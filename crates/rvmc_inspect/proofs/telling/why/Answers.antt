@@ -8,7 +8,7 @@ pub returns : goal.returns
 returns c =
     let state = c.args.state.now in
     let found = option_map (λ ranks. ranks.items) c.in_ok-found.found in
-    let harts = all_harts_text c.args.image.now state in
+    let harts = all_harts_text c.args.framed c.args.image.now state in
     let messages = unreceived_text (length state.ranks.items) state.hub.board.lines in
     let verdict = deadlock_verdict_text found in
     let count : c.len.result ≡ length state.ranks.items = search rules in

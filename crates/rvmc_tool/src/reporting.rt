@@ -1,0 +1,33 @@
+//! The report of a record.
+
+ghost use Rattle.std.specs.Prelude.{IfErr, IfOk};
+ghost use Rattle.rvmc_line.specs.declared.line.RecordCommand.TheVariants as command;
+ghost use Rattle.rvmc_tool.specs.Making.{IsStepsFault};
+ghost use Rattle.rvmc_tool.specs.Outputs.{output_bytes};
+ghost use Rattle.rvmc_tool.specs.Records.{IsReported};
+
+use crate::answers::{Answer, End};
+use crate::outputs::Output;
+use cl_machine::Step;
+use cl_replay::ReplayFault;
+use rv_image::Image;
+use rvmc_report::faults::Fault;
+use rvmc_report::recorded::recorded_report;
+use std::alloc::Global;
+
+/// `report`: the report of the state to which the steps lead. A wrong step is a fault of the input.
+pub(crate) fn reported(alloc: Global, image: Image, steps: Vec<Step>) -> Result<Answer, Fault>
+    ensures tells { IfOk result (λ answer.
+        IsReported image steps.items (output_bytes answer.output) answer.end) }
+    ensures fault { IfErr result (IsStepsFault command.Report image steps.items) }
+{
+    match recorded_report(alloc, &image, &steps) {
+        Ok(told) => Ok(Answer {
+            output: Output::Text(told.text),
+            end: End::Status(told.status),
+        }),
+        Err(ReplayFault::Step(number)) => Err(Fault::Report(number)),
+        Err(ReplayFault::Memory) => Err(Fault::Memory),
+        Err(ReplayFault::PastEnd(_)) => unreachable!(),
+    }
+}
