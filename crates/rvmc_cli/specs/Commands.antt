@@ -9,7 +9,7 @@ use Rattle.rvmc_line.specs.Debug.{debug_words_in}
 use Rattle.rvmc_line.specs.declared.line.CommandLine.{CommandLine}
 use Rattle.rvmc_line.specs.declared.line.CommandLine.TheVariants.{OfImage, OfRecord}
 use Rattle.rvmc_line.specs.declared.line.ImageCommand.TheVariants.{Asm, Dis, One, Run}
-use Rattle.rvmc_line.specs.declared.line.RecordCommand.TheVariants.{Check, Debug, Report, Why}
+use Rattle.rvmc_line.specs.declared.line.RecordCommand.TheVariants.{Check, Debug, List as ListSteps, Report, Why}
 use Rattle.rvmc_line.specs.declared.line.Written.{Written}
 use Rattle.rvmc_line.specs.declared.line.Written.TheVariants as written
 
@@ -104,6 +104,21 @@ report_row =
       meaning = λ rows. Some (OfRecord Report);
     }
 
+-- `list [--from N] [--to N] [--rank R] [--calls]`, places below 2^64, of which the second isn't before the first, and
+-- R from 0 to 255
+abbrev pub list_row : CommandRow
+list_row =
+    record {
+      name = codes "list";
+      rules = option (codes "from") ∷ option (codes "to") ∷ option (codes "rank") ∷ flag (codes "calls") ∷ [];
+      meaning = λ rows.
+          option_and_then (λ from. option_and_then (λ to. option_map (λ rank.
+          OfRecord (ListSteps from to rank (flag_in (codes "calls") rows)))
+          (optional_number (codes "rank") 0 255 rows))
+          (optional_number (codes "to") from 18446744073709551615 rows))
+          (number_option (codes "from") 0 18446744073709551615 0 rows);
+    }
+
 -- `debug CMD..`
 abbrev pub debug_row : CommandRow
 debug_row =
@@ -130,7 +145,7 @@ why_row =
 
 -- in the order in which help lists them
 abbrev pub commands : List CommandRow
-commands = asm_row ∷ dis_row ∷ run_row ∷ one_row ∷ check_row ∷ report_row ∷ debug_row ∷ why_row ∷ []
+commands = asm_row ∷ dis_row ∷ run_row ∷ one_row ∷ check_row ∷ report_row ∷ list_row ∷ debug_row ∷ why_row ∷ []
 
 -- what clap reads of a command
 abbrev pub app_of : CommandRow → App

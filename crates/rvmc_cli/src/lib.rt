@@ -8,6 +8,7 @@ mod asm;
 mod check;
 mod debug;
 mod dis;
+mod list;
 mod one;
 mod parsing;
 mod parts;

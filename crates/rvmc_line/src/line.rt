@@ -67,11 +67,25 @@ pub enum RecordCommand {
     /// The report of the state to which the steps lead is written.
     Report,
     /// The text of each word is written, in order, as far as no word is refused.
-    Debug { words: DebugWords },
+    Debug {
+        words: DebugWords,
+    },
+    /// The steps are written in words, one line a step: from place `from` on, up to place `to` or else to the end, those of
+    /// `rank` alone if one is given, and with `calls` no plain instructions. Whether there are such places, and such a
+    /// rank, is not known here.
+    List {
+        from: u64,
+        to: Option<u64>,
+        rank: Option<u64>,
+        calls: bool,
+    },
     /// It is written how each hart is after the first `at` steps, or else after all, what it waits for,
     /// and which ranks are in a deadlock; with `frames` also which calls led there. Whether there are so
     /// many steps is not known here.
-    Why { at: Option<u64>, frames: bool },
+    Why {
+        at: Option<u64>,
+        frames: bool,
+    },
 }
 
 /// Why there is no command line.

@@ -24,18 +24,18 @@ pub struct Wanted {
     /// The place behind the last step; all that follow where there is none.
     pub to: Option<u64>,
     /// The rank whose steps are listed; those of all ranks where there is none.
-    pub rank: Option<u8>,
+    pub rank: Option<u64>,
     /// No instructions, and looks in vain that follow one another in one line.
     pub calls: bool,
 }
 
 /// Whether the steps of a rank are wanted.
-fn is_of_rank(wanted: Option<u8>, rank: u8) -> bool
+fn is_of_rank(wanted: Option<u64>, rank: u8) -> bool
     ensures { result ≡ is_of_rank_of wanted rank }
 {
     match wanted {
         None => true,
-        Some(wanted) => wanted == rank,
+        Some(wanted) => wanted == u64::from(rank),
     }
 }
 

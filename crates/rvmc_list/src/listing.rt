@@ -140,12 +140,12 @@ fn put_steps(
 }
 
 /// Whether a rank that is wanted isn't one of the image's.
-fn names_no_rank(rank: Option<u8>, ranks: u8) -> bool
+fn names_no_rank(rank: Option<u64>, ranks: u8) -> bool
     ensures { result ≡ names_no_rank_of rank ranks }
 {
     match rank {
         None => false,
-        Some(rank) => rank >= ranks,
+        Some(rank) => rank >= u64::from(ranks),
     }
 }
 

@@ -27,6 +27,20 @@ pub enum PlaceFault {
     NotARun(u64),
 }
 
+/// Why a record isn't listed.
+#[derive(Clone, Copy, Debug, Drop, Error)]
+pub enum ListRefusal {
+    /// The image has no such rank.
+    #[error("NoRank")]
+    NoRank,
+    /// A place is behind the end. Carries the number of steps.
+    #[error("PastEnd {0}")]
+    PastEnd(u64),
+    /// The machine has no such step where the steps before it lead. Carries its number, from 0.
+    #[error("NotARun {0}")]
+    NotARun(u64),
+}
+
 /// Why there is no answer. It prints as the fault's line on standard error, behind `rvmc: `.
 #[derive(Clone, Copy, Debug, Drop, Error)]
 pub enum Fault {
@@ -55,6 +69,9 @@ pub enum Fault {
     /// that isn't the machine's.
     #[error("report: NotARun {0}")]
     Report(u64),
+    /// Why there is no list of a record.
+    #[error("list: {0}")]
+    List(ListRefusal),
     /// Memory was refused.
     #[error("memory")]
     Memory,
@@ -83,7 +100,8 @@ impl Fault {
             | Fault::Unlike { .. }
             | Fault::Debug(_)
             | Fault::Why(_)
-            | Fault::Report(_) => 1,
+            | Fault::Report(_)
+            | Fault::List(_) => 1,
             Fault::Memory | Fault::Spawn => 5,
             Fault::Read | Fault::Write => 6,
         }

@@ -18,12 +18,16 @@ use Rattle.rvmc_inspect.specs.Why.{IsWhy}
 use Rattle.rvmc_inspect.specs.Words.{IsTextOfWords}
 use Rattle.rvmc_line.specs.declared.debug.DebugWord.{DebugWord}
 use Rattle.rvmc_line.specs.declared.line.RecordCommand.{RecordCommand}
-use Rattle.rvmc_line.specs.declared.line.RecordCommand.TheVariants.{Check, Debug, Report, Why}
+use Rattle.rvmc_line.specs.declared.line.RecordCommand.TheVariants.{Check, Debug, List as ListSteps, Report, Why}
+use Rattle.rvmc_list.specs.List.{IsList, ListFaultHolds}
+use Rattle.rvmc_list.specs.declared.folding.Wanted.{Wanted}
+use Rattle.rvmc_list.specs.declared.listing.ListFault.TheVariants as list
 use Rattle.rvmc_report.specs.Faults.{fault_of_debug, fault_status}
 use Rattle.rvmc_report.specs.Recorded.{IsReportOf}
 use Rattle.rvmc_report.specs.Verdicts.{verdict_status, verdict_text}
 use Rattle.rvmc_report.specs.declared.faults.Fault.{Fault}
 use Rattle.rvmc_report.specs.declared.faults.Fault.TheVariants as faults
+use Rattle.rvmc_report.specs.declared.faults.ListRefusal.TheVariants as refusal
 use Rattle.rvmc_report.specs.declared.faults.PlaceFault.TheVariants as place
 use Rattle.rvmc_tool.specs.Ends.{IsFaulty, end_status}
 use Rattle.rvmc_tool.specs.declared.answers.End.{End}
@@ -50,6 +54,19 @@ pub record IsReported (image : ImageParts) (steps : List Step) (text : List ℕ)
 abbrev pub IsNoReport : ImageParts → List Step → Fault → Type 0
 IsNoReport image steps (faults.Report n) = ReplayFaultHolds image steps (length steps) (replay.Step n)
 IsNoReport image steps other = ⊥
+
+-- ---- `list`
+
+-- what is asked for
+abbrev pub wanted_of : ℕ → Option ℕ → Option ℕ → Bool → Wanted
+wanted_of from to rank calls = record { from = from; to = to; rank = rank; calls = calls }
+
+-- a rank or a place that isn't there, and steps that are no run up to the list's end, are faults
+abbrev pub IsNoList : ImageParts → List Step → Wanted → Fault → Type 0
+IsNoList image steps wanted (faults.List refusal.NoRank) = ListFaultHolds image steps wanted list.NoRank
+IsNoList image steps wanted (faults.List (refusal.PastEnd n)) = ListFaultHolds image steps wanted (list.PastEnd n)
+IsNoList image steps wanted (faults.List (refusal.NotARun n)) = ListFaultHolds image steps wanted (list.NotARun n)
+IsNoList image steps wanted other = ⊥
 
 -- ---- `debug`
 
@@ -100,6 +117,8 @@ IsNoPlace image steps n other = ⊥
 abbrev pub TellsOfSteps : RecordCommand → ImageParts → List Step → List ℕ → End → Type 0
 TellsOfSteps Check image steps text end = IsChecked image steps text end
 TellsOfSteps Report image steps text end = IsReported image steps text end
+TellsOfSteps (ListSteps from to rank calls) image steps text end =
+    IsList image steps (wanted_of from to rank calls) text × (end ≡ Status 0)
 TellsOfSteps (Debug words) image steps text end = IsDebugged image steps words text end
 TellsOfSteps (Why at frames) image steps text end =
     IsWhyAt frames image steps (place_asked at steps) text × (end ≡ Status 0)
@@ -108,6 +127,8 @@ TellsOfSteps (Why at frames) image steps text end =
 abbrev pub RefusesSteps : RecordCommand → ImageParts → List Step → Fault → Type 0
 RefusesSteps Check image steps fault = ⊥
 RefusesSteps Report image steps fault = IsNoReport image steps fault
+RefusesSteps (ListSteps from to rank calls) image steps fault =
+    IsNoList image steps (wanted_of from to rank calls) fault
 RefusesSteps (Debug words) image steps fault = IsNoRun image steps fault
 RefusesSteps (Why at frames) image steps fault = IsNoPlace image steps (place_asked at steps) fault
 

@@ -6,6 +6,7 @@ mod checks;
 mod debugging;
 mod explaining;
 mod images;
+mod listing;
 pub mod outputs;
 pub mod plans;
 mod program;

@@ -11,11 +11,13 @@ use crate::answers::Answer;
 use crate::checks::checked;
 use crate::debugging::debugged;
 use crate::explaining::explained;
+use crate::listing::listed_steps;
 use crate::reporting::reported;
 use cl_machine::Step;
 use cl_text::read_record;
 use rv_image::Image;
 use rvmc_line::RecordCommand;
+use rvmc_list::Wanted;
 use rvmc_report::faults::Fault;
 use std::alloc::Global;
 
@@ -42,6 +44,22 @@ fn told(
     match command {
         RecordCommand::Check => checked(alloc, image, steps),
         RecordCommand::Report => reported(alloc, image, steps),
+        RecordCommand::List {
+            from,
+            to,
+            rank,
+            calls,
+        } => listed_steps(
+            alloc,
+            Wanted {
+                from: *from,
+                to: *to,
+                rank: *rank,
+                calls: *calls,
+            },
+            image,
+            steps,
+        ),
         RecordCommand::Debug { words } => debugged(alloc, words, image, steps),
         RecordCommand::Why { at, frames } => explained(alloc, *at, *frames, image, steps),
     }

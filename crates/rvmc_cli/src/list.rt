@@ -1,0 +1,84 @@
+//! `list [--from N] [--to N] [--rank R] [--calls]`.
+
+ghost use Rattle.std.specs.Prelude.{IfOk};
+ghost use Rattle.clap.specs.Walk.{rows_of};
+ghost use Rattle.clap.specs.Words.{found_of};
+ghost use Rattle.rvmc_cli.specs.Built.{StandsFor};
+ghost use Rattle.rvmc_cli.specs.Commands.{app_of, list_row};
+ghost use Rattle.rvmc_cli.specs.Parsing.{Finds};
+
+use crate::parts::{command as new_command, flag, option};
+use crate::values::{self, number, optional_number};
+use crate::wrong::Wrong;
+use clap::{ArgMatches, Command};
+use rvmc_line::{CommandLine, RecordCommand};
+use std::alloc::{AllocError, Global};
+
+/// What help says below its options.
+const EXAMPLES: &str = "\
+A line has the place before its step, the rank and the hart that took it, its
+stamp, where the hart was, and what it did:
+
+  0 rank 0 hart 0 stamp 1 at 0x0: lui x5, 0xa7 = 0xa7000
+  6 rank 0 hart 0 stamp 7 at 0x18: PUT buf=0xfff8 count=3
+
+Step N leads from place N to place N + 1, so `rvmc debug go=N` shows what was
+there before it. --to names the place behind the last step. With --calls
+instructions are left out, and looks in vain that follow one another are one
+line, with their number.
+
+The status is 0. A rank or a place that isn't there is a fault, as
+`rvmc: list: NoRank` and `rvmc: list: PastEnd 10`, and so are steps that are no
+run of the image, as `rvmc: list: NotARun 3`: all have status 1. At most
+67,108,864 bytes are read.
+
+Examples:
+  rvmc one --record <hi.image >hi.record
+  rvmc list --from 2 --to 7 <hi.record
+  rvmc list --calls --rank 0 <hi.record";
+
+/// The command as clap builds it.
+pub fn command<'a>(alloc: Global) -> Result<Command<'a>, AllocError>
+    ensures { IfOk result (StandsFor (app_of list_row)) }
+{
+    new_command(
+        alloc,
+        "list",
+        "Prints the record on standard input in words, one line a step",
+        EXAMPLES,
+    )
+    .arg(option(
+        alloc,
+        "from",
+        "N",
+        "Begins at the place with N steps done [default: 0]",
+    ))?
+    .arg(option(
+        alloc,
+        "to",
+        "N",
+        "Ends at the place with N steps done [default: all steps]",
+    ))?
+    .arg(option(alloc, "rank", "R", "Lists the steps of this rank alone"))?
+    .arg(flag(
+        alloc,
+        "calls",
+        "Leaves instructions out, and folds looks in vain",
+    ))
+}
+
+/// What it asks for, of what clap found.
+pub fn line<'a>(_alloc: Global, matches: &ArgMatches<'a>) -> Result<CommandLine, Wrong<'a>>
+    ensures { Finds (list_row.meaning (rows_of (found_of matches.now))) result }
+{
+    let from = number(matches, "from", 0, u64::MAX, 0)?;
+    let to = optional_number(matches, "to", from, u64::MAX)?;
+    let rank = optional_number(matches, "rank", 0, 255)?;
+    let calls = values::flag(matches, "calls");
+    Ok(CommandLine::OfRecord(RecordCommand::List {
+        from,
+        to,
+        rank,
+        calls,
+    }))
+}
