@@ -62,7 +62,7 @@ SaysNothing command read fault =
 leaves_read : (command : RecordCommand) (read : Result (ImageParts × List Step) RecordFault) (fault : Fault)
     → IsReadFault command read fault → SaysNothing command read fault ⊎ IsRefused [] (fault_status fault)
 leaves_read command read faults.Memory is = inr (refl, refl)
-leaves_read command (Ok found) fault is = inl (inr (fault, is, (refl, refl)))
+leaves_read command (Ok found) fault is = inl (inr (fault, is, refl, refl))
 leaves_read command (Err meant) fault is = inl (refl, ap fault_status is)
 
 -- what a fault leaves, of whatever a command takes
