@@ -2,6 +2,7 @@
 command line") say it."""
 
 import re
+from functools import partial
 
 # each command's flags, and its options with what tests a value
 DECIMAL = re.compile(r"[0-9]+")
@@ -24,6 +25,7 @@ def listed(text):
 
 BUDGET = ("--budget", lambda text: bounded(text, MOST_BUDGET))
 PLAN = ("--plan", listed)
+PLACE = partial(bounded, most=MOST_PLACE, least=0)
 COMMANDS = {
     "asm": (("--from",), ()),
     "dis": ((), ()),
@@ -31,14 +33,15 @@ COMMANDS = {
     "report": ((), ()),
     "one": (("--source", "--record", "--why"), (BUDGET, PLAN, ("--order", listed))),
     "run": (("--source", "--record", "--why"), (BUDGET, PLAN, ("--lead", lambda text: bounded(text, MOST_LEAD)))),
-    "why": (("--frames",), (("--at", lambda text: bounded(text, MOST_PLACE, 0)),)),
+    "list": (("--calls",), (("--from", PLACE), ("--to", PLACE), ("--rank", lambda text: bounded(text, 255, 0)))),
+    "why": (("--frames",), (("--at", PLACE),)),
 }
 
 # flags that don't go together
 APART = {"--record", "--why"}
 
 # options whose values are numbers
-NUMBERED = ("--budget", "--lead", "--at")
+NUMBERED = ("--budget", "--lead", "--at", "--from", "--to", "--rank")
 
 # values at and past each bound, and texts that are no values
 NUMBERS = ["0", "1", "2", "5", "300", "16777215", "16777216", "16777217", "65535", "65536", "65537", "001", "", "+5"]
@@ -80,7 +83,7 @@ def meaning(words):
             if value is None:
                 return None
             values[name] = value
-    if APART <= seen:
+    if APART <= seen or values.get("--to", MOST_PLACE) < values.get("--from", 0):
         return None
     return Meaning(command, seen & set(flags), values)
 
@@ -95,7 +98,7 @@ class Lines:
         """Some words."""
         if self.random.randrange(30) == 0:
             return [self.random.choice(WORDS)]
-        command = self.random.choice(["one", "one", "run", "run", "asm", "dis", "check", "report", "why"])
+        command = self.random.choice(["one", "one", "run", "run", "asm", "dis", "check", "report", "list", "why"])
         flags, options = COMMANDS[command]
         words = [command]
         for flag in flags:
@@ -105,8 +108,8 @@ class Lines:
             if self.random.randrange(3) == 0:
                 words += self.option(name)
         if self.random.randrange(6) == 0:
-            options = ["--budget", "--plan", "--order", "--lead", "--at"]
-            other = self.random.choice([*options, "--source", "--record", "--from", "--why", "--frames"])
+            options = ["--budget", "--plan", "--order", "--lead", "--at", "--to", "--rank"]
+            other = self.random.choice([*options, "--source", "--record", "--from", "--why", "--frames", "--calls"])
             extra = self.option(other) if other in options else [other]
             extra = self.random.choice([extra, [self.random.choice(WORDS)]])
             at = 1 + self.random.randrange(len(words))
