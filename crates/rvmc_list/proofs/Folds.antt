@@ -4,7 +4,7 @@ use Rattle.std.specs.List.{filter}
 use Rattle.std.proofs.Common.{refl, sym, ap, ◌∙◌, append_assoc, arith}
 use Rattle.rv_image.specs.declared.images.Symbol.{Symbol}
 use Rattle.rvmc_list.specs.Lines.{Sight}
-use Rattle.rvmc_list.specs.Folding.{Line, folded_at_front, is_wanted, line_of, lines_of, lines_text, more_text}
+use Rattle.rvmc_list.specs.Folding.{Line, folded_at_front, is_wanted, sight_line, lines_of, lines_text, folded_text}
 use Rattle.rvmc_list.specs.Pieces.{behind, closing, is_folded, opened, opened_by, piece, piece_of}
 use Rattle.rvmc_list.specs.declared.folding.Wanted.{Wanted}
 
@@ -17,37 +17,37 @@ pub behind_more : (begun : Option ℕ) (folded : Bool) (text : List ℕ) (lines 
     ≡ piece begun folded text ++ behind (opened begun folded) lines
 behind_more None true text lines =
     let same : folded_at_front lines ≡ 0 + folded_at_front lines = omega arith in
-    with_end text (more_text (folded_at_front lines)) (lines_text true lines)
-    ∙ ap (λ n. text ++ (more_text n ++ (10 ∷ lines_text true lines))) same
+    with_end text (folded_text (folded_at_front lines)) (lines_text true lines)
+    ∙ ap (λ n. text ++ (folded_text n ++ (10 ∷ lines_text true lines))) same
 behind_more None false text lines = refl
 behind_more (Some more) true text lines =
     let same : more + (1 + folded_at_front lines) ≡ more + 1 + folded_at_front lines = omega arith in
-    ap (λ n. more_text n ++ (10 ∷ lines_text true lines)) same
+    ap (λ n. folded_text n ++ (10 ∷ lines_text true lines)) same
 behind_more (Some more) false text lines =
     let same : more + 0 ≡ more = omega arith in
     let rest = lines_text false lines in
-    ap (λ n. more_text n ++ (10 ∷ ((text ++ 10 ∷ []) ++ rest))) same
-    ∙ sym (append_assoc (more_text more ++ 10 ∷ []) (text ++ 10 ∷ []) rest
-    ∙ append_assoc (more_text more) (10 ∷ []) ((text ++ 10 ∷ []) ++ rest))
+    ap (λ n. folded_text n ++ (10 ∷ ((text ++ 10 ∷ []) ++ rest))) same
+    ∙ sym (append_assoc (folded_text more ++ 10 ∷ []) (text ++ 10 ∷ []) rest
+    ∙ append_assoc (folded_text more) (10 ∷ []) ((text ++ 10 ∷ []) ++ rest))
 
 -- no line more
 pub behind_none : (begun : Option ℕ) → behind begun [] ≡ closing begun
 behind_none None = refl
-behind_none (Some more) = let same : more + 0 ≡ more = omega arith in ap (λ n. more_text n ++ 10 ∷ []) same
+behind_none (Some more) = let same : more + 0 ≡ more = omega arith in ap (λ n. folded_text n ++ 10 ∷ []) same
 
 -- one sight more
 pub sight_more : (symbols : List Symbol) (wanted : Wanted) (begun : Option ℕ) (sight : Sight) (rest : List Sight)
     → behind begun (lines_of symbols wanted (sight ∷ rest))
-    ≡ piece_of begun (line_of symbols wanted sight) (is_wanted wanted sight.step)
+    ≡ piece_of begun (sight_line symbols wanted sight) (is_wanted wanted sight.step)
     ++ behind (opened_by wanted begun sight.step) (lines_of symbols wanted rest)
 sight_more symbols wanted begun sight rest = go (is_wanted wanted sight.step)
   where
     kept : List Sight
     kept = filter (λ (s : Sight). is_wanted wanted s.step) rest
 
-    go : (told : Bool) → behind begun (map (line_of symbols wanted) (cond told (sight ∷ kept) kept))
-        ≡ piece_of begun (line_of symbols wanted sight) told
-        ++ behind (cond told (opened begun (is_folded wanted sight.step)) begun) (map (line_of symbols wanted) kept)
-    go true = behind_more begun (is_folded wanted sight.step) (line_of symbols wanted sight).text
-        (map (line_of symbols wanted) kept)
+    go : (told : Bool) → behind begun (map (sight_line symbols wanted) (cond told (sight ∷ kept) kept))
+        ≡ piece_of begun (sight_line symbols wanted sight) told
+        ++ behind (cond told (opened begun (is_folded wanted sight.step)) begun) (map (sight_line symbols wanted) kept)
+    go true = behind_more begun (is_folded wanted sight.step) (sight_line symbols wanted sight).text
+        (map (sight_line symbols wanted) kept)
     go false = refl

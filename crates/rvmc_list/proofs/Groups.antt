@@ -2,7 +2,7 @@
 use Rattle.std.specs.Prelude.{ℕ, ◌+◌, ◌≡◌, Bool, true, false, List, [], ◌∷◌, ◌++◌, length}
 use Rattle.std.specs.List.{AllByRecursion, flat_map}
 use Rattle.std.proofs.Common.{refl, sym, ap, ◌∙◌, append_assoc, inl, inr, arith}
-use Rattle.rvmc_list.specs.Folding.{Line, folded_at_front, lines_text, more_text}
+use Rattle.rvmc_list.specs.Folding.{Line, folded_at_front, lines_text, folded_text}
 use Rattle.rvmc_list.specs.Laws.{AreGrouped, Group, IsGroup, NoCallLeftOutLaw, group_text, lines_in}
 
 abbrev IsFold : Line → Type 0
@@ -47,8 +47,8 @@ one_more true text lines both =
         groups = record { first = line; more = split.run } ∷ split.groups;
         all = ap (λ (ls : List Line). line ∷ ls) split.all;
         each = (inr (refl, split.folds), split.each);
-        text = ap (λ n. (text ++ (more_text n ++ 10 ∷ [])) ++ lines_text true lines) (sym split.count)
-            ∙ ap (λ r. (text ++ (more_text (length split.run) ++ 10 ∷ [])) ++ r) split.text;
+        text = ap (λ n. (text ++ (folded_text n ++ 10 ∷ [])) ++ lines_text true lines) (sym split.count)
+            ∙ ap (λ r. (text ++ (folded_text (length split.run) ++ 10 ∷ [])) ++ r) split.text;
       };
     }
 one_more false text lines both =

@@ -18,7 +18,7 @@ use Rattle.cl_state.specs.Rank.{Rank}
 use Rattle.cl_state.specs.Room.{rank_of}
 use Rattle.cl_state.specs.declared.state.RankState.{RankState}
 use Rattle.rvmc_list.specs.Lines.{Sight, sight_of}
-use Rattle.rvmc_list.specs.Folding.{is_wanted, line_of, lines_of, sights_text}
+use Rattle.rvmc_list.specs.Folding.{is_wanted, sight_line, lines_of, sights_text}
 use Rattle.rvmc_list.specs.List.{AreSights, IsSightAt, ListFaultHolds, is_past, last_place, names_no_rank}
 use Rattle.rvmc_list.specs.Pieces.{behind, closing, opened_by, piece_of}
 use Rattle.rvmc_list.specs.Putting.{ArePut, AreTold, IsPut, PutFaultHolds, Puts, StepsFaultHolds}
@@ -118,7 +118,7 @@ module _ (image : ImageParts) (steps : List Step) (wanted : Wanted) (from n : �
   abbrev sight : Sight
   sight = sight_of n e (rank_of seen.s) (rank_of seen.t)
 
-  is_put : IsPut wanted begun (line_of image.symbols wanted sight) e text after next
+  is_put : IsPut wanted begun (sight_line image.symbols wanted sight) e text after next
   is_put = puts seen.s seen.t seen.s_there seen.t_there seen.s_hart seen.t_hart
 
   here : from + length put.sights ≡ n
@@ -129,7 +129,7 @@ module _ (image : ImageParts) (steps : List Step) (wanted : Wanted) (from n : �
       ≡ after ++ behind next (lines_of image.symbols wanted rest)
   text_more rest =
       let lines = lines_of image.symbols wanted rest in
-      let piece = piece_of begun (line_of image.symbols wanted sight) (is_wanted wanted e) in
+      let piece = piece_of begun (sight_line image.symbols wanted sight) (is_wanted wanted e) in
       ap (λ sights. old ++ sights_text image.symbols wanted sights) (append_assoc put.sights (sight ∷ []) rest)
       ∙ put.text (sight ∷ rest)
       ∙ ap (λ more. text ++ more) (sight_more image.symbols wanted begun sight rest)

@@ -62,15 +62,15 @@ partitioning_text name t =
 abbrev pub part_text : ℕ → ℕ → List ℕ
 part_text handle part = handle_text handle ++ (codes " partition=" ++ decimal part)
 
-abbrev pub comm_text : ℕ → List ℕ
-comm_text comm = codes " c=" ++ decimal comm
+abbrev pub comm_argument : ℕ → List ℕ
+comm_argument comm = codes " c=" ++ decimal comm
 
 -- each argument stands behind a blank
 abbrev pub arguments_text : Call → List ℕ
 arguments_text (call.Exit code) = codes " code=" ++ decimal code
 arguments_text (call.Put buffer count) = buffer_text buffer (codes " count=") count
-arguments_text (call.Rank comm) = comm_text comm
-arguments_text (call.Size comm) = comm_text comm
+arguments_text (call.Rank comm) = comm_argument comm
+arguments_text (call.Size comm) = comm_argument comm
 arguments_text call.Hart = []
 arguments_text (call.Send s) = sending_text s
 arguments_text (call.Ssend s) = sending_text s

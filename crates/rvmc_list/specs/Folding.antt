@@ -52,12 +52,12 @@ folded_at_front [] = 0
 folded_at_front (line ∷ lines) = if line.folded then 1 + folded_at_front lines else 0
 
 -- behind the first of several how many more there are
-abbrev pub more_text : ℕ → List ℕ
-more_text more = if (more == 0) then [] else codes " and " ++ (decimal more ++ codes " more looks in vain")
+abbrev pub folded_text : ℕ → List ℕ
+folded_text more = if (more == 0) then [] else codes " and " ++ (decimal more ++ codes " more looks in vain")
 
 -- the whole line with those behind it in view
 abbrev pub line_text : Line → List Line → List ℕ
-line_text line behind = line.text ++ ((if line.folded then more_text (folded_at_front behind) else []) ++ 10 ∷ [])
+line_text line behind = line.text ++ ((if line.folded then folded_text (folded_at_front behind) else []) ++ 10 ∷ [])
 
 -- lines in order: of those that are folded and follow one another the first one's alone. `within` tells that one stands
 -- before them
@@ -69,14 +69,14 @@ lines_text within (line ∷ behind) =
 -- ---- the text
 
 -- looks in vain are folded where calls alone are wanted
-abbrev pub line_of : List Symbol → Wanted → Sight → Line
-line_of symbols wanted sight =
+abbrev pub sight_line : List Symbol → Wanted → Sight → Line
+sight_line symbols wanted sight =
     record { folded = wanted.calls && is_vain sight.step.kind; text = sight_text symbols sight }
 
 -- of the sights that are wanted
 abbrev pub lines_of : List Symbol → Wanted → List Sight → List Line
 lines_of symbols wanted sights =
-    map (line_of symbols wanted) (filter (λ (sight : Sight). is_wanted wanted sight.step) sights)
+    map (sight_line symbols wanted) (filter (λ (sight : Sight). is_wanted wanted sight.step) sights)
 
 abbrev pub sights_text : List Symbol → Wanted → List Sight → List ℕ
 sights_text symbols wanted sights = lines_text false (lines_of symbols wanted sights)

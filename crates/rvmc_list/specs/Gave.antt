@@ -21,8 +21,8 @@ use Rattle.rvmc_list.specs.Names.{code_name}
 -- ---- messages
 
 -- `message from rank S tag T, N bytes`, where the rank is the sender's in the cluster
-abbrev pub envelope_text : Envelope → List ℕ
-envelope_text e =
+abbrev pub met_envelope_text : Envelope → List ℕ
+met_envelope_text e =
     codes " -> message from rank "
     ++ (decimal e.source ++ (codes " tag " ++ (decimal e.tag ++ (codes ", " ++ (decimal e.count ++ codes " bytes")))))
 
@@ -31,28 +31,28 @@ abbrev pub byte_text : ℕ → List ℕ
 byte_text byte = codes " " ++ (digit_glyph false (byte / 16) ∷ digit_glyph false (byte % 16) ∷ [])
 
 -- with its first sixteen bytes
-abbrev pub message_text : Message → List ℕ
-message_text m = envelope_text m.envelope ++ (codes ":" ++ flat_map byte_text (take 16 m.bytes))
+abbrev pub met_message_text : Message → List ℕ
+met_message_text m = met_envelope_text m.envelope ++ (codes ":" ++ flat_map byte_text (take 16 m.bytes))
 
-abbrev pub got_text : Option Message → List ℕ
-got_text None = []
-got_text (Some m) = message_text m
+abbrev pub met_if_any : Option Message → List ℕ
+met_if_any None = []
+met_if_any (Some m) = met_message_text m
 
 -- ---- replies and boxes
 
 -- what the hub told besides how the call ended
-abbrev pub reply_text : Reply → List ℕ
-reply_text (reply.Got m) = message_text m
-reply_text (reply.Seen e) = envelope_text e
-reply_text (reply.Held handle e) = envelope_text e
-reply_text (reply.AllGot gots) = flat_map got_text gots
-reply_text (reply.Link link) = codes " -> link " ++ decimal link
-reply_text (reply.Cut parts size) =
+abbrev pub told_by_reply : Reply → List ℕ
+told_by_reply (reply.Got m) = met_message_text m
+told_by_reply (reply.Seen e) = met_envelope_text e
+told_by_reply (reply.Held handle e) = met_envelope_text e
+told_by_reply (reply.AllGot gots) = flat_map met_if_any gots
+told_by_reply (reply.Link link) = codes " -> link " ++ decimal link
+told_by_reply (reply.Cut parts size) =
     codes " -> cut into " ++ (decimal parts ++ (codes " partitions of " ++ (decimal size ++ codes " bytes")))
-reply_text _ = []
+told_by_reply _ = []
 
 abbrev pub kind_text : Kind → List ℕ
-kind_text (Kind.Hub r) = reply_text r
+kind_text (Kind.Hub r) = told_by_reply r
 kind_text _ = []
 
 -- the box that is asked

@@ -1,7 +1,7 @@
 -- What holds of the text of a record: no line is left out.
 use Rattle.std.specs.Prelude.{ℕ, ◌≡◌, ◌⊎◌, true, false, List, [], ◌∷◌, ◌++◌, length}
 use Rattle.std.specs.List.{AllByRecursion, flat_map}
-use Rattle.rvmc_list.specs.Folding.{Line, lines_text, more_text}
+use Rattle.rvmc_list.specs.Folding.{Line, lines_text, folded_text}
 
 -- a line that stands in the text, and those that are folded into it
 pub record Group : Type 0 where
@@ -10,7 +10,7 @@ pub record Group : Type 0 where
 
 -- the line, how many are folded into it, and a newline
 abbrev pub group_text : Group → List ℕ
-group_text group = group.first.text ++ (more_text (length group.more) ++ 10 ∷ [])
+group_text group = group.first.text ++ (folded_text (length group.more) ++ 10 ∷ [])
 
 abbrev pub lines_in : Group → List Line
 lines_in group = group.first ∷ group.more

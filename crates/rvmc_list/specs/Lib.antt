@@ -3,6 +3,7 @@ pub mod Arguments
 pub mod Instructions
 pub mod Gave
 pub mod Lines
+pub mod Seen
 pub mod Folding
 pub mod Laws
 pub mod List

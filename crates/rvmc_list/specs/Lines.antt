@@ -1,5 +1,5 @@
 -- The line of a step.
-use Rattle.std.specs.Prelude.{ℕ, if◌then◌else◌, List, [], ◌∷◌, ◌++◌, codes, get_or, Option, Some, None, ◌≡◌, ◌≤◌, length}
+use Rattle.std.specs.Prelude.{ℕ, if◌then◌else◌, List, [], ◌∷◌, ◌++◌, codes, get_or, Option, Some, None}
 use Rattle.std.specs.Fmt.{decimal}
 use Rattle.rv_hart.specs.State.{State, read}
 use Rattle.rv_image.specs.declared.images.Symbol.{Symbol}
@@ -18,7 +18,6 @@ use Rattle.rvmc_list.specs.Arguments.{arguments_text}
 use Rattle.rvmc_list.specs.Gave.{box_text, end_text, is_refused, kind_text}
 use Rattle.rvmc_list.specs.Instructions.{instruction_text}
 use Rattle.rvmc_list.specs.Names.{code_name}
-use Rattle.rvmc_list.specs.declared.lines.Seen.{Seen}
 
 -- ---- what is seen of a step
 
@@ -39,12 +38,12 @@ box_in (ask.Freed link part) = Some (link, part)
 box_in _ = None
 
 -- of the kinds of steps that ask one
-abbrev pub box_of : Kind → Ask → Option (ℕ × ℕ)
-box_of Kind.Ready a = box_in a
-box_of Kind.Take a = box_in a
-box_of Kind.Miss a = box_in a
-box_of Kind.Freed a = box_in a
-box_of _ a = None
+abbrev pub box_met : Kind → Ask → Option (ℕ × ℕ)
+box_met Kind.Ready a = box_in a
+box_met Kind.Take a = box_in a
+box_met Kind.Miss a = box_in a
+box_met Kind.Freed a = box_in a
+box_met _ a = None
 
 -- the step's hart in its rank
 abbrev pub hart_of : Step → Rank → State
@@ -57,30 +56,9 @@ sight_of place e before after = record {
   step = e;
   before = hart_of e before;
   word = word_at before.memory (hart_of e before).pc;
-  box = box_of e.kind (asked before e.hart);
+  box = box_met e.kind (asked before e.hart);
   after = hart_of e after;
 }
-
--- ---- how the code has it
-
--- what was seen before a step, and its hart after it
-abbrev pub seen : ℕ → Step → Seen → State → Sight
-seen place e before after = record {
-  place = place;
-  step = e;
-  before = before.hart;
-  word = before.word;
-  box = before.asks;
-  after = after;
-}
-
--- nothing is seen only where the rank hasn't the step's hart
-abbrev pub IsSeenBefore : Step → Rank → Option Seen → Type 0
-IsSeenBefore e rank None = length rank.harts ≤ e.hart
-IsSeenBefore e rank (Some s) =
-    (s.hart ≡ hart_of e rank)
-    × (s.word ≡ word_at rank.memory (hart_of e rank).pc)
-    × (s.asks ≡ box_of e.kind (asked rank e.hart))
 
 -- ---- its text
 
@@ -95,15 +73,15 @@ done_text c sight =
     ++ (arguments_text c
     ++ (box_text sight.box ++ (kind_text sight.step.kind ++ end_text c sight.after sight.after.mode)))
 
-abbrev pub call_text : Call → Sight → List ℕ
-call_text c sight =
+abbrev pub made_call_text : Call → Sight → List ℕ
+made_call_text c sight =
     if is_refused sight.after sight.after.mode then refused_text c sight.after else done_text c sight
 
 -- an instruction, a turn of a stopped hart, or a call
 abbrev pub deed_text : Kind → Sight → List ℕ
 deed_text Kind.Plain sight = instruction_text sight.word sight.before sight.after
 deed_text Kind.Idle sight = codes "stopped"
-deed_text _ sight = call_text (call_named sight.before) sight
+deed_text _ sight = made_call_text (call_named sight.before) sight
 
 -- `PLACE rank R hart H stamp S at `, before the address of the hart's pc
 abbrev pub head_text : ℕ → Step → List ℕ

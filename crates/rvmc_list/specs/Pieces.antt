@@ -2,19 +2,19 @@
 use Rattle.std.specs.Prelude.{ℕ, ◌≤◌, ◌+◌, ◌&&◌, if◌then◌else◌, Bool, true, false, List, [], ◌∷◌, ◌++◌, IfSome}
 use Rattle.std.specs.Prelude.{Option, Some, None}
 use Rattle.cl_machine.specs.declared.steps.Step.{Step}
-use Rattle.rvmc_list.specs.Folding.{Line, folded_at_front, is_vain, is_wanted, lines_text, more_text}
+use Rattle.rvmc_list.specs.Folding.{Line, folded_at_front, is_vain, is_wanted, lines_text, folded_text}
 use Rattle.rvmc_list.specs.declared.folding.Wanted.{Wanted}
 
 -- a line is begun into which others may be folded, behind which stands a number: so many more came up to now. What stands behind the
 -- text with such a line, or without one, where these lines follow
 abbrev pub behind : Option ℕ → List Line → List ℕ
 behind None lines = lines_text false lines
-behind (Some more) lines = more_text (more + folded_at_front lines) ++ (10 ∷ lines_text true lines)
+behind (Some more) lines = folded_text (more + folded_at_front lines) ++ (10 ∷ lines_text true lines)
 
 -- what a begun line gets where no other of its kind follows
 abbrev pub closing : Option ℕ → List ℕ
 closing None = []
-closing (Some more) = more_text more ++ 10 ∷ []
+closing (Some more) = folded_text more ++ 10 ∷ []
 
 -- what a line adds, and the line that is begun behind it
 abbrev pub piece : Option ℕ → Bool → List ℕ → List ℕ

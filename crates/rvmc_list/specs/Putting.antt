@@ -10,8 +10,9 @@ use Rattle.cl_replay.specs.Steps.{LeadsNowhere}
 use Rattle.cl_replay.specs.declared.states.ClusterState.{ClusterState}
 use Rattle.cl_state.specs.Room.{rank_of}
 use Rattle.cl_state.specs.declared.state.RankState.{RankState}
-use Rattle.rvmc_list.specs.Folding.{Line, is_wanted, line_of, lines_of, sights_text}
-use Rattle.rvmc_list.specs.Lines.{IsSeenBefore, Sight, hart_of, sight_of}
+use Rattle.rvmc_list.specs.Folding.{Line, is_wanted, sight_line, lines_of, sights_text}
+use Rattle.rvmc_list.specs.Lines.{Sight, hart_of, sight_of}
+use Rattle.rvmc_list.specs.Seen.{IsSeenBefore}
 use Rattle.rvmc_list.specs.List.{AreSights}
 use Rattle.rvmc_list.specs.Pieces.{behind, opened_by, piece_of}
 use Rattle.rvmc_list.specs.declared.folding.Wanted.{Wanted}
@@ -29,7 +30,7 @@ abbrev pub Puts : List Symbol → Wanted → ClusterState → ℕ → Step → C
 Puts symbols wanted old place e new text begun after next =
     (s t : RankState) → slice_get old.ranks.items e.rank ≡ Some s → slice_get new.ranks.items e.rank ≡ Some t
     → e.hart < length s.harts.items → e.hart < length t.harts.items
-    → IsPut wanted begun (line_of symbols wanted (sight_of place e (rank_of s) (rank_of t))) e text after next
+    → IsPut wanted begun (sight_line symbols wanted (sight_of place e (rank_of s) (rank_of t))) e text after next
 
 -- what was seen of a step in whichever rank has it
 abbrev pub IsLook : ClusterState → Step → Option Seen → Type 0

@@ -3,7 +3,7 @@
 ghost use Rattle.std.specs.Prelude.{◌≡◌, ◌++◌, OnOk, Some, codes};
 ghost use Rattle.rvmc_list.specs.Arguments.{arguments_text, claimed_text, completing_text, partitioning_text};
 ghost use Rattle.rvmc_list.specs.Arguments.{part_text, probing_text, receiving_text, sending_text, several_text};
-ghost use Rattle.rvmc_list.specs.Arguments.{buffer_text, comm_text, handle_text, match_text, status_text, wild_text};
+ghost use Rattle.rvmc_list.specs.Arguments.{buffer_text, comm_argument, handle_text, match_text, status_text, wild_text};
 
 use cl_calls::{
     ANY, Call, Claimed, Completing, NO_RANK, Partitioning, Probing, Receiving, Sending, Several,
@@ -142,7 +142,7 @@ fn put_part(text: &mut Vec<u8>, handle: u64, part: u64) -> io::Result<()>
 
 /// Adds a communicator.
 fn put_comm(text: &mut Vec<u8>, comm: u64) -> io::Result<()>
-    ensures { OnOk result (text.new.items ≡ text.old.items ++ comm_text comm) }
+    ensures { OnOk result (text.new.items ≡ text.old.items ++ comm_argument comm) }
 {
     write!(text, " c={comm}")
 }

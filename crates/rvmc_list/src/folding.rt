@@ -3,8 +3,8 @@
 ghost use Rattle.std.specs.Prelude.{◌≡◌, ◌+◌, ◌-◌, ◌++◌, ◌<◌, ◌^◌, IfOk, OnOk};
 ghost use Rattle.cl_machine.specs.SameSteps.{kind_seen};
 ghost use Rattle.rvmc_list.specs.Folding.{is_of_rank as is_of_rank_of, is_vain as is_vain_of, is_wanted as is_wanted_of};
-ghost use Rattle.rvmc_list.specs.Folding.{line_of};
-ghost use Rattle.rvmc_list.specs.Lines.{seen};
+ghost use Rattle.rvmc_list.specs.Folding.{sight_line};
+ghost use Rattle.rvmc_list.specs.Seen.{seen};
 ghost use Rattle.rvmc_list.specs.Pieces.{IsWithin, closing, is_folded as is_folded_of, opened, piece};
 
 use crate::lines::{Seen, put_sight};
@@ -103,7 +103,7 @@ pub(crate) fn put_line(
     ensures text { OnOk result (text.new.items
         ≡ text.old.items
         ++ piece begun (is_folded_of wanted.now told.now.step.now)
-        (line_of symbols.now wanted.now (seen told.now.place told.now.step.now told.now.before.now told.now.after.now)).text) }
+        (sight_line symbols.now wanted.now (seen told.now.place told.now.step.now told.now.before.now told.now.after.now)).text) }
     ensures begun { IfOk result (λ next. next ≡ opened begun (is_folded_of wanted.now told.now.step.now)) }
     ensures within { IfOk result (λ next. IsWithin (told.now.place + 1) next) }
 {

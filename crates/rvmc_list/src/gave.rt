@@ -4,8 +4,8 @@ ghost use Rattle.std.specs.Prelude.{◌≡◌, ◌++◌, OnOk, codes, false, opt
 ghost use Rattle.std.specs.List.{flat_map};
 ghost use Rattle.cl_machine.specs.SameSteps.{kind_seen};
 ghost use Rattle.rvmc_list.specs.Arguments.{wild_text};
-ghost use Rattle.rvmc_list.specs.Gave.{box_text, byte_text, code_text, end_text, envelope_text, got_text, is_refusal};
-ghost use Rattle.rvmc_list.specs.Gave.{is_refused as is_refused_of, kind_text, message_text, named_value_text, reply_text};
+ghost use Rattle.rvmc_list.specs.Gave.{box_text, byte_text, code_text, end_text, met_envelope_text, met_if_any, is_refusal};
+ghost use Rattle.rvmc_list.specs.Gave.{is_refused as is_refused_of, kind_text, met_message_text, named_value_text, told_by_reply};
 ghost use Rattle.rvmc_list.specs.Gave.{value_name as value_name_of};
 
 use crate::arguments::Wild;
@@ -23,7 +23,7 @@ pub(crate) type BoxNumber = (u8, u8);
 
 /// Adds what is known of a message without its bytes.
 fn put_envelope(text: &mut Vec<u8>, envelope: &Envelope) -> io::Result<()>
-    ensures { OnOk result (text.new.items ≡ text.old.items ++ envelope_text envelope.now) }
+    ensures { OnOk result (text.new.items ≡ text.old.items ++ met_envelope_text envelope.now) }
 {
     let Envelope {
         source,
@@ -67,7 +67,7 @@ fn first_sixteen(bytes: &[u8]) -> &[u8]
 
 /// Adds a message with its first sixteen bytes.
 fn put_message(text: &mut Vec<u8>, message: &Message) -> io::Result<()>
-    ensures { OnOk result (text.new.items ≡ text.old.items ++ message_text message.now) }
+    ensures { OnOk result (text.new.items ≡ text.old.items ++ met_message_text message.now) }
 {
     put_envelope(text, &message.envelope)?;
     text.extend_from_slice(b":")?;
@@ -76,7 +76,7 @@ fn put_message(text: &mut Vec<u8>, message: &Message) -> io::Result<()>
 
 /// Adds what one of several posts gave.
 fn put_got(text: &mut Vec<u8>, got: &Option<Message>) -> io::Result<()>
-    ensures { OnOk result (text.new.items ≡ text.old.items ++ got_text got.now) }
+    ensures { OnOk result (text.new.items ≡ text.old.items ++ met_if_any got.now) }
 {
     match got {
         None => Ok(()),
@@ -86,7 +86,7 @@ fn put_got(text: &mut Vec<u8>, got: &Option<Message>) -> io::Result<()>
 
 /// Adds what several posts gave.
 fn put_gots(text: &mut Vec<u8>, gots: &[Option<Message>]) -> io::Result<()>
-    ensures { OnOk result (text.new.items ≡ text.old.items ++ flat_map got_text gots.now) }
+    ensures { OnOk result (text.new.items ≡ text.old.items ++ flat_map met_if_any gots.now) }
 {
     for got in gots {
         put_got(text, got)?;
@@ -96,7 +96,7 @@ fn put_gots(text: &mut Vec<u8>, gots: &[Option<Message>]) -> io::Result<()>
 
 /// Adds what the hub told, but for how the call ended.
 fn put_reply(text: &mut Vec<u8>, reply: &Reply) -> io::Result<()>
-    ensures { OnOk result (text.new.items ≡ text.old.items ++ reply_text reply.now) }
+    ensures { OnOk result (text.new.items ≡ text.old.items ++ told_by_reply reply.now) }
 {
     match reply {
         Reply::Got(message) => put_message(text, message),

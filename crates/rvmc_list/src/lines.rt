@@ -6,8 +6,9 @@ ghost use Rattle.cl_machine.specs.SameSteps.{kind_seen};
 ghost use Rattle.cl_state.specs.Asked.{asked};
 ghost use Rattle.cl_state.specs.Room.{rank_of};
 ghost use Rattle.rvmc_inspect.specs.Places.{name_text, named_address_text};
-ghost use Rattle.rvmc_list.specs.Lines.{box_of as box_asked, call_text, deed_text, done_text, hart_of, head_text};
-ghost use Rattle.rvmc_list.specs.Lines.{IsSeenBefore, box_in as box_in_ask, refused_text, seen, sight_text};
+ghost use Rattle.rvmc_list.specs.Lines.{box_met as box_asked, made_call_text, deed_text, done_text, hart_of, head_text};
+ghost use Rattle.rvmc_list.specs.Lines.{box_in as box_in_ask, refused_text, sight_text};
+ghost use Rattle.rvmc_list.specs.Seen.{IsSeenBefore, seen};
 
 use crate::arguments::put_arguments;
 use crate::gave::{BoxNumber, is_refused, put_box, put_end, put_kind};
@@ -139,7 +140,7 @@ fn put_done(
 /// Adds a call.
 fn put_call(text: &mut Vec<u8>, step: &Step, before: &Seen, after: &Hart) -> io::Result<()>
     ensures { OnOk result (text.new.items
-        ≡ text.old.items ++ call_text (call_named before.now.hart) (seen 0 step.now before.now after.now)) }
+        ≡ text.old.items ++ made_call_text (call_named before.now.hart) (seen 0 step.now before.now after.now)) }
 {
     let call = Call::of(&before.hart);
     if is_refused(after) {
