@@ -81,7 +81,7 @@ good_text text told ended is says = go (reading_record text) refl says
         → SaysOfSteps Check image steps told ended → IsGood told ended
     of_steps image steps read (inl (end, checked, ends)) =
         by image steps end checked ends read checked.verdict refl
-    of_steps image steps read (inr (fault, refuses, faulty)) = absurd refuses
+    of_steps image steps read (inr (fault, refuses, none, status)) = absurd refuses
 
     go : (r : Read) → reading_record text ≡ r
         → MatchResult r (λ read. SaysOfSteps Check read.0 read.1 told ended) (λ _. IsFaulty told ended)
