@@ -151,22 +151,6 @@ fn far<R: Threads + Wait + Sync>(
     Ok(watched.far())
 }
 
-/// Prints how many turns of two ranks and of three were too far ahead.
-fn print_leads(rt: &HostRuntime, alloc: Global) -> io::Result<()> {
-    println!(rt;
-        "lead 1, turns too far ahead: {:?}",
-        far(rt, alloc, &LOOP, &Watched::new(2, 1), 1000)
-    )?;
-    println!(rt;
-        "lead 100, turns too far ahead: {:?}",
-        far(rt, alloc, &LOOP, &Watched::new(2, 100), 100_000)
-    )?;
-    println!(rt;
-        "three ranks, lead 5, turns too far ahead: {:?}",
-        far(rt, alloc, &LOOP_OF_THREE, &Watched::new(3, 5), 10_000)
-    )
-}
-
 /// Prints what each rank put out, after how many turns it stopped, and why.
 fn print_record(rt: &HostRuntime, name: &str, left: Result<Record, RunFault>) -> io::Result<()> {
     match left {
@@ -208,5 +192,16 @@ fn main(rt: HostRuntime) -> io::Result<()> {
     print_record(&rt, "no gate", run(&rt, alloc, 1000, &NoGate))?;
     print_record(&rt, "pace", run(&rt, alloc, 3, &Pace::new(2, 1)))?;
     print_record(&rt, "no turns", run(&rt, alloc, 0, &NoGate))?;
-    print_leads(&rt, alloc)
+    println!(rt;
+        "lead 1, turns too far ahead: {:?}",
+        far(&rt, alloc, &LOOP, &Watched::new(2, 1), 1000)
+    )?;
+    println!(rt;
+        "lead 100, turns too far ahead: {:?}",
+        far(&rt, alloc, &LOOP, &Watched::new(2, 100), 100_000)
+    )?;
+    println!(rt;
+        "three ranks, lead 5, turns too far ahead: {:?}",
+        far(&rt, alloc, &LOOP_OF_THREE, &Watched::new(3, 5), 10_000)
+    )
 }

@@ -5,7 +5,7 @@ ghost use Rattle.clap.specs.declared.error.kind.ErrorKind.TheVariants.{DisplayVe
 ghost use Rattle.rvmc_cli.specs.Meaning.{IsParseFault};
 ghost use Rattle.rvmc_line.specs.declared.line.CommandLine.TheVariants.{OfImage, OfRecord};
 ghost use Rattle.rvmc_line.specs.declared.line.ImageCommand.TheVariants.{Asm, Dis, One, Run};
-ghost use Rattle.rvmc_line.specs.declared.line.RecordCommand.TheVariants.{Check, Why};
+ghost use Rattle.rvmc_line.specs.declared.line.RecordCommand.TheVariants.{Check, Report, Why};
 ghost use Rattle.rvmc_line.specs.declared.line.ParseFault.TheVariants as faults;
 ghost use Rattle.rvmc_line.specs.declared.line.Written.TheVariants as written;
 
