@@ -1,6 +1,6 @@
 //! A rank as it runs.
 
-ghost use Rattle.std.specs.Prelude.{◌≡◌, ◌<◌, vec_len, IfOk, IfSome, IsNone, IsOk, IsOkAnd, MatchResult, OnOk};
+ghost use Rattle.std.specs.Prelude.{◌≡◌, ◌<◌, vec_len, IfOk, IfSome, IsNone, IsOk, IsOkAnd, MatchResult, OnErr, OnOk, max};
 ghost use Rattle.rv_memory.specs.Memory.{bytes_at};
 ghost use Rattle.mp_types.specs.declared.requests.Request.{Request as RequestView};
 ghost use Rattle.cl_state.specs.Asked.{asked, doing as doing_of, part_of};
@@ -207,7 +207,8 @@ impl RankState {
     }
 
     /// Makes all growths of the hart's next turn, and spare pages for what it may write where none are. The rank stays
-    /// as it is. Where nothing grows, and no page is missing, nothing is refused.
+    /// as it is. Where nothing grows, and no page is missing, nothing is refused. Just the pages that are missing are
+    /// made, and none where as many are spare.
     pub fn room(&mut self, hart: u8) -> Result<(), AllocError>
         requires { hart < vec_len self.old.harts }
         ensures same { rank_of self.new ≡ rank_of self.old }
@@ -215,6 +216,9 @@ impl RankState {
         ensures room { OnOk result (HasRoom self.new hart) }
         ensures sure { growth_of (doing_of self.old.site (part_of (rank_of self.old) hart)) ≡ 0
             → missing_for self.old.memory.pages (writes_of self.old hart) ≡ 0 → IsOk result }
+        ensures spares { OnOk result (self.new.spares
+            ≡ max self.old.spares (missing_for self.old.memory.pages (writes_of self.old hart))) }
+        ensures kept { OnErr result (self.new.spares ≡ self.old.spares) }
     {
         let doing = self.next(hart);
         self.room_next(hart, &doing)
@@ -228,6 +232,9 @@ impl RankState {
         ensures room { OnOk result (HasRoom self.new hart) }
         ensures sure { growth_of doing.now ≡ 0
             → missing_for self.old.memory.pages (writes_of self.old hart) ≡ 0 → IsOk result }
+        ensures spares { OnOk result (self.new.spares
+            ≡ max self.old.spares (missing_for self.old.memory.pages (writes_of self.old hart))) }
+        ensures kept { OnErr result (self.new.spares ≡ self.old.spares) }
         ensures next { IsNext self.new hart doing.now }
     {
         self.room_behind(hart, doing)?;
@@ -242,6 +249,7 @@ impl RankState {
         ensures harts { vec_len self.new.harts ≡ vec_len self.old.harts }
         ensures room { OnOk result (HasRoomBehind self.new hart) }
         ensures sure { growth_of doing.now ≡ 0 → IsOk result }
+        ensures spares { self.new.spares ≡ self.old.spares }
         ensures next { IsNext self.new hart doing.now }
     {
         match *doing {
