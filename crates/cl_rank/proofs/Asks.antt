@@ -12,7 +12,6 @@ use Rattle.cl_state.specs.declared.state.RankState.{RankState}
 use Rattle.cl_state.specs.Asked.{asked}
 use Rattle.cl_state.specs.Room.{rank_of}
 use Rattle.cl_state.specs.Told.{told}
-use Rattle.cl_trace.specs.declared.events.Event.{Event}
 use Rattle.cl_trace.specs.declared.events.Kind.{Kind}
 use Rattle.cl_trace.specs.declared.events.Kind.TheVariants as kind
 use Rattle.cl_state.specs.Rank.{Rank}
@@ -22,13 +21,11 @@ use Rattle.cl_rank.specs.Deeds.{Act, Suits, IsStamp, answer_of, kind_of, request
 use Rattle.cl_rank.specs.Sides.{box_id_of}
 use Rattle.cl_rank.specs.RankSides.{AreChannelsOf, sides_in}
 use Rattle.cl_rank.specs.Steps.{IsTested}
-use Rattle.cl_rank.specs.Views.{AsksNobody}
+use Rattle.cl_rank.specs.Tidings.{HasLooked, TestTells, Tidings}
+use Rattle.cl_rank.specs.Views.{AsksNobody, MayTurn}
 use Rattle.cl_rank.proofs.Looked.{freed_moved, missed_moved, never_all, never_unready}
 use Rattle.cl_rank.proofs.Moves.{Moved}
-
--- what a hart was told, as which kind of event, and at which stamp
-abbrev pub Tidings : Type 0
-Tidings = Answer × Kind × ℕ
+use Rattle.cl_rank.proofs.Went.{Went}
 
 -- an act on this box answers what was asked, and moves the rank
 pub record BoxTurn (r : Running) (t : Turn) (link part : ℕ) (new : RankState) (sends : List (ℕ × SendView))
@@ -43,24 +40,47 @@ pub record BoxTurn (r : Running) (t : Turn) (link part : ℕ) (new : RankState) 
   pub low : x.2 < 2 ^ 62
   pub moved : Moved (rank_of r.state) (rank_of new) (sides_in r.sends.items r.recvs.items) (sides_in sends recvs) x.2 act
 
-module _ (r : Running) (t : Turn) (link part : ℕ) (channels : List ChannelView)
+-- and the rank went by it
+pub went_box : {r : Running} {t : Turn} {link part : ℕ} {new : RankState} {sends : List (ℕ × SendView)}
+    {recvs : List (ℕ × RecvView)} {x : Tidings} (turn : BoxTurn r t link part new sends recvs x) → MayTurn r t
+    → rank_of new ≡ told (rank_of r.state) t.hart x.0 x.2 → Went r t.hart x.2 turn.act new (sides_in sends recvs)
+went_box {r} {t} {link} {part} {new} {sends} {recvs} {x} turn may is = record {
+  there = may.has.there;
+  low = turn.low;
+  answers = turn.answers;
+  stamps = turn.stamp;
+  tells = is ∙ ap (λ a. told (rank_of r.state) t.hart a x.2) turn.tells;
+  moved = turn.moved;
+}
+
+module _ (r : Running) (t : Turn) {link part : ℕ} {channels : List ChannelView}
     (own : AreChannelsOf r.state.site.version channels (sides_in r.sends.items r.recvs.items))
     (asks : asked (rank_of r.state) t.hart ≡ ask.Freed link part)
-    (found : Progress) (sent : List (ℕ × SendView))
+    {found : Progress} {sent : List (ℕ × SendView)}
     (done : IsTested channels link r.state.clock found r.sends.items sent) where
-  abbrev pub FoundFreed : Tidings → Type 0
+  abbrev FoundFreed : Tidings → Type 0
   FoundFreed x = (stamp : ℕ) × (found ≡ progress.Freed stamp) × (x ≡ (answer.Freed, kind.Freed, stamp))
 
-  abbrev pub FoundMissed : Tidings → Type 0
+  abbrev FoundMissed : Tidings → Type 0
   FoundMissed x = (stamp : ℕ) × (found ≡ progress.Missed stamp) × (x ≡ (answer.Missed, kind.Miss, stamp))
 
-  pub not_all : found ≡ progress.AllFreed → ⊥
+  not_all : found ≡ progress.AllFreed → ⊥
   not_all = never_all (rank_of r.state) t.hart link part channels r.sends.items r.recvs.items r.sides r.fit own asks 0 found
       sent done
 
-  pub not_unready : found ≡ progress.NotReady → ⊥
+  not_unready : found ≡ progress.NotReady → ⊥
   not_unready = never_unready (rank_of r.state) t.hart link part channels r.sends.items r.recvs.items r.sides r.fit own asks
       0 found sent done
+
+  -- it looked at a box
+  pub has_looked : HasLooked found
+  has_looked = go found refl
+    where
+      go : (p : Progress) → found ≡ p → HasLooked p
+      go (progress.Freed stamp) is = tt
+      go (progress.Missed stamp) is = tt
+      go progress.AllFreed is = absurd (not_all is)
+      go progress.NotReady is = absurd (not_unready is)
 
   freed_turn : (new : RankState) (x : Tidings) → FoundFreed x
       → rank_of new ≡ told (rank_of r.state) t.hart x.0 x.2 → BoxTurn r t link part new sent r.recvs.items x
@@ -106,18 +126,15 @@ module _ (r : Running) (t : Turn) (link part : ℕ) (channels : List ChannelView
             moved = m.2;
           }
 
-  pub test_turn : (new : RankState) (x : Tidings) → FoundFreed x ⊎ FoundMissed x
+  pub test_turn : (new : RankState) (x : Tidings) → TestTells found x
       → rank_of new ≡ told (rank_of r.state) t.hart x.0 x.2 → BoxTurn r t link part new sent r.recvs.items x
-  test_turn new x branch is =
-      ⊎_elim (λ (f : FoundFreed x). freed_turn new x f is) (λ (f : FoundMissed x). missed_turn new x f is) branch
-
--- the event of an act on a box
-pub event_at : (events new : List Event) (hart stamp : ℕ) (k : Kind) (act : Act) → k ≡ kind_of act → request_of act ≡ None
-    → new ≡ events ++ record { hart = hart; stamp = stamp; kind = k; request = None } ∷ []
-    → new ≡ events ++ record { hart = hart; stamp = stamp; kind = kind_of act; request = request_of act } ∷ []
-event_at events new hart stamp k act same quiet is =
-    is ∙ (ap (λ j. events ++ record { hart = hart; stamp = stamp; kind = j; request = None } ∷ []) same
-    ∙ ap (λ q. events ++ record { hart = hart; stamp = stamp; kind = kind_of act; request = q } ∷ []) (sym quiet))
+  test_turn new x tells is = go found refl tells
+    where
+      go : (p : Progress) → found ≡ p → TestTells p x → BoxTurn r t link part new sent r.recvs.items x
+      go (progress.Freed stamp) at so = freed_turn new x (stamp, at, so) is
+      go (progress.Missed stamp) at so = missed_turn new x (stamp, at, so) is
+      go progress.AllFreed at so = absurd so
+      go progress.NotReady at so = absurd so
 
 pub asks_nothing_plain : (old new : Rank) (hart : ℕ) → new ≡ old → asked old hart ≡ ask.Plain
     → AsksNobody (asked new hart) kind.Plain

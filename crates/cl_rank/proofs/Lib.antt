@@ -4,6 +4,7 @@ pub mod Asks
 pub mod Boxes
 pub mod Called
 pub mod Clocks
+pub mod Ends
 pub mod Kept
 pub mod Keys
 pub mod Lists

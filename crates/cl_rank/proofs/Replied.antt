@@ -1,7 +1,7 @@
 -- What the hub's reply makes of a rank: the side of one link gets the shape or the cut that its phase got, if it did.
 use Rattle.std.proofs.Common.{◌≡◌, ℕ, zero, suc, ◌<◌, ◌≤◌, ◌*◌, ◌%◌, ◌==◌, List, [], ◌∷◌, ◌++◌, Bool, true, false}
 use Rattle.std.proofs.Common.{Option, Some, None, refl, sym, ap, subst, ◌∙◌, inl, inr, ⊎_elim, rules, arith}
-use Rattle.std.specs.Prelude.{◌&&◌, map, not, nat_le, option_map, slice_get, IfSome, if◌then◌else◌}
+use Rattle.std.specs.Prelude.{◌&&◌, ◌^◌, map, not, nat_le, option_map, slice_get, vec_len, IfSome, if◌then◌else◌}
 use Rattle.rv_image.specs.declared.images.ImageVersion.{ImageVersion}
 use Rattle.mp_types.specs.declared.replies.Reply.{Reply}
 use Rattle.mp_types.specs.declared.requests.Request.{Request}
@@ -48,6 +48,7 @@ use Rattle.cl_rank.proofs.Moves.{Moved, SameShape, fit_kept, fits_at, own_told, 
 use Rattle.cl_rank.proofs.Moves.{sides_told, started_at, told_by}
 use Rattle.cl_rank.proofs.Rows.{HubRow, RowFits}
 use Rattle.cl_rank.proofs.Tables.{at_handle}
+use Rattle.cl_rank.proofs.Went.{Went, event}
 
 -- ---- limits of shapes
 
@@ -529,13 +530,13 @@ module _ (old new : Rank) (hart stamp : ℕ) (request : Request) (reply : Reply)
       }
 
 -- the same, as a running rank's turn meets it
-module _ (r : Running) (hart stamp : ℕ) (request : Request) (reply : Reply) (new : RankState) (link : ℕ)
+module _ (r : Running) (new : RankState) (hart stamp : ℕ) {request : Request} (reply : Reply) {link : ℕ}
     (asks : asked (rank_of r.state) hart ≡ ask.Hub request)
     (is : rank_of new ≡ told (rank_of r.state) hart (answer.Reply reply) stamp)
     (named : link ≡ named_link request reply) where
-  pub may_follow_sender : (was now : SendPhase) → was ≡ sending_at r.state.phases link
+  pub may_follow_sender : {was now : SendPhase} → was ≡ sending_at r.state.phases link
       → now ≡ sending_at new.phases link → IfSome (side_of link r.sends.items) (SendingMay was now)
-  may_follow_sender was now p q =
+  may_follow_sender {was} {now} p q =
       subst (λ w. IfSome (side_of link r.sends.items) (SendingMay w now)) (sym p)
       (subst (λ n. IfSome (side_of link r.sends.items) (SendingMay (sending_at r.state.phases link) n)) (sym q)
       (subst (λ l. IfSome (side_of l r.sends.items)
@@ -543,9 +544,9 @@ module _ (r : Running) (hart stamp : ℕ) (request : Request) (reply : Reply) (n
       (may_send (rank_of r.state) (rank_of new) hart stamp request reply r.sends.items r.recvs.items r.sides r.fit asks
       is)))
 
-  pub may_follow_receiver : (was now : RecvPhase) → was ≡ receiving_at r.state.phases link
+  pub may_follow_receiver : {was now : RecvPhase} → was ≡ receiving_at r.state.phases link
       → now ≡ receiving_at new.phases link → IfSome (side_of link r.recvs.items) (ReceivingMay was now)
-  may_follow_receiver was now p q =
+  may_follow_receiver {was} {now} p q =
       subst (λ w. IfSome (side_of link r.recvs.items) (ReceivingMay w now)) (sym p)
       (subst (λ n. IfSome (side_of link r.recvs.items) (ReceivingMay (receiving_at r.state.phases link) n)) (sym q)
       (subst (λ l. IfSome (side_of l r.recvs.items)
@@ -571,33 +572,37 @@ module _ (r : Running) (hart stamp : ℕ) (request : Request) (reply : Reply) (n
       ∙ (ap (λ n. changed_side link (followed_receiver (receiving_at r.state.phases link) n) r.recvs.items) q
       ∙ ap (λ l. changed_side l (got_between r.state.phases new.phases l) r.recvs.items) named))
 
-  pub went_reply : (was now : SendPhase) (had has : RecvPhase) (sends : List (ℕ × SendView))
-      (recvs : List (ℕ × RecvView))
+  pub went_reply : {was now : SendPhase} {had has : RecvPhase} {sends : List (ℕ × SendView)}
+      {recvs : List (ℕ × RecvView)}
+      → hart < vec_len r.state.harts → (r.state.clock < stamp) × (stamp < 2 ^ 62)
       → was ≡ sending_at r.state.phases link → now ≡ sending_at new.phases link
       → had ≡ receiving_at r.state.phases link → has ≡ receiving_at new.phases link
       → sends ≡ changed_side link (followed_sender was now) r.sends.items
-      → recvs ≡ changed_side link (followed_receiver had has) r.recvs.items → r.state.clock < stamp
-      → Moved (rank_of r.state) (rank_of new) (sides_in r.sends.items r.recvs.items) (sides_in sends recvs) stamp
-      (Act.Hub r.state.clock request reply)
-  went_reply was now had has sends recvs p q a b sent got low =
-      subst (λ ss. Moved (rank_of r.state) (rank_of new) (sides_in r.sends.items r.recvs.items) (sides_in ss recvs)
-      stamp (Act.Hub r.state.clock request reply)) (sym (sent_so was now sends p q sent))
-      (subst (λ rs. Moved (rank_of r.state) (rank_of new) (sides_in r.sends.items r.recvs.items)
-      (sides_in (changed_side (named_link request reply)
-      (sent_between r.state.phases new.phases (named_link request reply)) r.sends.items) rs) stamp
-      (Act.Hub r.state.clock request reply)) (sym (got_so had has recvs a b got))
-      (reply_moved (rank_of r.state) (rank_of new) hart stamp request reply r.sends.items r.recvs.items r.sides r.fit
-      asks is (omega (arith, low))))
+      → recvs ≡ changed_side link (followed_receiver had has) r.recvs.items
+      → Went r hart stamp (Act.Hub r.state.clock request reply) new (sides_in sends recvs)
+  went_reply {was} {now} {had} {has} {sends} {recvs} there stamps p q a b sent got = record {
+    there = there;
+    low = stamps.1;
+    answers = asks;
+    stamps = (refl, stamps.0);
+    tells = is;
+    moved = subst (λ ss. Moved (rank_of r.state) (rank_of new) (sides_in r.sends.items r.recvs.items) (sides_in ss recvs)
+        stamp (Act.Hub r.state.clock request reply)) (sym (sent_so was now sends p q sent))
+        (subst (λ rs. Moved (rank_of r.state) (rank_of new) (sides_in r.sends.items r.recvs.items)
+        (sides_in (changed_side (named_link request reply)
+        (sent_between r.state.phases new.phases (named_link request reply)) r.sends.items) rs) stamp
+        (Act.Hub r.state.clock request reply)) (sym (got_so had has recvs a b got))
+        (reply_moved (rank_of r.state) (rank_of new) hart stamp request reply r.sends.items r.recvs.items r.sides r.fit
+        asks is (omega (arith, stamps.0))));
+  }
 
 same_reply : (told read : Reply) → answer.Reply told ≡ answer.Reply read → read ≡ told
 same_reply told read h = cc
 
-abbrev hub_event : ℕ → ℕ → Request → Reply → Event
-hub_event hart stamp request reply =
-    record { hart = hart; stamp = stamp; kind = kind.Hub reply; request = Some request }
-
-pub replied_event : (events new : List Event) (hart stamp : ℕ) (request : Request) (told read : Reply)
-    → answer.Reply told ≡ answer.Reply read → new ≡ events ++ hub_event hart stamp request read ∷ []
-    → new ≡ events ++ hub_event hart stamp request told ∷ []
-replied_event events new hart stamp request told read same is =
-    is ∙ ap (λ r. events ++ hub_event hart stamp request r ∷ []) (same_reply told read same)
+-- the event of a call
+pub called_event : {reply read : Reply} {new : List Event} (hart stamp : ℕ) (request : Request) (events : List Event)
+    (e : Event) → answer.Reply reply ≡ answer.Reply read → e ≡ event hart stamp (kind.Hub read) (Some request)
+    → new ≡ events ++ e ∷ [] → new ≡ events ++ event hart stamp (kind.Hub reply) (Some request) ∷ []
+called_event {reply} {read} hart stamp request events e same is noted =
+    noted ∙ ap (λ x. events ++ x ∷ [])
+    (is ∙ ap (λ r. event hart stamp (kind.Hub r) (Some request)) (same_reply reply read same))

@@ -1,5 +1,5 @@
 -- A hart that polls a post and is told that nothing is there yet: only the clock of its rank changes.
-use Rattle.std.proofs.Common.{◌≡◌, ℕ, ◌≤◌, List, Option, Some, refl, sym, ap, subst, ◌∙◌}
+use Rattle.std.proofs.Common.{◌≡◌, ℕ, ◌<◌, ◌≤◌, ◌^◌, List, Option, Some, refl, sym, ap, subst, ◌∙◌, arith}
 use Rattle.std.proofs.lemmas.List.{set-get_or}
 use Rattle.mp_types.specs.declared.replies.Reply.TheVariants as reply
 use Rattle.mp_types.specs.declared.requests.Request.{Request}
@@ -24,6 +24,7 @@ use Rattle.cl_rank.specs.Roomy.{IsRoomy}
 use Rattle.cl_rank.specs.Views.{MayTurn, MayWait}
 use Rattle.cl_rank.proofs.Keys.{keys_stay}
 use Rattle.cl_rank.proofs.Moves.{Moved, later}
+use Rattle.cl_rank.proofs.Went.{Went}
 
 abbrev pub at_clock : Rank → ℕ → Rank
 at_clock rank clock = record rank { clock = clock }
@@ -48,17 +49,28 @@ stayed rank stamp request sends recvs sides fit low = record {
   own = λ channels own. own;
 }
 
+-- a rank that waits on
+pub waited : (r : Running) (new : RankState) {hart stamp : ℕ} {request : Request} → MayWait r hart request
+    → (r.state.clock < stamp) × (stamp < 2 ^ 62) → rank_of new ≡ at_clock (rank_of r.state) stamp
+    → Went r hart stamp (Act.Hub r.state.clock request reply.NotYet) new (sides_in r.sends.items r.recvs.items)
+waited r new {hart} {stamp} {request} may stamps is = record {
+  there = may.has.there;
+  low = stamps.1;
+  answers = may.polls.asks;
+  stamps = (refl, stamps.0);
+  tells = is ∙ sym (told_nothing (rank_of r.state) hart stamp may.polls.call may.polls.post may.polls.turn);
+  moved = subst (λ (x : Rank). Moved (rank_of r.state) x (sides_in r.sends.items r.recvs.items)
+      (sides_in r.sends.items r.recvs.items) stamp (Act.Hub r.state.clock request reply.NotYet)) (sym is)
+      (stayed (rank_of r.state) stamp request r.sends.items r.recvs.items r.sides r.fit (omega (arith, stamps.0)));
+}
+
 -- a turn that polls and asks the hub this may wait
 pub may_wait : (r : Running) (t : Turn) (c : Call) (post : ℕ) (request : Request) → MayTurn r t → t.doing ≡ Poll c post
     → asked (rank_of r.state) t.hart ≡ ask.Hub request → MayWait r t.hart request
 may_wait r t c post request may polls asks = record {
-  there = may.next.there;
+  has = may.has;
   polls = record { call = c; post = post; turn = sym may.next.spelled ∙ polls; asks = asks };
   room = may.room;
-  low = may.low;
-  left = may.left;
-  few = may.few;
-  space = may.space;
 }
 
 -- the room of the hart that is named

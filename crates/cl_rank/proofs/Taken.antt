@@ -47,7 +47,8 @@ use Rattle.cl_rank.specs.RankSides.{phase_of_receiver, receiver_key, receiver_of
 use Rattle.cl_rank.specs.RankSides.{receiver_view, sender_key, side_of, sides_in}
 use Rattle.cl_rank.specs.Steps.{IsTaken, MayTake, ReceiverAt, changed_side}
 use Rattle.cl_rank.proofs.Answered.{taken_becomes, untaken_stays}
-use Rattle.cl_rank.proofs.Asks.{BoxTurn, Tidings}
+use Rattle.cl_rank.specs.Tidings.{TakeTells, Tidings}
+use Rattle.cl_rank.proofs.Asks.{BoxTurn}
 use Rattle.cl_rank.proofs.Boxes.{box_limits, length_first}
 use Rattle.cl_rank.proofs.Kept.{kept, owned, past_later, receiver_fits}
 use Rattle.cl_rank.proofs.Keys.{receivers_move, senders_apart}
@@ -470,13 +471,13 @@ module _ (old : Rank) (hart link part : ℕ) (channels : List ChannelView)
 
 -- ---- the turn of a running rank
 
-module _ (r : Running) (t : Turn) (link part : ℕ) (channels : List ChannelView)
+module _ (r : Running) (t : Turn) {link part : ℕ} {channels : List ChannelView}
     (own : AreChannelsOf r.state.site.version channels (sides_in r.sends.items r.recvs.items))
     (asks : asked (rank_of r.state) t.hart ≡ ask.Look link part)
-    (take_is : Take) (got : List (ℕ × RecvView))
+    {take_is : Take} {got : List (ℕ × RecvView)}
     (done : IsTaken channels link part r.state.clock take_is r.recvs.items got) where
   -- a thing was found, and the rank is told all bytes of its box
-  pub record FoundTaken (x : Tidings) : Type 0 where
+  record FoundTaken (x : Tidings) : Type 0 where
     pub raw : List ℕ
     pub stamp : ℕ
     pub is : take_is ≡ found.Taken raw stamp
@@ -484,7 +485,7 @@ module _ (r : Running) (t : Turn) (link part : ℕ) (channels : List ChannelView
     pub filled : full ≡ padded r.state.site.version (take (box_bytes r.state.site.version) raw)
     pub tells : x ≡ (answer.Taken full, kind.Take, stamp)
 
-  pub record FoundMissed (x : Tidings) : Type 0 where
+  record FoundMissed (x : Tidings) : Type 0 where
     pub stamp : ℕ
     pub is : take_is ≡ found.Missed stamp
     pub tells : x ≡ (answer.Missed, kind.Miss, stamp)
@@ -533,7 +534,11 @@ module _ (r : Running) (t : Turn) (link part : ℕ) (channels : List ChannelView
             moved = m.2;
           }
 
-  pub look_turn : (new : RankState) (x : Tidings) → FoundTaken x ⊎ FoundMissed x
+  pub look_turn : (new : RankState) (x : Tidings) → TakeTells r.state.site.version take_is x
       → rank_of new ≡ told (rank_of r.state) t.hart x.0 x.2 → BoxTurn r t link part new r.sends.items got x
-  look_turn new x branch is =
-      ⊎_elim (λ (f : FoundTaken x). taken_turn new x f is) (λ (f : FoundMissed x). untaken_turn new x f is) branch
+  look_turn new x tells is = go take_is refl tells
+    where
+      go : (p : Take) → take_is ≡ p → TakeTells r.state.site.version p x → BoxTurn r t link part new r.sends.items got x
+      go (found.Taken raw stamp) at so =
+          taken_turn new x (record { raw = raw; stamp = stamp; is = at; full = _; filled = refl; tells = so }) is
+      go (found.Missed stamp) at so = untaken_turn new x (record { stamp = stamp; is = at; tells = so }) is

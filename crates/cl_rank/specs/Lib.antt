@@ -5,6 +5,7 @@ pub mod RankSides
 pub mod Facts
 pub mod Roomy
 pub mod Steps
+pub mod Tidings
 pub mod Fitting
 pub mod Follows
 pub mod Laws

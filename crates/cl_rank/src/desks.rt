@@ -7,6 +7,9 @@ use cl_journal::{Hub, HubFault};
 use mp_types::{Reply, Request, Stamp};
 use std::sync::{Mutex, Wait};
 
+/// What a call of the hub gives: its reply with its stamp, or why it was refused.
+pub type Replied = Result<(Reply, Stamp), HubFault>;
+
 /// Where a rank makes its calls of the hub. `R` is the handle that a call is passed.
 pub trait Desk<R> {
     ghost use Rattle.std.specs.Prelude.{ℕ, ◌<◌, ◌^◌, IfOk, IfErr, Result};
@@ -20,14 +23,7 @@ pub trait Desk<R> {
     ghost gives: { Self → ℕ → ℕ → ℕ → Request → Result (Reply × ℕ) HubFault → Self → Type 0 };
 
     /// Makes one call of a rank, whose clock is given. An answer's stamp is above that clock and below 2^62.
-    fn call(
-        &mut self,
-        rt: &R,
-        rank: u8,
-        hart: u8,
-        clock: Stamp,
-        request: Request,
-    ) -> Result<(Reply, Stamp), HubFault>
+    fn call(&mut self, rt: &R, rank: u8, hart: u8, clock: Stamp, request: Request) -> Replied
         requires { clock < 2 ^ 62 }
         ensures gives { gives self.old rank hart clock request result self.new }
         ensures stamp { IfOk result (λ told. (clock < told.1) × (told.1 < 2 ^ 62)) }
@@ -48,14 +44,7 @@ impl<'a, R: Wait> Desk<R> for LockedDesk<'a> {
     ghost gives = { λ before rank hart clock request told after. (j : HubHistory) ×
         (k : HubHistory) × Answered j rank hart clock request told k };
 
-    fn call(
-        &mut self,
-        rt: &R,
-        rank: u8,
-        hart: u8,
-        clock: Stamp,
-        request: Request,
-    ) -> Result<(Reply, Stamp), HubFault> {
+    fn call(&mut self, rt: &R, rank: u8, hart: u8, clock: Stamp, request: Request) -> Replied {
         let mut hub = self.hub.lock(rt);
         call_hub(&mut *hub, rank, hart, clock, request)
     }
@@ -74,27 +63,14 @@ impl<'a, R> Desk<R> for PlainDesk<'a> {
     ghost gives = { λ before rank hart clock request told after. (after.hub.ghost_name
         ≡ before.hub.ghost_name) × Answered before.hub.now rank hart clock request told after.hub.now };
 
-    fn call(
-        &mut self,
-        _rt: &R,
-        rank: u8,
-        hart: u8,
-        clock: Stamp,
-        request: Request,
-    ) -> Result<(Reply, Stamp), HubFault> {
+    fn call(&mut self, _rt: &R, rank: u8, hart: u8, clock: Stamp, request: Request) -> Replied {
         call_hub(self.hub, rank, hart, clock, request)
     }
 }
 
 /// A call of the hub itself.
 #[tactic(auto, using(crate::proofs::Clocks::is_fault))]
-fn call_hub(
-    hub: &mut Hub,
-    rank: u8,
-    hart: u8,
-    clock: Stamp,
-    request: Request,
-) -> Result<(Reply, Stamp), HubFault>
+fn call_hub(hub: &mut Hub, rank: u8, hart: u8, clock: Stamp, request: Request) -> Replied
     requires { clock < 2 ^ 62 }
     ensures answered { Answered hub.old rank hart clock request result hub.new }
     ensures stamp { IfOk result (λ told. (clock < told.1) × (told.1 < 2 ^ 62)) }

@@ -16,7 +16,7 @@ pub use agreeing::agree;
 pub use cl_calls::{ANY, Call, Communicators, NO_RANK, Needs, Peer, Range, Site, Tag, position};
 pub use cl_state::{Answer, Ask, Doing, RankState};
 pub use cl_trace::{Bare, Cursor, Event, Kind, Seen, Trace};
-pub use desks::{Desk, LockedDesk, PlainDesk};
+pub use desks::{Desk, LockedDesk, PlainDesk, Replied};
 pub use ranks::Rank;
 pub use sides::BoxId;
 pub use stops::Stop;

@@ -50,7 +50,7 @@ pub struct Rank {
 }
 
 impl Rank {
-    ghost use Rattle.cl_rank.specs.Views.{view_of};
+    ghost use Rattle.cl_rank.specs.Views.{IsOver, TurnEnds, view_of};
 
     /// The rank of this number as it is loaded, which took no turn, with the sides of its links, which are new.
     pub fn new(
@@ -99,17 +99,8 @@ impl Rank {
         hart: u8,
     ) -> Result<(), Stop>
         requires hart { hart < vec_len self.old.state.harts }
-        requires own { AreChannelsOf self.old.state.site.version channels.now (view_of self.old).sides }
-        ensures turned { OnOk result (IsTurn D.gives hart (view_of self.old) (view_of self.new) desk.old desk.new) }
-        ensures active { OnOk result (IsActive (rank_of self.old.state)
-            (length self.old.trace.events) self.old.budget) }
-        ensures stop { IfErr result
-            (λ stop. StopHolds D.gives hart (rank_of self.old.state)
-            (length self.old.trace.events) self.old.budget desk.old desk.new stop) }
-        ensures unchanged { OnErr result (view_of self.new ≡ view_of self.old) }
-        ensures own { AreChannelsOf self.new.state.site.version channels.now (view_of self.new).sides }
-        ensures budget { self.new.budget ≡ self.old.budget }
-        ensures harts { vec_len self.new.state.harts ≡ vec_len self.old.state.harts }
+        requires own { IsOver self.old channels.now }
+        ensures { TurnEnds D.gives hart channels.now self.old desk.old result self.new desk.new }
     {
         if self.trace.len() >= self.budget
             || self.state.clock >= CLOCK_MAX
@@ -124,13 +115,13 @@ impl Rank {
             self.trace.push_plain(hart, stamp);
             return Ok(());
         }
-        self.other_turn(rt, desk, channels, hart)
+        self.other_turn(rt, desk, hart, channels)
     }
 
     /// Takes a turn of a hart over the hub itself, and never waits. After a refusal the hub is as it was, too.
     pub fn turn_plain(&mut self, hub: &mut Hub, channels: &[Channel], hart: u8) -> Result<(), Stop>
         requires hart { hart < vec_len self.old.state.harts }
-        requires own { AreChannelsOf self.old.state.site.version channels.now (view_of self.old).sides }
+        requires own { IsOver self.old channels.now }
         ensures turned { OnOk result (IsTurn Answered hart (view_of self.old) (view_of self.new) hub.old hub.new) }
         ensures active { OnOk result (IsActive (rank_of self.old.state)
             (length self.old.trace.events) self.old.budget) }
@@ -139,7 +130,7 @@ impl Rank {
             (length self.old.trace.events) self.old.budget hub.old hub.new stop) }
         ensures unchanged { OnErr result (view_of self.new ≡ view_of self.old) }
         ensures hub { OnErr result (hub.new ≡ hub.old) }
-        ensures own { AreChannelsOf self.new.state.site.version channels.now (view_of self.new).sides }
+        ensures own { IsOver self.new channels.now }
         ensures budget { self.new.budget ≡ self.old.budget }
         ensures harts { vec_len self.new.state.harts ≡ vec_len self.old.state.harts }
     {

@@ -1,7 +1,7 @@
 //! What a turn does to a rank.
 
-ghost use Rattle.std.specs.Prelude.{◌≡◌, ◌<◌, ◌+◌, ◌^◌, List, length, vec_len, IfErr, OnOk};
-ghost use Rattle.std.specs.Prelude.{OnErr, IsTrue, IsFalse, Some, slice_get, false, true};
+ghost use Rattle.std.specs.Prelude.{◌≡◌, ◌<◌, ◌+◌, ◌^◌, ◌++◌, ◌∷◌, [], List, length, vec_len, IfErr, IfOk, Ok};
+ghost use Rattle.std.specs.Prelude.{IsTrue, IsFalse, None, Some, slice_get, false, true};
 ghost use Rattle.rv_hart.specs.State.{State};
 ghost use Rattle.rv_hart.specs.Stepped.{stepped};
 ghost use Rattle.rv_hart.specs.Stores.{IsThere, store_range};
@@ -16,11 +16,13 @@ ghost use Rattle.cl_state.specs.Asked.{asked, is_ecall as is_ecall_of};
 ghost use Rattle.cl_state.specs.Room.{rank_of};
 ghost use Rattle.cl_state.specs.Told.{told};
 ghost use Rattle.cl_rank.specs.Follows.{named_link as named_link_in, started_link};
-ghost use Rattle.cl_rank.specs.RankSides.{AreChannelsOf};
+ghost use Rattle.cl_rank.specs.Tidings.{HasLooked, TakeTells, TestTells};
 ghost use Rattle.cl_rank.specs.Turns.{AllStopped, IsActive};
-ghost use Rattle.cl_rank.specs.Turning.{IsTurn, StopHolds};
+ghost use Rattle.cl_rank.specs.Turning.{StopHolds};
 ghost use Rattle.cl_rank.specs.Turns.{all_stopped as all_stopped_of, is_stopped as is_stopped_of};
-ghost use Rattle.cl_rank.specs.Views.{AsksNobody, IsHubTurn, IsQuietTurn, MayTurn, MayWait, view_of};
+ghost use Rattle.cl_rank.specs.Views.{AsksNobody, HasTurn, IsHubTurn, IsOver, IsQuietTurn, MayTurn, MayWait, TurnEnds};
+ghost use Rattle.cl_trace.specs.declared.events.Kind.TheVariants.{Hub};
+ghost use Rattle.cl_trace.specs.Rising.{last_stamp};
 
 use crate::desks::Desk;
 use crate::ranks::Rank;
@@ -28,12 +30,13 @@ use crate::sides::{BoxId, begin, follow_receiver, follow_sender, make_ready, tak
 use crate::stops::{Stop, stop_of};
 use cl_calls::Call;
 use cl_state::{Answer, Ask, Doing, RankState};
-use cl_trace::{Event, Kind};
+use cl_trace::{Event, Kind, Trace};
 use mp_request::{OpenRequest, Requests, Transfer};
 use mp_types::{Reply, Request, Stamp};
 use part_channel::{Channel, Progress, Take};
 use part_phase::{Contents, box_words};
 use rv_hart::{Did, Hart, Mode, step};
+use rv_image::ImageVersion;
 use rv_memory::RankMemory;
 
 /// Does the instruction of a running hart, where it is no ECALL. Else nothing is done: the hart isn't running, its word
@@ -157,6 +160,99 @@ fn into_reply(answer: Answer) -> Reply
     }
 }
 
+/// What a hart is told of the box that its turn asked, and the kind and the stamp of the turn's event.
+type Tidings = (Answer, Kind, Stamp);
+
+/// What a test tells that looked at a box.
+fn told_of_test(progress: Progress) -> Tidings
+    requires { HasLooked progress }
+    ensures { TestTells progress result }
+{
+    match progress {
+        Progress::Freed(stamp) => (Answer::Freed, Kind::Freed, stamp),
+        Progress::Missed(stamp) => (Answer::Missed, Kind::Miss, stamp),
+        Progress::AllFreed => unreachable!(),
+        Progress::NotReady => unreachable!(),
+    }
+}
+
+/// What a take tells.
+fn told_of_take(version: ImageVersion, take: Take) -> Tidings
+    ensures { TakeTells version take result }
+{
+    match take {
+        Take::Taken(bytes, stamp) => {
+            let bytes = Contents::of(version, &bytes[..8 * box_words(version)]);
+            (Answer::Taken(bytes), Kind::Take, stamp)
+        }
+        Take::Missed(stamp) => (Answer::Missed, Kind::Miss, stamp),
+    }
+}
+
+/// What is noted of a turn: its event, the box that it asked, and the hart whose poll was in vain.
+#[derive(Drop)]
+struct Noted {
+    event: Event,
+    asked_box: Option<BoxId>,
+    roomy: Option<u8>,
+}
+
+/// Of a turn that made no call.
+#[inline(always)]
+fn uncalled(hart: u8, stamp: Stamp, kind: Kind, asked_box: Option<BoxId>) -> Noted
+    ensures event { result.event ≡ record { hart = hart; stamp = stamp; kind = kind; request = None } }
+    ensures place { result.asked_box ≡ asked_box }
+    ensures waits { result.roomy ≡ None }
+{
+    let event = Event {
+        hart,
+        stamp,
+        kind,
+        request: None,
+    };
+    Noted {
+        event,
+        asked_box,
+        roomy: None,
+    }
+}
+
+/// Of a call of the hub.
+#[inline(always)]
+fn called(hart: u8, stamp: Stamp, request: Request, reply: Reply, roomy: Option<u8>) -> Noted
+    ensures event { result.event ≡ record { hart = hart; stamp = stamp; kind = Hub reply; request = Some request } }
+    ensures place { result.asked_box ≡ None }
+    ensures waits { result.roomy ≡ roomy }
+{
+    let event = Event {
+        hart,
+        stamp,
+        kind: Kind::Hub(reply),
+        request: Some(request),
+    };
+    Noted {
+        event,
+        asked_box: None,
+        roomy,
+    }
+}
+
+/// Notes a turn: its event stands behind the events before.
+#[inline(always)]
+fn note(trace: &mut Trace, asked_box: &mut Option<BoxId>, roomy: &mut Option<u8>, noted: Noted)
+    requires room { 0 < trace.old.room }
+    requires rises { last_stamp 0 trace.old.events < noted.event.stamp }
+    requires low { noted.event.stamp < 2 ^ 62 }
+    requires few { length trace.old.events + 1 < 2 ^ 64 }
+    ensures event { trace.new.events ≡ trace.old.events ++ noted.event ∷ [] }
+    ensures place { asked_box.new ≡ noted.asked_box }
+    ensures waits { roomy.new ≡ noted.roomy }
+{
+    *asked_box = noted.asked_box;
+    *roomy = noted.roomy;
+    trace.push(noted.event);
+}
+
 impl Rank {
     /// A turn of any kind, of a rank that has a turn left and room for its event. A poll that was just in vain is made again
     /// before anything is laid out for turns of other kinds.
@@ -165,59 +261,33 @@ impl Rank {
         &mut self,
         rt: &R,
         desk: &mut D,
-        channels: &[Channel],
         hart: u8,
+        channels: &[Channel],
     ) -> Result<(), Stop>
-        requires hart { hart < vec_len self.old.state.harts }
-        requires low { self.old.state.clock + 1 < 2 ^ 62 }
-        requires left { length self.old.trace.events < self.old.budget }
-        requires few { length self.old.trace.events + 1 < 2 ^ 64 }
-        requires space { 0 < self.old.trace.room }
-        requires own { AreChannelsOf self.old.state.site.version channels.now (view_of self.old).sides }
-        ensures turned { OnOk result (IsTurn D.gives hart (view_of self.old) (view_of self.new) desk.old desk.new) }
-        ensures active { OnOk result (IsActive (rank_of self.old.state)
-            (length self.old.trace.events) self.old.budget) }
-        ensures stop { IfErr result
-            (λ stop. StopHolds D.gives hart (rank_of self.old.state)
-            (length self.old.trace.events) self.old.budget desk.old desk.new stop) }
-        ensures unchanged { OnErr result (view_of self.new ≡ view_of self.old) }
-        ensures own { AreChannelsOf self.new.state.site.version channels.now (view_of self.new).sides }
-        ensures budget { self.new.budget ≡ self.old.budget }
-        ensures harts { vec_len self.new.state.harts ≡ vec_len self.old.state.harts }
+        requires has { HasTurn self.old hart }
+        requires own { IsOver self.old channels.now }
+        ensures { TurnEnds D.gives hart channels.now self.old desk.old result self.new desk.new }
     {
         if self.roomy == Some(hart) && !all_stopped(&self.state) {
             if let Some(request) = self.state.poll(hart) {
                 return self.poll_again(rt, desk, hart, request);
             }
         }
-        self.slow_turn(rt, desk, channels, hart)
+        self.slow_turn(channels, rt, desk, hart)
     }
 
     /// A turn that is worked out.
     #[inline(never)]
     fn slow_turn<R, D: Desk<R>>(
         &mut self,
+        channels: &[Channel],
         rt: &R,
         desk: &mut D,
-        channels: &[Channel],
         hart: u8,
     ) -> Result<(), Stop>
-        requires hart { hart < vec_len self.old.state.harts }
-        requires low { self.old.state.clock + 1 < 2 ^ 62 }
-        requires left { length self.old.trace.events < self.old.budget }
-        requires few { length self.old.trace.events + 1 < 2 ^ 64 }
-        requires space { 0 < self.old.trace.room }
-        requires own { AreChannelsOf self.old.state.site.version channels.now (view_of self.old).sides }
-        ensures turned { OnOk result (IsTurn D.gives hart (view_of self.old) (view_of self.new) desk.old desk.new) }
-        ensures active { OnOk result (IsActive (rank_of self.old.state)
-            (length self.old.trace.events) self.old.budget) }
-        ensures stop { IfErr result
-            (λ stop. StopHolds D.gives hart (rank_of self.old.state)
-            (length self.old.trace.events) self.old.budget desk.old desk.new stop) }
-        ensures unchanged { OnErr result (view_of self.new ≡ view_of self.old) }
-        ensures own { AreChannelsOf self.new.state.site.version channels.now (view_of self.new).sides }
-        ensures budget { self.new.budget ≡ self.old.budget }
-        ensures harts { vec_len self.new.state.harts ≡ vec_len self.old.state.harts }
+        requires has { HasTurn self.old hart }
+        requires own { IsOver self.old channels.now }
+        ensures { TurnEnds D.gives hart channels.now self.old desk.old result self.new desk.new }
     {
         if all_stopped(&self.state) {
             return Err(Stop::AllEnded);
@@ -251,26 +321,44 @@ impl Rank {
     fn go_alone(&mut self, turn: Turn, kind: Kind)
         requires may { MayTurn self.old turn }
         requires asked { AsksNobody (asked (rank_of self.old.state) turn.hart) kind }
-        ensures turned { IsQuietTurn turn.hart (view_of self.old) (view_of self.new) }
-        ensures own { (channels : List ChannelView)
-            → AreChannelsOf self.old.state.site.version channels (view_of self.old).sides
-            → AreChannelsOf self.new.state.site.version channels (view_of self.new).sides }
-        ensures budget { self.new.budget ≡ self.old.budget }
-        ensures harts { vec_len self.new.state.harts ≡ vec_len self.old.state.harts }
+        ensures { IsQuietTurn turn.hart self.old self.new }
     {
         let (hart, stamp) = (turn.hart, self.state.clock + 1);
         let link = started(&self.state.requests, &turn.doing);
         self.state
             .tell_next(hart, &turn.doing, &Answer::Alone, stamp);
         begin(&mut self.sends, &mut self.recvs, link);
-        self.asked_box = None;
-        self.roomy = None;
-        self.trace.push(Event {
-            hart,
-            stamp,
-            kind,
-            request: None,
-        });
+        let noted = uncalled(hart, stamp, kind, None);
+        note(&mut self.trace, &mut self.asked_box, &mut self.roomy, noted);
+    }
+
+    /// Makes a call of the hub: the request once more, the reply, and its stamp.
+    #[inline(always)]
+    fn ask_hub<R, D: Desk<R>>(
+        &self,
+        rt: &R,
+        desk: &mut D,
+        hart: u8,
+        request: Request,
+    ) -> Result<(Request, Reply, Stamp), Stop>
+        requires active { IsActive (rank_of self.now.state) (length self.now.trace.events) self.now.budget }
+        requires asked { asked (rank_of self.now.state) hart ≡ ask.Hub request }
+        ensures request { IfOk result (λ told. told.0 ≡ request) }
+        ensures stamp { IfOk result (λ told. (self.now.state.clock < told.2) × (told.2 < 2 ^ 62)) }
+        ensures gives { IfOk result (λ told. D.gives desk.old self.now.state.site.number hart self.now.state.clock
+            told.0 (Ok (told.1, told.2)) desk.new) }
+        ensures stop { IfErr result (λ stop. StopHolds D.gives hart (rank_of self.now.state)
+            (length self.now.trace.events) self.now.budget desk.old desk.new stop) }
+    {
+        // made before the call, so that nothing can fail once the hub has answered
+        let Ok(copy) = request.try_copy(self.alloc) else {
+            return Err(Stop::Memory);
+        };
+        let clock = self.state.clock;
+        match desk.call(rt, self.state.site.number, hart, clock, request) {
+            Ok((reply, stamp)) => Ok((copy, reply, stamp)),
+            Err(fault) => Err(stop_of(fault)),
+        }
     }
 
     /// Makes the call that a hart asked for, and tells the rank its reply.
@@ -284,33 +372,15 @@ impl Rank {
         requires may { MayTurn self.old turn }
         requires asked { asked (rank_of self.old.state) turn.hart ≡ ask.Hub request }
         requires active { ¬ (AllStopped (rank_of self.old.state)) }
-        ensures turned { OnOk result
-            (IsTurn D.gives turn.hart (view_of self.old) (view_of self.new) desk.old desk.new) }
-        ensures stop { IfErr result
-            (λ stop. StopHolds D.gives turn.hart (rank_of self.old.state)
-            (length self.old.trace.events) self.old.budget desk.old desk.new stop) }
-        ensures unchanged { OnErr result (view_of self.new ≡ view_of self.old) }
-        ensures own { (channels : List ChannelView)
-            → AreChannelsOf self.old.state.site.version channels (view_of self.old).sides
-            → AreChannelsOf self.new.state.site.version channels (view_of self.new).sides }
-        ensures budget { self.new.budget ≡ self.old.budget }
-        ensures harts { vec_len self.new.state.harts ≡ vec_len self.old.state.harts }
+        ensures { (channels : List ChannelView) → IsOver self.old channels
+            → TurnEnds D.gives turn.hart channels self.old desk.old result self.new desk.new }
     {
-        // made before the call, so that nothing can fail once the hub has answered
-        let Ok(copy) = request.try_copy(self.alloc) else {
-            return Err(Stop::Memory);
-        };
-        let clock = self.state.clock;
-        match desk.call(rt, self.state.site.number, turn.hart, clock, request) {
-            Err(fault) => Err(stop_of(fault)),
-            Ok((reply, stamp)) => {
-                match (reply, turn.doing) {
-                    (Reply::NotYet, Doing::Poll(..)) => self.wait_on(turn.hart, copy, stamp),
-                    (reply, _) => self.tell_reply(turn, copy, reply, stamp),
-                }
-                Ok(())
-            }
+        let (request, reply, stamp) = self.ask_hub(rt, desk, turn.hart, request)?;
+        match (reply, turn.doing) {
+            (Reply::NotYet, Doing::Poll(..)) => self.wait_on(turn.hart, request, stamp),
+            (reply, _) => self.tell_reply(turn, request, reply, stamp),
         }
+        Ok(())
     }
 
     /// Polls a post anew, of which the last turn was told that nothing is there yet. Only the desk's answer counts: what
@@ -324,35 +394,17 @@ impl Rank {
     ) -> Result<(), Stop>
         requires may { MayWait self.old hart request }
         requires active { ¬ (AllStopped (rank_of self.old.state)) }
-        ensures turned { OnOk result
-            (IsTurn D.gives hart (view_of self.old) (view_of self.new) desk.old desk.new) }
-        ensures stop { IfErr result
-            (λ stop. StopHolds D.gives hart (rank_of self.old.state)
-            (length self.old.trace.events) self.old.budget desk.old desk.new stop) }
-        ensures unchanged { OnErr result (view_of self.new ≡ view_of self.old) }
-        ensures own { (channels : List ChannelView)
-            → AreChannelsOf self.old.state.site.version channels (view_of self.old).sides
-            → AreChannelsOf self.new.state.site.version channels (view_of self.new).sides }
-        ensures budget { self.new.budget ≡ self.old.budget }
-        ensures harts { vec_len self.new.state.harts ≡ vec_len self.old.state.harts }
+        ensures { (channels : List ChannelView) → IsOver self.old channels
+            → TurnEnds D.gives hart channels self.old desk.old result self.new desk.new }
     {
-        // made before the call, so that nothing can fail once the hub has answered
-        let Ok(copy) = request.try_copy(self.alloc) else {
-            return Err(Stop::Memory);
-        };
-        let clock = self.state.clock;
-        match desk.call(rt, self.state.site.number, hart, clock, request) {
-            Err(fault) => Err(stop_of(fault)),
-            Ok((Reply::NotYet, stamp)) => {
-                self.wait_on(hart, copy, stamp);
-                Ok(())
-            }
-            Ok((reply, stamp)) => {
+        match self.ask_hub(rt, desk, hart, request)? {
+            (request, Reply::NotYet, stamp) => self.wait_on(hart, request, stamp),
+            (request, reply, stamp) => {
                 let doing = self.state.next(hart);
-                self.tell_reply(Turn { hart, doing }, copy, reply, stamp);
-                Ok(())
+                self.tell_reply(Turn { hart, doing }, request, reply, stamp);
             }
         }
+        Ok(())
     }
 
     /// Tells the rank that the post which a hart polls isn't at its end: only the clock moves, and the room that was
@@ -360,22 +412,11 @@ impl Rank {
     fn wait_on(&mut self, hart: u8, request: Request, stamp: Stamp)
         requires may { MayWait self.old hart request }
         requires stamp { (self.old.state.clock < stamp) × (stamp < 2 ^ 62) }
-        ensures turned { IsHubTurn hart request NotYet stamp (view_of self.old) (view_of self.new) }
-        ensures own { (channels : List ChannelView)
-            → AreChannelsOf self.old.state.site.version channels (view_of self.old).sides
-            → AreChannelsOf self.new.state.site.version channels (view_of self.new).sides }
-        ensures budget { self.new.budget ≡ self.old.budget }
-        ensures harts { vec_len self.new.state.harts ≡ vec_len self.old.state.harts }
+        ensures { IsHubTurn hart request NotYet stamp self.old self.new }
     {
         self.state.clock = stamp;
-        self.asked_box = None;
-        self.roomy = Some(hart);
-        self.trace.push(Event {
-            hart,
-            stamp,
-            kind: Kind::Hub(Reply::NotYet),
-            request: Some(request),
-        });
+        let noted = called(hart, stamp, request, Reply::NotYet, Some(hart));
+        note(&mut self.trace, &mut self.asked_box, &mut self.roomy, noted);
     }
 
     /// Tells the rank the reply to its request.
@@ -383,12 +424,7 @@ impl Rank {
         requires may { MayTurn self.old turn }
         requires asked { asked (rank_of self.old.state) turn.hart ≡ ask.Hub request }
         requires stamp { (self.old.state.clock < stamp) × (stamp < 2 ^ 62) }
-        ensures turned { IsHubTurn turn.hart request reply stamp (view_of self.old) (view_of self.new) }
-        ensures own { (channels : List ChannelView)
-            → AreChannelsOf self.old.state.site.version channels (view_of self.old).sides
-            → AreChannelsOf self.new.state.site.version channels (view_of self.new).sides }
-        ensures budget { self.new.budget ≡ self.old.budget }
-        ensures harts { vec_len self.new.state.harts ≡ vec_len self.old.state.harts }
+        ensures { IsHubTurn turn.hart request reply stamp self.old self.new }
     {
         let (hart, link) = (turn.hart, named_link(&request, &reply));
         let phases = &self.state.phases;
@@ -398,25 +434,16 @@ impl Rank {
         let phases = &self.state.phases;
         follow_sender(&mut self.sends, link, sending, phases.sending(link));
         follow_receiver(&mut self.recvs, link, receiving, phases.receiving(link));
-        self.asked_box = None;
-        self.roomy = None;
-        self.trace.push(Event {
-            hart,
-            stamp,
-            kind: Kind::Hub(into_reply(answer)),
-            request: Some(request),
-        });
+        let noted = called(hart, stamp, request, into_reply(answer), None);
+        note(&mut self.trace, &mut self.asked_box, &mut self.roomy, noted);
     }
 
     /// Makes a partition ready, with the bytes that are to stand in its box.
     fn make_ready(&mut self, channels: &[Channel], turn: Turn, place: BoxId, bytes: &Contents)
         requires may { MayTurn self.old turn }
         requires asked { asked (rank_of self.old.state) turn.hart ≡ ask.Ready place.link place.part bytes.now }
-        requires own { AreChannelsOf self.old.state.site.version channels.now (view_of self.old).sides }
-        ensures turned { IsQuietTurn turn.hart (view_of self.old) (view_of self.new) }
-        ensures own { AreChannelsOf self.new.state.site.version channels.now (view_of self.new).sides }
-        ensures budget { self.new.budget ≡ self.old.budget }
-        ensures harts { vec_len self.new.state.harts ≡ vec_len self.old.state.harts }
+        requires own { IsOver self.old channels.now }
+        ensures { IsQuietTurn turn.hart self.old self.new }
     {
         let size = self.state.phases.sending(place.link).size;
         let clock = self.state.clock;
@@ -424,70 +451,35 @@ impl Rank {
         let stamp = make_ready(&mut self.sends, channels, place, bytes, clock);
         self.state
             .tell_next(turn.hart, &turn.doing, &Answer::Alone, stamp);
-        self.asked_box = Some(place);
-        self.roomy = None;
-        self.trace.push(Event {
-            hart: turn.hart,
-            stamp,
-            kind: Kind::Ready,
-            request: None,
-        });
+        let noted = uncalled(turn.hart, stamp, Kind::Ready, Some(place));
+        note(&mut self.trace, &mut self.asked_box, &mut self.roomy, noted);
     }
 
     /// Looks whether a partition was taken.
     fn test(&mut self, channels: &[Channel], turn: Turn, place: BoxId)
         requires may { MayTurn self.old turn }
         requires asked { asked (rank_of self.old.state) turn.hart ≡ ask.Freed place.link place.part }
-        requires own { AreChannelsOf self.old.state.site.version channels.now (view_of self.old).sides }
-        ensures turned { IsQuietTurn turn.hart (view_of self.old) (view_of self.new) }
-        ensures own { AreChannelsOf self.new.state.site.version channels.now (view_of self.new).sides }
-        ensures budget { self.new.budget ≡ self.old.budget }
-        ensures harts { vec_len self.new.state.harts ≡ vec_len self.old.state.harts }
+        requires own { IsOver self.old channels.now }
+        ensures { IsQuietTurn turn.hart self.old self.new }
     {
         let progress = test(&mut self.sends, channels, place.link, self.state.clock);
-        let (answer, kind, stamp) = match progress {
-            Progress::Freed(stamp) => (Answer::Freed, Kind::Freed, stamp),
-            Progress::Missed(stamp) => (Answer::Missed, Kind::Miss, stamp),
-            Progress::AllFreed => unreachable!(),
-            Progress::NotReady => unreachable!(),
-        };
+        let (answer, kind, stamp) = told_of_test(progress);
         self.state.tell_next(turn.hart, &turn.doing, &answer, stamp);
-        self.asked_box = Some(place);
-        self.roomy = None;
-        self.trace.push(Event {
-            hart: turn.hart,
-            stamp,
-            kind,
-            request: None,
-        });
+        let noted = uncalled(turn.hart, stamp, kind, Some(place));
+        note(&mut self.trace, &mut self.asked_box, &mut self.roomy, noted);
     }
 
     /// Looks whether a box is ready, and takes what lies in it.
     fn look(&mut self, channels: &[Channel], turn: Turn, place: BoxId)
         requires may { MayTurn self.old turn }
         requires asked { asked (rank_of self.old.state) turn.hart ≡ ask.Look place.link place.part }
-        requires own { AreChannelsOf self.old.state.site.version channels.now (view_of self.old).sides }
-        ensures turned { IsQuietTurn turn.hart (view_of self.old) (view_of self.new) }
-        ensures own { AreChannelsOf self.new.state.site.version channels.now (view_of self.new).sides }
-        ensures budget { self.new.budget ≡ self.old.budget }
-        ensures harts { vec_len self.new.state.harts ≡ vec_len self.old.state.harts }
+        requires own { IsOver self.old channels.now }
+        ensures { IsQuietTurn turn.hart self.old self.new }
     {
-        let version = self.state.site.version;
-        let (answer, kind, stamp) = match take(&mut self.recvs, channels, place, self.state.clock) {
-            Take::Taken(bytes, stamp) => {
-                let bytes = Contents::of(version, &bytes[..8 * box_words(version)]);
-                (Answer::Taken(bytes), Kind::Take, stamp)
-            }
-            Take::Missed(stamp) => (Answer::Missed, Kind::Miss, stamp),
-        };
+        let take = take(&mut self.recvs, channels, place, self.state.clock);
+        let (answer, kind, stamp) = told_of_take(self.state.site.version, take);
         self.state.tell_next(turn.hart, &turn.doing, &answer, stamp);
-        self.asked_box = Some(place);
-        self.roomy = None;
-        self.trace.push(Event {
-            hart: turn.hart,
-            stamp,
-            kind,
-            request: None,
-        });
+        let noted = uncalled(turn.hart, stamp, kind, Some(place));
+        note(&mut self.trace, &mut self.asked_box, &mut self.roomy, noted);
     }
 }

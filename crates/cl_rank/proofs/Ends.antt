@@ -1,0 +1,51 @@
+-- How a turn of a running rank ends that was taken, by what it leaves and what it told the desk.
+use Rattle.std.proofs.Common.{◌≡◌, ℕ, List, length, subst}
+use Rattle.std.specs.Prelude.{Ok}
+use Rattle.mp_types.specs.declared.replies.Reply.{Reply}
+use Rattle.mp_types.specs.declared.requests.Request.{Request}
+use Rattle.part_channel.specs.Channels.{ChannelView}
+use Rattle.cl_state.specs.Room.{rank_of}
+use Rattle.cl_rank.specs.declared.ranks.Rank.{Rank as Running}
+use Rattle.cl_rank.specs.Deeds.{Deed}
+use Rattle.cl_rank.specs.Turning.{DeskRule, Tells}
+use Rattle.cl_rank.specs.Turns.{AllStopped, IsActive}
+use Rattle.cl_rank.specs.Views.{HasTurn, IsOver, TurnEnds, TurnLeaves, hub_deed}
+
+-- a rank that has a turn, and a hart that isn't stopped
+pub is_active : (r : Running) (hart : ℕ) → ¬ (AllStopped (rank_of r.state)) → HasTurn r hart
+    → IsActive (rank_of r.state) (length r.trace.events) r.budget
+is_active r hart runs has = record { runs = runs; left = has.left; low = has.low }
+
+module _ {D : Type 0} (gives : DeskRule D) (hart : ℕ) (old : Running) where
+  pub turn_ends : (channels : List ChannelView) (deed : Deed) (new : Running) (desk left : D)
+      → IsActive (rank_of old.state) (length old.trace.events) old.budget → IsOver old channels
+      → TurnLeaves hart deed old new → Tells gives desk left deed
+      → TurnEnds gives hart channels old desk (Ok tt) new left
+  turn_ends channels deed new desk left active own leaves tells = record {
+    turned = record {
+      deed = deed;
+      rank = leaves.rank;
+      by = leaves.by;
+      event = leaves.event;
+      moves = leaves.moves;
+      tells = tells;
+      keys = leaves.keys;
+      box = leaves.box;
+    };
+    active = active;
+    stop = tt;
+    unchanged = tt;
+    own = leaves.own channels own;
+    budget = leaves.budget;
+    harts = leaves.harts;
+  }
+
+  -- the turn of a call, whose reply is this
+  pub call_ends : (channels : List ChannelView) (request : Request) (reply told : Reply) (stamp : ℕ) (new : Running)
+      (desk left : D) → ¬ (AllStopped (rank_of old.state)) → HasTurn old hart → IsOver old channels
+      → TurnLeaves hart (hub_deed hart request told stamp old) old new → reply ≡ told
+      → gives desk old.state.site.number hart old.state.clock request (Ok (reply, stamp)) left
+      → TurnEnds gives hart channels old desk (Ok tt) new left
+  call_ends channels request reply told stamp new desk left runs has own leaves same given =
+      turn_ends channels _ new desk left (is_active old hart runs has) own leaves
+      (subst (λ r. gives desk old.state.site.number hart old.state.clock request (Ok (r, stamp)) left) same given)
