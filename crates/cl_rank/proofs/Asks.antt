@@ -1,18 +1,16 @@
 -- The turns of a running rank that look at a box.
-use Rattle.std.proofs.Common.{◌≡◌, ℕ, ◌<◌, ◌^◌, ◌⊎◌, List, [], ◌∷◌, ◌++◌, Some, None, refl, sym, ap, subst, ◌∙◌, ⊎_elim, inr}
+use Rattle.std.proofs.Common.{◌≡◌, ℕ, ◌<◌, ◌^◌, List, Some, None, refl, sym, ap, subst, ◌∙◌, inr}
 use Rattle.part_channel.specs.Channels.{ChannelView}
 use Rattle.part_channel.specs.declared.progress.Progress.{Progress}
 use Rattle.part_channel.specs.declared.progress.Progress.TheVariants as progress
 use Rattle.part_channel.specs.Receiving.{RecvView}
 use Rattle.part_channel.specs.Sending.{SendView}
-use Rattle.cl_state.specs.declared.asking.Answer.{Answer}
 use Rattle.cl_state.specs.declared.asking.Answer.TheVariants as answer
 use Rattle.cl_state.specs.declared.asking.Ask.TheVariants as ask
 use Rattle.cl_state.specs.declared.state.RankState.{RankState}
 use Rattle.cl_state.specs.Asked.{asked}
 use Rattle.cl_state.specs.Room.{rank_of}
 use Rattle.cl_state.specs.Told.{told}
-use Rattle.cl_trace.specs.declared.events.Kind.{Kind}
 use Rattle.cl_trace.specs.declared.events.Kind.TheVariants as kind
 use Rattle.cl_state.specs.Rank.{Rank}
 use Rattle.cl_rank.specs.declared.ranks.Rank.{Rank as Running}

@@ -12,7 +12,7 @@ use Rattle.rv_decode.proofs.Found.{found, found_exactly}
 use Rattle.rv_memory.specs.Memory.{Memory}
 use Rattle.rv_memory.specs.Access.{load_trap, size_of, store_trap, stored, word_at}
 use Rattle.rv_memory.specs.declared.fault.Cause.{Cause}
-use Rattle.rv_hart.specs.Effect.{After, after, after_branch, after_load, after_store, even, gives, jumps, next, offset, plain}
+use Rattle.rv_hart.specs.Effect.{After, after, after_branch, after_load, after_store, gives, jumps, next, offset, plain}
 use Rattle.rv_hart.specs.Results.{is_taken, load_width, store_width}
 use Rattle.rv_hart.specs.State.{State, at_pc, read}
 use Rattle.rv_hart.specs.Stepped.{after_decoded, after_fetched, stepped}

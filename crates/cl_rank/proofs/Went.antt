@@ -20,7 +20,7 @@ use Rattle.cl_state.specs.Room.{rank_of}
 use Rattle.cl_state.specs.Told.{told}
 use Rattle.cl_rank.specs.declared.ranks.Rank.{Rank as Running}
 use Rattle.cl_rank.specs.declared.turning.Turn.{Turn}
-use Rattle.cl_rank.specs.Deeds.{Act, Suits, Deed, IsStamp, answer_of, event_of, kind_of, request_of}
+use Rattle.cl_rank.specs.Deeds.{Act, Suits, Deed, IsStamp, answer_of, kind_of, request_of}
 use Rattle.cl_rank.specs.Follows.{started_link}
 use Rattle.cl_rank.specs.Sides.{box_id_of}
 use Rattle.cl_rank.specs.Fitting.{RequestsFit}
