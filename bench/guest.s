@@ -1,5 +1,5 @@
 # The guest that bench/step and bench/one step through: in 64 cells from 4096 on, over and over, sums, products, loads,
-# stores and branches, of which one is hard to foresee. crates/bench_turn has its words.
+# stores and branches, of which one is hard to foresee. programs/turn has its words.
         lui  x8, 0x1
         addi x5, x0, 1
         addi x9, x0, 0

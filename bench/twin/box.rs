@@ -1,4 +1,4 @@
-//! The twin of crates/bench_box in plain Rust: a gate and eight data words, each an AtomicU64, each step in SeqCst order.
+//! The twin of programs/box in plain Rust: a gate and eight data words, each an AtomicU64, each step in SeqCst order.
 
 use std::sync::atomic::{AtomicU64, Ordering::SeqCst};
 use std::{env, process, thread};

@@ -1,4 +1,4 @@
-//! The twin of crates/bench_box's phases in plain Rust: sixteen boxes of a gate and data words, each an AtomicU64, each
+//! The twin of programs/box's phases in plain Rust: sixteen boxes of a gate and data words, each an AtomicU64, each
 //! step in SeqCst order.
 
 use std::sync::atomic::{AtomicU64, Ordering::SeqCst};

@@ -1,4 +1,4 @@
-//! The twin of crates/bench_match: the same matches by the queues of queues.rs, and the same calls of the hub of
+//! The twin of programs/match: the same matches by the queues of queues.rs, and the same calls of the hub of
 //! hub.rs. Nothing here is proved.
 //!
 //! usage: matching WAITING MATCHES [TAGS]        with TAGS the messages have so many in turn, and receives take any
