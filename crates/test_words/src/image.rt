@@ -125,3 +125,12 @@ pub fn letters_are_tested_before_the_length(alloc: Global) -> Result<Image, Imag
 {
     read_image(alloc, b"RVMD")
 }
+
+/// A byte behind the end is told, with where the end is: an image of one `nop`, and a byte more.
+#[tactic(auto, unfolding(rv_image::specs::Reading::reading, rv_image::specs::Reading::header_at, rv_image::specs::Reading::body_at, rv_image::specs::Reading::repeated))]
+pub fn byte_behind_the_end_is_long(alloc: Global) -> Result<Image, ImageFault>
+    ensures { result ≡ Err (ImageFault.Long 32) }
+{
+    let image = b"RVMC\x01\0\x01\x01\0\x10\0\0\0\0\0\0\x04\0\0\0\0\0\0\0\0\0\0\0\x13\0\0\0\0";
+    read_image(alloc, image)
+}
