@@ -4,9 +4,11 @@
 
 pub mod calls;
 pub mod check;
+pub mod debug;
 pub mod merge;
 pub mod premises;
 pub mod rank;
 pub mod replay;
 pub mod run;
+pub mod text;
 pub mod trace;
