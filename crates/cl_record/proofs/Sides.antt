@@ -1,18 +1,19 @@
 -- Sides that are taken out of their ranks' lists.
-use Rattle.std.specs.Prelude.{ℕ, zero, suc, ◌≡◌, ◌≢◌, ◌<◌, ◌≤◌, ◌+◌, ◌==◌, List, [], ◌∷◌, ◌++◌, length, remove}
+use Rattle.std.specs.Prelude.{ℕ, zero, suc, ◌≡◌, ◌≢◌, ◌<◌, ◌+◌, ◌==◌, List, [], ◌∷◌, ◌++◌, length, remove}
 use Rattle.std.specs.Prelude.{slice_get, slice_set}
 use Rattle.std.specs.Prelude.{Bool, Some, None, get_or, if◌then◌else◌}
 use Rattle.std.proofs.Common.{refl, sym, ap, ◌∙◌, subst, arith, inl, inr}
 use Rattle.std.proofs.lemmas.Bool.{eq-eqb, ne_eqb}
 use Rattle.std.proofs.lemmas.Bool.Decides.{eqb_tells}
-use Rattle.std.proofs.lemmas.Option.{get_or_from_slice_get, same_Some}
+use Rattle.std.proofs.lemmas.Option.{get_or_from_slice_get, same_Some, slice_get_within}
 use Rattle.rv_image.specs.declared.images.Link.{Link}
 use Rattle.part_channel.specs.Channels.{ChannelView}
+use Rattle.part_channel.specs.Receiving.{RecvView}
+use Rattle.part_channel.specs.Sending.{SendView}
 use Rattle.cl_rank.specs.RankSides.{side_of}
 use Rattle.cl_machine.proofs.Lists.{get-set_other, get-set_same}
 use Rattle.part_box.specs.declared.settled.Settled.{Settled}
-use Rattle.part_channel.specs.Settling.{IsLeft}
-use Rattle.cl_record.specs.Settling.{AreSettled, AreSidesOf, MaySettle}
+use Rattle.cl_record.specs.Settling.{AreSettled, AreSidesOf, HasReceiverOf, HasSenderOf, IsLinkSettled, Kept}
 use Rattle.cl_record.specs.declared.wiring.Ends.{Ends}
 use Rattle.cl_record.proofs.Elements.{last_or_before}
 
@@ -58,13 +59,9 @@ others_of (side ∷ sides) zero link other s at ne =
 others_of (side ∷ sides) (suc place) link other s at ne =
     ap (λ rest. if side.0 == other then Some side.1 else rest) (others_of sides place link other s at ne)
 
--- the ends that are left of those that there were: they have the sides of the links from these numbers on
-abbrev pub Kept : List Ends → List Ends → ℕ → ℕ → Type 0
-Kept were now sends recvs =
-    (r : ℕ) (was : Ends) → slice_get were r ≡ Some was
-    → (is : Ends) × (slice_get now r ≡ Some is)
-    × ((link : ℕ) → sends ≤ link → side_of link is.sends.items ≡ side_of link was.sends.items)
-    × ((link : ℕ) → recvs ≤ link → side_of link is.recvs.items ≡ side_of link was.recvs.items)
+-- all are left at first
+pub all_kept : (ends : List Ends) (sends recvs : ℕ) → Kept ends ends sends recvs
+all_kept ends sends recvs r was at = (was, at, (λ link low. refl), (λ link low. refl))
 
 -- a sender's side is taken
 pub kept_sends : (were now : List Ends) (link recvs f : ℕ) (x y : Ends) → slice_get now f ≡ Some x
@@ -116,49 +113,115 @@ seam_more [] rest all next after whole is = sym is ∙ whole
 seam_more (y ∷ yielded) rest all next after whole is =
     ap (λ xs. y ∷ xs) (seam_more yielded rest (yielded ++ rest) next after refl is) ∙ whole
 
+-- where one follows not all are gone through
+pub fewer : {X : Type 0} (yielded rest all : List X) (next : X) (after : List X) → yielded ++ rest ≡ all
+    → rest ≡ next ∷ after → length yielded < length all
+fewer yielded rest all next after whole is =
+    slice_get_within all (length yielded) next (seam yielded rest all next after whole is)
+
 pub next_at : {X : Type 0} (yielded rest all : List X) (n : ℕ) (next : X) (after : List X) → yielded ++ rest ≡ all
     → rest ≡ next ∷ after → n ≡ length yielded → slice_get all n ≡ Some next
 next_at yielded rest all n next after whole is e = ap (slice_get all) e ∙ seam yielded rest all next after whole is
 
--- the sides of the link that comes next are there
-module _ (links : List Link) (channels : List ChannelView) (ends : List Ends) (n : ℕ) (channel : ChannelView)
-    (may : MaySettle links channels ends) (at : slice_get channels n ≡ Some channel) where
-  pub own : AreSidesOf links ends n channel
-  own = may.sides n channel at
-
+-- the two sides of a link are there where they were kept
+module _ (links : List Link) (were now : List Ends) (n : ℕ) (channel : ChannelView) (own : AreSidesOf links were n channel) where
   link_is : (none : Link) → own.l ≡ get_or links n none
   link_is none = sym (get_or_from_slice_get links n own.l none own.link_there)
 
-  pub from_now : (now : List Ends) (recvs : ℕ) → Kept ends now n recvs → (none : Link)
-      → (x : Ends) × (slice_get now (get_or links n none).from ≡ Some x) × (side_of n x.sends.items ≡ Some own.sends)
-  from_now now recvs kept none =
-      let h = kept own.l.from own.from own.from_there in (
-        h.0,
-        ap (λ (l : Link). slice_get now l.from) (sym (link_is none)) ∙ h.1,
-        h.2 n (omega arith) ∙ own.sends_are,
+  pub sender_there : (none : Link) → HasSenderOf n were (get_or links n none).from
+  sender_there none = (
+    own.from,
+    own.sends,
+    ap (λ (l : Link). slice_get were l.from) (sym (link_is none)) ∙ own.from_there,
+    own.sends_are,
+  )
+
+  pub receiver_there : (sends : ℕ) → Kept were now sends n → (none : Link) → HasReceiverOf n now (get_or links n none).to
+  receiver_there sends kept none =
+      let to = kept own.l.to own.to own.to_there in (
+        to.0,
+        own.receives,
+        ap (λ (l : Link). slice_get now l.to) (sym (link_is none)) ∙ to.1,
+        to.3 n (omega arith) ∙ own.receives_are,
       )
 
-  pub to_now : (now : List Ends) (sends : ℕ) → Kept ends now sends n → (none : Link)
-      → (x : Ends) × (slice_get now (get_or links n none).to ≡ Some x) × (side_of n x.recvs.items ≡ Some own.receives)
-  to_now now sends kept none =
-      let h = kept own.l.to own.to own.to_there in (
-        h.0,
-        ap (λ (l : Link). slice_get now l.to) (sym (link_is none)) ∙ h.1,
-        h.3 n (omega arith) ∙ own.receives_are,
+  -- what is taken is the link's
+  pub sender_is : (none : Link) (send : SendView)
+      → ((x : Ends) → slice_get were (get_or links n none).from ≡ Some x → side_of n x.sends.items ≡ Some send)
+      → own.sends ≡ send
+  sender_is none send side =
+      same_Some own.sends send
+      (sym own.sends_are
+      ∙ side own.from (ap (λ (l : Link). slice_get were l.from) (sym (link_is none)) ∙ own.from_there))
+
+  pub receiver_is : (sends : ℕ) → Kept were now sends n → (none : Link) (recv : RecvView)
+      → ((x : Ends) → slice_get now (get_or links n none).to ≡ Some x → side_of n x.recvs.items ≡ Some recv)
+      → own.receives ≡ recv
+  receiver_is sends kept none recv side =
+      let to = kept own.l.to own.to own.to_there in
+      same_Some own.receives recv
+      (sym (to.3 n (omega arith) ∙ own.receives_are)
+      ∙ side to.0 (ap (λ (l : Link). slice_get now l.to) (sym (link_is none)) ∙ to.1))
+
+  pub sides_now : Kept were now n n → AreSidesOf links now n channel
+  sides_now kept =
+      let from = kept own.l.from own.from own.from_there in
+      let to = kept own.l.to own.to own.to_there in
+      record {
+        l = own.l;
+        link_there = own.link_there;
+        from = from.0;
+        to = to.0;
+        from_there = from.1;
+        to_there = to.1;
+        sends = own.sends;
+        receives = own.receives;
+        sends_are = from.2 n (omega arith) ∙ own.sends_are;
+        receives_are = to.3 n (omega arith) ∙ own.receives_are;
+        sends_own = own.sends_own;
+        receives_own = own.receives_own;
+      }
+
+  -- what is left by the sides that are there is left by those that were
+  pub settled_before : Kept were now n n → (left : List Settled) → IsLinkSettled links now n channel left
+      → IsLinkSettled links were n channel left
+  settled_before kept left settled =
+      let is = settled.0 in
+      let l_is : own.l ≡ is.l = same_Some own.l is.l (sym own.link_there ∙ is.link_there) in
+      let from = kept own.l.from own.from own.from_there in
+      let to = kept own.l.to own.to own.to_there in
+      let from_is : from.0 ≡ is.from =
+      same_Some from.0 is.from (sym from.1 ∙ ap (λ (l : Link). slice_get now l.from) l_is ∙ is.from_there) in
+      let to_is : to.0 ≡ is.to =
+      same_Some to.0 is.to (sym to.1 ∙ ap (λ (l : Link). slice_get now l.to) l_is ∙ is.to_there) in (
+        record {
+          l = own.l;
+          link_there = own.link_there;
+          from = own.from;
+          to = own.to;
+          from_there = own.from_there;
+          to_there = own.to_there;
+          sends = is.sends;
+          receives = is.receives;
+          sends_are = sym (from.2 n (omega arith)) ∙ ap (λ (e : Ends). side_of n e.sends.items) from_is ∙ is.sends_are;
+          receives_are = sym (to.3 n (omega arith)) ∙ ap (λ (e : Ends). side_of n e.recvs.items) to_is ∙ is.receives_are;
+          sends_own = is.sends_own;
+          receives_own = is.receives_own;
+        },
+        settled.1,
       )
 
-  -- one link more is settled
-  pub settled_more : (boxes : List (List Settled)) (left : List Settled) → n ≡ length boxes
-      → IsLeft channel.width own.sends.keys own.receives.keys left → AreSettled links channels ends boxes
-      → AreSettled links channels ends (boxes ++ left ∷ [])
-  settled_more boxes left count is settled link ch lf at_ch at_left =
-      elim (last_or_before boxes left lf link at_left) [
-        | inl before ↦ settled link ch lf at_ch before
-        | inr last ↦
-            let here : n ≡ link = count ∙ sym last.0 in
-            let ch_is : channel ≡ ch = same_Some channel ch (sym at ∙ ap (slice_get channels) here ∙ at_ch) in
-            subst (λ k. (sides : AreSidesOf links ends k ch)
-            × IsLeft ch.width sides.sends.keys sides.receives.keys lf) here
-            (subst (λ c. (sides : AreSidesOf links ends n c) × IsLeft c.width sides.sends.keys sides.receives.keys lf) ch_is
-            (own, subst (IsLeft channel.width own.sends.keys own.receives.keys) last.1 is))
-      ]
+-- one link more is settled
+pub settled_more : (links : List Link) (channels : List ChannelView) (ends : List Ends) (n : ℕ) (channel : ChannelView)
+    (boxes : List (List Settled)) (left : List Settled) → slice_get channels n ≡ Some channel → n ≡ length boxes
+    → IsLinkSettled links ends n channel left → AreSettled links channels ends boxes
+    → AreSettled links channels ends (boxes ++ left ∷ [])
+settled_more links channels ends n channel boxes left at count is settled link ch lf at_ch at_left =
+    elim (last_or_before boxes left lf link at_left) [
+      | inl before ↦ settled link ch lf at_ch before
+      | inr last ↦
+          let here : n ≡ link = count ∙ sym last.0 in
+          let ch_is : channel ≡ ch = same_Some channel ch (sym at ∙ ap (slice_get channels) here ∙ at_ch) in
+          subst (λ k. IsLinkSettled links ends k ch lf) here
+          (subst (λ c. IsLinkSettled links ends n c lf) ch_is (subst (IsLinkSettled links ends n channel) last.1 is))
+    ]

@@ -37,13 +37,35 @@ pub record MaySettle (links : List Link) (channels : List ChannelView) (ends : L
   pub sides : (link : ℕ) (channel : ChannelView) → slice_get channels link ≡ Some channel
       → AreSidesOf links ends link channel
 
+-- a rank has the sender's side of a link, or the receiver's
+abbrev pub HasSenderOf : ℕ → List Ends → ℕ → Type 0
+HasSenderOf link ends rank =
+    (own : Ends) × (side : SendView) × (slice_get ends rank ≡ Some own) × (side_of link own.sends.items ≡ Some side)
+
+abbrev pub HasReceiverOf : ℕ → List Ends → ℕ → Type 0
+HasReceiverOf link ends rank =
+    (own : Ends) × (side : RecvView) × (slice_get ends rank ≡ Some own) × (side_of link own.recvs.items ≡ Some side)
+
+-- the ends that are left of those that there were: they have the senders' sides of the links from the one number on,
+-- and the receivers' of those from the other
+abbrev pub Kept : List Ends → List Ends → ℕ → ℕ → Type 0
+Kept were now sends recvs =
+    (r : ℕ) (was : Ends) → slice_get were r ≡ Some was
+    → (is : Ends) × (slice_get now r ≡ Some is)
+    × ((link : ℕ) → sends ≤ link → side_of link is.sends.items ≡ side_of link was.sends.items)
+    × ((link : ℕ) → recvs ≤ link → side_of link is.recvs.items ≡ side_of link was.recvs.items)
+
+-- what is left in the boxes of a link, by the keys of its two sides
+abbrev pub IsLinkSettled : List Link → List Ends → ℕ → ChannelView → List Settled → Type 0
+IsLinkSettled links ends link channel left =
+    (sides : AreSidesOf links ends link channel) × IsLeft channel.width sides.sends.keys sides.receives.keys left
+
 -- what is left in the boxes of the first links, of which there are as many as there are lists
 abbrev pub AreSettled : List Link → List ChannelView → List Ends → List (List Settled) → Type 0
 AreSettled links channels ends boxes =
     (link : ℕ) (channel : ChannelView) (left : List Settled)
     → slice_get channels link ≡ Some channel → slice_get boxes link ≡ Some left
-    → (sides : AreSidesOf links ends link channel)
-    × IsLeft channel.width sides.sends.keys sides.receives.keys left
+    → IsLinkSettled links ends link channel left
 
 pub record IsAllSettled (links : List Link) (channels : List ChannelView) (ends : List Ends)
     (boxes : List (List Settled)) : Type 0 where

@@ -1,6 +1,5 @@
 use Rattle.std.proofs.Common.{◌≡◌, ◌≤◌, ◌++◌, length, vec_capacity}
-use Rattle.cl_record.specs.Settling.{AreSettled}
-use Rattle.cl_record.proofs.Sides.{Kept}
+use Rattle.cl_record.specs.Settling.{AreSettled, Kept}
 use Rattle.cl_record.proofs.settling.settle_all.Given as goal
 
 abbrev pub invariant-loop-channel : goal.invariant-loop-channel
