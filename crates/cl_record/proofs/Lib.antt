@@ -1,7 +1,9 @@
 pub mod Elements
 pub mod Keys
 pub mod Leaves
+pub mod BoxesLeft
 pub mod Links
 pub mod Sides
+pub mod Loads
 pub mod Wires
 pub mod Merged

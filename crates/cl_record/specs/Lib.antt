@@ -2,6 +2,7 @@ pub mod Plans
 pub mod Keys
 pub mod BoxKeys
 pub mod Records
-pub mod Room
+pub mod Leaving
 pub mod Wiring
 pub mod Settling
+pub mod Seats

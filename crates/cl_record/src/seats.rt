@@ -1,0 +1,113 @@
+//! A rank at its plan, from its first turn to its end.
+
+ghost use Rattle.std.specs.Prelude.{◌≡◌, ◌<◌, ◌+◌, ◌%◌, List, All, None, Some, IfOk, IsTrue, IsFalse, length, vec_len, is_some};
+ghost use Rattle.rv_image.specs.Image.{IsLink};
+ghost use Rattle.part_channel.specs.Channels.{ChannelView};
+ghost use Rattle.cl_rank.specs.RankSides.{AreChannelsOf};
+ghost use Rattle.cl_record.specs.Plans.{IsPlan};
+ghost use Rattle.cl_record.specs.Wiring.{AreNewEnds, sides_in};
+
+use crate::done::Done;
+use crate::plans::Plan;
+use crate::wiring::Ends;
+use cl_rank::{Desk, Rank, Stop};
+use part_channel::Channel;
+use rv_image::Image;
+use std::alloc::{AllocError, Global};
+
+/// A rank with its plan, its place there, and its stop: what a driver keeps of it.
+#[derive(Drop)]
+pub struct Seat<'a> {
+    pub rank: Rank,
+    /// Which harts take the rank's turns, and how many it has.
+    pub plan: &'a Plan,
+    /// The place of the rank's next hart in the order of its plan.
+    pub next: usize,
+    /// Why the rank takes no more turns, once it takes none.
+    pub stop: Option<Stop>,
+    pub ghost next_there: { next < length plan.now.order.items },
+    pub ghost harts_there: { All (λ hart. hart < vec_len rank.state.harts) plan.now.order.items },
+    pub ghost budget_is: { rank.budget ≡ plan.now.budget },
+}
+
+/// The place behind this one, where so many places are used round and round.
+#[inline(always)]
+fn place_after(place: usize, count: usize) -> usize
+    requires { place < count }
+    ensures place { result ≡ (place + 1) % count }
+    ensures there { result < count }
+{
+    let next = place + 1;
+    if next == count { 0 } else { next }
+}
+
+impl<'a> Seat<'a> {
+    ghost use Rattle.cl_record.specs.Seats.{GoesOn, IsFresh, station};
+
+    /// A rank as it is loaded, with its plan and its ends of the links. It took no turn.
+    pub fn load(
+        alloc: Global,
+        image: &Image,
+        rank: u8,
+        plan: &'a Plan,
+        ends: Ends,
+    ) -> Result<Seat<'a>, AllocError>
+        requires plan { IsPlan image.now.harts plan.now }
+        requires joined { All (IsLink image.now.ranks) image.now.links }
+        requires ends { (channels : List ChannelView)
+            × AreNewEnds image.now.version image.now.links channels rank (sides_in ends) }
+        ensures plan { IfOk result (λ seat. seat.plan.now ≡ plan.now) }
+        ensures fresh { IfOk result (λ seat. (channels : List ChannelView)
+            → AreNewEnds image.now.version image.now.links channels rank (sides_in ends)
+            → IsFresh image.now channels rank seat) }
+    {
+        let Ends { sends, recvs } = ends;
+        Ok(Seat {
+            rank: Rank::new(alloc, image, rank, plan.budget, sends, recvs)?,
+            plan,
+            next: 0,
+            stop: None,
+        })
+    }
+
+    /// The rank's next turn, of the hart that its plan names, by this desk. Where there is none the rank stops. Whether it
+    /// took one. `channels` are those of all links, by number.
+    #[inline(always)]
+    pub fn turn<R, D: Desk<R>>(&mut self, rt: &R, desk: &mut D, channels: &[Channel]) -> bool
+        requires running { self.old.stop ≡ None }
+        requires channels { AreChannelsOf (station self.old).rank.site.version channels.now (station self.old).sides }
+        ensures goes { GoesOn D.gives self.old.plan.now (station self.old) desk.old (station self.new) desk.new }
+        ensures on { IsTrue result → self.new.stop ≡ None }
+        ensures end { IsFalse result → IsTrue (is_some self.new.stop) }
+        ensures plan { self.new.plan.now ≡ self.old.plan.now }
+        ensures channels { AreChannelsOf (station self.new).rank.site.version channels.now (station self.new).sides }
+    {
+        let hart = self.plan.order[self.next];
+        match self.rank.turn(rt, desk, channels, hart) {
+            Ok(()) => {
+                self.next = place_after(self.next, self.plan.order.len());
+                true
+            }
+            Err(stop) => {
+                self.stop = Some(stop);
+                false
+            }
+        }
+    }
+
+    /// The rank at its end, and why it stopped.
+    pub fn end(self) -> Done
+        requires { IsTrue (is_some self.stop) }
+        ensures rank { result.rank ≡ self.entry.rank }
+        ensures stop { Some result.stop ≡ self.entry.stop }
+    {
+        let Seat {
+            rank,
+            plan: _,
+            next: _,
+            stop,
+        } = self;
+        let Some(stop) = stop else { unreachable!() };
+        Done { rank, stop }
+    }
+}
