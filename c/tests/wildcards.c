@@ -4,7 +4,7 @@
 #include <mpi.h>
 #include <stdio.h>
 
-enum { LONG = 1500, MOST = 8 };
+enum { LONG = 1030, MOST = 8 };
 
 static int out[MOST * LONG], in[MOST * LONG], rank, size, found;
 
