@@ -1,6 +1,6 @@
-/* errors.c: calls with one wrong argument each. Where errors return, each gives its class, and all but the last the
-   same by MPICH 4.0.2 (mpicc, mpiexec -n 1). With -DFATAL=N the N-th of them, from 1, is made where errors are fatal: it is told, and ends
-   with a trap. One rank. */
+/* errors.c: calls with one wrong argument each. Where errors return, each gives its class, and all but the last the same
+   by MPICH 4.0.2 (mpicc, mpiexec -n 1). With -DFATAL=N the N-th of them, from 1, is made where errors are fatal: it is
+   told, and ends with a trap. One rank. */
 #include <mpi.h>
 #include <stdio.h>
 
