@@ -1,0 +1,3 @@
+pub mod Boards
+pub mod Pairs
+pub mod Sources

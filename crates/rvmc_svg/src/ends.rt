@@ -1,0 +1,135 @@
+//! The end: whom each hart that waits there waits for, and what is told of it.
+
+use crate::drawing::{Drawing, Row};
+use crate::layout::rank_at;
+use crate::marks::put_across;
+use crate::safe::put_text;
+use std::io;
+use std::io::Write;
+
+/// How far apart two rows are, and two lines.
+const ROW: u64 = 18;
+
+const LINE: u64 = 14;
+
+/// Adds the head at a rank that is waited for.
+fn put_head(
+    text: &mut Vec<u8>,
+    drawing: &Drawing,
+    own: u64,
+    rank: u8,
+    down: u64,
+) -> io::Result<()> {
+    let at = rank_at(drawing, rank);
+    let name = if at < own { "to-left" } else { "to-right" };
+    write!(text, "<use href=\"#{name}\" x=\"")?;
+    put_across(text, at)?;
+    write!(text, "\" y=\"{down}\"/>")
+}
+
+/// The least and the greatest of the places of these ranks and this.
+fn reach(drawing: &Drawing, own: u64, awaited: &[u8]) -> (u64, u64) {
+    let mut least = own;
+    let mut most = own;
+    for rank in awaited {
+        let at = rank_at(drawing, *rank);
+        least = least.min(at);
+        most = most.max(at);
+    }
+    (least, most)
+}
+
+/// Adds a row: from the hart's rank to each rank that it waits for.
+fn put_row(text: &mut Vec<u8>, drawing: &Drawing, row: &Row, down: u64) -> io::Result<()> {
+    let own = rank_at(drawing, row.rank);
+    let (least, most) = reach(drawing, own, row.awaited.as_slice());
+    let Row { rank, hart, .. } = row;
+    write!(
+        text,
+        "<g><title>rank {rank} hart {hart} waits for these</title><line class=\"rule\" x1=\""
+    )?;
+    put_across(text, least)?;
+    write!(text, "\" x2=\"")?;
+    put_across(text, most)?;
+    write!(text, "\" y1=\"{down}\" y2=\"{down}\"/>")?;
+    text.extend_from_slice(b"<circle class=\"ever\" r=\"4\" cx=\"")?;
+    put_across(text, own)?;
+    write!(text, "\" cy=\"{down}\"/>")?;
+    for rank in row.awaited.as_slice() {
+        put_head(text, drawing, own, *rank, down)?;
+    }
+    text.extend_from_slice(b"</g>\n")?;
+    Ok(())
+}
+
+/// Adds the rows, from this one on, and tells where they end.
+pub(crate) fn put_rows(text: &mut Vec<u8>, drawing: &Drawing, from: u64) -> io::Result<u64> {
+    let mut down = from;
+    for row in drawing.rows.as_slice() {
+        put_row(text, drawing, row, down)?;
+        down = down.saturating_add(ROW);
+    }
+    Ok(down)
+}
+
+/// Where a line of the end is parted, so that it fits a narrow page: before ` in `.
+fn parted(line: &[u8]) -> usize {
+    for at in 0..line.len() {
+        if line[at..].starts_with(b" in ") {
+            return at;
+        }
+    }
+    line.len()
+}
+
+/// Adds a line of what is told.
+fn put_line(
+    text: &mut Vec<u8>,
+    line: &[u8],
+    left: u64,
+    down: u64,
+    class: &'static str,
+) -> io::Result<()> {
+    write!(
+        text,
+        "<text class=\"{class}\" font-size=\"11\" xml:space=\"preserve\" x=\"{left}\" y=\"{down}\">"
+    )?;
+    put_text(text, line)?;
+    text.extend_from_slice(b"</text>\n")?;
+    Ok(())
+}
+
+/// Whether a line is the verdict on a deadlock.
+fn is_verdict(line: &[u8]) -> bool {
+    line.starts_with(b"deadlock: ")
+}
+
+/// Adds one line in one or two, and tells where the next begins.
+fn put_told_line(text: &mut Vec<u8>, line: &[u8], down: u64) -> io::Result<u64> {
+    if is_verdict(line) {
+        put_line(text, line, 12, down, "red bold")?;
+        return Ok(down.saturating_add(LINE));
+    }
+    let part = parted(line).min(line.len());
+    put_line(text, &line[..part], 12, down, "ink")?;
+    if part == line.len() {
+        return Ok(down.saturating_add(LINE));
+    }
+    put_line(text, &line[part..], 28, down.saturating_add(LINE), "ink")?;
+    Ok(down.saturating_add(LINE).saturating_add(LINE))
+}
+
+/// Adds what is told, from this row on, and tells where it ends.
+pub(crate) fn put_told(text: &mut Vec<u8>, told: &[u8], from: u64) -> io::Result<u64> {
+    let mut down = from;
+    let mut begun = 0;
+    for at in 0..told.len() {
+        if told[at] == b'\n' {
+            if begun <= at {
+                down = put_told_line(text, &told[begun..at], down)?;
+            }
+            begun = at.saturating_add(1);
+        }
+    }
+    Ok(down)
+}

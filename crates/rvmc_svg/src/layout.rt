@@ -1,0 +1,138 @@
+//! Where on the page things stand: across in hundredths of a per cent of its width, down in pixels.
+
+use crate::drawing::{Arrow, Drawing, Mark, Spot};
+use std::alloc::{AllocError, Global};
+
+/// Where the first row may stand.
+pub(crate) const TOP: u64 = 46;
+
+/// How far apart any two marks are, those of one hart, and the two ends of an arrow.
+const ROW: u64 = 7;
+
+const LANE_ROW: u64 = 17;
+
+const SLOPE: u64 = 13;
+
+/// The least number of steps without a mark that is told, and how much room that takes.
+pub(crate) const LONG: u64 = 40;
+
+const LONG_ROW: u64 = 26;
+
+/// The left margin and the part of the page that the ranks share.
+const LEFT: u64 = 700;
+
+const SHARED: u64 = 9000;
+
+/// How wide a rank's share is.
+pub(crate) fn share(drawing: &Drawing) -> u64 {
+    SHARED / u64::from(drawing.ranks).max(1)
+}
+
+/// The middle of a rank's share.
+pub(crate) fn rank_at(drawing: &Drawing, rank: u8) -> u64 {
+    let share = share(drawing);
+    share
+        .saturating_mul(u64::from(rank))
+        .saturating_add(share / 2)
+        .saturating_add(LEFT)
+}
+
+/// Where a hart's lane stands.
+pub(crate) fn lane_at(drawing: &Drawing, rank: u8, hart: u8) -> u64 {
+    let harts = u64::from(drawing.harts);
+    let between = (share(drawing) / harts.saturating_add(1)).min(300);
+    let half = between.saturating_mul(harts.saturating_sub(1)) / 2;
+    rank_at(drawing, rank)
+        .saturating_add(between.saturating_mul(u64::from(hart)))
+        .saturating_sub(half)
+}
+
+/// The lane of a step's hart.
+pub(crate) fn spot_at(drawing: &Drawing, spot: Spot) -> u64 {
+    lane_at(drawing, spot.rank, spot.hart)
+}
+
+/// The row of the mark at a place, if there is one.
+pub(crate) fn row_of(marks: &[Mark], rows: &[u64], place: u64) -> Option<u64> {
+    let mut low = 0;
+    for number in 0..marks.len() {
+        if marks[number].spot.place == place {
+            low = number;
+            return rows.get(low).copied();
+        }
+    }
+    let _none = low;
+    None
+}
+
+/// Where hart lanes were last used.
+#[derive(Drop)]
+struct Lanes {
+    harts: usize,
+    rows: Vec<u64>,
+}
+
+impl Lanes {
+    fn last(&self, spot: Spot) -> Option<u64> {
+        let lane = usize::from(spot.rank)
+            .saturating_mul(self.harts)
+            .saturating_add(usize::from(spot.hart));
+        self.rows.get(lane).copied()
+    }
+
+    fn used(&mut self, spot: Spot, row: u64) {
+        let lane = usize::from(spot.rank)
+            .saturating_mul(self.harts)
+            .saturating_add(usize::from(spot.hart));
+        if let Some(last) = self.rows.get_mut(lane) {
+            *last = row;
+        }
+    }
+}
+
+/// The lowest row that the arrows to a mark leave it.
+fn below_arrows(marks: &[Mark], rows: &[u64], arrows: &[Arrow], place: u64, row: u64) -> u64 {
+    let mut lowest = row;
+    for arrow in arrows {
+        if let Some(to) = arrow.to {
+            if to.place == place {
+                if let Some(from) = row_of(marks, rows, arrow.from.place) {
+                    lowest = lowest.max(from.saturating_add(SLOPE));
+                }
+            }
+        }
+    }
+    lowest
+}
+
+/// The rows of the marks, each below that of the one before.
+pub(crate) fn rows(alloc: Global, drawing: &Drawing) -> Result<Vec<u64>, AllocError> {
+    let harts = usize::from(drawing.harts);
+    let lanes = usize::from(drawing.ranks).saturating_mul(harts);
+    let mut lanes = Lanes {
+        harts,
+        rows: Vec::from_elem(alloc, TOP, lanes)?,
+    };
+    let mut rows: Vec<u64> = Vec::new(alloc);
+    let mut row = TOP;
+    let marks = drawing.marks.as_slice();
+    for mark in marks {
+        let last = lanes.last(mark.spot).unwrap_or(TOP);
+        let apart = if mark.quiet >= LONG && last > TOP {
+            LONG_ROW
+        } else {
+            LANE_ROW
+        };
+        let least = row.saturating_add(ROW).max(last.saturating_add(apart));
+        row = below_arrows(
+            marks,
+            rows.as_slice(),
+            drawing.arrows.as_slice(),
+            mark.spot.place,
+            least,
+        );
+        rows.push(row)?;
+        lanes.used(mark.spot, row);
+    }
+    Ok(rows)
+}

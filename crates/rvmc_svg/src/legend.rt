@@ -1,0 +1,174 @@
+//! The legend: each shape that the picture has, drawn.
+
+use crate::arrows::shared_kind;
+use crate::drawing::{Carried, Drawing, Shape};
+use crate::marks::shape_name;
+use std::io;
+use std::io::Write;
+
+/// A row of the legend is so high, and has so many signs.
+const ROW: u64 = 17;
+
+const SIGNS: u64 = 3;
+
+/// What each shape means, in the legend's order.
+static SIGNS_OF: [(Shape, &str); 15] = [
+    (Shape::Send, "sends"),
+    (Shape::SyncSend, "sends, synchronous"),
+    (Shape::Done, "send complete"),
+    (Shape::Posted, "receive posted"),
+    (Shape::Got, "has got"),
+    (Shape::Seen, "probe saw"),
+    (Shape::Claimed, "claims"),
+    (Shape::Ready, "partition ready"),
+    (Shape::Taken, "partition taken"),
+    (Shape::Freed, "known to be taken"),
+    (Shape::Put, "puts out"),
+    (Shape::Exit, "ends"),
+    (Shape::Trap, "traps"),
+    (Shape::Refused, "call refused"),
+    (Shape::Other, "another call"),
+];
+
+/// Where the next sign stands.
+#[derive(Drop)]
+struct Pen {
+    number: u64,
+    from: u64,
+}
+
+impl Pen {
+    fn across(&self) -> u64 {
+        (self.number % SIGNS).saturating_mul(33)
+    }
+
+    fn down(&self) -> u64 {
+        (self.number / SIGNS)
+            .saturating_mul(ROW)
+            .saturating_add(self.from)
+    }
+
+    fn next(&mut self) {
+        self.number = self.number.saturating_add(1);
+    }
+}
+
+/// Whether the picture has the shape.
+fn has(drawing: &Drawing, shape: Shape) -> bool {
+    for mark in drawing.marks.as_slice() {
+        if mark.shape == shape {
+            return true;
+        }
+    }
+    false
+}
+
+/// Whether a hart waits, and goes on or doesn't.
+fn has_bar(drawing: &Drawing, went_on: bool) -> bool {
+    for bar in drawing.bars.as_slice() {
+        if bar.went_on == went_on {
+            return true;
+        }
+    }
+    false
+}
+
+/// Whether there is a line of what could have been taken.
+fn has_could(drawing: &Drawing) -> bool {
+    for arrow in drawing.arrows.as_slice() {
+        if matches!(arrow.carried, Carried::Could { .. }) {
+            return true;
+        }
+    }
+    false
+}
+
+/// Adds what a sign means.
+fn put_meaning(text: &mut Vec<u8>, pen: &mut Pen, meaning: &'static str) -> io::Result<()> {
+    let across = pen.across();
+    let down = pen.down().saturating_add(4);
+    writeln!(
+        text,
+        "<text class=\"dim\" font-size=\"10\" dx=\"26\" x=\"{across}%\" y=\"{down}\">{meaning}</text>"
+    )?;
+    pen.next();
+    Ok(())
+}
+
+/// Adds the signs of the marks.
+fn put_shapes(text: &mut Vec<u8>, drawing: &Drawing, pen: &mut Pen) -> io::Result<()> {
+    for sign in &SIGNS_OF {
+        if has(drawing, sign.0) {
+            let name = shape_name(sign.0);
+            let across = pen.across();
+            let down = pen.down();
+            write!(
+                text,
+                "<use href=\"#{name}\" class=\"f0\" transform=\"translate(14 0)\" x=\"{across}%\" y=\"{down}\"/>"
+            )?;
+            put_meaning(text, pen, sign.1)?;
+        }
+    }
+    Ok(())
+}
+
+/// Adds the sign of a bar.
+fn put_bar(
+    text: &mut Vec<u8>,
+    pen: &mut Pen,
+    class: &'static str,
+    meaning: &'static str,
+) -> io::Result<()> {
+    let across = pen.across();
+    let down = pen.down().saturating_sub(6);
+    write!(
+        text,
+        "<rect class=\"{class}\" rx=\"2\" width=\"6\" height=\"12\" transform=\"translate(11 0)\" x=\"{across}%\" y=\"{down}\"/>"
+    )?;
+    put_meaning(text, pen, meaning)
+}
+
+/// Adds the sign of what could have been taken.
+fn put_could(text: &mut Vec<u8>, pen: &mut Pen) -> io::Result<()> {
+    let across = pen.across();
+    let down = pen.down();
+    write!(
+        text,
+        "<svg overflow=\"visible\" x=\"{across}%\" y=\"{down}\"><path class=\"a thin far s0\" d=\"M4,0h18\"/></svg>"
+    )?;
+    put_meaning(text, pen, "could have been got")
+}
+
+/// Adds what all messages share, or how one is told.
+fn put_kind(text: &mut Vec<u8>, drawing: &Drawing, down: u64) -> io::Result<()> {
+    match shared_kind(drawing.arrows.as_slice()) {
+        None => writeln!(
+            text,
+            "<text class=\"dim wide\" font-size=\"10\" x=\"12\" y=\"{down}\">t7 8B: a message with tag 7 and 8 bytes; numbers at the left: steps, as `rvmc debug go=N` counts</text>"
+        ),
+        Some((tag, count)) => writeln!(
+            text,
+            "<text class=\"dim\" font-size=\"10\" x=\"12\" y=\"{down}\">each message: tag {tag}, {count} bytes</text>"
+        ),
+    }
+}
+
+/// Adds the legend, from this row on, and tells where it ends.
+pub(crate) fn put_legend(text: &mut Vec<u8>, drawing: &Drawing, from: u64) -> io::Result<u64> {
+    put_kind(text, drawing, from)?;
+    let mut pen = Pen {
+        number: 0,
+        from: from.saturating_add(18),
+    };
+    put_shapes(text, drawing, &mut pen)?;
+    if has_bar(drawing, true) {
+        put_bar(text, &mut pen, "wait", "waits")?;
+    }
+    if has_bar(drawing, false) {
+        put_bar(text, &mut pen, "ever", "waits at the end")?;
+    }
+    if has_could(drawing) {
+        put_could(text, &mut pen)?;
+    }
+    Ok(pen.down().saturating_add(ROW))
+}

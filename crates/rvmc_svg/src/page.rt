@@ -1,0 +1,124 @@
+//! The whole page.
+
+ghost use Rattle.std.specs.Prelude.{IfOk};
+ghost use Rattle.std.specs.List.{All};
+ghost use Rattle.rvmc_svg.specs.Safe.{IsAllowed};
+
+use crate::arrows::{put_arrows, put_heads, put_labels, put_losses};
+use crate::bars::put_bars;
+use crate::drawing::Drawing;
+use crate::ends::{put_rows, put_told};
+use crate::fonts::{SHAPES, STYLE};
+use crate::labels::Places;
+use crate::layout::{TOP, lane_at, rank_at, rows, share};
+use crate::legend::put_legend;
+use crate::marks::{put_across, put_marks, put_places};
+use crate::safe::put_safe;
+use std::alloc::Global;
+use std::io;
+use std::io::Write;
+
+/// Adds the lane of a hart.
+fn put_lane(
+    text: &mut Vec<u8>,
+    drawing: &Drawing,
+    rank: u8,
+    hart: u8,
+    foot: u64,
+) -> io::Result<()> {
+    let at = lane_at(drawing, rank, hart);
+    text.extend_from_slice(b"<line class=\"lane\" x1=\"")?;
+    put_across(text, at)?;
+    text.extend_from_slice(b"\" x2=\"")?;
+    put_across(text, at)?;
+    writeln!(text, "\" y1=\"{TOP}\" y2=\"{foot}\"/>")?;
+    if drawing.harts > 1 {
+        text.extend_from_slice(b"<text class=\"dim\" font-size=\"9\" text-anchor=\"middle\" x=\"")?;
+        put_across(text, at)?;
+        writeln!(text, "\" y=\"38\">{hart}</text>")?;
+    }
+    Ok(())
+}
+
+/// Adds a rank: its name above, a band behind every second one, and its lanes.
+fn put_rank(text: &mut Vec<u8>, drawing: &Drawing, rank: u8, foot: u64) -> io::Result<()> {
+    let at = rank_at(drawing, rank);
+    let share = share(drawing);
+    let high = foot.saturating_sub(8);
+    if rank % 2 == 1 {
+        text.extend_from_slice(b"<rect class=\"band\" x=\"")?;
+        put_across(text, at.saturating_sub(share / 2))?;
+        text.extend_from_slice(b"\" width=\"")?;
+        put_across(text, share)?;
+        writeln!(text, "\" y=\"8\" height=\"{high}\"/>")?;
+    }
+    write!(
+        text,
+        "<text class=\"f{rank} bold\" font-size=\"12\" text-anchor=\"middle\" x=\""
+    )?;
+    put_across(text, at)?;
+    writeln!(text, "\" y=\"24\">rank {rank}</text>")?;
+    for hart in 0..drawing.harts {
+        put_lane(text, drawing, rank, hart, foot)?;
+    }
+    Ok(())
+}
+
+/// Adds all ranks.
+fn put_ranks(text: &mut Vec<u8>, drawing: &Drawing, foot: u64) -> io::Result<()> {
+    for rank in 0..drawing.ranks {
+        put_rank(text, drawing, rank, foot)?;
+    }
+    Ok(())
+}
+
+/// What stands in the picture, and where it ends.
+fn body(alloc: Global, drawing: &Drawing, text: &mut Vec<u8>) -> io::Result<u64> {
+    let rows = rows(alloc, drawing)?;
+    let last = rows.as_slice().last().copied().unwrap_or(TOP);
+    let foot = last.saturating_add(34);
+    let mut places = Places::new(alloc);
+    put_heads(text, drawing.ranks)?;
+    put_ranks(text, drawing, foot)?;
+    put_bars(text, &mut places, drawing, rows.as_slice(), foot)?;
+    put_arrows(text, drawing, rows.as_slice(), foot)?;
+    put_places(text, drawing, rows.as_slice())?;
+    put_marks(text, &mut places, drawing, rows.as_slice())?;
+    put_labels(text, &mut places, drawing, rows.as_slice(), foot)?;
+    put_losses(text, &mut places, drawing, rows.as_slice(), foot)?;
+    let down = put_rows(text, drawing, foot.saturating_add(20))?;
+    let down = put_told(text, drawing.told.as_slice(), down.saturating_add(10))?;
+    put_legend(text, drawing, down.saturating_add(12))
+}
+
+/// The page before its bytes are made safe.
+fn page(alloc: Global, drawing: &Drawing) -> io::Result<Vec<u8>> {
+    let mut inner = Vec::new(alloc);
+    let high = body(alloc, drawing, &mut inner)?;
+    let wide = u64::from(drawing.ranks)
+        .saturating_mul(220)
+        .saturating_add(120)
+        .min(1200);
+    let mut text = Vec::new(alloc);
+    writeln!(
+        &mut text,
+        "<svg xmlns=\"http://www.w3.org/2000/svg\" width=\"{wide}\" height=\"{high}\" font-family=\"system-ui,sans-serif\" role=\"img\">"
+    )?;
+    text.extend_from_slice(STYLE.as_bytes())?;
+    text.extend_from_slice(SHAPES.as_bytes())?;
+    text.extend_from_slice(inner.as_slice())?;
+    text.extend_from_slice(b"</svg>\n")?;
+    Ok(text)
+}
+
+/// The picture as an SVG image. Each byte is one that XML allows, whatever the drawing holds. The only error is want of
+/// memory.
+#[tactic(auto, using(crate::proofs::Allowed::all_safe))]
+pub fn svg(alloc: Global, drawing: &Drawing) -> io::Result<Vec<u8>>
+    ensures { IfOk result (λ text. All IsAllowed text.items) }
+{
+    let page = page(alloc, drawing)?;
+    let mut text = Vec::new(alloc);
+    put_safe(&mut text, page.as_slice())?;
+    Ok(text)
+}
