@@ -1,0 +1,275 @@
+-- Each step from a cluster that is covered leads to one that is.
+use Rattle.std.proofs.Common.{◌≡◌, ℕ, zero, suc, ◌+◌, ◌<◌, ◌⊎◌, inl, inr, List, [], ◌∷◌, length, Option, Some, None, refl, sym, ap, ◌∙◌, subst, arith}
+use Rattle.std.specs.Prelude.{◌==◌, cond}
+use Rattle.std.specs.List.{slice_get, slice_set}
+use Rattle.std.proofs.lemmas.Bool.{cases_eq, eq-eqb, ne_eqb, cond-true, cond-false}
+use Rattle.std.proofs.lemmas.Option.{same_Some}
+use Rattle.mp_hub.specs.Hub.{HubView}
+use Rattle.mp_wait_laws.proofs.Sets.{get-set_other}
+use Rattle.mp_alike_laws.specs.Renaming.{Renaming, followed_by}
+use Rattle.mp_alike_laws.specs.Alike.{AlikeHubs}
+use Rattle.mp_alike_laws.proofs.Likeness.{board_on}
+use Rattle.cl_state.specs.declared.asking.Answer.{Answer}
+use Rattle.cl_state.specs.declared.asking.Ask.{Ask}
+use Rattle.cl_state.specs.Asked.{asked}
+use Rattle.cl_state.specs.Rank.{Rank}
+use Rattle.cl_state.specs.Told.{told}
+use Rattle.cl_state_laws.specs.VainLaws.{at_clock}
+use Rattle.cl_state_laws.proofs.Vain.{vain_law}
+use Rattle.cl_names_laws.specs.Named.{rank_by}
+use Rattle.cl_trace.specs.declared.events.Kind.{Kind}
+use Rattle.cl_machine.specs.declared.steps.Step.{Step}
+use Rattle.cl_machine.specs.Boxes.{Box}
+use Rattle.cl_machine.specs.Cluster.{CaseOf, Cluster, IsRun, only_told}
+use Rattle.cl_order_laws.specs.Alike.{AlikeBoxes, AlikeRanks, AreEach, IsFull, Leads, at_stamp, both_empty, both_full, hub_of}
+use Rattle.cl_order_laws.specs.Closed.{FollowPlans, IsAhead, IsBehind, IsClosed, IsCovered, IsDone, IsSamePlace, NeedsOnlyRank, Node, Plans, Turns, had_after, none_had, one_more}
+use Rattle.cl_order_laws.specs.Laws.{CoveredLaw}
+use Rattle.cl_order_laws.proofs.Ahead.{behind_on, done_back, done_rests, one_on, same_hart}
+use Rattle.cl_order_laws.proofs.Boxes.{boxes_on}
+use Rattle.cl_order_laws.proofs.Each.{set_here, set_length, was_there}
+use Rattle.cl_order_laws.proofs.GoAlike.{Went, goes}
+use Rattle.cl_order_laws.proofs.Steps.{step_leads}
+
+pub hubs_on : (names more : Renaming) (a b c : HubView) → AlikeHubs names a b → AlikeHubs more b c
+    → AlikeHubs (followed_by names more) a c
+hubs_on names more a b c f g = record {
+  links = g.links ∙ f.links;
+  board = board_on names more a.board b.board c.board f.board g.board;
+  claims = g.claims ∙ f.claims;
+  sides = λ s. g.sides s ∙ f.sides s;
+  reserved = λ link. g.reserved link ∙ f.reserved link;
+  senders = λ link. g.senders link ∙ f.senders link;
+}
+
+pub each_on : (xs ys zs : List Box) → AreEach AlikeBoxes xs ys → AreEach AlikeBoxes ys zs → AreEach AlikeBoxes xs zs
+each_on xs ys zs f g = record {
+  many = g.many ∙ f.many;
+  each = λ i x here.
+      let y = f.each i x here in
+      let z = g.each i y.0 y.1 in
+      (z.0, z.1, boxes_on x y.0 z.0 y.2 z.2);
+}
+
+had_here : (had : Turns) (r : ℕ) → one_more had r r ≡ had r + 1
+had_here had r = cond-true (r == r) (had r + 1) (had r) (eq-eqb r r refl)
+
+had_other : (had : Turns) (r s : ℕ) → (r ≡ s → ⊥) → one_more had r s ≡ had s
+had_other had r s other = cond-false (s == r) (had s + 1) (had s) (ne_eqb s r (λ e. other (sym e)))
+
+-- a turn that needs only its rank changes nothing else
+pub alone : (old new : Cluster) (e : Step) (x : Rank) (kind : Kind) → CaseOf old e x kind new → NeedsOnlyRank (asked x e.hart)
+    → (new ≡ only_told old e x Answer.Alone) × (e.stamp ≡ x.clock + 1)
+alone old new e x Kind.Plain c needs = (c.2, c.1)
+alone old new e x Kind.Local c needs = (c.2, c.1)
+alone old new e x Kind.Held c needs = (c.2, c.1)
+alone old new e x Kind.Idle c needs = (c.2, c.1)
+alone old new e x (Kind.Hub r) c needs = absurd (subst NeedsOnlyRank c.1 needs)
+alone old new e x Kind.Ready c needs = absurd (subst NeedsOnlyRank c.4 needs)
+alone old new e x Kind.Take c needs = absurd (subst NeedsOnlyRank c.4 needs)
+alone old new e x Kind.Freed c needs = absurd (subst NeedsOnlyRank c.3 needs)
+alone old new e x Kind.Miss c needs = elim c.2 [
+  | inl look ↦ absurd (subst NeedsOnlyRank look needs)
+  | inr freed ↦ absurd (subst NeedsOnlyRank freed needs)
+]
+
+abbrev node_of : Cluster → Turns → Node
+node_of cluster had = record { cluster = cluster; had = had }
+
+module _ (plans : Plans) (nodes : List Node) (closed : IsClosed plans nodes) (c new : Cluster) (had : Turns) (e : Step)
+    (leads : Leads c e new) (hart : e.hart ≡ plans e.rank (had e.rank)) (cov : IsCovered plans nodes (node_of c had)) where
+  abbrev x : Rank
+  x = leads.0
+
+  -- the rank that had the turn goes on as said, and all others stand as they stood
+  stays : (z : Rank) → new.ranks ≡ slice_set c.ranks e.rank z → AlikeHubs cov.names (hub_of new.journal) (hub_of cov.node.cluster.journal)
+      → AreEach AlikeBoxes new.boxes cov.node.cluster.boxes
+      → (other : Rank) → slice_get cov.node.cluster.ranks e.rank ≡ Some other
+      → IsBehind (plans e.rank) cov.names z (had e.rank + 1) other (cov.node.had e.rank)
+      → IsCovered plans nodes (node_of new (one_more had e.rank))
+  stays z ranks hubs boxes other there behind = record {
+    index = cov.index;
+    node = cov.node;
+    there = cov.there;
+    names = cov.names;
+    many = cov.many ∙ sym (ap length ranks ∙ set_length c.ranks e.rank z);
+    ranks = λ s rank here. elim (cases_eq e.rank s) [
+      | inl same ↦
+          let at : slice_get (slice_set c.ranks e.rank z) e.rank ≡ Some rank =
+          subst (λ xs. slice_get xs e.rank ≡ Some rank) ranks
+          (subst (λ k. slice_get new.ranks k ≡ Some rank) (sym same) here) in
+          let is : z ≡ rank = (was_there c.ranks e.rank z rank at).0 in (
+            other,
+            subst (λ k. slice_get cov.node.cluster.ranks k ≡ Some other) same there,
+            subst (λ k. IsBehind (plans k) cov.names rank (one_more had e.rank k) other (cov.node.had k)) same
+                (subst (λ q. IsBehind (plans e.rank) cov.names q (one_more had e.rank e.rank) other (cov.node.had e.rank)) is
+                (subst (λ n. IsBehind (plans e.rank) cov.names z n other (cov.node.had e.rank))
+                (sym (had_here had e.rank)) behind)),
+          )
+      | inr apart ↦
+          let old : slice_get c.ranks s ≡ Some rank =
+          sym (get-set_other c.ranks e.rank s z apart) ∙ sym (ap (λ xs. slice_get xs s) ranks) ∙ here in
+          let v = cov.ranks s rank old in
+          (v.0, v.1, subst (λ n. IsBehind (plans s) cov.names rank n v.0 (cov.node.had s)) (sym (had_other had e.rank s apart)) v.2)
+    ];
+    hubs = hubs;
+    boxes = boxes;
+  }
+
+  -- the turn needed only its rank
+  needed : NeedsOnlyRank (asked x e.hart)
+      → (other : Rank) → slice_get cov.node.cluster.ranks e.rank ≡ Some other
+      → IsBehind (plans e.rank) cov.names (told x e.hart Answer.Alone (x.clock + 1)) (had e.rank + 1) other (cov.node.had e.rank)
+      → IsCovered plans nodes (node_of new (one_more had e.rank))
+  needed needs other there behind =
+      let a = alone c new e x e.kind leads.3 needs in
+      stays (told x e.hart Answer.Alone (x.clock + 1))
+      (ap (λ (n : Cluster). n.ranks) a.0 ∙ ap (λ s. slice_set c.ranks e.rank (told x e.hart Answer.Alone s)) a.1)
+      (subst (λ (n : Cluster). AlikeHubs cov.names (hub_of n.journal) (hub_of cov.node.cluster.journal)) (sym a.0) cov.hubs)
+      (subst (λ (n : Cluster). AreEach AlikeBoxes n.boxes cov.node.cluster.boxes) (sym a.0) cov.boxes)
+      other there behind
+
+  -- all harts of the plan were stopped
+  idles : (other : Rank) → slice_get cov.node.cluster.ranks e.rank ≡ Some other → AlikeRanks cov.names x other
+      → IsDone (plans e.rank) x → IsCovered plans nodes (node_of new (one_more had e.rank))
+  idles other there alike done =
+      let v = (vain_law.stopped) x (plans e.rank (had e.rank)) (x.clock + 1) Answer.Alone (done (had e.rank)) in
+      let asks : asked x e.hart ≡ Ask.Idle = ap (asked x) hart ∙ v.0 in
+      let leaves : told x e.hart Answer.Alone (x.clock + 1) ≡ at_clock x (x.clock + 1) =
+      ap (λ h. told x h Answer.Alone (x.clock + 1)) hart ∙ v.1 in
+      needed (subst NeedsOnlyRank (sym asks) tt) other there
+      (subst (λ q. IsBehind (plans e.rank) cov.names q (had e.rank + 1) other (cov.node.had e.rank)) (sym leaves) (record {
+        turns = 0;
+        then = at_clock x (x.clock + 1);
+        after = had e.rank + 1;
+        ahead = (refl, refl);
+        alike = (alike.0, alike.1);
+        place = inr done;
+      }))
+
+  abbrev Goal : Node → Renaming → ℕ → Rank → Type 0
+  Goal node names s rank = (o : Rank) × (slice_get node.cluster.ranks s ≡ Some o)
+      × IsBehind (plans s) names rank (one_more had e.rank s) o (node.had s)
+
+  -- the node goes by the same turn, and where that leads is covered
+  both_go : (other : Rank) → slice_get cov.node.cluster.ranks e.rank ≡ Some other → AlikeRanks cov.names x other
+      → IsSamePlace (plans e.rank) (had e.rank) (cov.node.had e.rank)
+      → ((f : Step) (next : Cluster) → f.rank ≡ e.rank → f.hart ≡ plans e.rank (cov.node.had e.rank)
+      → Leads cov.node.cluster f next
+      → IsCovered plans nodes (node_of next (one_more cov.node.had e.rank)))
+      → IsCovered plans nodes (node_of new (one_more had e.rank))
+  both_go other there alike same moves = record {
+    index = more.index;
+    node = more.node;
+    there = more.there;
+    names = followed_by cov.names more.names;
+    many =
+        more.many ∙ ap length went.others ∙ set_length cov.node.cluster.ranks e.rank went.right ∙ cov.many
+        ∙ sym (ap length went.ranks ∙ set_length c.ranks e.rank went.left);
+    ranks = λ s rank here. elim (cases_eq e.rank s) [
+      | inl same ↦ subst (λ k. Goal more.node (followed_by cov.names more.names) k rank) same
+          (turned rank (subst (λ k. slice_get new.ranks k ≡ Some rank) (sym same) here))
+      | inr apart ↦ beside s rank apart here
+    ];
+    hubs =
+        hubs_on cov.names more.names (hub_of new.journal) (hub_of went.then.journal) (hub_of more.node.cluster.journal)
+        went.hubs more.hubs;
+    boxes = each_on new.boxes went.then.boxes more.node.cluster.boxes went.boxes more.boxes;
+  }
+    where
+      went : Went cov.names c cov.node.cluster new e
+      went =
+          goes cov.names c cov.node.cluster e cov.hubs cov.boxes x other there alike leads.2 e.kind refl new leads.3
+
+      more : IsCovered plans nodes (node_of went.then (one_more cov.node.had e.rank))
+      more =
+          moves (at_stamp e went.stamp) went.then refl
+          (hart ∙ same_hart (plans e.rank) (had e.rank) (cov.node.had e.rank) same) went.leads
+
+      turned : (rank : Rank) → slice_get new.ranks e.rank ≡ Some rank
+          → Goal more.node (followed_by cov.names more.names) e.rank rank
+      turned rank here =
+          let w = was_there c.ranks e.rank went.left rank (subst (λ xs. slice_get xs e.rank ≡ Some rank) went.ranks here) in
+          let right : slice_get went.then.ranks e.rank ≡ Some went.right =
+          ap (λ xs. slice_get xs e.rank) went.others
+          ∙ set_here cov.node.cluster.ranks e.rank went.right other there in
+          let v = more.ranks e.rank went.right right in
+          let first : IsBehind (plans e.rank) cov.names rank (one_more had e.rank e.rank) went.right
+          (one_more cov.node.had e.rank e.rank) = record {
+            turns = 0;
+            then = rank;
+            after = one_more had e.rank e.rank;
+            ahead = (refl, refl);
+            alike = subst (λ q. AlikeRanks cov.names q went.right) w.0 went.alike;
+            place = inl
+                (subst (λ n. IsSamePlace (plans e.rank) n (one_more cov.node.had e.rank e.rank)) (sym (had_here had e.rank))
+                (subst (λ n. IsSamePlace (plans e.rank) (had e.rank + 1) n) (sym (had_here cov.node.had e.rank))
+                (one_on (plans e.rank) (had e.rank) (cov.node.had e.rank) same)));
+          } in (
+            v.0,
+            v.1,
+            behind_on (plans e.rank) cov.names more.names rank (one_more had e.rank e.rank) went.right
+                (one_more cov.node.had e.rank e.rank) v.0 (more.node.had e.rank) first v.2,
+          )
+
+      beside : (s : ℕ) (rank : Rank) → (e.rank ≡ s → ⊥) → slice_get new.ranks s ≡ Some rank
+          → Goal more.node (followed_by cov.names more.names) s rank
+      beside s rank apart here =
+          let old : slice_get c.ranks s ≡ Some rank =
+          sym (get-set_other c.ranks e.rank s went.left apart) ∙ sym (ap (λ xs. slice_get xs s) went.ranks) ∙ here in
+          let v = cov.ranks s rank old in
+          let still : slice_get went.then.ranks s ≡ Some v.0 =
+          ap (λ xs. slice_get xs s) went.others
+          ∙ get-set_other cov.node.cluster.ranks e.rank s went.right apart ∙ v.1 in
+          let w = more.ranks s v.0 still in
+          let first : IsBehind (plans s) cov.names rank (one_more had e.rank s) v.0 (one_more cov.node.had e.rank s) =
+          subst (λ n. IsBehind (plans s) cov.names rank n v.0 (one_more cov.node.had e.rank s))
+          (sym (had_other had e.rank s apart))
+          (subst (λ n. IsBehind (plans s) cov.names rank (had s) v.0 n) (sym (had_other cov.node.had e.rank s apart)) v.2) in (
+            w.0,
+            w.1,
+            behind_on (plans s) cov.names more.names rank (one_more had e.rank s) v.0
+                (one_more cov.node.had e.rank s) w.0 (more.node.had s) first w.2,
+          )
+
+  -- the rank stands as the node's does
+  stands : (other : Rank) → slice_get cov.node.cluster.ranks e.rank ≡ Some other → AlikeRanks cov.names x other
+      → IsSamePlace (plans e.rank) (had e.rank) (cov.node.had e.rank) ⊎ IsDone (plans e.rank) x
+      → IsCovered plans nodes (node_of new (one_more had e.rank))
+  stands other there alike (inr done) = idles other there alike done
+  stands other there alike (inl same) = elim (closed.each cov.index e.rank cov.node other cov.there there) [
+    | inl done ↦ idles other there alike (done_back cov.names x other alike (plans e.rank) done)
+    | inr moves ↦ both_go other there alike same moves
+  ]
+
+  pub step_covered : IsCovered plans nodes (node_of new (one_more had e.rank))
+  step_covered =
+      let v = cov.ranks e.rank x leads.1 in
+      let b = v.2 in
+      go v.0 v.1 b.turns b.then b.after b.ahead b.alike b.place
+    where
+      go : (other : Rank) → slice_get cov.node.cluster.ranks e.rank ≡ Some other → (n : ℕ) (then : Rank) (after : ℕ)
+          → IsAhead (plans e.rank) n x (had e.rank) then after → AlikeRanks cov.names then other
+          → IsSamePlace (plans e.rank) after (cov.node.had e.rank) ⊎ IsDone (plans e.rank) then
+          → IsCovered plans nodes (node_of new (one_more had e.rank))
+      go other there zero then after ahead alike place =
+          stands other there (subst (λ q. AlikeRanks cov.names q other) ahead.0 alike)
+          (subst (λ q. IsSamePlace (plans e.rank) (had e.rank) (cov.node.had e.rank) ⊎ IsDone (plans e.rank) q) ahead.0
+          (subst (λ n. IsSamePlace (plans e.rank) n (cov.node.had e.rank) ⊎ IsDone (plans e.rank) then) ahead.1 place))
+      go other there (suc n) then after ahead alike place =
+          needed (subst (λ h. NeedsOnlyRank (asked x h)) (sym hart) ahead.0) other there
+          (subst (λ h. IsBehind (plans e.rank) cov.names (told x h Answer.Alone (x.clock + 1)) (had e.rank + 1) other
+          (cov.node.had e.rank)) (sym hart)
+          (record { turns = n; then = then; after = after; ahead = ahead.1; alike = alike; place = place }))
+
+run_covered : (plans : Plans) (nodes : List Node) → IsClosed plans nodes → (steps : List Step) (c end : Cluster)
+    (had : Turns) → IsCovered plans nodes (node_of c had) → IsRun c steps end → FollowPlans plans had steps
+    → IsCovered plans nodes (node_of end (had_after had steps))
+run_covered plans nodes closed [] c end had cov run follow =
+    subst (λ (x : Cluster). IsCovered plans nodes (node_of x had)) (sym run) cov
+run_covered plans nodes closed (e ∷ steps) c end had cov run follow =
+    run_covered plans nodes closed steps run.0 end (one_more had e.rank)
+    (step_covered plans nodes closed c run.0 had e (step_leads c run.0 e run.1) follow.0 cov) run.2 follow.1
+
+pub covered_law : CoveredLaw
+covered_law plans nodes start cov closed steps end run follow =
+    run_covered plans nodes closed steps start.cluster end start.had cov run follow

@@ -1,0 +1,16 @@
+pub mod Steps
+pub mod Each
+pub mod Boxes
+pub mod Ranks
+pub mod Replies
+pub mod GoAlike
+pub mod Ahead
+pub mod Covered
+pub mod Ends
+pub mod Likeness
+pub mod Commuting
+pub mod Vain
+pub mod Deadlocks
+pub mod SelfClosed
+pub mod Rows
+pub mod Stays

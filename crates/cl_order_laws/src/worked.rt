@@ -1,0 +1,9 @@
+//! Worked rows: boxes, places of plans, and turns that a closed set can't leave out.
+
+ghost use Rattle.cl_order_laws.specs.Rows.{WorkedOrders};
+
+/// A full box isn't alike an empty one, and its history is forgotten; a plan of two harts comes back to its place; and
+/// no closed set leaves out a look that misses, or a rank that waits.
+pub fn worked_orders()
+    ensures { WorkedOrders }
+{}

@@ -1,0 +1,4 @@
+pub mod Renaming
+pub mod Alike
+pub mod Laws
+pub mod Rows
