@@ -22,6 +22,12 @@ names by .globl is a symbol of it: a name that `rvmc dis` shows.
 With --from an image of version 1 or 2 is taken in place of a source. It is
 written in version 2, with the symbols that it has, and is otherwise the same.
 
+At most 67,108,864 bytes are read.
+
+Status:
+  0 done, 1 fault of the source or the image, 2 fault of the command line,
+  5 out of memory, 6 a read or write failed, or the input is too long
+
 Examples:
   rvmc asm <hi.s >hi.image
   rvmc asm --from <old.image >new.image";

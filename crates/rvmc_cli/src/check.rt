@@ -28,6 +28,10 @@ The status of `bad` is 1. Bytes that are no record are a fault, as
 At most 67,108,864 bytes are read. `run` and `one` write longer records too,
 which then can't be checked here.
 
+Status:
+  0 good, 1 bad, or fault of the record, 2 fault of the command line,
+  5 out of memory, 6 a read or write failed, or the input is too long
+
 Examples:
   rvmc one --record <hi.image >hi.record
   rvmc check <hi.record";

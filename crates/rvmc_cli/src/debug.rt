@@ -40,6 +40,12 @@ The words are read before the record is. A place, rank, hart, range or symbol
 that isn't there is a fault, as `rvmc: debug: PastEnd 10`, with status 1; the
 texts of the words before it are written.
 
+At most 67,108,864 bytes are read.
+
+Status:
+  0 done, 1 fault of the record or of a word, 2 fault of the command line,
+  5 out of memory, 6 a read or write failed, or the input is too long
+
 Examples:
   rvmc one --record <hi.image >hi.record
   rvmc debug go=2 regs=0,0 <hi.record

@@ -19,7 +19,14 @@ A line is an address, the word there and its instruction. A word that is no
 instruction is shown as `.word`. Before a word stand the names of the symbols
 at its address, as `go:`, a line each.
 
-Example:
+At most 67,108,864 bytes are read.
+
+Status:
+  0 done, 1 fault of the image, 2 fault of the command line,
+  5 out of memory, 6 a read or write failed, or the input is too long
+
+Examples:
+  rvmc dis <hi.image
   rvmc asm <hi.s | rvmc dis";
 
 /// The command as clap builds it.

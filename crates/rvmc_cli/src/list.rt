@@ -29,8 +29,14 @@ line, with their number.
 
 The status is 0. A rank or a place that isn't there is a fault, as
 `rvmc: list: NoRank` and `rvmc: list: PastEnd 10`, and so are steps that are no
-run of the image, as `rvmc: list: NotARun 3`: all have status 1. At most
-67,108,864 bytes are read.
+run of the image, as `rvmc: list: NotARun 3`: all have status 1.
+
+At most 67,108,864 bytes are read.
+
+Status:
+  0 done, 1 fault of the record, or no such rank or place,
+  2 fault of the command line,
+  5 out of memory, 6 a read or write failed, or the input is too long
 
 Examples:
   rvmc one --record <hi.image >hi.record

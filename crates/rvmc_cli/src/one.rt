@@ -29,6 +29,14 @@ in its place: the image, and each step in order. `rvmc check` reads it. With
 --why it is told behind the report what each hart waits for, as `rvmc why` tells
 it.
 
+At most 67,108,864 bytes are read.
+
+Status:
+  0 done, 1 fault of the source, the image, the plan or the order,
+  2 fault of the command line, 3 a hart trapped,
+  4 a rank stopped by its budget, a full clock or too many calls,
+  5 out of memory, 6 a read or write failed, or the input is too long
+
 Examples:
   rvmc one --source <hi.s
   rvmc one --budget 100 <hi.image

@@ -27,6 +27,13 @@ The status is 3 where a hart trapped, else 4 where a stop is unknown, else 0. A
 record whose steps are no run of its image is a fault, as
 `rvmc: report: NotARun 3`, with status 1.
 
+At most 67,108,864 bytes are read.
+
+Status:
+  0 done, 1 fault of the record, 2 fault of the command line, 3 a hart trapped,
+  4 a rank stopped for what isn't known,
+  5 out of memory, 6 a read or write failed, or the input is too long
+
 Examples:
   rvmc run --record <hi.image >hi.record
   rvmc report <hi.record";

@@ -32,6 +32,14 @@ With --record the record is written in place of the report: the image, and each
 step of each rank in the order of their stamps. `rvmc check` reads it. With --why
 it is told behind the report what each hart waits for, as `rvmc why` tells it.
 
+At most 67,108,864 bytes are read.
+
+Status:
+  0 done, 1 fault of the source, the image, or the plan,
+  2 fault of the command line, 3 a hart trapped,
+  4 a rank stopped by its budget, a full clock or too many calls,
+  5 out of memory or of threads, 6 a read or write failed, or the input is too long
+
 Examples:
   rvmc run --source <hi.s
   rvmc run --budget 100 <hi.image

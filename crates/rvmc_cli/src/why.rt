@@ -41,6 +41,12 @@ run of its image, as `rvmc: why: NotARun 3`: both have status 1.
 
 `run` and `one` tell the same of the end of their run, with --why.
 
+At most 67,108,864 bytes are read.
+
+Status:
+  0 done, 1 fault of the record, or no such place, 2 fault of the command line,
+  5 out of memory, 6 a read or write failed, or the input is too long
+
 Examples:
   rvmc one --record <hi.image >hi.record
   rvmc why <hi.record
