@@ -1,0 +1,45 @@
+-- Words of a command line that are refused.
+use Rattle.std.specs.Prelude.{ℕ, ◌==◌, ◌||◌, ◌&&◌, nat_le, not, Bool, false, List, [], ◌∷◌, Option}
+use Rattle.std.specs.Prelude.{codes}
+use Rattle.std.specs.List.{list_all, list_any}
+use Rattle.rv_asm_statements.specs.Walk.{beside, first_given}
+
+abbrev pub between : ℕ → ℕ → ℕ → Bool
+between low high byte = nat_le low byte && nat_le byte high
+
+-- letters, digits, `_`, `.`, `/` and `-`
+abbrev pub is_file_byte : ℕ → Bool
+is_file_byte byte =
+    (between 97 122 byte || (between 65 90 byte || between 48 57 byte))
+    || ((byte == 95) || ((byte == 46) || ((byte == 47) || (byte == 45))))
+
+-- a `.` or a `/`
+abbrev pub is_mark : ℕ → Bool
+is_mark byte = (byte == 46) || (byte == 47)
+
+-- the first byte is a `-`
+abbrev pub is_option : List ℕ → Bool
+is_option [] = false
+is_option (byte ∷ bytes) = byte == 45
+
+-- such bytes, among them a mark, and no option
+abbrev pub is_file_name : List ℕ → Bool
+is_file_name word = list_all is_file_byte word && (list_any is_mark word && not (is_option word))
+
+-- the right form of each word of `debug`, by what stands before its `=`
+abbrev pub forms : List (List ℕ × List ℕ)
+forms =
+    (codes "go", codes "go=N, as go=2") ∷
+    (codes "step", codes "step stands alone") ∷
+    (codes "back", codes "back stands alone") ∷
+    (codes "run", codes "run stands alone") ∷
+    (codes "place", codes "place stands alone") ∷
+    (codes "break", codes "break=R,H,PC or break=R,H,NAME, as break=0,0,0x18") ∷
+    (codes "regs", codes "regs=R,H, as regs=0,0") ∷
+    (codes "frames", codes "frames=R,H, as frames=0,0") ∷
+    (codes "output", codes "output=R, as output=0") ∷
+    (codes "bytes", codes "bytes=R,A,N or bytes=R,NAME,N, as bytes=0,0xfff8,4") ∷
+    []
+
+abbrev pub form_of : List ℕ → Option (List ℕ)
+form_of head = first_given (beside head) forms

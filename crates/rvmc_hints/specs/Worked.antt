@@ -1,0 +1,75 @@
+-- Hints, by rows: what stands in an input, plans, names and words.
+use Rattle.std.specs.Prelude.{◌≡◌, true, false, [], ◌∷◌, None, Some, codes, refl}
+use Rattle.rvmc_hints.specs.Calls.{call_number}
+use Rattle.rvmc_hints.specs.Content.{content_in}
+use Rattle.rvmc_hints.specs.Near.{is_near}
+use Rattle.rvmc_hints.specs.Plans.{plans_in}
+use Rattle.rvmc_hints.specs.Seen.{seen_in}
+use Rattle.rvmc_hints.specs.Words.{is_file_name}
+use Rattle.rvmc_hints.specs.declared.hint.Hint.TheVariants as hint
+use Rattle.rvmc_hints.specs.declared.hint.Wanted.TheVariants as wanted
+
+-- `one < prog.s`, where the assembler takes it
+pub a_source_for_one : content_in wanted.Image true (seen_in (codes "nop")) ≡ Some (hint.Source wanted.Image)
+a_source_for_one = refl
+
+-- where it doesn't
+pub a_text_for_one : content_in wanted.Image false (seen_in (codes "hello")) ≡ Some (hint.Text wanted.Image)
+a_text_for_one = refl
+
+-- `check < prog.image`
+pub an_image_for_check : content_in wanted.Record false (seen_in (codes "RVMC")) ≡ Some hint.Image
+an_image_for_check = refl
+
+-- an image is right for `dis`, whatever follows its first bytes
+pub an_image_for_dis : content_in wanted.Listed false (seen_in (codes "RVMC")) ≡ None
+an_image_for_dis = refl
+
+pub a_record_for_asm : content_in wanted.Source false (seen_in (codes "RVMR")) ≡ Some hint.Record
+a_record_for_asm = refl
+
+pub nothing_for_check : content_in wanted.Record false (seen_in []) ≡ Some (hint.Nothing wanted.Record)
+nothing_for_check = refl
+
+-- a byte that is no text
+pub other_for_one : content_in wanted.Image false (seen_in (104 ∷ 128 ∷ [])) ≡ None
+other_for_one = refl
+
+-- `--order 0` for four ranks
+pub one_of_four : plans_in 4 1 None (Some (0 ∷ [])) ≡ Some (hint.Ranks 4)
+one_of_four = refl
+
+-- `--plan 3` for one hart
+pub a_fourth_hart : plans_in 1 1 (Some (3 ∷ [])) None ≡ Some (hint.Harts 1)
+a_fourth_hart = refl
+
+pub all_are_named : plans_in 2 2 (Some (0 ∷ 1 ∷ [])) (Some (1 ∷ 0 ∷ 1 ∷ [])) ≡ None
+all_are_named = refl
+
+-- one character too many, missing, another, swapped; the same name; two slips
+pub one_too_many : is_near (codes "mv") (codes "mov") ≡ true
+one_too_many = refl
+
+pub one_missing : is_near (codes "loop") (codes "lop") ≡ true
+one_missing = refl
+
+pub another : is_near (codes "add") (codes "adf") ≡ true
+another = refl
+
+pub swapped : is_near (codes "go") (codes "og") ≡ true
+swapped = refl
+
+pub the_same : is_near (codes "go") (codes "go") ≡ false
+the_same = refl
+
+pub two_slips : is_near (codes "add") (codes "sub") ≡ false
+two_slips = refl
+
+pub send_is_16 : call_number (codes "SEND") ≡ Some 16
+send_is_16 = refl
+
+pub a_file : is_file_name (codes "prog.s") ≡ true
+a_file = refl
+
+pub an_option_is_no_file : is_file_name (codes "--a.b") ≡ false
+an_option_is_no_file = refl

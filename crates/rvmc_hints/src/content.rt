@@ -1,0 +1,40 @@
+//! An input of another kind than the command takes.
+
+ghost use Rattle.std.specs.Prelude.{◌≡◌};
+ghost use Rattle.rvmc_hints.specs.Content.{content_in, text_in};
+ghost use Rattle.rvmc_hints.specs.Seen.{seen_in};
+
+use crate::hint::{Hint, Wanted};
+use crate::seen::{Seen, seen_in};
+
+/// What a text is to one who wants something else. `source` tells whether the assembler makes an image of it.
+fn text_hint<'a>(wanted: Wanted, source: bool) -> Option<Hint<'a>>
+    ensures { result ≡ text_in wanted source }
+{
+    match wanted {
+        Wanted::Source => None,
+        _ => {
+            if source {
+                Some(Hint::Source(wanted))
+            } else {
+                Some(Hint::Text(wanted))
+            }
+        }
+    }
+}
+
+/// What stands in an input where a command takes another kind. `source` tells whether the assembler makes an image of
+/// the bytes. None where they begin as what is wanted does, or as nothing that is known.
+pub fn content_hint<'a>(wanted: Wanted, source: bool, bytes: &[u8]) -> Option<Hint<'a>>
+    ensures { result ≡ content_in wanted source (seen_in bytes.now) }
+{
+    match (seen_in(bytes), wanted) {
+        (Seen::Nothing, _) => Some(Hint::Nothing(wanted)),
+        (Seen::Image, Wanted::Source | Wanted::Record) => Some(Hint::Image),
+        (Seen::Record, Wanted::Source | Wanted::Image | Wanted::Listed | Wanted::Rewritten) => {
+            Some(Hint::Record)
+        }
+        (Seen::Text, _) => text_hint(wanted, source),
+        _ => None,
+    }
+}

@@ -1,0 +1,334 @@
+//! What a person can be told behind a fault's line.
+
+use std::fmt;
+
+/// What a command takes.
+#[derive(Clone, Copy, Drop)]
+pub enum Wanted {
+    /// A source.
+    Source,
+    /// An image, or a source behind `--source`.
+    Image,
+    /// An image alone, to be listed.
+    Listed,
+    /// An image alone, to be written anew.
+    Rewritten,
+    /// A record.
+    Record,
+}
+
+/// What a person can be told behind a fault's line. It prints as the text behind `hint: `.
+#[derive(Clone, Copy, Drop)]
+pub enum Hint<'a> {
+    /// Nothing stands in the input.
+    Nothing(Wanted),
+    /// An image stands there.
+    Image,
+    /// A record stands there.
+    Record,
+    /// A source stands there, of which the assembler makes an image.
+    Source(Wanted),
+    /// All bytes are printable.
+    Text(Wanted),
+    /// The input can't be read, or is too long.
+    Input,
+    /// The image has so many ranks, and the order misses one or names another.
+    Ranks(u8),
+    /// The image has so many harts a rank, and the plan names another.
+    Harts(u8),
+    /// A file is named behind these words.
+    File {
+        words: &'a [&'a str],
+        file: &'a str,
+    },
+    /// The right form of a word of `debug`.
+    Form(&'static str),
+    /// A name that begins no statement. `kind` is what there is a list of, `near` a name that differs by one slip.
+    Unknown {
+        word: &'a [u8],
+        kind: Kind,
+        near: Option<&'static str>,
+    },
+    /// A mnemonic of other assemblers, and what does the same here.
+    Foreign {
+        word: &'a [u8],
+        here: &'static str,
+    },
+    /// What a mnemonic or a directive takes.
+    Takes {
+        name: &'static str,
+        operands: &'static str,
+    },
+    /// A word is none of the kind that its place asks for.
+    Misplaced {
+        word: &'a [u8],
+        kind: Place,
+        name: &'static str,
+        operands: &'static str,
+    },
+    /// The name of a call where a number is wanted.
+    Call {
+        word: &'a [u8],
+        number: u8,
+    },
+    /// A number that doesn't fit.
+    Unfit {
+        word: &'a [u8],
+        name: &'static str,
+        operands: &'static str,
+    },
+    /// What a directive takes, behind the words that stand at it.
+    At {
+        words: &'a [u8],
+        name: &'static str,
+        operands: &'static str,
+    },
+    /// Digits that are no number.
+    NoNumber(&'a [u8]),
+    /// A character that nothing begins with.
+    Character(u8),
+    /// A string isn't one.
+    NoString,
+    /// A label that no line defines, and one that differs by one slip.
+    NoLabel {
+        word: &'a [u8],
+        near: Option<&'a [u8]>,
+    },
+    /// A label that an earlier line defines.
+    Twice {
+        word: &'a [u8],
+        line: u64,
+    },
+    /// No line has an instruction.
+    NoText,
+    /// What there may be so many of.
+    Most(&'static str),
+    /// A symbol that the image hasn't, and one that differs by one slip.
+    NoSymbol {
+        word: &'a str,
+        near: Option<&'a [u8]>,
+    },
+    /// A record that begins so has so many bytes at least.
+    Least(usize),
+    /// Another version of the record.
+    Version,
+    /// A hart waits where a run was stopped.
+    Waits,
+}
+
+/// What begins a statement.
+#[derive(Clone, Copy, Drop)]
+pub enum Kind {
+    Instruction,
+    Directive,
+}
+
+/// What the place of an operand asks for.
+#[derive(Clone, Copy, Drop)]
+pub enum Place {
+    Register,
+    Number,
+    Target,
+    Label,
+    Orders,
+}
+
+/// Bytes as a text: those of an input that may be other than UTF-8 print as `?`.
+#[derive(Clone, Copy)]
+struct Shown<'a>(&'a [u8]);
+
+impl fmt::Display for Shown<'_> {
+    fn fmt<W: fmt::Write>(&self, f: &mut fmt::Formatter<W>) -> fmt::Result {
+        match str::from_utf8(self.0) {
+            Ok(text) => write!(f, "{text}"),
+            Err(_) => write!(f, "?"),
+        }
+    }
+}
+
+impl fmt::Display for Wanted {
+    fn fmt<W: fmt::Write>(&self, f: &mut fmt::Formatter<W>) -> fmt::Result {
+        match self {
+            Wanted::Source => write!(f, "a source"),
+            Wanted::Image => write!(f, "an image, or with --source a source,"),
+            Wanted::Listed => write!(f, "an image"),
+            Wanted::Rewritten => write!(f, "an image"),
+            Wanted::Record => write!(f, "a record"),
+        }
+    }
+}
+
+impl fmt::Display for Kind {
+    fn fmt<W: fmt::Write>(&self, f: &mut fmt::Formatter<W>) -> fmt::Result {
+        match self {
+            Kind::Instruction => write!(f, "instructions"),
+            Kind::Directive => write!(f, "directives"),
+        }
+    }
+}
+
+impl fmt::Display for Place {
+    fn fmt<W: fmt::Write>(&self, f: &mut fmt::Formatter<W>) -> fmt::Result {
+        match self {
+            Place::Register => write!(f, "register"),
+            Place::Number => write!(f, "number"),
+            Place::Target => write!(f, "target"),
+            Place::Label => write!(f, "label"),
+            Place::Orders => write!(f, "iorw"),
+        }
+    }
+}
+
+/// What is to be done with a source where something else is wanted.
+fn remedy(wanted: Wanted) -> &'static str {
+    match wanted {
+        Wanted::Source => "rvmc reads it",
+        Wanted::Image => "use --source",
+        Wanted::Listed => "rvmc asm | rvmc dis",
+        Wanted::Rewritten => "rvmc asm reads it, without --from",
+        Wanted::Record => "rvmc one --source --record makes a record of its run",
+    }
+}
+
+/// How a text that may be a source is to be given.
+fn advice(wanted: Wanted) -> &'static str {
+    match wanted {
+        Wanted::Source => "rvmc reads sources",
+        Wanted::Image => "a source wants --source",
+        Wanted::Listed => "of a source, rvmc asm | rvmc dis",
+        Wanted::Rewritten => "a source wants no --from",
+        Wanted::Record => "rvmc one --record writes a record",
+    }
+}
+
+/// How ranks have to be listed.
+fn put_ranks<W: fmt::Write>(f: &mut fmt::Formatter<W>, ranks: u8) -> fmt::Result {
+    match ranks {
+        0 | 1 => write!(f, "1 rank: --order must name 0 and no other"),
+        _ => write!(
+            f,
+            "{ranks} ranks: --order must name each of 0 to {}",
+            ranks - 1
+        ),
+    }
+}
+
+/// How harts have to be listed.
+fn put_harts<W: fmt::Write>(f: &mut fmt::Formatter<W>, harts: u8) -> fmt::Result {
+    match harts {
+        0 | 1 => write!(f, "1 hart: --plan must name 0 and no other"),
+        _ => write!(
+            f,
+            "{harts} harts: --plan must name harts from 0 to {}",
+            harts - 1
+        ),
+    }
+}
+
+/// The command line that reads a file.
+fn put_file<W: fmt::Write>(f: &mut fmt::Formatter<W>, words: &[&str], file: &str) -> fmt::Result {
+    write!(f, "rvmc reads standard input: rvmc")?;
+    for word in words {
+        write!(f, " {word}")?;
+    }
+    write!(f, " < {file}")
+}
+
+/// A name that begins no statement.
+fn put_unknown<W: fmt::Write>(
+    f: &mut fmt::Formatter<W>,
+    word: &[u8],
+    kind: Kind,
+    near: Option<&str>,
+) -> fmt::Result {
+    let word = Shown(word);
+    match near {
+        Some(near) => write!(
+            f,
+            "{word} isn't known here; is {near} meant? docs/ASSEMBLER.md lists the {kind}"
+        ),
+        None => write!(
+            f,
+            "{word} isn't known here; docs/ASSEMBLER.md lists the {kind}"
+        ),
+    }
+}
+
+impl fmt::Display for Hint<'_> {
+    fn fmt<W: fmt::Write>(&self, f: &mut fmt::Formatter<W>) -> fmt::Result {
+        match *self {
+            Hint::Nothing(wanted) => write!(f, "the input is empty: {wanted} is wanted"),
+            Hint::Image => write!(f, "this is an image: rvmc one reads it"),
+            Hint::Record => write!(f, "this is a record: rvmc check reads it"),
+            Hint::Source(wanted) => write!(f, "this is an assembler source: {}", remedy(wanted)),
+            Hint::Text(wanted) => write!(f, "this looks like text: {}", advice(wanted)),
+            Hint::Input => write!(f, "a file or a pipe is read, of at most 67108864 bytes"),
+            Hint::Ranks(ranks) => put_ranks(f, ranks),
+            Hint::Harts(harts) => put_harts(f, harts),
+            Hint::File { words, file } => put_file(f, words, file),
+            Hint::Form(form) => write!(f, "{form}"),
+            Hint::Unknown { word, kind, near } => put_unknown(f, word, kind, near),
+            Hint::Foreign { word, here } => {
+                write!(f, "{} isn't known here: {here} does the same", Shown(word))
+            }
+            Hint::Takes { name, operands } => write!(f, "{name} takes {operands}"),
+            Hint::Misplaced {
+                word,
+                kind,
+                name,
+                operands,
+            } => write!(f, "{} is no {kind}: {name} takes {operands}", Shown(word)),
+            Hint::Call { word, number } => {
+                write!(f, "{} is no number: it is call {number}", Shown(word))
+            }
+            Hint::Unfit {
+                word,
+                name,
+                operands,
+            } => write!(f, "{} doesn't fit: {name} takes {operands}", Shown(word)),
+            Hint::At {
+                words,
+                name,
+                operands,
+            } => write!(f, "at `{}`: {name} takes {operands}", Shown(words)),
+            Hint::NoNumber(word) => write!(f, "{} is no number", Shown(word)),
+            Hint::Character(byte) => put_character(f, byte),
+            Hint::NoString => write!(
+                f,
+                "a string ends on its line, and has the escapes \\n, \\t, \\0, \\\\ and \\\""
+            ),
+            Hint::NoLabel { word, near } => {
+                write!(f, "no line defines {}", Shown(word))?;
+                put_near(f, near)
+            }
+            Hint::Twice { word, line } => {
+                write!(f, "line {line} defines {} already", Shown(word))
+            }
+            Hint::NoText => write!(f, "no line has an instruction"),
+            Hint::Most(most) => write!(f, "{most}"),
+            Hint::NoSymbol { word, near } => {
+                write!(f, "the image has no symbol {word}")?;
+                put_near(f, near)
+            }
+            Hint::Least(bytes) => { write!(f, "a record that begins so has {bytes} bytes or more") }
+            Hint::Version => write!(f, "a record begins with RVMR and version 2"),
+            Hint::Waits => write!(f, "a hart waits; --why says for what"),
+        }
+    }
+}
+
+/// A character of the input, which may be other than ASCII.
+fn put_character<W: fmt::Write>(f: &mut fmt::Formatter<W>, byte: u8) -> fmt::Result {
+    match byte {
+        33..=126 => write!(f, "nothing begins with {}", char::from(byte)),
+        _ => write!(f, "nothing begins with the byte {byte}"),
+    }
+}
+
+/// The name that was meant, perhaps.
+fn put_near<W: fmt::Write>(f: &mut fmt::Formatter<W>, near: Option<&[u8]>) -> fmt::Result {
+    match near {
+        Some(near) => write!(f, "; is {} meant?", Shown(near)),
+        None => Ok(()),
+    }
+}

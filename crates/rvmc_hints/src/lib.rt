@@ -1,0 +1,26 @@
+//! What a person can be told behind a fault's line: hints, each a function of what stands in the input, of the words of
+//! the command line and of the fault. No hint takes memory.
+#![tactic(auto)]
+
+mod calls;
+mod content;
+mod hint;
+mod labels;
+mod lines;
+mod mnemonics;
+mod near;
+mod plans;
+mod records;
+mod seen;
+mod sources;
+mod tokens;
+mod words;
+
+pub use content::content_hint;
+pub use hint::{Hint, Wanted};
+pub use near::is_near;
+pub use plans::plans_hint;
+pub use records::{magic_hint, short_hint};
+pub use seen::{Seen, seen_in};
+pub use sources::source_hint;
+pub use words::{form_of, is_file_name};
