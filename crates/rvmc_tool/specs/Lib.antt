@@ -8,3 +8,4 @@ pub mod Answers
 pub mod Making
 pub mod Tool
 pub mod Plain
+pub mod Hints

@@ -5,6 +5,7 @@ pub mod answers;
 mod checks;
 mod debugging;
 mod explaining;
+mod hints;
 mod images;
 mod listing;
 pub mod outputs;

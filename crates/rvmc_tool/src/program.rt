@@ -13,8 +13,10 @@ ghost use Rattle.rvmc_report.specs.Faults.{fault_status};
 ghost use Rattle.rvmc_report.specs.Input.{TakesAtMost};
 
 use crate::answers::{Answer, End, answer_to, answer_with_threads, needs_threads};
+use crate::hints::{hint_words, put_hint, tell_hint};
 use crate::outputs::Output;
 use rvmc_cli::parse;
+use rvmc_hints::Hint;
 use rvmc_line::{CommandLine, ParseFault};
 use rvmc_report::faults::Fault;
 use rvmc_report::input::{InputFault, read_input};
@@ -30,16 +32,49 @@ fn put<W: Write>(out: &mut W, text: &[u8]) -> bool
     out.write_all(text).is_ok() && out.flush().is_ok()
 }
 
+/// Writes a fault's line on standard error, and tells whether it stands there.
+fn put_fault<E: Write>(err: &mut E, fault: Fault) -> bool {
+    writeln!(err, "rvmc: {fault}").is_ok() && err.flush().is_ok()
+}
+
 /// Tells a fault on standard error, and gives its status: 6 where the line can't be written.
 fn fail<E: Write>(err: &mut E, fault: Fault) -> u8
     ensures status { result ≢ 6 → result ≡ fault_status fault }
     ensures loud { is_quiet result ≡ false }
 {
-    if writeln!(err, "rvmc: {fault}").is_ok() && err.flush().is_ok() {
+    if put_fault(err, fault) {
         fault.status()
     } else {
         Fault::Write.status()
     }
+}
+
+/// The same, with a hint behind the line where there is one. A hint changes no status.
+fn fail_with_hint<E: Write>(
+    alloc: Global,
+    line: &CommandLine,
+    bytes: &[u8],
+    fault: Fault,
+    err: &mut E,
+) -> u8
+    ensures status { result ≢ 6 → result ≡ fault_status fault }
+    ensures loud { is_quiet result ≡ false }
+{
+    if !put_fault(err, fault) {
+        return Fault::Write.status();
+    }
+    tell_hint(alloc, line, bytes, &fault, err);
+    fault.status()
+}
+
+/// Tells that the input can't be read, or is too long, and which can.
+fn fail_to_read<E: Write>(err: &mut E) -> u8
+    ensures status { result ≡ 6 }
+{
+    if put_fault(err, Fault::Read) {
+        put_hint(err, Hint::Input);
+    }
+    Fault::Read.status()
 }
 
 /// The status where a writer took all, or else tells that a write failed.
@@ -86,14 +121,21 @@ fn take<I: Read, E: Write>(alloc: Global, input: &mut I, err: &mut E) -> Result<
 {
     match read_input(alloc, input) {
         Ok(bytes) => Ok(bytes),
-        Err(InputFault::Read) => Err(fail(err, Fault::Read)),
+        Err(InputFault::Read) => Err(fail_to_read(err)),
         Err(InputFault::Memory) => Err(fail(err, Fault::Memory)),
     }
 }
 
-/// Writes an answer on standard output, and tells on standard error the fault that cuts it short, or that is in its
-/// place.
-fn tell<O: Write, E: Write>(answer: Result<Answer, Fault>, out: &mut O, err: &mut E) -> u8
+/// Writes an answer to what stands in the input on standard output, and tells on standard error the fault that cuts it
+/// short, or that is in its place.
+fn tell<O: Write, E: Write>(
+    alloc: Global,
+    line: &CommandLine,
+    bytes: &[u8],
+    answer: Result<Answer, Fault>,
+    out: &mut O,
+    err: &mut E,
+) -> u8
     ensures told { result ≢ 6 → Tells answer result (O.contents out.old) (O.contents out.new) }
     ensures quiet { is_quiet result ≡ true → Keeps (E.contents err.old) (E.contents err.new) }
 {
@@ -102,10 +144,16 @@ fn tell<O: Write, E: Write>(answer: Result<Answer, Fault>, out: &mut O, err: &mu
             let taken = put_output(out, &answer.output);
             match answer.end {
                 End::Status(status) => ended(err, taken, status),
-                End::Cut(fault) => fail(err, if taken { fault } else { Fault::Write }),
+                End::Cut(fault) => {
+                    if taken {
+                        fail_with_hint(alloc, line, bytes, fault, err)
+                    } else {
+                        fail(err, Fault::Write)
+                    }
+                }
             }
         }
-        Err(fault) => fail(err, fault),
+        Err(fault) => fail_with_hint(alloc, line, bytes, fault, err),
     }
 }
 
@@ -124,7 +172,11 @@ fn obey<I: Read, O: Write, E: Write>(
     ensures quiet { is_quiet result ≡ true → Keeps (E.contents err.old) (E.contents err.new) }
 {
     match take(alloc, input, err) {
-        Ok(bytes) => tell(answer_to(alloc, line, &bytes), out, err),
+        Ok(bytes) => {
+            let whole = bytes.as_slice();
+            let answer = answer_to(alloc, line, whole);
+            tell(alloc, line, whole, answer, out, err)
+        }
         Err(status) => status,
     }
 }
@@ -144,26 +196,42 @@ fn obey_with_threads<R: Threads + Wait + Sync, I: Read, O: Write, E: Write>(
     ensures quiet { is_quiet result ≡ true → Keeps (E.contents err.old) (E.contents err.new) }
 {
     match take(alloc, input, err) {
-        Ok(bytes) => tell(answer_with_threads(rt, alloc, line, &bytes), out, err),
+        Ok(bytes) => {
+            let whole = bytes.as_slice();
+            let answer = answer_with_threads(rt, alloc, line, whole);
+            tell(alloc, line, whole, answer, out, err)
+        }
         Err(status) => status,
     }
 }
 
+/// Tells why words are refused, with a hint behind it where there is one.
+fn refuse<E: Write>(alloc: Global, words: &[&str], text: &str, err: &mut E) -> u8
+    ensures status { result ≢ 6 → result ≡ 2 }
+    ensures loud { is_quiet result ≡ false }
+{
+    if !put(err, text.as_bytes()) {
+        return Fault::Write.status();
+    }
+    hint_words(alloc, words, err);
+    2
+}
+
 /// Shows what there is in place of a command line.
-fn show<O: Write, E: Write>(fault: &ParseFault, out: &mut O, err: &mut E) -> u8
+fn show<O: Write, E: Write>(
+    alloc: Global,
+    words: &[&str],
+    fault: &ParseFault,
+    out: &mut O,
+    err: &mut E,
+) -> u8
     ensures shows { result ≢ 6 → ShowsFault fault.now result (O.contents out.old) (O.contents out.new) }
     ensures quiet { is_quiet result ≡ true → Keeps (E.contents err.old) (E.contents err.new) }
 {
     match fault {
         ParseFault::Memory => fail(err, Fault::Memory),
         ParseFault::Asked(text) => finish(out, err, text.as_bytes(), 0),
-        ParseFault::Refused(text) => {
-            if put(err, text.as_bytes()) {
-                2
-            } else {
-                Fault::Write.status()
-            }
-        }
+        ParseFault::Refused(text) => refuse(alloc, words, text, err),
     }
 }
 
@@ -183,7 +251,7 @@ fn refuse_threads<E: Write>(err: &mut E) -> u8
 /// The whole program: `words` are those of the command line after the program's name. The result is its status:
 /// 0 done, 1 a fault of the input, 2 of the command line, 3 a hart trapped, 4 a rank was stopped by its budget, a full
 /// clock or too many calls, 5 memory or a thread was refused, 6 a read or a write failed. A fault stands as one line on
-/// `err`.
+/// `err`, behind which a hint may stand, or as much of it as could be written: it changes nothing else.
 ///
 /// `run` waits for its threads and for the lock between them: what is promised of it holds if it returns. Any other
 /// command does as `tool_plain` does.
@@ -214,7 +282,7 @@ pub fn tool<'a, R: Threads + Wait + Sync, I: Read, O: Write, E: Write>(
 {
     match parse(alloc, words) {
         Ok(line) => obey_with_threads(rt, alloc, &line, input, out, err),
-        Err(fault) => show(&fault, out, err),
+        Err(fault) => show(alloc, words, &fault, out, err),
     }
 }
 
@@ -250,6 +318,6 @@ pub fn tool_plain<'a, I: Read, O: Write, E: Write>(
                 obey(alloc, &line, input, out, err)
             }
         }
-        Err(fault) => show(&fault, out, err),
+        Err(fault) => show(alloc, words, &fault, out, err),
     }
 }

@@ -10,11 +10,11 @@ returns-in-Ok-clause-answers g c = λ bytes known not_6.
     let whole =
     subst (λ (k : Option (List ℕ)). IfSome k (λ all. c.in-Ok.bytes.items ≡ all)) known c.in-Ok.ensures.whole.all in
     let size = c.in-Ok.ensures.whole.short in
-    let short : length c.deref.result.now ≤ 67108864 = search rules in
-    let same : c.deref.result.now ≡ bytes = search rules in
+    let short : length c.as_slice-whole.result.now ≤ 67108864 = search rules in
+    let same : c.as_slice-whole.result.now ≡ bytes = search rules in
     let old = contents c.args.out.now in
     let new = contents c.tell.new.out in
     let told =
-    answered c.args.line.now c.deref.result.now c.answer_with_threads.result c.tell.result old new short
-    c.answer_with_threads.ensures.says c.answer_with_threads.ensures.fault (c.tell.ensures.told not_6) in
+    answered c.args.line.now c.as_slice-whole.result.now c.answer_with_threads-answer.result c.tell.result old new short
+    c.answer_with_threads-answer.ensures.says c.answer_with_threads-answer.ensures.fault (c.tell.ensures.told not_6) in
     subst (λ (b : List ℕ). Answers c.args.line.now b c.tell.result old new) same told

@@ -1,0 +1,261 @@
+//! What is told behind a fault's line.
+
+ghost use Rattle.std.specs.Prelude.{◌≡◌};
+ghost use Rattle.rvmc_tool.specs.Hints.{wanted_by};
+
+use crate::images::image_in;
+use cl_debug::DebugFault;
+use cl_text::RecordFault;
+use rv_image::{Image, Symbol, read_image};
+use rvmc_cli::parse;
+use rvmc_hints::{
+    Hint, Wanted, content_hint, form_of, is_file_name, is_near, magic_hint, plans_hint, short_hint,
+    source_hint,
+};
+use rvmc_line::{
+    CommandLine, DebugWord, DebugWords, ImageCommand, Numbers, RecordCommand, Spot, debug_word_in,
+};
+use rvmc_report::faults::Fault;
+use std::alloc::Global;
+use std::io::Write;
+
+/// Writes a hint's line. One that can't be written changes nothing else.
+pub(crate) fn put_hint<E: Write>(err: &mut E, hint: Hint<'_>) {
+    match writeln!(err, "hint: {hint}") {
+        Ok(()) => {}
+        Err(_) => {}
+    }
+}
+
+/// What a command takes from its input.
+fn wanted_by(line: &CommandLine) -> Wanted
+    ensures { result ≡ wanted_by line.now }
+{
+    match line {
+        CommandLine::OfImage { source: true, .. } => Wanted::Source,
+        CommandLine::OfImage {
+            command: ImageCommand::Asm { .. },
+            ..
+        } => Wanted::Rewritten,
+        CommandLine::OfImage {
+            command: ImageCommand::Dis,
+            ..
+        } => Wanted::Listed,
+        CommandLine::OfImage { .. } => Wanted::Image,
+        CommandLine::OfRecord(_) => Wanted::Record,
+    }
+}
+
+/// Whether the assembler makes an image of the bytes.
+fn is_source(alloc: Global, bytes: &[u8]) -> bool {
+    match image_in(alloc, true, bytes) {
+        Ok(_) => true,
+        Err(_) => false,
+    }
+}
+
+/// What stands in the input where the command takes something else. Only a text, in place of an image or a record, is
+/// given to the assembler.
+fn content<'a>(alloc: Global, line: &CommandLine, bytes: &[u8]) -> Option<Hint<'a>> {
+    let wanted = wanted_by(line);
+    match content_hint(wanted, false, bytes) {
+        Some(Hint::Text(_)) => content_hint(wanted, is_source(alloc, bytes), bytes),
+        other => other,
+    }
+}
+
+/// The numbers of a list, if one was given.
+fn numbers(list: &Option<Numbers>) -> Option<&[u8]> {
+    match list {
+        Some(numbers) => Some(numbers.as_slice()),
+        None => None,
+    }
+}
+
+/// What is wrong with the plan or the order of a run of an image.
+fn plans<'a>(alloc: Global, line: &CommandLine, bytes: &[u8]) -> Option<Hint<'a>> {
+    let CommandLine::OfImage { source, command } = line else {
+        return None;
+    };
+    let Ok(image) = image_in(alloc, *source, bytes) else {
+        return None;
+    };
+    let parts = image.parts();
+    match command {
+        ImageCommand::Run { plan, .. } => plans_hint(parts.ranks, parts.harts, numbers(plan), None),
+        ImageCommand::One { plan, order, .. } => {
+            plans_hint(parts.ranks, parts.harts, numbers(plan), numbers(order))
+        }
+        _ => None,
+    }
+}
+
+/// What a fault of the input's own bytes is about.
+fn of_bytes<'a>(bytes: &'a [u8], fault: &Fault) -> Option<Hint<'a>> {
+    match *fault {
+        Fault::Source(fault) => source_hint(bytes, fault),
+        Fault::Record(RecordFault::Short(_)) => short_hint(bytes),
+        Fault::Record(RecordFault::Magic) => magic_hint(bytes),
+        _ => None,
+    }
+}
+
+/// What can be told of a fault, of what stands in the input.
+fn hint_of<'a>(
+    alloc: Global,
+    line: &CommandLine,
+    bytes: &'a [u8],
+    fault: &Fault,
+) -> Option<Hint<'a>> {
+    match fault {
+        Fault::Source(_) | Fault::Image(_) | Fault::Record(_) => match content(alloc, line, bytes) {
+            Some(hint) => Some(hint),
+            None => of_bytes(bytes, fault),
+        },
+        Fault::Plans => plans(alloc, line, bytes),
+        _ => None,
+    }
+}
+
+/// The image of a record: how many bytes it has stands at byte 8, and the image at byte 12.
+fn image_of_record(alloc: Global, bytes: &[u8]) -> Option<Image> {
+    let [_, _, _, _, _, _, _, _, a, b, c, d, rest @ ..] = bytes else {
+        return None;
+    };
+    let count = u32::from_le_bytes([*a, *b, *c, *d]) as usize;
+    match read_image(alloc, rest.get(..count)?) {
+        Ok(image) => Some(image),
+        Err(_) => None,
+    }
+}
+
+/// The name in a word of `debug`.
+fn name_in(word: &DebugWord) -> Option<&str> {
+    match word {
+        DebugWord::Break {
+            at: Spot::Name(name),
+            ..
+        }
+        | DebugWord::Bytes {
+            at: Spot::Name(name),
+            ..
+        } => Some(name.as_str()),
+        _ => None,
+    }
+}
+
+/// Whether a symbol has this name.
+fn has_symbol(symbols: &[Symbol], name: &str) -> bool {
+    for symbol in symbols {
+        if symbol.name.as_slice() == name.as_bytes() {
+            return true;
+        }
+    }
+    false
+}
+
+/// The first symbol whose name is near to this one.
+fn near_symbol<'a>(symbols: &'a [Symbol], name: &str) -> Option<&'a [u8]> {
+    for symbol in symbols {
+        if is_near(symbol.name.as_slice(), name.as_bytes()) {
+            return Some(symbol.name.as_slice());
+        }
+    }
+    None
+}
+
+/// The first name of the words that no symbol has.
+fn absent<'a>(symbols: &[Symbol], words: &'a [DebugWord]) -> Option<&'a str> {
+    for word in words {
+        if let Some(name) = name_in(word) {
+            if !has_symbol(symbols, name) {
+                return Some(name);
+            }
+        }
+    }
+    None
+}
+
+/// Which name of the words no symbol has, and one that has a name near to it.
+fn symbol_hint<'a>(symbols: &'a [Symbol], words: &'a [DebugWord]) -> Option<Hint<'a>> {
+    let word = absent(symbols, words)?;
+    let near = near_symbol(symbols, word);
+    Some(Hint::NoSymbol { word, near })
+}
+
+/// Writes which name of the words no symbol of the record's image has.
+fn hint_symbol<E: Write>(alloc: Global, words: &DebugWords, bytes: &[u8], err: &mut E) {
+    let Some(image) = image_of_record(alloc, bytes) else {
+        return;
+    };
+    if let Some(hint) = symbol_hint(image.parts().symbols.as_slice(), words.as_slice()) {
+        put_hint(err, hint);
+    }
+}
+
+/// Writes what can be told of a fault, if there is anything. No more is read for it.
+pub(crate) fn tell_hint<E: Write>(
+    alloc: Global,
+    line: &CommandLine,
+    bytes: &[u8],
+    fault: &Fault,
+    err: &mut E,
+) {
+    if let CommandLine::OfRecord(RecordCommand::Debug { words }) = line {
+        if let Fault::Debug(DebugFault::NoSymbol) = fault {
+            return hint_symbol(alloc, words, bytes, err);
+        }
+    }
+    if let Some(hint) = hint_of(alloc, line, bytes, fault) {
+        put_hint(err, hint);
+    }
+}
+
+/// The right form of a text that is no word of `debug`, by what stands before its `=`.
+fn form(alloc: Global, text: &str) -> Option<&'static str> {
+    match debug_word_in(alloc, text) {
+        Ok(None) => {
+            let head = match text.split_once('=') {
+                Some((head, _)) => head,
+                None => text,
+            };
+            form_of(head.as_bytes())
+        }
+        _ => None,
+    }
+}
+
+/// The right form of the first text that is no word of `debug`.
+fn debug_form(alloc: Global, texts: &[&str]) -> Option<&'static str> {
+    for text in texts {
+        if let Some(form) = form(alloc, text) {
+            return Some(form);
+        }
+    }
+    None
+}
+
+/// What can be told of words that are refused: that the last is a file, where those before it are a command line, or
+/// the form of a word of `debug`.
+fn hint_of_words<'a>(alloc: Global, words: &'a [&'a str]) -> Option<Hint<'a>> {
+    if let [before @ .., file] = words {
+        if is_file_name(*file) && parse(alloc, before).is_ok() {
+            return Some(Hint::File {
+                words: before,
+                file: *file,
+            });
+        }
+    }
+    let (command, texts) = words.split_first()?;
+    if *command != "debug" {
+        return None;
+    }
+    Some(Hint::Form(debug_form(alloc, texts)?))
+}
+
+/// Writes what can be told of words that are refused, if there is anything.
+pub(crate) fn hint_words<E: Write>(alloc: Global, words: &[&str], err: &mut E) {
+    if let Some(hint) = hint_of_words(alloc, words) {
+        put_hint(err, hint);
+    }
+}

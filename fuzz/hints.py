@@ -1,0 +1,147 @@
+"""What is told behind the first line of a fault, as docs/DEBUGGING.md lists it."""
+
+import re
+
+import assembler
+import formats
+
+# a hint's line
+LINE = re.compile(rb"hint: [ -~]+\n")
+
+# what a source is told to be given to, by what is wanted in its place
+REMEDIES = {
+    "run": ("use --source", "a source wants --source"),
+    "listed": ("rvmc asm | rvmc dis", "of a source, rvmc asm | rvmc dis"),
+    "rewritten": ("rvmc asm reads it, without --from", "a source wants no --from"),
+    "record": ("rvmc one --source --record makes a record of its run", "rvmc one --record writes a record"),
+}
+
+NAMES = {
+    "source": "a source",
+    "run": "an image, or with --source a source,",
+    "listed": "an image",
+    "rewritten": "an image",
+    "record": "a record",
+}
+
+
+def parted(error):
+    """Returns what stands on standard error before a hint, and the hint's line."""
+    at = error.find(b"hint: ")
+    return (error, b"") if at < 0 else (error[:at], error[at:])
+
+
+def wanted_by(words):
+    """Returns what a command takes."""
+    if not words or "--source" in words or (words[0] == "asm" and "--from" not in words):
+        return "source"
+    return {"asm": "rewritten", "dis": "listed", "one": "run", "run": "run"}.get(words[0], "record")
+
+
+def option(words, name):
+    """Returns the numbers of an option, or None where it isn't there."""
+    for at, word in enumerate(words):
+        if word == name:
+            return [int(number) for number in words[at + 1].split(",")]
+        if word.startswith(name + "="):
+            return [int(number) for number in word.removeprefix(name + "=").split(",")]
+    return None
+
+
+def is_source(given):
+    """Whether the assembler makes an image of the bytes."""
+    try:
+        assembler.assembled(given)
+    except assembler.Fault:
+        return False
+    return True
+
+
+def of_plans(words, given):
+    """Returns what is wrong with a plan or an order."""
+    image = assembler.assembled(given) if wanted_by(words) == "source" else formats.read_image(given)
+    plan, order = option(words, "--plan"), option(words, "--order")
+    if plan is not None and max(plan) >= image.harts:
+        if image.harts == 1:
+            return "1 hart: --plan must name 0 and no other"
+        return f"{image.harts} harts: --plan must name harts from 0 to {image.harts - 1}"
+    if order is not None and set(order) != set(range(image.ranks)):
+        if image.ranks == 1:
+            return "1 rank: --order must name 0 and no other"
+        return f"{image.ranks} ranks: --order must name each of 0 to {image.ranks - 1}"
+    return ""
+
+
+def of_content(wanted, given):
+    """Returns what stands in an input of another kind than is wanted."""
+    if not given:
+        return f"the input is empty: {NAMES[wanted]} is wanted"
+    if given.startswith(b"RVMC"):
+        return "this is an image: rvmc one reads it" if wanted in ("source", "record") else ""
+    if given.startswith(b"RVMR"):
+        return "" if wanted == "record" else "this is a record: rvmc check reads it"
+    if wanted == "source" or any(byte not in b"\t\n\r" and not 32 <= byte <= 126 for byte in given):
+        return ""
+    if is_source(given):
+        return f"this is an assembler source: {REMEDIES[wanted][0]}"
+    return f"this looks like text: {REMEDIES[wanted][1]}"
+
+
+def of_record(given, first):
+    """Returns what is told of bytes that end too early for a record, or that begin as one of another version does."""
+    if first == b"rvmc: record: Magic\n":
+        return "a record begins with RVMR and version 2" if given.startswith(b"RVMR") else ""
+    if not first.startswith(b"rvmc: record: Short "):
+        return ""
+    least = 20
+    if len(given) >= 12:
+        least += int.from_bytes(given[8:12], "little")
+        steps = given[least - 8 : least]
+        least += 16 * int.from_bytes(steps, "little") if len(steps) == 8 else 0
+    return f"a record that begins so has {least} bytes or more" if least > len(given) else ""
+
+
+def near(one, other):
+    """Whether two names differ by one slip."""
+    for at, (a, b) in enumerate(zip(one, other)):
+        if a != b:
+            break
+    else:
+        return abs(len(one) - len(other)) == 1
+    one, other = one[at:], other[at:]
+    swapped = one[:2] == other[1::-1] and len(one) > 1 and one[2:] == other[2:]
+    return one[1:] == other[1:] or one[1:] == other or one == other[1:] or swapped
+
+
+def of_symbols(words, given):
+    """Returns which name of the words of `debug` is no symbol."""
+    image, _ = formats.read_record(given)
+    symbols = [name for _, name in image.symbols]
+    for word in words[1:]:
+        found = re.fullmatch(r"(?:break=[^,]*,[^,]*,|bytes=[^,]*,)([A-Za-z_.$][A-Za-z0-9_.$]*)(?:,[^,]*)?", word)
+        name = found and found.group(1).encode()
+        if name and name not in symbols:
+            meant = [symbol for symbol in symbols if near(symbol, name)]
+            behind = f"; is {meant[0].decode()} meant?" if meant else ""
+            return f"the image has no symbol {name.decode()}{behind}"
+    return ""
+
+
+def meant(words, given, first):
+    """Returns the hint's text, "" where there is none, or None where it is one of the many of a source's fault."""
+    if first == b"rvmc: debug: NoSymbol\n":
+        return of_symbols(words, given)
+    if first == b"rvmc: plans\n":
+        return of_plans(words, given)
+    if first.startswith((b"rvmc: image: ", b"rvmc: record: ", b"rvmc: line ")):
+        content = of_content(wanted_by(words), given)
+        return content or (None if first.startswith(b"rvmc: line ") else of_record(given, first))
+    return ""
+
+
+def is_right(words, given, first, hint):
+    """Whether a hint is the one that is meant behind the first line."""
+    text = meant(words, given, first)
+    if text is None:
+        return not hint or LINE.fullmatch(hint) is not None
+    return hint == (f"hint: {text}\n".encode() if text else b"")
