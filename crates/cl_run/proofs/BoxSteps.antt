@@ -18,7 +18,8 @@ use Rattle.cl_machine.specs.PartRuns.{PartsMove, PartsMoveAt}
 use Rattle.cl_machine.specs.Product.{box_at, box_for}
 use Rattle.cl_machine.specs.ProductSteps.{BoxMoves}
 use Rattle.cl_machine.proofs.Lists.{get-set_other, get-set_same}
-use Rattle.cl_run.specs.Driver.{Agree, Station}
+use Rattle.cl_record.specs.Seats.{Station}
+use Rattle.cl_run.specs.Driver.{Agree}
 use Rattle.cl_record.specs.BoxKeys.{AgreeOn, HasKeysOf, IsBoxOf, box_of}
 use Rattle.cl_run.specs.UnderWay.{AreBoxes}
 use Rattle.cl_record.proofs.Keys.{freed_empty, freed_stamp, ready_box, ready_empty, take_box, take_holds, take_stamp}

@@ -1,31 +1,25 @@
 -- How a run begins and ends.
-use Rattle.std.specs.Prelude.{ℕ, zero, suc, ◌≡◌, ◌<◌, ◌≤◌, ◌+◌, ◌*◌, ◌^◌, List, [], ◌∷◌, length, map, replicate, get_or}
-use Rattle.std.specs.Prelude.{slice_get, slice_index, Option, None, Some, option_map, is_some, All, IsTrue, IfSome}
+use Rattle.std.specs.Prelude.{ℕ, ◌≡◌, ◌<◌, ◌≤◌, ◌+◌, ◌*◌, ◌^◌, List, [], length, map, replicate, get_or}
+use Rattle.std.specs.Prelude.{slice_get, slice_index, None, Some, is_some, All, IsTrue, IfSome}
 use Rattle.std.proofs.Common.{refl, sym, ap, ◌∙◌, subst, arith}
 use Rattle.std.proofs.Math.Nat.{zero-mod}
 use Rattle.std.proofs.lemmas.List.{get_or-replicate, get_or_read, length-map, length-replicate}
 use Rattle.std.proofs.lemmas.List.Elements.{All-nil}
 use Rattle.std.proofs.lemmas.Simd.{map-map}
-use Rattle.std.proofs.lemmas.Option.{get_or_from_slice_get, same_Some, slice_get-get_or, slice_get-map}
+use Rattle.std.proofs.lemmas.Option.{get_or_from_slice_get, same_Some, slice_get-get_or}
 use Rattle.std.proofs.lemmas.Option.{slice_get_within}
 use Rattle.rv_image.specs.declared.images.ImageParts.{ImageParts}
 use Rattle.rv_image.specs.declared.images.Link.{Link}
 use Rattle.rv_image.specs.Image.{IsLink}
 use Rattle.part_box.specs.declared.settled.Settled.{Settled}
-use Rattle.part_box.specs.declared.view.Made.{Made}
-use Rattle.part_box.specs.declared.view.Receiving.{Receiving}
-use Rattle.part_box.specs.declared.view.Sending.{Sending}
-use Rattle.part_box.specs.Keys.{Receiver, Sender}
-use Rattle.part_box.specs.Settling.{IsSettled, leftover}
+use Rattle.part_box.specs.Settling.{IsSettled}
 use Rattle.part_box.specs.Steps.{nothing_received, nothing_sent}
 use Rattle.part_box.proofs.GateKept.{starts}
-use Rattle.part_channel.specs.Receiving.{RecvView}
-use Rattle.part_channel.specs.Sending.{SendView}
-use Rattle.part_channel.specs.Settling.{got_from, joined, made_in}
 use Rattle.part_phase.specs.Limits.{box_words}
 use Rattle.cl_calls.specs.declared.sites.Site.{Site}
-use Rattle.cl_rank.specs.RankSides.{AreChannelsOf, Sides, receiver_key, receiver_of, receiver_view, sender_key}
-use Rattle.cl_rank.specs.RankSides.{sender_of, sender_view}
+use Rattle.cl_rank.specs.RankSides.{AreChannelsOf, HasSender, Sides, receiver_key, receiver_of, sender_key, sender_of}
+use Rattle.cl_rank.specs.RankSides.{side_of}
+use Rattle.cl_rank.specs.declared.ranks.Rank.{Rank as RankOfTurns}
 use Rattle.cl_machine.specs.Boxes.{Box, box_number, empty_box}
 use Rattle.cl_journal.specs.Journal.{stamp_after}
 use Rattle.cl_journal.specs.declared.entries.Entry.{Entry}
@@ -36,37 +30,29 @@ use Rattle.cl_state.specs.Room.{rank_of}
 use Rattle.cl_state.specs.declared.state.RankState.{RankState}
 use Rattle.cl_rank.specs.declared.stops.Stop.{Stop}
 use Rattle.cl_run.specs.declared.driver.Driver.{Driver}
-use Rattle.cl_run.specs.declared.driver.Seat.{Seat}
+use Rattle.cl_record.specs.declared.seats.Seat.{Seat}
 use Rattle.cl_record.specs.declared.plans.Plan.{Plan}
 use Rattle.cl_record.specs.declared.records.Record.{Record}
 use Rattle.cl_machine.specs.declared.steps.Step.{Step}
 use Rattle.cl_machine.specs.Cluster.{loaded_cluster}
-use Rattle.cl_run.specs.Driver.{AreSeated, IsDriver, IsFresh, IsJoined, IsRecordOf, IsStoppedAt, Station, station}
+use Rattle.cl_record.specs.Seats.{IsFresh, Station, station}
+use Rattle.cl_run.specs.Driver.{AreSeated, IsDriver, IsJoined, IsLeftBy, IsStoppedAt}
 use Rattle.cl_run.specs.Driver.{stations}
 use Rattle.cl_record.specs.Keys.{Shows}
 use Rattle.cl_record.specs.BoxKeys.{HasKeysOf, box_of}
-use Rattle.cl_record.specs.Plans.{ArePlans, IsPlan}
+use Rattle.cl_record.specs.Plans.{ArePlans}
 use Rattle.cl_record.specs.Records.{IsEndOf, is_hub}
 use Rattle.cl_run.specs.Runs.{HasCause, IsOneRun, IsRankOf}
 use Rattle.cl_run.specs.UnderWay.{AreBoxes, IsSoFar, IsUnderWay, cluster_of}
-use Rattle.cl_run.proofs.Joined.{link_at}
 use Rattle.cl_record.proofs.Leaves.{shows}
-use Rattle.cl_record.proofs.Elements.{at_below}
+use Rattle.cl_record.specs.Leaving.{ends_of, state_of, stop_of, trace_of}
+use Rattle.cl_record.specs.declared.done.Done.{Done}
+use Rattle.cl_record.proofs.BoxesLeft.{left_in, some_sends}
+use Rattle.cl_record.proofs.Elements.{at_below, from_map, link_at, to_map}
+use Rattle.cl_run.proofs.Left.{as_many, done_at, seat_at, states_are}
 use Rattle.cl_run.proofs.Rounds.{goes_round}
 use Rattle.cl_run.proofs.Seats.{station_at}
 use Rattle.cl_record.proofs.Wires.{new_keys, new_receiver_at, new_sender_at, over_channels}
-
--- what stands at a number of what a function made of a list
-pub from_map : {X Y : Type 0} (f : X → Y) (xs : List X) (r : ℕ) (y : Y) → slice_get (map f xs) r ≡ Some y → (x : X)
-    × (slice_get xs r ≡ Some x) × (f x ≡ y)
-from_map f [] r y h = absurd (cc)
-from_map f (x ∷ xs) zero y h = (x, refl, same_Some (f x) y h)
-from_map f (x ∷ xs) (suc r) y h = from_map f xs r y h
-
-planned : (image : ImageParts) (plans : List Plan) (order : List ℕ) (r : ℕ) (plan : Plan)
-    → ArePlans image plans order → slice_get plans r ≡ Some plan → IsPlan image.harts plan
-planned image plans order r plan are at =
-    subst (IsPlan image.harts) (get_or_from_slice_get plans r plan plan at) (are.planned.are_plans r plan (slice_get_within plans r plan at))
 
 rank_of_run : (steps : List Step) (entries : List Entry) (r : ℕ) (plan : Plan) (s : Station) (stop : Stop)
     → IsSoFar steps entries r plan s → s.stop ≡ Some stop
@@ -80,32 +66,6 @@ rank_of_run steps entries r plan s stop so e = record {
   follows_plan = so.follows_plan;
   has_cause = subst (λ o. IfSome o (HasCause plan s.rank s.events entries)) e so.has_cause;
 }
-
--- the key of a box among those of a side
-sender_in : (x : SendView) (part : ℕ) (s : Sending) → sender_key (Some x) part ≡ Some s
-    → (k : Sender) × (slice_get x.keys part ≡ Some k) × (k.view ≡ s)
-sender_in x part s e = go (slice_get x.keys part) refl e
-  where
-    go : (o : Option Sender) → slice_get x.keys part ≡ o → sender_view o ≡ Some s
-        → (k : Sender) × (slice_get x.keys part ≡ Some k) × (k.view ≡ s)
-    go None at e = absurd (cc)
-    go (Some k) at e = (k, at, same_Some k.view s e)
-
-receiver_in : (x : RecvView) (part : ℕ) (r : Receiving) → receiver_key (Some x) part ≡ Some r
-    → (k : Receiver) × (slice_get x.keys part ≡ Some k) × (k.view ≡ r)
-receiver_in x part r e = go (slice_get x.keys part) refl e
-  where
-    go : (o : Option Receiver) → slice_get x.keys part ≡ o → receiver_view o ≡ Some r
-        → (k : Receiver) × (slice_get x.keys part ≡ Some k) × (k.view ≡ r)
-    go None at e = absurd (cc)
-    go (Some k) at e = (k, at, same_Some k.view r e)
-
-joined_there : (xs ys : List (List Made)) (i : ℕ) (z : List Made) → slice_get (joined xs ys) i ≡ Some z
-    → (y : List Made) × (slice_get ys i ≡ Some y)
-joined_there [] ys i z e = absurd (cc)
-joined_there (x ∷ xs) [] i z e = absurd (cc)
-joined_there (x ∷ xs) (y ∷ ys) zero z e = (y, refl)
-joined_there (x ∷ xs) (y ∷ ys) (suc i) z e = joined_there xs ys i z e
 
 get-replicate : {X : Type 0} (n i : ℕ) (x : X) → i < n → slice_get (replicate n x) i ≡ Some x
 get-replicate n i x below =
@@ -136,16 +96,13 @@ module _ (image : ImageParts) (plans : List Plan) (order : List ℕ) (are : AreP
 
   module _ (d : IsDriver image plans driver) where
     fresh_at : (r : ℕ) (seat : Seat) → slice_get driver.seats.items r ≡ Some seat
-        → (plan : Plan) × (slice_get plans r ≡ Some plan) × IsFresh image driver.channels.items r plan seat
-    fresh_at r seat at =
-        let inside = slice_get_within driver.seats.items r seat at in
-        let plan = at_below plans r (omega (arith, inside, d.count_is, are.planned.one_each)) in
-        (plan.0, plan.1, d.fresh r plan.0 seat plan.1 at)
+        → IsFresh image driver.channels.items r seat
+    fresh_at r seat at = d.fresh r seat at
 
     joined_at : (r : ℕ) (seat : Seat) → slice_get driver.seats.items r ≡ Some seat
         → IsJoined driver.hub.links driver.channels.items r (station seat)
     joined_at r seat at =
-        let own = (fresh_at r seat at).2 in
+        let own = fresh_at r seat at in
         record {
           number_is = ap (λ (x : Rank). x.site.number) own.rank_is;
           links_are = ap (λ (x : Rank). x.site.links) own.rank_is ∙ sym d.links_are;
@@ -160,13 +117,7 @@ module _ (image : ImageParts) (plans : List Plan) (order : List ℕ) (are : AreP
     pub seated_at_start : AreSeated plans driver
     seated_at_start = record {
       one_each = d.count_is ∙ sym are.planned.one_each;
-      each = λ r plan seat at_plan at.
-          let own = d.fresh r plan seat at_plan at in
-          let is = planned image plans order r plan are at_plan in
-          record {
-            next_there = omega (arith, own.next_is, is.is_order.named);
-            harts_there = subst (λ n. All (λ hart. hart < n) plan.order.items) (sym own.harts_are) is.is_order.there;
-          };
+      each = d.plans_are;
       joined = record {
         few = subst (λ (ls : List Link). length ls ≤ 32) (sym d.links_are) d.few_links;
         one_each = d.channels_are ∙ ap (λ (ls : List Link). length ls) (sym d.links_are);
@@ -183,8 +134,8 @@ module _ (image : ImageParts) (plans : List Plan) (order : List ℕ) (are : AreP
         let ends = link_at image.ranks image.links link l d.joined at in
         let from = at_below driver.seats.items l.from (omega (arith, ends.from_there, d.count_is)) in
         let to = at_below driver.seats.items l.to (omega (arith, ends.to_there, d.count_is)) in
-        let sender = (fresh_at l.from from.0 from.1).2 in
-        let receiver = (fresh_at l.to to.0 to.1).2 in
+        let sender = fresh_at l.from from.0 from.1 in
+        let receiver = fresh_at l.to to.0 to.1 in
         let width = box_words image.version in
         let inside = slice_get_within image.links link l at in (
           station from.0,
@@ -216,7 +167,7 @@ module _ (image : ImageParts) (plans : List Plan) (order : List ℕ) (are : AreP
       sites = λ r s at.
           let seat = from_map station driver.seats.items r s at in
           ap (λ (x : Station). x.rank.site) (sym seat.2)
-          ∙ ap (λ (x : Rank). x.site) ((fresh_at r seat.0 seat.1).2).rank_is;
+          ∙ ap (λ (x : Rank). x.site) (fresh_at r seat.0 seat.1).rank_is;
       boxes = (loaded_cluster image).boxes;
       are_boxes = boxes_at_start;
       steps = [];
@@ -229,7 +180,7 @@ module _ (image : ImageParts) (plans : List Plan) (order : List ℕ) (are : AreP
       round = (omega arith, λ passed low high. absurd (omega (arith, high)));
       each = λ r plan s at_plan at.
           let seat = from_map station driver.seats.items r s at in
-          let own = d.fresh r plan seat.0 at_plan seat.1 in
+          let own = d.fresh r seat.0 seat.1 in
           let is : start_station r plan (station seat.0).sides ≡ s =
           (λ i. record {
             rank = (sym own.rank_is) i;
@@ -237,7 +188,7 @@ module _ (image : ImageParts) (plans : List Plan) (order : List ℕ) (are : AreP
             sides = (station seat.0).sides;
             asked = (sym own.asks_none) i;
             next = (sym own.next_is) i;
-            budget = (sym own.budget_is) i;
+            budget = (sym (seat.0.budget_is ∙ ap (λ (p : Plan). p.budget) (d.plans_are r plan seat.0 at_plan seat.1))) i;
             stop = (sym own.runs) i;
           }) ∙ seat.2 in
           subst (IsSoFar [] driver.hub.entries r plan) is
@@ -258,7 +209,8 @@ module _ (image : ImageParts) (plans : List Plan) (order : List ℕ) (are : AreP
       let stop = ap (λ (s : Seat). s.stop) at ∙ ap (λ (s : Station). s.stop) seat.2 ∙ stopped.3 in
       ap is_some stop
 
-  module _ (left : Record) (is : IsRecordOf driver left) (slot : ℕ) (w : IsUnderWay image plans order (stations driver) driver.hub slot) where
+  module _ (left : Record) (seated : AreSeated plans driver) (is : IsLeftBy driver left) (slot : ℕ)
+      (w : IsUnderWay image plans order (stations driver) driver.hub slot) where
     box_shown : (link part : ℕ) → link < length image.links → part < 16
         → (settled : List Settled) × (b : Settled) × (box : Box)
         × (slice_get left.boxes.items link ≡ Some settled) × (slice_get settled part ≡ Some b)
@@ -266,60 +218,61 @@ module _ (image : ImageParts) (plans : List Plan) (order : List ℕ) (are : AreP
         × Shows image.version b box
     box_shown link part below low =
         let l = at_below image.links link below in
-        let end = is.boxes_are link l.0 (ap (λ ls. slice_get ls link) w.links_are ∙ l.1) in
-        let k = end.2 in
+        let at : slice_get driver.hub.links link ≡ Some l.0 = ap (λ ls. slice_get ls link) w.links_are ∙ l.1 in
         let old = w.are_boxes link part l.0 l.1 low in
         let h = old.4 in
-        let from_is : old.0 ≡ k.from = same_Some old.0 k.from (sym old.2 ∙ k.from_there) in
-        let to_is : old.1 ≡ k.to = same_Some old.1 k.to (sym old.3 ∙ k.to_there) in
-        let s = sender_in k.sends part h.sender
-        (ap (λ o. sender_key o part) (sym k.sends_are)
-        ∙ ap (λ (x : Station). sender_of x.sides link part) (sym from_is)
-        ∙ h.sends) in
-        let r = receiver_in k.receives part h.receiver
-        (ap (λ o. receiver_key o part) (sym k.receives_are)
-        ∙ ap (λ (x : Station). receiver_of x.sides link part) (sym to_is)
-        ∙ h.receives) in
-        let width = box_words k.from.rank.site.version in
-        let made = joined_there (map got_from k.receives.keys) (map (leftover width) end.0) part (made_in s.0)
-        (ap (λ xs. slice_get xs part) (sym k.is_left.made)
-        ∙ slice_get-map made_in k.sends.keys part
-        ∙ ap (option_map made_in) s.1) in
-        let b = from_map (leftover width) end.0 part made.0 made.1 in
-        let version : k.from.rank.site.version ≡ image.version =
-        ap (λ (x : Site). x.version) (w.sites l.0.from k.from k.from_there) in
-        let settled = k.is_left.each part s.0 r.0 b.0 (omega arith) s.1 r.1 b.1 in (
-          end.0,
-          b.0,
+        let from = from_map station driver.seats.items l.0.from old.0 old.2 in
+        let to = from_map station driver.seats.items l.0.to old.1 old.3 in
+        let from_done = done_at driver.seats.items is.all l.0.from from.0 is.done from.1 in
+        let to_done = done_at driver.seats.items is.all l.0.to to.0 is.done to.1 in
+        let sends : sender_of (station from.0).sides link part ≡ Some h.sender =
+        ap (λ (x : Station). sender_of x.sides link part) from.2 ∙ h.sends in
+        let receives : receiver_of (station to.0).sides link part ≡ Some h.receiver =
+        ap (λ (x : Station). receiver_of x.sides link part) to.2 ∙ h.receives in
+        let k = left_in driver.hub.links driver.channels.items (map ends_of is.all) left.boxes.items is.record_is.boxes_are
+        seated.joined.one_each link part l.0 (ends_of from_done.0) (ends_of to_done.0) h.sender h.receiver at
+        (to_map ends_of is.all l.0.from from_done.0 from_done.1) (to_map ends_of is.all l.0.to to_done.0 to_done.1)
+        (ap (λ (x : RankOfTurns). sender_key (side_of link x.sends.items) part) from_done.2 ∙ sends)
+        (ap (λ (x : RankOfTurns). receiver_key (side_of link x.recvs.items) part) to_done.2 ∙ receives) in
+        let over = (seated.joined.each l.0.from (station from.0) (station_at driver.seats.items l.0.from from.0 from.1)).over in
+        let side = some_sends (side_of link (station from.0).sides.sends) part h.sender sends in
+        let width : k.channel.width ≡ box_words (station from.0).rank.site.version =
+        (subst (λ o. HasSender (station from.0).rank.site.version o side.0) k.channel_there
+        (over.sends link side.0 side.1)).0 in
+        let version : (station from.0).rank.site.version ≡ image.version =
+        ap (λ (x : Site). x.version)
+        (w.sites l.0.from (station from.0) (station_at driver.seats.items l.0.from from.0 from.1)) in (
+          k.settled,
+          k.left,
           box_of image.version h.sender h.receiver,
-          end.1,
-          b.1,
+          k.there,
+          k.place,
           h.box_is,
-          shows image.version h.sender h.receiver b.0
-              (subst (λ v. IsSettled (box_words v) h.sender h.receiver b.0) version
-              (subst (λ z. IsSettled width h.sender z b.0) r.2
-              (subst (λ z. IsSettled width z (r.0).view b.0) s.2 settled))),
+          shows image.version h.sender h.receiver k.left
+              (subst (λ n. IsSettled n h.sender h.receiver k.left) (width ∙ ap box_words version) k.is),
         )
 
     ends : IsEndOf image left (cluster_of (stations driver) driver.hub w.boxes)
     ends = record {
       ranks_are = map-map (λ (s : Station). s.rank) station driver.seats.items
           ∙ sym (map-map rank_of (λ (seat : Seat). seat.rank.state) driver.seats.items)
-          ∙ ap (map rank_of) (sym is.ranks_are);
+          ∙ ap (map rank_of) (sym (is.record_is.ranks_are ∙ states_are driver.seats.items is.all is.done));
       journal_is = λ i. record {
         links = w.links_are i;
-        entries = (sym is.journal_is) i;
-        clock = stamp_after 0 ((sym is.journal_is) i);
+        entries = (sym is.record_is.journal_is) i;
+        clock = stamp_after 0 ((sym is.record_is.journal_is) i);
       };
       boxes_show = record {
-        links = is.boxes_count ∙ ap (λ (ls : List Link). length ls) w.links_are;
+        links = is.record_is.boxes_are.count ∙ ap (λ (ls : List Link). length ls) w.links_are;
         each = box_shown;
       };
     }
 
-    pub one_run : AreSeated plans driver → IsOneRun image plans order left
-    one_run seated =
-        let count : length driver.seats.items ≡ image.ranks = seated.one_each ∙ are.planned.one_each in
+    pub one_run : IsOneRun image plans order left
+    one_run =
+        let count : length is.all ≡ image.ranks =
+        as_many driver.seats.items is.all is.done ∙ seated.one_each ∙ are.planned.one_each in
+        let own = is.record_is in
         record {
           steps = w.steps;
           final = cluster_of (stations driver) driver.hub w.boxes;
@@ -328,25 +281,24 @@ module _ (image : ImageParts) (plans : List Plan) (order : List ℕ) (are : AreP
           none_idles = w.none_idles;
           round = goes_round order (IsStoppedAt (stations driver)) 0 (map (λ (e : Step). e.rank) w.steps) slot w.round;
           plans_count = are.planned.one_each;
-          traces_count = ap (λ (xs : List TraceView). length xs) is.traces_are
-              ∙ length-map driver.seats.items (λ (seat : Seat). seat.rank.trace) ∙ count;
-          ranks_count = ap (λ (xs : List RankState). length xs) is.ranks_are
-              ∙ length-map driver.seats.items (λ (seat : Seat). seat.rank.state) ∙ count;
-          stops_count = sym (length-map left.stops.items (λ (stop : Stop). Some stop))
-              ∙ ap (λ (xs : List (Option Stop)). length xs) is.stops_are
-              ∙ length-map driver.seats.items (λ (seat : Seat). seat.stop) ∙ count;
+          traces_count = ap (λ (xs : List TraceView). length xs) own.traces_are ∙ length-map is.all trace_of ∙ count;
+          ranks_count = ap (λ (xs : List RankState). length xs) own.ranks_are ∙ length-map is.all state_of ∙ count;
+          stops_count = ap (λ (xs : List Stop). length xs) own.stops_are ∙ length-map is.all stop_of ∙ count;
           each = λ r plan trace state stop at_plan at_trace at_state at_stop.
-              let a = from_map (λ (seat : Seat). seat.rank.trace) driver.seats.items r trace (ap (λ xs. slice_get xs r) (sym is.traces_are) ∙ at_trace) in
-              let b = from_map (λ (seat : Seat). seat.rank.state) driver.seats.items r state (ap (λ xs. slice_get xs r) (sym is.ranks_are) ∙ at_state) in
-              let c = from_map (λ (seat : Seat). seat.stop) driver.seats.items r (Some stop)
-              (ap (λ xs. slice_get xs r) (sym is.stops_are) ∙ slice_get-map Some left.stops.items r
-              ∙ ap (option_map Some) at_stop) in
-              let state_is : rank_of (a.0).rank.state ≡ rank_of state =
-              ap (λ (seat : Seat). rank_of seat.rank.state) (same_Some a.0 b.0 (sym a.1 ∙ b.1)) ∙ ap rank_of b.2 in
-              let stop_is : (a.0).stop ≡ Some stop = ap (λ (seat : Seat). seat.stop) (same_Some a.0 c.0 (sym a.1 ∙ c.1)) ∙ c.2 in
-              let so = w.each r plan (station a.0) at_plan (station_at driver.seats.items r a.0 a.1) in
-              subst (λ es. IsRankOf w.steps es r plan trace.events (rank_of state) stop) (sym is.journal_is)
-              (subst (λ events. IsRankOf w.steps driver.hub.entries r plan events (rank_of state) stop) (ap (λ (t : TraceView). t.events) a.2)
-              (subst (λ rank. IsRankOf w.steps driver.hub.entries r plan (a.0).rank.trace.events rank stop) state_is
-              (rank_of_run w.steps driver.hub.entries r plan (station a.0) stop so stop_is)));
+              let a = from_map trace_of is.all r trace (ap (λ xs. slice_get xs r) (sym own.traces_are) ∙ at_trace) in
+              let b = from_map state_of is.all r state (ap (λ xs. slice_get xs r) (sym own.ranks_are) ∙ at_state) in
+              let c = from_map stop_of is.all r stop (ap (λ xs. slice_get xs r) (sym own.stops_are) ∙ at_stop) in
+              let seat = seat_at driver.seats.items is.all r a.0 is.done a.1 in
+              let events_are : seat.0.rank.trace.events ≡ trace.events =
+              ap (λ (x : RankOfTurns). x.trace.events) seat.2 ∙ ap (λ (t : TraceView). t.events) a.2 in
+              let state_is : rank_of seat.0.rank.state ≡ rank_of state =
+              ap (λ (x : RankOfTurns). rank_of x.state) seat.2
+              ∙ ap (λ (x : Done). rank_of x.rank.state) (same_Some a.0 b.0 (sym a.1 ∙ b.1)) ∙ ap rank_of b.2 in
+              let stop_is : seat.0.stop ≡ Some stop =
+              seat.3 ∙ ap (λ (x : Done). Some x.stop) (same_Some a.0 c.0 (sym a.1 ∙ c.1)) ∙ ap Some c.2 in
+              let so = w.each r plan (station seat.0) at_plan (station_at driver.seats.items r seat.0 seat.1) in
+              subst (λ es. IsRankOf w.steps es r plan trace.events (rank_of state) stop) (sym own.journal_is)
+              (subst (λ events. IsRankOf w.steps driver.hub.entries r plan events (rank_of state) stop) events_are
+              (subst (λ rank. IsRankOf w.steps driver.hub.entries r plan seat.0.rank.trace.events rank stop) state_is
+              (rank_of_run w.steps driver.hub.entries r plan (station seat.0) stop so stop_is)));
         }

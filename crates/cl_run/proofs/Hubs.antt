@@ -20,6 +20,8 @@ use Rattle.cl_machine.specs.Journal.{Enters, reply_in}
 use Rattle.cl_machine.specs.Product.{entry_of}
 use Rattle.cl_machine.specs.ProductSteps.{JournalMoves}
 use Rattle.cl_record.specs.Records.{is_hub}
+use Rattle.cl_record.specs.Seats.{Station, Stops}
+use Rattle.cl_record.specs.declared.plans.Plan.{Plan}
 use Rattle.cl_run.specs.UnderWay.{shown}
 
 -- a call of the hub enters one entry of the cluster's journal
@@ -108,3 +110,8 @@ hub_part before after d h = by_act d.act h
     by_act (Act.Freed link part gate) h = quiet before after _ h refl refl refl
     by_act Act.Held h = quiet before after _ h refl refl refl
     by_act Act.Idle h = quiet before after _ h refl refl refl
+
+-- a rank that stops leaves the hub as it was
+pub hub_stays : (plan : Plan) (s t : Station) (before after : HubHistory) → Stops Answered plan s before t after
+    → after ≡ before
+hub_stays plan s t before after h = elim h.holds [ inl own ↦ own.1 | inr refused ↦ refused.1.3.2.1 ]

@@ -1,10 +1,9 @@
 -- What a turn keeps of a rank's keys.
-use Rattle.std.specs.Prelude.{ℕ, ◌≡◌, ◌<◌, List, length, slice_get, Bool, true, false, Option, Some, None, All}
+use Rattle.std.specs.Prelude.{ℕ, ◌≡◌, ◌<◌, List, length, Bool, true, false, Option, Some, None}
 use Rattle.std.proofs.Common.{refl, sym, ap, ◌∙◌, subst, inl, inr, ⊎_elim}
-use Rattle.std.proofs.lemmas.Option.{get_or_from_slice_get, same_Some, slice_get_within}
+use Rattle.std.proofs.lemmas.Option.{same_Some, slice_get_within}
 use Rattle.rv_image.specs.declared.images.ImageVersion.{ImageVersion}
 use Rattle.rv_image.specs.declared.images.Link.{Link}
-use Rattle.rv_image.specs.Image.{IsLink}
 use Rattle.part_box.specs.declared.view.Receiving.{Receiving}
 use Rattle.part_box.specs.declared.view.Sending.{Sending}
 use Rattle.part_channel.specs.Channels.{ChannelView}
@@ -13,12 +12,14 @@ use Rattle.cl_journal.specs.Replaying.{HubHistory}
 use Rattle.cl_state.proofs.Moves.{told_at}
 use Rattle.cl_state.specs.Rank.{Rank}
 use Rattle.cl_rank.specs.Deeds.{Act, answer_of}
+use Rattle.cl_rank.specs.Turning.{Answered}
 use Rattle.cl_rank.specs.Sides.{box_id_of}
 use Rattle.cl_rank.specs.RankSides.{AreChannelsOf, HasKey, KeyMoves, KeysMove, Sides, receiver_of, sender_of}
-use Rattle.cl_run.specs.Driver.{GoesOn, IsJoined, Station, Stops, TakesTurn}
+use Rattle.cl_record.specs.Seats.{GoesOn, Station, Stops, TakesTurn}
+use Rattle.cl_run.specs.Driver.{IsJoined}
 use Rattle.cl_record.specs.BoxKeys.{HasKeysOf}
 use Rattle.cl_record.specs.declared.plans.Plan.{Plan}
-use Rattle.cl_run.proofs.Hubs.{hub_part}
+use Rattle.cl_run.proofs.Hubs.{hub_part, hub_stays}
 
 key_later : {K : Type 0} (here : Bool) (Acts : K → K → Type 0) (old new : Option K) (k : K)
     → KeyMoves here Acts old new → old ≡ Some k → (l : K) × (new ≡ Some l)
@@ -78,25 +79,19 @@ place_there links r sides a place h has e = go a has e
     go Act.Held has e = absurd (cc)
     go Act.Idle has e = absurd (cc)
 
--- a link of a list of links
-pub link_at : (n : ℕ) (links : List Link) (link : ℕ) (l : Link) → All (IsLink n) links → slice_get links link ≡ Some l
-    → IsLink n l
-link_at n links link l all at =
-    subst (IsLink n) (get_or_from_slice_get links link l l at) (all link l (slice_get_within links link l at))
-
 -- the hub's links stay
-pub links_stay : (plan : Plan) (s t : Station) (before after : HubHistory) → GoesOn plan s before t after
+pub links_stay : (plan : Plan) (s t : Station) (before after : HubHistory) → GoesOn Answered plan s before t after
     → after.links ≡ before.links
 links_stay plan s t before after h = elim h [
   | inl turn ↦ (hub_part before after turn.deed turn.tells).links_stay
-  | inr stops ↦ ap (λ (j : HubHistory). j.links) stops.hub_stays
+  | inr stops ↦ ap (λ (j : HubHistory). j.links) (hub_stays plan s t before after stops)
 ]
 
 -- a rank that goes on has the keys of its links
 module _ (links : List Link) (channels : List ChannelView) (r : ℕ) (plan : Plan) (s t : Station)
     (before after : HubHistory) (j : IsJoined links channels r s)
     (over : AreChannelsOf t.rank.site.version channels t.sides) where
-  taken : TakesTurn plan s before t after → IsJoined links channels r t
+  taken : TakesTurn Answered plan s before t after → IsJoined links channels r t
   taken turn =
       let site_is : t.rank.site ≡ s.rank.site =
       ap (λ (x : Rank). x.site) turn.moves.4
@@ -110,7 +105,7 @@ module _ (links : List Link) (channels : List ChannelView) (r : ℕ) (plan : Pla
             ∙ e);
       }
 
-  stopped : Stops plan s before t after → IsJoined links channels r t
+  stopped : Stops Answered plan s before t after → IsJoined links channels r t
   stopped h = record {
     number_is = ap (λ (x : Rank). x.site.number) h.rank_stays ∙ j.number_is;
     links_are = ap (λ (x : Rank). x.site.links) h.rank_stays ∙ j.links_are;
@@ -119,5 +114,5 @@ module _ (links : List Link) (channels : List ChannelView) (r : ℕ) (plan : Pla
     asked = λ place e. j.asked place (sym h.asked_stays ∙ e);
   }
 
-  pub goes_joined : GoesOn plan s before t after → IsJoined links channels r t
+  pub goes_joined : GoesOn Answered plan s before t after → IsJoined links channels r t
   goes_joined h = ⊎_elim taken stopped h

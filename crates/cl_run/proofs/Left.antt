@@ -1,110 +1,101 @@
--- What the driver leaves of the links.
-use Rattle.std.specs.Prelude.{ℕ, ◌≡◌, ◌≤◌, List, [], ◌∷◌, ◌++◌, length, map, slice_get, Option, Some, None}
-use Rattle.std.specs.Prelude.{option_map}
+-- What the driver leaves of its seats and of the links.
+use Rattle.std.specs.Prelude.{ℕ, ◌≡◌, List, [], ◌∷◌, ◌++◌, length, map, slice_get, Option, Some}
 use Rattle.std.proofs.Common.{refl, sym, ap, ◌∙◌, subst, arith}
-use Rattle.std.proofs.lemmas.List.{append-nil}
-use Rattle.std.proofs.lemmas.Option.{same_Some, slice_get-map, slice_get_within}
-use Rattle.rv_image.specs.declared.images.Link.{Link}
-use Rattle.part_box.specs.declared.settled.Settled.{Settled}
-use Rattle.part_box.specs.declared.view.Receiving.{Receiving}
-use Rattle.part_box.specs.declared.view.Sending.{Sending}
-use Rattle.part_channel.specs.Receiving.{RecvView}
-use Rattle.part_channel.specs.Sending.{SendView}
-use Rattle.part_channel.specs.Settling.{IsLeft}
-use Rattle.cl_rank.specs.RankSides.{HasReceiver, HasSender, receiver_key, sender_key, side_of}
+use Rattle.std.proofs.lemmas.List.{length-map, map-append}
+use Rattle.std.proofs.lemmas.Option.{slice_get_within}
+use Rattle.std.proofs.lemmas.Simd.{map-map}
+use Rattle.cl_rank.specs.RankSides.{HasReceiver, HasSender, side_of}
+use Rattle.cl_rank.specs.declared.ranks.Rank.{Rank as RankOfTurns}
+use Rattle.cl_rank.specs.declared.stops.Stop.{Stop}
 use Rattle.cl_run.specs.declared.driver.Driver.{Driver}
-use Rattle.cl_run.specs.declared.driver.Seat.{Seat}
-use Rattle.cl_run.specs.Driver.{AreJoined, IsLinkLeft, ends_of, station, stations}
-use Rattle.cl_record.specs.Settling.{IsAllSettled, MaySettle}
-use Rattle.cl_run.proofs.Ends.{from_map}
-use Rattle.cl_run.proofs.Joined.{link_at}
-use Rattle.cl_record.proofs.Elements.{at_below}
+use Rattle.cl_record.specs.declared.seats.Seat.{Seat}
+use Rattle.cl_record.specs.Seats.{station}
+use Rattle.cl_run.specs.Driver.{AreDone, AreJoined, end_of, ended}
+use Rattle.cl_record.specs.Leaving.{ends_of, state_of}
+use Rattle.cl_record.specs.Settling.{MaySettle}
+use Rattle.cl_record.specs.declared.done.Done.{Done}
+use Rattle.cl_record.proofs.BoxesLeft.{some_recvs, some_sends}
+use Rattle.cl_record.proofs.Elements.{at_below, from_map, link_at, to_map}
 use Rattle.cl_run.proofs.Seats.{station_at}
 
-some_sends : (o : Option SendView) (part : ℕ) (s : Sending) → sender_key o part ≡ Some s → (x : SendView) × (o ≡ Some x)
-some_sends None part s e = absurd (cc)
-some_sends (Some x) part s e = (x, refl)
+-- as many are done as there are seats
+pub as_many : (seats : List Seat) (all : List Done) → AreDone seats all → length all ≡ length seats
+as_many seats all are =
+    sym (length-map all ended) ∙ sym (ap (λ (xs : List (RankOfTurns × Option Stop)). length xs) are)
+    ∙ length-map seats end_of
 
-some_recvs : (o : Option RecvView) (part : ℕ) (r : Receiving) → receiver_key o part ≡ Some r
-    → (x : RecvView) × (o ≡ Some x)
-some_recvs None part r e = absurd (cc)
-some_recvs (Some x) part r e = (x, refl)
+-- one seat more
+pub done_more : (seats : List Seat) (all : List Done) (seat : Seat) (done : Done) → AreDone seats all
+    → seat.rank ≡ done.rank → seat.stop ≡ Some done.stop → AreDone (seats ++ seat ∷ []) (all ++ done ∷ [])
+done_more seats all seat done are rank stop =
+    map-append end_of seats (seat ∷ [])
+    ∙ (λ i. are i ++ (rank i, stop i) ∷ [])
+    ∙ sym (map-append ended all (done ∷ []))
 
-ends_at : (seats : List Seat) (r : ℕ) (seat : Seat) → slice_get seats r ≡ Some seat
-    → slice_get (map ends_of seats) r ≡ Some (ends_of seat)
-ends_at seats r seat at = slice_get-map ends_of seats r ∙ ap (option_map ends_of) at
+-- the states that are left are those of the seats
+pub states_are : (seats : List Seat) (all : List Done) → AreDone seats all
+    → map state_of all ≡ map (λ (seat : Seat). seat.rank.state) seats
+states_are seats all are =
+    sym (map-map (λ (x : RankOfTurns × Option Stop). x.0.state) ended all)
+    ∙ ap (map (λ (x : RankOfTurns × Option Stop). x.0.state)) (sym are)
+    ∙ map-map (λ (x : RankOfTurns × Option Stop). x.0.state) end_of seats
 
--- a list that is gone through
-pub all_yielded : {X : Type 0} (yielded rest all : List X) → yielded ++ rest ≡ all → length rest ≡ 0 → yielded ≡ all
-all_yielded yielded [] all whole none = sym (append-nil yielded) ∙ whole
-all_yielded yielded (x ∷ rest) all whole none = absurd (omega (arith, none))
+-- the seat at a number, and what it left
+pub done_at : (seats : List Seat) (all : List Done) (r : ℕ) (seat : Seat) → AreDone seats all
+    → slice_get seats r ≡ Some seat
+    → (done : Done) × (slice_get all r ≡ Some done) × (done.rank ≡ seat.rank) × (Some done.stop ≡ seat.stop)
+done_at seats all r seat are at =
+    let done = from_map ended all r (end_of seat) (ap (λ xs. slice_get xs r) (sym are) ∙ to_map end_of seats r seat at) in (
+      done.0,
+      done.1,
+      ap (λ (x : RankOfTurns × Option Stop). x.0) done.2,
+      ap (λ (x : RankOfTurns × Option Stop). x.1) done.2,
+    )
 
-module _ (driver : Driver) (joined : AreJoined driver) where
-  -- the sides of a link's channel, at the two seats of the link
-  pub may_settle : length driver.channels.items ≡ length driver.hub.links → length driver.hub.links ≤ 32
-      → MaySettle driver.hub.links driver.channels.items (map ends_of driver.seats.items)
-  may_settle count few = record {
-    few = few;
-    one_each = count;
-    sides = λ link channel at.
-        let l = at_below driver.hub.links link
-        (omega (arith, slice_get_within driver.channels.items link channel at, count)) in
-        let own = link_at (length driver.seats.items) driver.hub.links link l.0 joined.links l.1 in
-        let from = at_below driver.seats.items l.0.from own.from_there in
-        let to = at_below driver.seats.items l.0.to own.to_there in
-        let sender = joined.each l.0.from (station from.0) (station_at driver.seats.items l.0.from from.0 from.1) in
-        let receiver = joined.each l.0.to (station to.0) (station_at driver.seats.items l.0.to to.0 to.1) in
-        let key = sender.keys.sends link 0 l.0 l.1 (omega arith) refl in
-        let key' = receiver.keys.receives link 0 l.0 l.1 (omega arith) refl in
-        let s = some_sends (side_of link (station from.0).sides.sends) 0 key.0 key.1 in
-        let r = some_recvs (side_of link (station to.0).sides.recvs) 0 key'.0 key'.1 in
-        record {
-          l = l.0;
-          link_there = l.1;
-          from = ends_of from.0;
-          to = ends_of to.0;
-          from_there = ends_at driver.seats.items l.0.from from.0 from.1;
-          to_there = ends_at driver.seats.items l.0.to to.0 to.1;
-          sends = s.0;
-          receives = r.0;
-          sends_are = s.1;
-          receives_are = r.1;
-          sends_own = (subst (λ o. HasSender (station from.0).rank.site.version o s.0) at (sender.over.sends link s.0 s.1)).1;
-          receives_own =
-              (subst (λ o. HasReceiver (station to.0).rank.site.version o r.0) at (receiver.over.recvs link r.0 r.1)).1;
-        };
-  }
+pub seat_at : (seats : List Seat) (all : List Done) (r : ℕ) (done : Done) → AreDone seats all
+    → slice_get all r ≡ Some done
+    → (seat : Seat) × (slice_get seats r ≡ Some seat) × (seat.rank ≡ done.rank) × (seat.stop ≡ Some done.stop)
+seat_at seats all r done are at =
+    let seat = from_map end_of seats r (ended done) (ap (λ xs. slice_get xs r) are ∙ to_map ended all r done at) in (
+      seat.0,
+      seat.1,
+      ap (λ (x : RankOfTurns × Option Stop). x.0) seat.2,
+      ap (λ (x : RankOfTurns × Option Stop). x.1) seat.2,
+    )
 
-  pub links_left : (boxes : List (List Settled)) → length driver.channels.items ≡ length driver.hub.links
-      → IsAllSettled driver.hub.links driver.channels.items (map ends_of driver.seats.items) boxes
-      → (link : ℕ) (l : Link) → slice_get driver.hub.links link ≡ Some l
-      → (left : List Settled) × (slice_get boxes link ≡ Some left) × IsLinkLeft driver link l left
-  links_left boxes count h link l at =
-      let inside = slice_get_within driver.hub.links link l at in
-      let channel = at_below driver.channels.items link (omega (arith, inside, count)) in
-      let left = at_below boxes link (omega (arith, inside, h.count)) in
-      let settled = h.each link channel.0 left.0 channel.1 left.1 in
-      let sides = settled.0 in
-      let l_is : sides.l ≡ l = same_Some sides.l l (sym sides.link_there ∙ at) in
-      let from = from_map ends_of driver.seats.items sides.l.from sides.from sides.from_there in
-      let to = from_map ends_of driver.seats.items sides.l.to sides.to sides.to_there in
-      let from_at = station_at driver.seats.items sides.l.from from.0 from.1 in
-      let to_at = station_at driver.seats.items sides.l.to to.0 to.1 in
-      let sends_are = ap (λ e. side_of link e.sends.items) from.2 ∙ sides.sends_are in
-      let receives_are = ap (λ e. side_of link e.recvs.items) to.2 ∙ sides.receives_are in
-      let over = (joined.each sides.l.from (station from.0) from_at).over.sends link sides.sends sends_are in
-      let width = (subst (λ o. HasSender (station from.0).rank.site.version o sides.sends) channel.1 over).0 in (
-        left.0,
-        left.1,
-        record {
-          from = station from.0;
-          to = station to.0;
-          from_there = ap (λ (x : Link). slice_get (stations driver) x.from) (sym l_is) ∙ from_at;
-          to_there = ap (λ (x : Link). slice_get (stations driver) x.to) (sym l_is) ∙ to_at;
-          sends = sides.sends;
-          receives = sides.receives;
-          sends_are = sends_are;
-          receives_are = receives_are;
-          is_left = subst (λ n. IsLeft n sides.sends.keys sides.receives.keys left.0) width settled.1;
-        },
-      )
+-- the sides of a link's channel, at the two seats of the link
+pub may_settle : (driver : Driver) → AreJoined driver → (all : List Done) → AreDone driver.seats.items all
+    → MaySettle driver.hub.links driver.channels.items (map ends_of all)
+may_settle driver joined all are = record {
+  few = joined.few;
+  one_each = joined.one_each;
+  sides = λ link channel at.
+      let l = at_below driver.hub.links link
+      (omega (arith, slice_get_within driver.channels.items link channel at, joined.one_each)) in
+      let own = link_at (length driver.seats.items) driver.hub.links link l.0 joined.links l.1 in
+      let from = at_below driver.seats.items l.0.from own.from_there in
+      let to = at_below driver.seats.items l.0.to own.to_there in
+      let sender = joined.each l.0.from (station from.0) (station_at driver.seats.items l.0.from from.0 from.1) in
+      let receiver = joined.each l.0.to (station to.0) (station_at driver.seats.items l.0.to to.0 to.1) in
+      let key = sender.keys.sends link 0 l.0 l.1 (omega arith) refl in
+      let key' = receiver.keys.receives link 0 l.0 l.1 (omega arith) refl in
+      let s = some_sends (side_of link (station from.0).sides.sends) 0 key.0 key.1 in
+      let r = some_recvs (side_of link (station to.0).sides.recvs) 0 key'.0 key'.1 in
+      let from_done = done_at driver.seats.items all l.0.from from.0 are from.1 in
+      let to_done = done_at driver.seats.items all l.0.to to.0 are to.1 in
+      record {
+        l = l.0;
+        link_there = l.1;
+        from = ends_of from_done.0;
+        to = ends_of to_done.0;
+        from_there = to_map ends_of all l.0.from from_done.0 from_done.1;
+        to_there = to_map ends_of all l.0.to to_done.0 to_done.1;
+        sends = s.0;
+        receives = r.0;
+        sends_are = ap (λ (x : RankOfTurns). side_of link x.sends.items) from_done.2 ∙ s.1;
+        receives_are = ap (λ (x : RankOfTurns). side_of link x.recvs.items) to_done.2 ∙ r.1;
+        sends_own = (subst (λ o. HasSender (station from.0).rank.site.version o s.0) at (sender.over.sends link s.0 s.1)).1;
+        receives_own =
+            (subst (λ o. HasReceiver (station to.0).rank.site.version o r.0) at (receiver.over.recvs link r.0 r.1)).1;
+      };
+}

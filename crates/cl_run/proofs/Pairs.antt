@@ -11,11 +11,12 @@ use Rattle.cl_rank.specs.declared.sides.BoxId.{BoxId}
 use Rattle.cl_rank.specs.RankSides.{AreChannelsOf, receiver_of, sender_of}
 use Rattle.cl_rank.specs.Views.{place_in}
 use Rattle.cl_run.specs.declared.driver.Driver.{Driver}
-use Rattle.cl_record.proofs.Elements.{at_below}
-use Rattle.cl_run.specs.Driver.{Agree, AreJoined, HaveKeys, KeysAgree, Station, station, stations}
+use Rattle.cl_record.proofs.Elements.{at_below, to_map}
+use Rattle.cl_record.specs.Seats.{Station, station}
+use Rattle.cl_run.specs.Driver.{Agree, AreJoined, HaveKeys, KeysAgree, stations}
 use Rattle.cl_record.specs.BoxKeys.{AgreeOn}
-use Rattle.cl_run.specs.declared.driver.Seat.{Seat}
-use Rattle.cl_run.proofs.Joined.{link_at}
+use Rattle.cl_record.specs.declared.seats.Seat.{Seat}
+use Rattle.cl_record.proofs.Elements.{link_at}
 use Rattle.cl_run.proofs.Seats.{station_at}
 
 get-front : {X : Type 0} (xs ys : List X) (i : ℕ) (x : X) → slice_get xs i ≡ Some x → slice_get (xs ++ ys) i ≡ Some x
@@ -28,13 +29,13 @@ get-back [] ys = refl
 get-back (z ∷ xs) ys = get-back xs ys
 
 -- where the seats are split
-module _ (seats low high : List Seat) (mid : ℕ) (whole : seats ≡ low ++ high) (front : length low ≡ mid) where
-  pub low_at : (i : ℕ) (d : Seat) → i < mid → slice_get seats i ≡ Some (get_or low i d)
+module _ {T : Type 0} (seats low high : List T) (mid : ℕ) (whole : seats ≡ low ++ high) (front : length low ≡ mid) where
+  pub low_at : (i : ℕ) (d : T) → i < mid → slice_get seats i ≡ Some (get_or low i d)
   low_at i d below =
       ap (λ xs. slice_get xs i) whole
       ∙ get-front low high i (get_or low i d) (slice_get-get_or low i d (omega (arith, front, below)))
 
-  pub high_at : (d : Seat) → mid < length seats → slice_get seats mid ≡ Some (get_or high 0 d)
+  pub high_at : (d : T) → mid < length seats → slice_get seats mid ≡ Some (get_or high 0 d)
   high_at d below =
       let count : length seats ≡ length low + length high = ap length whole ∙ length-append low high in
       ap (λ xs. slice_get xs mid) whole
@@ -43,19 +44,19 @@ module _ (seats low high : List Seat) (mid : ℕ) (whole : seats ≡ low ++ high
       ∙ slice_get-get_or high 0 d (omega (arith, front, below, count))
 
 -- what holds of two stations holds of the two seats, and the other way round
-module _ (seats : List Seat) (l : Link) (link part : ℕ) (x y : Seat)
+module _ {T : Type 0} (seen : T → Station) (seats : List T) (l : Link) (link part : ℕ) (x y : T)
     (from_at : slice_get seats l.from ≡ Some x) (to_at : slice_get seats l.to ≡ Some y) where
   pub record HaveBoth (channels : List ChannelView) : Type 0 where
-    pub sender_over : AreChannelsOf (station x).rank.site.version channels (station x).sides
-    pub receiver_over : AreChannelsOf (station y).rank.site.version channels (station y).sides
-    pub sends : (s : Sending) × (sender_of (station x).sides link part ≡ Some s)
-    pub receives : (r : Receiving) × (receiver_of (station y).sides link part ≡ Some r)
+    pub sender_over : AreChannelsOf (seen x).rank.site.version channels (seen x).sides
+    pub receiver_over : AreChannelsOf (seen y).rank.site.version channels (seen y).sides
+    pub sends : (s : Sending) × (sender_of (seen x).sides link part ≡ Some s)
+    pub receives : (r : Receiving) × (receiver_of (seen y).sides link part ≡ Some r)
 
-  pub have_both : (channels : List ChannelView) → HaveKeys (map station seats) channels l link part
+  pub have_both : (channels : List ChannelView) → HaveKeys (map seen seats) channels l link part
       → HaveBoth channels
   have_both channels h =
-      let from_is : h.0 ≡ station x = same_Some h.0 (station x) (sym h.2 ∙ station_at seats l.from x from_at) in
-      let to_is : h.1 ≡ station y = same_Some h.1 (station y) (sym h.3 ∙ station_at seats l.to y to_at) in
+      let from_is : h.0 ≡ seen x = same_Some h.0 (seen x) (sym h.2 ∙ to_map seen seats l.from x from_at) in
+      let to_is : h.1 ≡ seen y = same_Some h.1 (seen y) (sym h.3 ∙ to_map seen seats l.to y to_at) in
       record {
         sender_over = subst (λ (z : Station). AreChannelsOf z.rank.site.version channels z.sides) from_is h.4;
         receiver_over = subst (λ (z : Station). AreChannelsOf z.rank.site.version channels z.sides) to_is h.5;
@@ -63,12 +64,12 @@ module _ (seats : List Seat) (l : Link) (link part : ℕ) (x y : Seat)
         receives = subst (λ (z : Station). (r : Receiving) × (receiver_of z.sides link part ≡ Some r)) to_is h.7;
       }
 
-  pub both_agree : ((s : Sending) (r : Receiving) → sender_of (station x).sides link part ≡ Some s
-      → receiver_of (station y).sides link part ≡ Some r → AgreeOn (station x).rank.site.version s r)
-      → KeysAgree (map station seats) l link part
+  pub both_agree : ((s : Sending) (r : Receiving) → sender_of (seen x).sides link part ≡ Some s
+      → receiver_of (seen y).sides link part ≡ Some r → AgreeOn (seen x).rank.site.version s r)
+      → KeysAgree (map seen seats) l link part
   both_agree agree from to s r at_from at_to sends receives =
-      let from_is : from ≡ station x = same_Some from (station x) (sym at_from ∙ station_at seats l.from x from_at) in
-      let to_is : to ≡ station y = same_Some to (station y) (sym at_to ∙ station_at seats l.to y to_at) in
+      let from_is : from ≡ seen x = same_Some from (seen x) (sym at_from ∙ to_map seen seats l.from x from_at) in
+      let to_is : to ≡ seen y = same_Some to (seen y) (sym at_to ∙ to_map seen seats l.to y to_at) in
       subst (λ (z : Station). AgreeOn z.rank.site.version s r) (sym from_is)
       (agree s r (ap (λ (z : Station). sender_of z.sides link part) (sym from_is) ∙ sends)
       (ap (λ (z : Station). receiver_of z.sides link part) (sym to_is) ∙ receives))

@@ -17,17 +17,21 @@ use Rattle.cl_journal.specs.Replaying.{HubHistory}
 use Rattle.cl_trace.specs.declared.events.Event.{Event}
 use Rattle.cl_rank.specs.Deeds.{event_of}
 use Rattle.cl_rank.specs.RankSides.{AreChannelsOf}
+use Rattle.cl_rank.specs.Turning.{Answered}
 use Rattle.cl_rank.specs.declared.stops.Stop.{Stop}
 use Rattle.cl_run.specs.declared.driver.Driver.{Driver}
-use Rattle.cl_run.specs.declared.driver.Seat.{Seat}
+use Rattle.cl_record.specs.declared.seats.Seat.{Seat}
 use Rattle.cl_record.specs.declared.plans.Plan.{Plan}
-use Rattle.cl_run.specs.Driver.{Agree, AreJoined, AreSeated, GoesOn, IsJoined, IsSeated, IsStoppedAt, OneGoes, SlotGoes}
-use Rattle.cl_run.specs.Driver.{Station, left, left_of, station, stations}
+use Rattle.cl_record.specs.Seats.{GoesOn}
+use Rattle.cl_run.specs.Driver.{Agree, AreJoined, AreSeated, IsJoined, IsStoppedAt, OneGoes, SlotGoes}
+use Rattle.cl_record.specs.Seats.{Station, station}
+use Rattle.cl_run.specs.Driver.{left, left_of, stations}
 use Rattle.cl_record.specs.BoxKeys.{HasKeysOf}
 use Rattle.cl_record.specs.Plans.{in_slot}
 use Rattle.cl_run.specs.UnderWay.{IsUnderWay}
 use Rattle.cl_machine.proofs.Lists.{get-set_same, get-set_other}
-use Rattle.cl_run.proofs.Joined.{goes_joined, link_at, links_stay}
+use Rattle.cl_record.proofs.Elements.{at_below, link_at}
+use Rattle.cl_run.proofs.Joined.{goes_joined, links_stay}
 use Rattle.cl_run.proofs.Seats.{station_at}
 use Rattle.cl_run.proofs.UnderWay.{slot_passed, slot_stopped, slot_taken}
 
@@ -35,17 +39,25 @@ stations_then : (old new : Driver) (r : ℕ) (seat : Seat) → new.seats.items �
     → stations new ≡ slice_set (stations old) r (station seat)
 stations_then old new r seat e = ap (map station) e ∙ map-set station old.seats.items r seat
 
-module _ (plan : Plan) (r : ℕ) (old new : Driver) where
+module _ (r : ℕ) (old new : Driver) where
   -- the run goes on
   module _ (image : ImageParts) (plans : List Plan) (order : List ℕ) (slot : ℕ) (at : in_slot order slot ≡ r)
-      (planned : slice_get plans r ≡ Some plan) (seated : AreSeated plans old) where
-    one_goes : OneGoes plan r old new → IsUnderWay image plans order (stations old) old.hub slot
+      (seated : AreSeated plans old) where
+    planned_at : (seat : Seat) → slice_get old.seats.items r ≡ Some seat → slice_get plans r ≡ Some seat.plan.now
+    planned_at seat there =
+        let inside = slice_get_within old.seats.items r seat there in
+        let plan = at_below plans r (let e = seated.one_each in omega (arith, inside, e)) in
+        plan.1 ∙ ap Some (sym (seated.each r plan.0 seat plan.1 there))
+
+    one_goes : OneGoes r old new → IsUnderWay image plans order (stations old) old.hub slot
         → IsUnderWay image plans order (stations new) new.hub (slot + 1)
     one_goes h w =
         let there_r = station_at old.seats.items r h.seat h.there in
         let there : slice_get (stations old) (in_slot order slot) ≡ Some (station h.seat) =
         ap (slice_get (stations old)) at ∙ there_r in
-        let planned_here : slice_get plans (in_slot order slot) ≡ Some plan = ap (slice_get plans) at ∙ planned in
+        let plan = h.seat.plan.now in
+        let planned_here : slice_get plans (in_slot order slot) ≡ Some plan =
+        ap (slice_get plans) at ∙ planned_at h.seat h.there in
         let then_is : slice_set (stations old) (in_slot order slot) (station h.later) ≡ stations new =
         ap (λ k. slice_set (stations old) k (station h.later)) at ∙ sym (stations_then old new r h.later h.seats_are) in
         let apart = λ (link : ℕ) (l : Link) (e : slice_get old.hub.links link ≡ Some l).
@@ -61,7 +73,7 @@ module _ (plan : Plan) (r : ℕ) (old new : Driver) where
               planned_here h.runs old.hub new.hub stops w
         ])
 
-    pub slot_goes : (moved : Bool) → SlotGoes plan r old new moved
+    pub slot_goes : (moved : Bool) → SlotGoes r old new moved
         → IsUnderWay image plans order (stations old) old.hub slot
         → IsUnderWay image plans order (stations new) new.hub (slot + 1)
     slot_goes false h w =
@@ -71,7 +83,7 @@ module _ (plan : Plan) (r : ℕ) (old new : Driver) where
 
   -- each rank stays joined
   pub seats_joined : (seat later : Seat) → slice_get old.seats.items r ≡ Some seat
-      → GoesOn plan (station seat) old.hub (station later) new.hub
+      → GoesOn Answered seat.plan.now (station seat) old.hub (station later) new.hub
       → AreChannelsOf (station later).rank.site.version old.channels.items (station later).sides
       → new.seats.items ≡ slice_set old.seats.items r later → new.channels.items ≡ old.channels.items
       → AreJoined old → AreJoined new
@@ -79,7 +91,7 @@ module _ (plan : Plan) (r : ℕ) (old new : Driver) where
       let count : length new.seats.items ≡ length old.seats.items =
       ap (λ (xs : List Seat). length xs) seats_are ∙ length-set old.seats.items r later in
       let links_are : new.hub.links ≡ old.hub.links =
-      links_stay plan (station seat) (station later) old.hub new.hub goes in
+      links_stay seat.plan.now (station seat) (station later) old.hub new.hub goes in
       let there = station_at old.seats.items r seat at_seat in
       let then_is = stations_then old new r later seats_are in
       record {
@@ -100,7 +112,7 @@ module _ (plan : Plan) (r : ℕ) (old new : Driver) where
                   ∙ at) in
                   subst (λ k. IsJoined old.hub.links old.channels.items k x) same.1
                   (subst (IsJoined old.hub.links old.channels.items r) later_is
-                  (goes_joined old.hub.links old.channels.items r plan (station seat) (station later) old.hub new.hub
+                  (goes_joined old.hub.links old.channels.items r seat.plan.now (station seat) (station later) old.hub new.hub
                   (j.each r (station seat) there) channels goes))
               | inr other ↦ j.each q x
                   (sym (get-set_other (stations old) r q (station later) other.1)
@@ -109,12 +121,21 @@ module _ (plan : Plan) (r : ℕ) (old new : Driver) where
             ]));
       }
 
-  -- each seat stays right
-  pub slot_seated : (plans : List Plan) (moved : Bool) → slice_get plans r ≡ Some plan → SlotGoes plan r old new moved
+  -- and its seats stay as many
+  pub slot_count : (moved : Bool) → SlotGoes r old new moved → length new.seats.items ≡ length old.seats.items
+  slot_count false h = ap (λ (d : Driver). length d.seats.items) h.0
+  slot_count true h = ap (λ (xs : List Seat). length xs) h.seats_are ∙ length-set old.seats.items r h.later
+
+  pub slot_joined : (moved : Bool) → SlotGoes r old new moved → AreJoined old → AreJoined new
+  slot_joined false h j = subst AreJoined (sym h.0) j
+  slot_joined true h j = seats_joined h.seat h.later h.there h.goes h.channels h.seats_are h.channels_stay j
+
+  -- each seat stays at its plan
+  pub slot_seated : (plans : List Plan) (moved : Bool) → SlotGoes r old new moved
       → AreSeated plans old → AreSeated plans new
-  slot_seated plans false planned h a = subst (AreSeated plans) (sym h.0) a
-  slot_seated plans true planned h a = record {
-    one_each = ap (λ (xs : List Seat). length xs) h.seats_are ∙ length-set old.seats.items r h.later ∙ a.one_each;
+  slot_seated plans false h a = subst (AreSeated plans) (sym h.0) a
+  slot_seated plans true h a = record {
+    one_each = slot_count true h ∙ a.one_each;
     each = λ q p seat at_plan at. elim (eqb_tells r q) [
       | inl same ↦
           let seat_is : h.later ≡ seat = same_Some h.later seat
@@ -122,18 +143,18 @@ module _ (plan : Plan) (r : ℕ) (old new : Driver) where
           ∙ ap (slice_get (slice_set old.seats.items r h.later)) same.1
           ∙ ap (λ xs. slice_get xs q) (sym h.seats_are)
           ∙ at) in
-          let plan_is : plan ≡ p = same_Some plan p (sym planned ∙ ap (slice_get plans) same.1 ∙ at_plan) in
-          subst (IsSeated p) seat_is (subst (λ x. IsSeated x h.later) plan_is h.seated)
+          ap (λ (x : Seat). x.plan.now) (sym seat_is) ∙ h.plan_stays
+          ∙ a.each r p h.seat (ap (slice_get plans) same.1 ∙ at_plan) h.there
       | inr other ↦ a.each q p seat at_plan
           (sym (get-set_other old.seats.items r q h.later other.1) ∙ ap (λ xs. slice_get xs q) (sym h.seats_are) ∙ at)
     ];
-    joined = seats_joined h.seat h.later h.there h.goes h.channels h.seats_are h.channels_stay a.joined;
+    joined = slot_joined true h a.joined;
   }
 
   -- a slot in which something was done leaves less
-  less_of : (s t : Station) (before after : HubHistory) → s.stop ≡ None → GoesOn plan s before t after
+  less_of : (plan : Plan) (s t : Station) (before after : HubHistory) → s.stop ≡ None → GoesOn Answered plan s before t after
       → left_of t + 1 ≤ left_of s
-  less_of s t before after runs h = elim h [
+  less_of plan s t before after runs h = elim h [
     | inl turn ↦
         let n : length t.events ≡ length s.events + 1 = ap (λ (es : List Event). length es) turn.traced
         ∙ length-append s.events (event_of turn.deed ∷ []) in
@@ -147,7 +168,7 @@ module _ (plan : Plan) (r : ℕ) (old new : Driver) where
         omega (arith, n, a, b, stops.budget_stays)
   ]
 
-  pub slot_left : (moved : Bool) → SlotGoes plan r old new moved → left new + cond moved 1 0 ≤ left old
+  pub slot_left : (moved : Bool) → SlotGoes r old new moved → left new + cond moved 1 0 ≤ left old
   slot_left false h = omega (arith, ap left h.0)
   slot_left true h =
       let at = station_at old.seats.items r h.seat h.there in
@@ -155,16 +176,16 @@ module _ (plan : Plan) (r : ℕ) (old new : Driver) where
       let total = sum_by-set left_of (stations old) r (station h.later) (station h.seat) inside in
       let here = ap left_of (get_or_from_slice_get (stations old) r (station h.seat) (station h.seat) at) in
       let then_is = ap (sum_by left_of) (stations_then old new r h.later h.seats_are) in
-      omega (arith, total, here, then_is, less_of (station h.seat) (station h.later) old.hub new.hub h.runs h.goes)
+      omega (arith, total, here, then_is, less_of h.seat.plan.now (station h.seat) (station h.later) old.hub new.hub h.runs h.goes)
 
 -- whether anything was done up to a place of the order, and there
-pub done_more : (plan : Plan) (old new : Driver) (order : List ℕ) (i : ℕ) (moved went : Bool)
-    → SlotGoes plan (slice_index order i) old new went
+pub done_more : (old new : Driver) (order : List ℕ) (i : ℕ) (moved went : Bool)
+    → SlotGoes (slice_index order i) old new went
     → (moved ≡ false → (place : ℕ) → place < i → IsStoppedAt (stations old) (slice_index order place))
     → (moved || went) ≡ false → (place : ℕ) → place < i + 1 → IsStoppedAt (stations new) (slice_index order place)
-done_more plan old new order i true went h done e = absurd (false≢true (sym e))
-done_more plan old new order i false true h done e = absurd (false≢true (sym e))
-done_more plan old new order i false false h done e =
+done_more old new order i true went h done e = absurd (false≢true (sym e))
+done_more old new order i false true h done e = absurd (false≢true (sym e))
+done_more old new order i false false h done e =
     subst (λ d. (place : ℕ) → place < i + 1 → IsStoppedAt (stations d) (slice_index order place)) (sym h.0)
     (below_more (λ place. IsStoppedAt (stations old) (slice_index order place)) i (done refl) h.1)
 

@@ -25,7 +25,7 @@ use Rattle.cl_rank.specs.Turning.{Answered, IsCause, Refuses, StopHolds, stop_of
 use Rattle.cl_rank.specs.declared.stops.Stop.{Stop}
 use Rattle.cl_record.specs.declared.plans.Plan.{Plan}
 use Rattle.cl_machine.specs.declared.steps.Step.{Step}
-use Rattle.cl_run.specs.Driver.{Station, Stops, TakesTurn}
+use Rattle.cl_record.specs.Seats.{Station, Stops, TakesTurn}
 use Rattle.cl_machine.specs.Order.{of_rank}
 use Rattle.cl_record.specs.Plans.{in_slot}
 use Rattle.cl_machine.specs.Product.{entry_of}
@@ -63,7 +63,7 @@ request_stands Act.Held = refl
 request_stands Act.Idle = refl
 
 -- the rank took a turn
-module _ (steps : List Step) (before after : HubHistory) (r : ℕ) (plan : Plan) (s t : Station) (turn : TakesTurn plan s before t after)
+module _ (steps : List Step) (before after : HubHistory) (r : ℕ) (plan : Plan) (s t : Station) (turn : TakesTurn Answered plan s before t after)
     (so : IsSoFar steps before.entries r plan s) where
   d : Deed
   d = turn.deed
@@ -228,7 +228,7 @@ module _ (steps : List Step) (before : HubHistory) (r : ℕ) (plan : Plan) (s t 
         (refused_cause f (has_turn refused.0) (asks hart f after is refused.1.3) refused.1.3.2.0)
   ]
 
-  pub after_stop : (after : HubHistory) → Stops plan s before t after → IsSoFar steps before.entries r plan t
+  pub after_stop : (after : HubHistory) → Stops Answered plan s before t after → IsSoFar steps before.entries r plan t
   after_stop after h =
       let is : record s { stop = Some h.stop } ≡ t =
       (λ i. record {

@@ -14,6 +14,7 @@ use Rattle.cl_calls.specs.declared.sites.Site.{Site}
 use Rattle.cl_state.specs.Rank.{Rank, site_of}
 use Rattle.cl_state.proofs.Moves.{told_at}
 use Rattle.cl_rank.specs.Deeds.{answer_of}
+use Rattle.cl_rank.specs.Turning.{Answered}
 use Rattle.cl_rank.specs.Sides.{box_id_of}
 use Rattle.cl_rank.specs.RankSides.{KeysMove}
 use Rattle.cl_machine.specs.Boxes.{Box}
@@ -22,14 +23,15 @@ use Rattle.cl_run.specs.Runs.{NoneIdles}
 use Rattle.cl_record.specs.declared.plans.Plan.{Plan}
 use Rattle.cl_machine.specs.declared.steps.Step.{Step}
 use Rattle.cl_machine.specs.Cluster.{Cluster, IsRun, IsStep, loaded_cluster}
-use Rattle.cl_run.specs.Driver.{Agree, IsStoppedAt, Station, Stops, TakesTurn}
+use Rattle.cl_record.specs.Seats.{Station, Stops, TakesTurn}
+use Rattle.cl_run.specs.Driver.{Agree, IsStoppedAt}
 use Rattle.cl_record.specs.BoxKeys.{HasKeysOf}
 use Rattle.cl_record.specs.Plans.{in_slot}
 use Rattle.cl_machine.specs.Product.{box_at}
 use Rattle.cl_machine.specs.ProductSteps.{BoxMoves, step_of}
 use Rattle.cl_run.specs.UnderWay.{AreBoxes, IsSoFar, IsUnderWay, Round, cluster_of, shown}
 use Rattle.cl_run.proofs.BoxSteps.{boxes_go, boxes_same}
-use Rattle.cl_run.proofs.Hubs.{HubPart, hub_part}
+use Rattle.cl_run.proofs.Hubs.{HubPart, hub_part, hub_stays}
 use Rattle.cl_machine.proofs.Lists.{get-set_same, get-set_other}
 use Rattle.cl_run.proofs.Rounds.{more_done, one_turn_more, passed_over}
 use Rattle.cl_run.proofs.Stations.{after_others_turn, after_stop, after_turn}
@@ -101,10 +103,10 @@ module _ (image : ImageParts) (plans : List Plan) (order : List ℕ) (ss : List 
     ]
 
     -- a rank that isn't stopped stops
-    pub slot_stopped : (before after : HubHistory) → Stops plan s before t after
+    pub slot_stopped : (before after : HubHistory) → Stops Answered plan s before t after
         → IsUnderWay image plans order ss before slot
         → IsUnderWay image plans order (slice_set ss (in_slot order slot) t) after (slot + 1)
-    slot_stopped before after h w = subst (λ hub. IsUnderWay image plans order (slice_set ss (in_slot order slot) t) hub (slot + 1)) (sym h.hub_stays) (record {
+    slot_stopped before after h w = subst (λ hub. IsUnderWay image plans order (slice_set ss (in_slot order slot) t) hub (slot + 1)) (sym (hub_stays plan s t before after h)) (record {
       links_are = w.links_are;
       low = w.low;
       sites = sites_then (ap (λ (x : Rank). x.site) h.rank_stays) w.sites;
@@ -135,12 +137,12 @@ module _ (image : ImageParts) (plans : List Plan) (order : List ℕ) (ss : List 
               ∙ ap (slice_get (slice_set ss (in_slot order slot) t)) same.1 ∙ at) in
               let p_is : plan ≡ p = same_Some plan p (sym planned ∙ ap (slice_get plans) same.1 ∙ at_plan) in
               let so = w.each q p s at_plan (ap (slice_get ss) (sym same.1) ∙ there) in
-              subst (IsSoFar w.steps before.entries q p) is (after_stop w.steps before q p s t so w.low after (subst (λ y. Stops y s before t after) p_is h))
+              subst (IsSoFar w.steps before.entries q p) is (after_stop w.steps before q p s t so w.low after (subst (λ y. Stops Answered y s before t after) p_is h))
           | inr other ↦ w.each q p x at_plan (sym (get-set_other ss (in_slot order slot) q t other.1) ∙ at)
         ]
 
     -- a rank that isn't stopped takes a turn; the keys of the box that it asked agree
-    pub slot_taken : (before after : HubHistory) → TakesTurn plan s before t after
+    pub slot_taken : (before after : HubHistory) → TakesTurn Answered plan s before t after
         → ((link : ℕ) (l : Link) → slice_get before.links link ≡ Some l → l.to ≢ l.from)
         → HasKeysOf before.links (in_slot order slot) s.sides
         → Agree before.links (slice_set ss (in_slot order slot) t) t.asked
@@ -226,7 +228,7 @@ module _ (image : ImageParts) (plans : List Plan) (order : List ℕ) (ss : List 
               let p_is : plan ≡ p = same_Some plan p (sym planned ∙ ap (slice_get plans) same.1 ∙ at_plan) in
               let so = w.each q p s at_plan (ap (slice_get ss) (sym same.1) ∙ there) in
               subst (IsSoFar (w.steps ++ step_of turn.deed ∷ []) after.entries q p) is
-              (after_turn w.steps before after q p s t (subst (λ y. TakesTurn y s before t after) p_is turn) so)
+              (after_turn w.steps before after q p s t (subst (λ y. TakesTurn Answered y s before t after) p_is turn) so)
           | inr other ↦
               after_others_turn w.steps before after q p x turn.deed part (ap (λ k. eqb k q) is ∙ other.0) w.low
               (w.each q p x at_plan (sym (get-set_other ss (in_slot order slot) q t other.1) ∙ at))

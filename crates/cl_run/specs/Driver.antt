@@ -1,99 +1,31 @@
 -- The driver of a run on one thread: what it keeps of each rank, and what one slot of the order does to that.
-use Rattle.std.specs.Prelude.{ℕ, ◌≡◌, ◌<◌, ◌≤◌, ◌+◌, ◌-◌, ◌%◌, ◌⊎◌, ⊤, List, [], ◌∷◌, ◌++◌, length, map, sum_by, All}
-use Rattle.std.specs.Prelude.{slice_get, slice_set, slice_index, Option, None, Some, Bool, true, false, is_some}
-use Rattle.std.specs.Prelude.{if◌then◌else◌, vec_len}
-use Rattle.part_box.specs.declared.settled.Settled.{Settled}
+use Rattle.std.specs.Prelude.{ℕ, ◌≡◌, ◌<◌, ◌≤◌, ◌+◌, ◌-◌, ⊤, List, [], length, map, sum_by, All}
+use Rattle.std.specs.Prelude.{slice_get, slice_set, Option, None, Some, Bool, true, false, is_some}
+use Rattle.std.specs.Prelude.{if◌then◌else◌}
 use Rattle.part_box.specs.declared.view.Receiving.{Receiving}
 use Rattle.part_box.specs.declared.view.Sending.{Sending}
 use Rattle.part_channel.specs.Channels.{ChannelView}
-use Rattle.part_channel.specs.Receiving.{RecvView}
-use Rattle.part_channel.specs.Sending.{SendView}
-use Rattle.part_channel.specs.Settling.{IsLeft}
-use Rattle.part_phase.specs.Limits.{box_words}
-use Rattle.cl_journal.specs.Replaying.{HubHistory}
-use Rattle.cl_rank.specs.Deeds.{Deed, RankMoves, event_of}
-use Rattle.cl_rank.specs.Sides.{box_id_of}
-use Rattle.cl_rank.specs.RankSides.{AreChannelsOf, KeysMove, Sides, receiver_of, sender_of, side_of}
-use Rattle.cl_rank.specs.Turns.{AllStopped}
-use Rattle.cl_rank.specs.Turning.{Answered, StopHolds, Tells}
+use Rattle.cl_rank.specs.RankSides.{AreChannelsOf, receiver_of, sender_of}
+use Rattle.cl_rank.specs.Turning.{Answered}
+use Rattle.cl_rank.specs.declared.ranks.Rank.{Rank as RankOfTurns}
 use Rattle.cl_rank.specs.declared.stops.Stop.{Stop}
-use Rattle.cl_rank.specs.Views.{view_of}
-use Rattle.cl_state.specs.Rank.{Rank, below, loaded}
+use Rattle.cl_state.specs.Rank.{below, loaded}
 use Rattle.rv_image.specs.declared.images.ImageParts.{ImageParts}
 use Rattle.rv_image.specs.declared.images.Link.{Link}
 use Rattle.rv_image.specs.Image.{IsLink}
-use Rattle.cl_trace.specs.declared.events.Event.{Event}
 use Rattle.cl_state.specs.Room.{rank_of}
 use Rattle.cl_record.specs.BoxKeys.{AgreeOn, HasKeysOf}
-use Rattle.cl_record.specs.Wiring.{AreNewEnds}
-use Rattle.cl_record.specs.Room.{HaveRoom}
-use Rattle.cl_record.specs.declared.wiring.Ends.{Ends}
-use Rattle.cl_run.specs.declared.driver.Driver.{Driver}
+use Rattle.cl_record.specs.Leaving.{HaveRoom, IsRecordOf}
+use Rattle.cl_record.specs.Seats.{AreAt, AreFresh, GoesOn, Station, station}
+use Rattle.cl_record.specs.declared.done.Done.{Done}
 use Rattle.cl_record.specs.declared.lists.Lists.{Lists}
-use Rattle.cl_run.specs.declared.driver.Seat.{Seat}
 use Rattle.cl_record.specs.declared.plans.Plan.{Plan}
 use Rattle.cl_record.specs.declared.records.Record.{Record}
-
--- what a driver keeps of one rank: its state, its events, its sides, the box that its last turn asked, the place of its
--- next hart in its plan, its budget, and its stop
-pub record Station : Type 0 where
-  pub rank : Rank
-  pub events : List Event
-  pub sides : Sides
-  pub asked : Option (ℕ × ℕ)
-  pub next : ℕ
-  pub budget : ℕ
-  pub stop : Option Stop
-
-abbrev pub station : Seat → Station
-station seat = record {
-  rank = (view_of seat.rank).rank;
-  events = (view_of seat.rank).events;
-  sides = (view_of seat.rank).sides;
-  asked = (view_of seat.rank).asked_box;
-  next = seat.next;
-  budget = seat.rank.budget;
-  stop = seat.stop;
-}
+use Rattle.cl_record.specs.declared.seats.Seat.{Seat}
+use Rattle.cl_run.specs.declared.driver.Driver.{Driver}
 
 abbrev pub stations : Driver → List Station
 stations driver = map station driver.seats.items
-
--- a running rank took a turn, of the hart that its plan names
-pub record TakesTurn (plan : Plan) (old : Station) (before : HubHistory) (new : Station) (after : HubHistory) : Type 0 where
-  pub deed : Deed
-  pub rank_is : deed.rank ≡ old.rank.site.number
-  pub hart_is : deed.hart ≡ slice_index plan.order.items old.next
-  pub moves : RankMoves old.rank deed new.rank
-  pub tells : Tells Answered before after deed
-  pub keys : KeysMove old.rank.site.version deed.stamp deed.act old.sides new.sides
-  pub asked_is : new.asked ≡ box_id_of deed.act
-  pub runs : ¬ (AllStopped old.rank)
-  pub turns_left : length old.events < old.budget
-  pub traced : new.events ≡ old.events ++ event_of deed ∷ []
-  pub next_is : new.next ≡ (old.next + 1) % length plan.order.items
-  pub budget_stays : new.budget ≡ old.budget
-  pub goes_on : new.stop ≡ None
-
--- a running rank takes no turn from now on, for a cause that held before a turn of the hart that its plan names
-pub record Stops (plan : Plan) (old : Station) (before : HubHistory) (new : Station) (after : HubHistory) : Type 0 where
-  pub hart : ℕ
-  pub hart_is : hart ≡ slice_index plan.order.items old.next
-  pub stop : Stop
-  pub holds : StopHolds Answered hart old.rank (length old.events) old.budget before after stop
-  pub hub_stays : after ≡ before
-  pub rank_stays : new.rank ≡ old.rank
-  pub events_stay : new.events ≡ old.events
-  pub sides_stay : new.sides ≡ old.sides
-  pub asked_stays : new.asked ≡ old.asked
-  pub next_stays : new.next ≡ old.next
-  pub budget_stays : new.budget ≡ old.budget
-  pub stops : new.stop ≡ Some stop
-
--- the seat's next hart is there, and so are all harts of its plan
-pub record IsSeated (plan : Plan) (seat : Seat) : Type 0 where
-  pub next_there : seat.next < length plan.order.items
-  pub harts_there : All (λ hart. hart < vec_len seat.rank.state.harts) plan.order.items
 
 -- rank number r has the keys of its links, over these channels; what its last turn asked is a box of a link
 pub record IsJoined (links : List Link) (channels : List ChannelView) (r : ℕ) (s : Station) : Type 0 where
@@ -114,8 +46,7 @@ pub record AreJoined (driver : Driver) : Type 0 where
 -- one seat for each plan
 pub record AreSeated (plans : List Plan) (driver : Driver) : Type 0 where
   pub one_each : length driver.seats.items ≡ length plans
-  pub each : (r : ℕ) (plan : Plan) (seat : Seat) → slice_get plans r ≡ Some plan
-      → slice_get driver.seats.items r ≡ Some seat → IsSeated plan seat
+  pub each : AreAt plans driver.seats.items
   pub joined : AreJoined driver
 
 -- the two keys of a box of a link agree
@@ -144,27 +75,23 @@ HaveKeys ss channels l link part =
 abbrev pub IsStoppedAt : List Station → ℕ → Type 0
 IsStoppedAt all r = (s : Station) × (stop : Stop) × (slice_get all r ≡ Some s) × (s.stop ≡ Some stop)
 
--- a running rank takes a turn or stops
-abbrev pub GoesOn : Plan → Station → HubHistory → Station → HubHistory → Type 0
-GoesOn plan old before new after = TakesTurn plan old before new after ⊎ Stops plan old before new after
-
 -- rank number r goes on, and no other; the keys of the box that it asked agree
-pub record OneGoes (plan : Plan) (r : ℕ) (old new : Driver) : Type 0 where
+pub record OneGoes (r : ℕ) (old new : Driver) : Type 0 where
   pub seat : Seat
   pub later : Seat
   pub there : slice_get old.seats.items r ≡ Some seat
   pub runs : seat.stop ≡ None
-  pub goes : GoesOn plan (station seat) old.hub (station later) new.hub
-  pub seated : IsSeated plan later
+  pub goes : GoesOn Answered seat.plan.now (station seat) old.hub (station later) new.hub
+  pub plan_stays : later.plan.now ≡ seat.plan.now
   pub channels : AreChannelsOf (station later).rank.site.version old.channels.items (station later).sides
   pub seats_are : new.seats.items ≡ slice_set old.seats.items r later
   pub channels_stay : new.channels.items ≡ old.channels.items
   pub agree : Agree old.hub.links (stations new) (station later).asked
 
 -- what one slot does to rank number r: nothing where it is stopped
-abbrev pub SlotGoes : Plan → ℕ → Driver → Driver → Bool → Type 0
-SlotGoes plan r old new false = (new ≡ old) × IsStoppedAt (stations old) r
-SlotGoes plan r old new true = OneGoes plan r old new
+abbrev pub SlotGoes : ℕ → Driver → Driver → Bool → Type 0
+SlotGoes r old new false = (new ≡ old) × IsStoppedAt (stations old) r
+SlotGoes r old new true = OneGoes r old new
 
 -- the turns that a rank has left, and one for its stop
 abbrev pub left_of : Station → ℕ
@@ -173,55 +100,29 @@ left_of s = (s.budget - length s.events) + (if is_some s.stop then 0 else 1)
 abbrev pub left : Driver → ℕ
 left driver = sum_by left_of (stations driver)
 
--- rank number r as it is loaded, with its plan's budget and its ends of the links, over these channels
-pub record IsFresh (image : ImageParts) (channels : List ChannelView) (r : ℕ) (plan : Plan) (seat : Seat) : Type 0 where
-  pub rank_is : rank_of seat.rank.state ≡ loaded image r
-  pub harts_are : vec_len seat.rank.state.harts ≡ image.harts
-  pub no_events : seat.rank.trace.events ≡ []
-  pub ends : AreNewEnds image.version image.links channels r (station seat).sides
-  pub asks_none : (station seat).asked ≡ None
-  pub budget_is : seat.rank.budget ≡ plan.budget
-  pub next_is : seat.next ≡ 0
-  pub runs : seat.stop ≡ None
+-- seats that are at their ends, one after another
+abbrev pub end_of : Seat → RankOfTurns × Option Stop
+end_of seat = (seat.rank, seat.stop)
 
--- each rank as it is loaded
-abbrev pub AreFresh : ImageParts → List Plan → List ChannelView → List Seat → Type 0
-AreFresh image plans channels seats =
-    (r : ℕ) (plan : Plan) (seat : Seat) → slice_get plans r ≡ Some plan → slice_get seats r ≡ Some seat
-    → IsFresh image channels r plan seat
+abbrev pub ended : Done → RankOfTurns × Option Stop
+ended done = (done.rank, Some done.stop)
 
--- a rank's ends of the links, as it leaves them
-abbrev pub ends_of : Seat → Ends
-ends_of seat = record { sends = seat.rank.sends; recvs = seat.rank.recvs }
+abbrev pub AreDone : List Seat → List Done → Type 0
+AreDone seats all = map end_of seats ≡ map ended all
 
--- what the channel of a link is left with, by the keys of its two sides
-pub record IsLinkLeft (driver : Driver) (link : ℕ) (l : Link) (left_behind : List Settled) : Type 0 where
-  pub from : Station
-  pub to : Station
-  pub from_there : slice_get (stations driver) l.from ≡ Some from
-  pub to_there : slice_get (stations driver) l.to ≡ Some to
-  pub sends : SendView
-  pub receives : RecvView
-  pub sends_are : side_of link from.sides.sends ≡ Some sends
-  pub receives_are : side_of link to.sides.recvs ≡ Some receives
-  pub is_left : IsLeft (box_words from.rank.site.version) sends.keys receives.keys left_behind
-
--- what a driver leaves, rank by rank and link by link
-pub record IsRecordOf (driver : Driver) (left_behind : Record) : Type 0 where
-  pub traces_are : left_behind.traces.items ≡ map (λ (seat : Seat). seat.rank.trace) driver.seats.items
-  pub ranks_are : left_behind.ranks.items ≡ map (λ (seat : Seat). seat.rank.state) driver.seats.items
-  pub stops_are : map Some left_behind.stops.items ≡ map (λ (seat : Seat). seat.stop) driver.seats.items
-  pub journal_is : left_behind.journal.items ≡ driver.hub.entries
-  pub boxes_count : length left_behind.boxes.items ≡ length driver.hub.links
-  pub boxes_are : (link : ℕ) (l : Link) → slice_get driver.hub.links link ≡ Some l
-      → (boxes : List Settled) × (slice_get left_behind.boxes.items link ≡ Some boxes) × IsLinkLeft driver link l boxes
+-- what a driver leaves: the record of its seats at their ends
+pub record IsLeftBy (driver : Driver) (left_behind : Record) : Type 0 where
+  pub all : List Done
+  pub done : AreDone driver.seats.items all
+  pub record_is : IsRecordOf driver.hub.links driver.channels.items driver.hub.entries all left_behind
 
 -- all ranks as they are loaded, a hub that was never called, and a new channel for each link
 pub record IsDriver (image : ImageParts) (plans : List Plan) (driver : Driver) : Type 0 where
   pub count_is : length driver.seats.items ≡ image.ranks
   pub ranks_are : map (λ (seat : Seat). rank_of seat.rank.state) driver.seats.items
       ≡ map (loaded image) (below image.ranks)
-  pub fresh : AreFresh image plans driver.channels.items driver.seats.items
+  pub plans_are : AreAt plans driver.seats.items
+  pub fresh : AreFresh image driver.channels.items driver.seats.items
   pub channels_are : length driver.channels.items ≡ length image.links
   pub few_links : length image.links ≤ 32
   pub joined : All (IsLink image.ranks) image.links

@@ -11,7 +11,8 @@ use Rattle.rv_image.specs.declared.images.Link.{Link}
 use Rattle.cl_state.specs.Rank.{site_of}
 use Rattle.cl_machine.specs.Boxes.{Box, box_number}
 use Rattle.cl_machine.specs.Cluster.{Cluster, IsRun, loaded_cluster}
-use Rattle.cl_run.specs.Driver.{IsStoppedAt, Station}
+use Rattle.cl_record.specs.Seats.{Station}
+use Rattle.cl_run.specs.Driver.{IsStoppedAt}
 use Rattle.cl_machine.specs.Journal.{journal_of}
 use Rattle.cl_machine.specs.Journal as cluster
 use Rattle.cl_machine.specs.Order.{of_rank}

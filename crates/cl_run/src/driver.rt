@@ -1,161 +1,122 @@
 //! The driver of a run on one thread.
 
-ghost use Rattle.std.specs.Prelude.{◌≡◌, ◌<◌, ◌+◌, ◌*◌, ◌%◌, ◌≤◌, ℕ, List, None, Some, All, IfOk, IsTrue, is_some};
-ghost use Rattle.std.specs.Prelude.{false, true};
-ghost use Rattle.std.specs.Prelude.{length, map, slice_get, slice_index, vec_len};
+ghost use Rattle.std.specs.Prelude.{◌≡◌, ◌<◌, ◌+◌, ◌*◌, ℕ, List, None, Some, All, IfOk, IsTrue, is_some};
+ghost use Rattle.std.specs.Prelude.{false, true, length, map, slice_get, slice_index, vec_len};
 ghost use Rattle.rv_image.specs.declared.images.ImageParts.{ImageParts};
 ghost use Rattle.rv_image.specs.Image.{IsLink};
-ghost use Rattle.part_channel.specs.Channels.{ChannelView};
-ghost use Rattle.cl_state.specs.Rank.{below, loaded};
-ghost use Rattle.cl_state.specs.Room.{rank_of};
-ghost use Rattle.cl_rank.specs.RankSides.{AreChannelsOf};
-ghost use Rattle.cl_run.specs.Driver.{Agree, AreFresh, AreJoined, AreSeated, GoesOn, HaveKeys};
-ghost use Rattle.cl_record.specs.Wiring.{AreAllNew};
-ghost use Rattle.cl_record.specs.Room.{HaveRoom};
-ghost use Rattle.cl_run.specs.Driver.{IsDriver};
-ghost use Rattle.cl_run.specs.Driver.{IsFresh, KeysAgree};
-ghost use Rattle.cl_run.specs.Driver.{IsRecordOf, IsSeated, IsStoppedAt, SlotGoes, Station, left, station, stations};
+ghost use Rattle.part_box.specs.declared.view.Receiving.{Receiving};
+ghost use Rattle.part_box.specs.declared.view.Sending.{Sending};
+ghost use Rattle.cl_rank.specs.RankSides.{AreChannelsOf, receiver_of, sender_of};
+ghost use Rattle.cl_rank.specs.Turning.{Answered};
+ghost use Rattle.cl_record.specs.BoxKeys.{AgreeOn};
+ghost use Rattle.cl_record.specs.Leaving.{HaveRoom};
+ghost use Rattle.cl_record.specs.Plans.{HasPlans};
+ghost use Rattle.cl_record.specs.Seats.{GoesOn, Station, station};
+ghost use Rattle.cl_record.specs.declared.plans.Plan.{Plan};
+ghost use Rattle.cl_run.specs.Driver.{Agree, AreJoined, AreSeated, HaveKeys, IsDriver, IsLeftBy, IsStoppedAt};
+ghost use Rattle.cl_run.specs.Driver.{KeysAgree, SlotGoes, left, stations};
 ghost use Rattle.cl_run.specs.UnderWay.{IsUnderWay};
-ghost use Rattle.cl_record.specs.Wiring.{AreNewEnds, sides_in};
-ghost use Rattle.cl_run.specs.declared.driver.Seat.{Seat};
 
 use cl_journal::Hub;
-use cl_rank::{BoxId, Rank, Stop, agree};
-use cl_record::{Ends, Lists, Plan, Record, Wiring, settle_all};
+use cl_rank::{BoxId, PlainDesk, agree};
+use cl_record::{Lists, Plan, Record, Seat, Wiring, load_seats};
 use part_channel::Channel;
 use rv_image::{Image, Link};
 use std::alloc::{AllocError, Global};
 
-/// What the driver keeps of one rank.
-#[derive(Drop)]
-pub(crate) struct Seat {
-    pub rank: Rank,
-    /// The place of the rank's next hart in its plan.
-    pub next: usize,
-    /// Why the rank takes no more turns.
-    pub stop: Option<Stop>,
-}
-
 /// All ranks, by their numbers, the hub, and the channels, by the numbers of their links.
 #[derive(Drop)]
-pub(crate) struct Driver {
-    pub seats: Vec<Seat>,
+pub(crate) struct Driver<'a> {
+    pub seats: Vec<Seat<'a>>,
     pub hub: Hub,
     pub channels: Vec<Channel>,
 }
 
-/// The place behind this one, where so many places are used round and round.
+/// A turn of a seat that is running, over the hub itself.
 #[inline(always)]
-fn place_after(place: usize, count: usize) -> usize
-    requires { place < count }
-    ensures place { result ≡ (place + 1) % count }
-    ensures there { result < count }
+fn turn(seat: &mut Seat, hub: &mut Hub, channels: &[Channel])
+    requires running { seat.old.stop ≡ None }
+    requires channels { AreChannelsOf (station seat.old).rank.site.version channels.now (station seat.old).sides }
+    ensures goes { GoesOn Answered seat.old.plan.now (station seat.old) hub.old (station seat.new) hub.new }
+    ensures plan { seat.new.plan.now ≡ seat.old.plan.now }
+    ensures channels { AreChannelsOf (station seat.new).rank.site.version channels.now (station seat.new).sides }
 {
-    let next = place + 1;
-    if next == count { 0 } else { next }
+    let mut desk = PlainDesk { hub };
+    seat.turn(&(), &mut desk, channels);
 }
 
-impl Seat {
-    /// A rank as it is loaded, with its plan's budget and its ends of the links.
-    fn load(
-        alloc: Global,
-        image: &Image,
-        rank: u8,
-        plan: &Plan,
-        ends: Ends,
-    ) -> Result<Seat, AllocError>
-        requires joined { All (IsLink image.now.ranks) image.now.links }
-        requires ends { (channels : List ChannelView)
-            × AreNewEnds image.now.version image.now.links channels rank (sides_in ends) }
-        ensures { IfOk result (λ seat. (channels : List ChannelView)
-            → AreNewEnds image.now.version image.now.links channels rank (sides_in ends)
-            → IsFresh image.now channels rank plan.now seat) }
-    {
-        let Ends { sends, recvs } = ends;
-        Ok(Seat {
-            rank: Rank::new(alloc, image, rank, plan.budget, sends, recvs)?,
-            next: 0,
-            stop: None,
-        })
-    }
-
-    /// The rank's next turn, by its plan. Where there is none the rank stops.
-    #[inline(always)]
-    fn turn(&mut self, hub: &mut Hub, channels: &[Channel], plan: &Plan)
-        requires seated { IsSeated plan.now self.old }
-        requires running { self.old.stop ≡ None }
-        requires channels { AreChannelsOf (station self.old).rank.site.version channels.now (station self.old).sides }
-        ensures goes { GoesOn plan.now (station self.old) hub.old (station self.new) hub.new }
-        ensures seated { IsSeated plan.now self.new }
-        ensures channels { AreChannelsOf (station self.new).rank.site.version channels.now (station self.new).sides }
-    {
-        let hart = plan.order[self.next];
-        match self.rank.turn_plain(hub, channels, hart) {
-            Ok(()) => {
-                self.next = place_after(self.next, plan.order.len());
-            }
-            Err(stop) => self.stop = Some(stop),
-        }
-    }
-}
-
-/// All ranks as they are loaded, by their numbers, with these ends of the links.
-fn load_seats(
-    alloc: Global,
-    image: &Image,
-    plans: &[Plan],
-    ends: Vec<Ends>,
-) -> Result<Vec<Seat>, AllocError>
-    requires plans { length plans.now ≡ image.now.ranks }
-    requires few { image.now.ranks ≤ 8 }
-    requires joined { All (IsLink image.now.ranks) image.now.links }
-    requires count { length ends.items ≡ image.now.ranks }
-    requires ends { (channels : List ChannelView) × AreAllNew image.now channels ends.items }
-    ensures count { IfOk result (λ seats. length seats.items ≡ image.now.ranks) }
-    ensures ranks { IfOk result (λ seats. map (λ seat. rank_of seat.rank.state) seats.items
-        ≡ map (loaded image.now) (below image.now.ranks)) }
-    ensures fresh { IfOk result (λ seats. (channels : List ChannelView) → AreAllNew image.now channels ends.items
-        → AreFresh image.now plans.now channels seats.items) }
+/// The two keys of a box, of its sender's seat and its receiver's, agree. Nothing changes.
+fn agree_of(from: &mut Seat, to: &mut Seat, channels: &[Channel], place: BoxId)
+    requires sender { AreChannelsOf (station from.old).rank.site.version channels.now (station from.old).sides }
+    requires receiver { AreChannelsOf (station to.old).rank.site.version channels.now (station to.old).sides }
+    requires sends { (s : Sending) × (sender_of (station from.old).sides place.link place.part ≡ Some s) }
+    requires receives { (r : Receiving) × (receiver_of (station to.old).sides place.link place.part ≡ Some r) }
+    ensures from { from.new ≡ from.old }
+    ensures to { to.new ≡ to.old }
+    ensures agreed { (s : Sending) (r : Receiving)
+        → sender_of (station from.old).sides place.link place.part ≡ Some s
+        → receiver_of (station to.old).sides place.link place.part ≡ Some r
+        → AgreeOn (station from.old).rank.site.version s r }
 {
-    let mut seats: Vec<Seat> = Vec::new(alloc);
-    for own in ends {
-        let rank = seats.len();
-        let seat = Seat::load(alloc, image, rank as u8, &plans[rank], own)?;
-        seats.push(seat)?;
-    }
-    Ok(seats)
+    agree(&mut from.rank, &mut to.rank, channels, place);
 }
 
-/// The two keys of a box, of seats that are the link's two, agree. Nothing changes.
-fn agree_on(seats: &mut [Seat], channels: &[Channel], link: Link, place: BoxId)
+/// What has a rank's keys, and can tell what those of a box know of each other.
+trait Sits {
+    ghost use Rattle.cl_record.specs.Seats.{Station};
+
+    // what contracts see of it
+    ghost seen: { Self → Station };
+
+    /// The two keys of a box, of its sender and its receiver, agree. Nothing changes.
+    fn agree_with(&mut self, receiver: &mut Self, channels: &[Channel], place: BoxId)
+        requires sender { AreChannelsOf (seen self.old).rank.site.version channels.now (seen self.old).sides }
+        requires receiver { AreChannelsOf (seen receiver.old).rank.site.version channels.now (seen receiver.old).sides }
+        requires sends { (s : Sending) × (sender_of (seen self.old).sides place.link place.part ≡ Some s) }
+        requires receives { (r : Receiving) × (receiver_of (seen receiver.old).sides place.link place.part ≡ Some r) }
+        ensures sender { self.new ≡ self.old }
+        ensures receiver { receiver.new ≡ receiver.old }
+        ensures agreed { (s : Sending) (r : Receiving)
+            → sender_of (seen self.old).sides place.link place.part ≡ Some s
+            → receiver_of (seen receiver.old).sides place.link place.part ≡ Some r
+            → AgreeOn (seen self.old).rank.site.version s r };
+}
+
+impl<'a> Sits for Seat<'a> {
+    ghost use Rattle.cl_record.specs.Seats.{station};
+
+    ghost seen = { station };
+
+    fn agree_with(&mut self, receiver: &mut Seat<'a>, channels: &[Channel], place: BoxId) {
+        agree_of(self, receiver, channels, place);
+    }
+}
+
+/// The two keys of a box, of those that sit at the link's two ranks, agree. Nothing changes.
+// generic, since of two parts of a list nothing is known once they are joined where its elements borrow, as seats do
+fn agree_on<S: Sits>(seats: &mut [S], channels: &[Channel], link: Link, place: BoxId)
     requires link { IsLink (length seats.old) link }
-    requires keys { HaveKeys (map station seats.old) channels.now link place.link place.part }
+    requires keys { HaveKeys (map S.seen seats.old) channels.now link place.link place.part }
     ensures same { seats.new ≡ seats.old }
-    ensures agree { KeysAgree (map station seats.old) link place.link place.part }
+    ensures agree { KeysAgree (map S.seen seats.old) link place.link place.part }
 {
     if link.from < link.to {
         let (low, high) = seats.split_at_mut(link.to as usize);
-        agree(
-            &mut low[link.from as usize].rank,
-            &mut high[0].rank,
-            channels,
-            place,
-        );
+        low[link.from as usize].agree_with(&mut high[0], channels, place);
     } else {
         let (low, high) = seats.split_at_mut(link.from as usize);
-        agree(
-            &mut high[0].rank,
-            &mut low[link.to as usize].rank,
-            channels,
-            place,
-        );
+        high[0].agree_with(&mut low[link.to as usize], channels, place);
     }
 }
 
-impl Driver {
+impl<'a> Driver<'a> {
     /// All ranks as they are loaded, a hub that was never called, and new channels.
-    pub(crate) fn load(alloc: Global, image: &Image, plans: &[Plan]) -> Result<Driver, AllocError>
-        requires { length plans.now ≡ image.now.ranks }
+    pub(crate) fn load(
+        alloc: Global,
+        image: &Image,
+        plans: &'a [Plan],
+    ) -> Result<Driver<'a>, AllocError>
+        requires { HasPlans image.now plans.now }
         ensures { IfOk result (IsDriver image.now plans.now) }
     {
         // whoever asks for the parts knows that each link joins two ranks
@@ -195,54 +156,55 @@ impl Driver {
 
     /// One slot of the order: a turn of this rank, unless it is stopped. Whether anything was done.
     #[inline(always)]
-    fn slot(&mut self, rank: u8, plan: &Plan) -> bool
+    fn slot(&mut self, rank: u8) -> bool
         requires there { rank < vec_len self.old.seats }
-        requires seated { (seat : Seat) → slice_get self.old.seats.items rank ≡ Some seat → IsSeated plan.now seat }
         requires joined { AreJoined self.old }
-        ensures { SlotGoes plan.now rank self.old self.new result }
+        ensures { SlotGoes rank self.old self.new result }
     {
         if self.seats[rank as usize].stop.is_some() {
             return false;
         }
         let channels = self.channels.as_slice();
-        self.seats[rank as usize].turn(&mut self.hub, channels, plan);
+        turn(&mut self.seats[rank as usize], &mut self.hub, channels);
         self.agree(rank);
         true
     }
 
     /// One round: each rank that the order names, in that order. Whether anything was done.
-    fn round(&mut self, plans: &[Plan], order: &[u8]) -> bool
-        requires seated { AreSeated plans.now self.old }
-        requires there { All (λ r. r < length plans.now) order.now }
-        ensures seated { AreSeated plans.now self.new }
-        ensures goes { (image : ImageParts) (k : ℕ)
-            → IsUnderWay image plans.now order.now (stations self.old) self.old.hub (k * length order.now)
-            → IsUnderWay image plans.now order.now (stations self.new) self.new.hub ((k + 1) * length order.now) }
+    fn round(&mut self, order: &[u8]) -> bool
+        requires joined { AreJoined self.old }
+        requires there { All (λ r. r < vec_len self.old.seats) order.now }
+        ensures seated { (plans : List Plan) → AreSeated plans self.old → AreSeated plans self.new }
+        ensures goes { (image : ImageParts) (plans : List Plan) (k : ℕ) → AreSeated plans self.old
+            → IsUnderWay image plans order.now (stations self.old) self.old.hub (k * length order.now)
+            → IsUnderWay image plans order.now (stations self.new) self.new.hub ((k + 1) * length order.now) }
+        ensures joined { AreJoined self.new }
+        ensures count { vec_len self.new.seats ≡ vec_len self.old.seats }
         ensures done { result ≡ false → (place : ℕ) → place < length order.now
             → IsStoppedAt (stations self.new) (slice_index order.now place) }
         ensures less { result ≡ true → left self.new < left self.old }
     {
         let mut moved = false;
         for rank in order {
-            let goes_on = self.slot(*rank, &plans[*rank as usize]);
+            let goes_on = self.slot(*rank);
             moved = moved || goes_on;
         }
         moved
     }
 
     /// Round by round, until each rank that the order names is stopped.
-    pub(crate) fn run(&mut self, plans: &[Plan], order: &[u8])
-        requires seated { AreSeated plans.now self.old }
-        requires there { All (λ r. r < length plans.now) order.now }
-        ensures goes { (image : ImageParts)
-            → IsUnderWay image plans.now order.now (stations self.old) self.old.hub 0
-            → (slot : ℕ) × IsUnderWay image plans.now order.now (stations self.new) self.new.hub slot }
+    pub(crate) fn run(&mut self, order: &[u8])
+        requires joined { AreJoined self.old }
+        requires there { All (λ r. r < vec_len self.old.seats) order.now }
+        ensures goes { (image : ImageParts) (plans : List Plan) → AreSeated plans self.old
+            → IsUnderWay image plans order.now (stations self.old) self.old.hub 0
+            → (slot : ℕ) × IsUnderWay image plans order.now (stations self.new) self.new.hub slot }
         ensures done { (place : ℕ) → place < length order.now
             → IsStoppedAt (stations self.new) (slice_index order.now place) }
-        ensures seated { AreSeated plans.now self.new }
+        ensures seated { (plans : List Plan) → AreSeated plans self.old → AreSeated plans self.new }
     {
         loop {
-            if !self.round(plans, order) {
+            if !self.round(order) {
                 return;
             }
         }
@@ -253,41 +215,17 @@ impl Driver {
         requires stopped { All (λ seat. IsTrue (is_some seat.stop)) self.seats.items }
         requires joined { AreJoined self }
         requires room { HaveRoom (length self.seats.items) (length self.hub.links) lists }
-        ensures { IsRecordOf self result }
+        ensures { IsLeftBy self.entry result }
     {
         let Driver {
             seats,
             hub,
             channels,
         } = self;
-        let Lists {
-            mut traces,
-            mut ranks,
-            mut stops,
-            mut ends,
-            boxes,
-        } = lists;
+        let mut lists = lists;
         for seat in seats {
-            let Seat {
-                rank,
-                next: _,
-                stop,
-            } = seat;
-            let (state, trace, sends, recvs) = rank.into_parts();
-            let Some(stop) = stop else { unreachable!() };
-            traces.push_reserved(trace);
-            ranks.push_reserved(state);
-            stops.push_reserved(stop);
-            ends.push_reserved(Ends { sends, recvs });
+            lists.add(seat.end());
         }
-        let boxes = settle_all(channels, hub.links(), ends, boxes);
-        let (_, journal) = hub.into_parts();
-        Record {
-            traces,
-            journal,
-            ranks,
-            stops,
-            boxes,
-        }
+        lists.close(hub, channels)
     }
 }

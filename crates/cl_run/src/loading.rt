@@ -3,7 +3,7 @@
 ghost use Rattle.std.specs.Prelude.{◌≡◌, ◌↔◌, ◌⊎◌, Err, IfErr, IfOk, length};
 ghost use Rattle.cl_arrival_laws.specs.Runs.{IsArrivedRun};
 ghost use Rattle.cl_run.specs.Driver.{IsLoaded};
-ghost use Rattle.cl_record.specs.Plans.{ArePlans};
+ghost use Rattle.cl_record.specs.Plans.{ArePlans, HasPlans};
 ghost use Rattle.cl_record.specs.Records.{IsMergedRun};
 ghost use Rattle.cl_run.specs.Runs.{IsOneRun};
 
@@ -23,7 +23,7 @@ pub struct Loaded<'a> {
     image: &'a Image,
     plans: &'a [Plan],
     order: &'a [u8],
-    driver: Driver,
+    driver: Driver<'a>,
     lists: Lists,
 }
 
@@ -40,8 +40,12 @@ impl<'a> Model for Loaded<'a> {
         × IsLoaded l.image.now l.plans.now l.driver l.lists };
 }
 
-fn load_all(alloc: Global, image: &Image, plans: &[Plan]) -> Result<(Driver, Lists), AllocError>
-    requires { length plans.now ≡ image.now.ranks }
+fn load_all<'a>(
+    alloc: Global,
+    image: &Image,
+    plans: &'a [Plan],
+) -> Result<(Driver<'a>, Lists), AllocError>
+    requires { HasPlans image.now plans.now }
     ensures { IfOk result (λ loaded. IsLoaded image.now plans.now loaded.0 loaded.1) }
 {
     let driver = Driver::load(alloc, image, plans)?;
@@ -90,14 +94,14 @@ impl<'a> Loaded<'a> {
     {
         let Loaded {
             image,
-            plans,
+            plans: _,
             order,
             mut driver,
             lists,
         } = self;
         // whoever asks for the parts knows that they are an image's
         let _parts = image.parts();
-        driver.run(plans, order);
+        driver.run(order);
         driver.into_record(lists)
     }
 }

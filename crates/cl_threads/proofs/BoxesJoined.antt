@@ -28,7 +28,8 @@ use Rattle.cl_record.specs.BoxKeys.{box_of, thing_of}
 use Rattle.cl_record.proofs.Leaves.{shows}
 use Rattle.cl_threads.specs.Runs.{ReceiverWent, SenderWent}
 use Rattle.cl_threads.proofs.BoxViews.{IsLoaded, receiver_tells, sender_tells, taken_as}
-use Rattle.cl_threads.proofs.Numbers.{at_front, from_map, to_map}
+use Rattle.cl_record.proofs.Elements.{from_map, to_map}
+use Rattle.cl_threads.proofs.Numbers.{at_front}
 
 module _ (version : ImageVersion) where
   -- the gate's stamp of a box with one thing more made than got, and of one with all got

@@ -19,21 +19,22 @@ use Rattle.cl_record.specs.declared.records.Record.{Record}
 use Rattle.cl_record.specs.declared.records.RunFault.{RunFault}
 use Rattle.cl_record.specs.declared.records.RunFault.TheVariants as fault
 use Rattle.cl_threads.proofs.Merged.{merged_run}
-use Rattle.cl_threads.proofs.Numbers.{from_map}
+use Rattle.cl_record.proofs.Elements.{from_map}
 use Rattle.cl_threads.proofs.RanksJoined.{AllWent, all_went}
 use Rattle.cl_threads.proofs.Together.{thread_run}
 use Rattle.cl_threads.specs.OnThreads.{AreDone}
-use Rattle.cl_threads.specs.Leaving.{AreOf, IsRecordOf, trace_of}
+use Rattle.cl_record.specs.Leaving.{IsRecordOf, trace_of}
+use Rattle.cl_threads.specs.Callers.{AreOf}
 use Rattle.cl_threads.specs.Loading.{IsCluster}
 use Rattle.cl_threads.specs.Refusals.{IsLeftUnlike, IsRefusal}
 use Rattle.cl_threads.specs.Runs.{IsThreadRun, IsTracedRank}
 use Rattle.cl_threads.specs.Ties.{AreTied, TellsUnlike, IsUnlikeLeft}
 use Rattle.cl_threads.specs.declared.loading.Cluster.{Cluster}
-use Rattle.cl_threads.specs.declared.turns.Done.{Done}
+use Rattle.cl_record.specs.declared.done.Done.{Done}
 
 pub gathered : (image : ImageParts) (plans : List Plan) (cluster : Cluster) (all : List Done) (hub : HubHistory)
     (r : Result Record RunFault) → HasPlans image plans → IsCluster image plans cluster
-    → AreDone cluster.channels.items plans cluster.ranks.items all
+    → AreDone cluster.channels.items cluster.seats.items all
     → OnOk r (hub.links ≡ image.links) → OnOk r (Replays hub)
     → IfOk r (IsRecordOf image.links cluster.channels.items hub.entries all)
     → IfOk r (λ left. AreTied left.journal.items left.traces.items)
@@ -51,9 +52,9 @@ merged_ok image plans (Err fault) is run = tt
 -- where nothing is gathered, what is told is of the first place that differs
 module _ (image : ImageParts) (plans : List Plan) (cluster : Cluster) (all : List Done) (hub : HubHistory)
     (planned : HasPlans image plans) (is : IsCluster image plans cluster)
-    (done : AreDone cluster.channels.items plans cluster.ranks.items all) where
+    (done : AreDone cluster.channels.items cluster.seats.items all) where
   ran : AllWent image cluster.channels.items plans all
-  ran = all_went cluster.channels.items image plans cluster.ranks.items all done is.count is.loaded
+  ran = all_went cluster.channels.items image plans cluster.seats.items all done is.count planned is.plans_are is.loaded
 
   went_at : (r : ℕ) (plan : Plan) (trace : TraceView) → slice_get plans r ≡ Some plan
       → slice_get (map trace_of all) r ≡ Some trace

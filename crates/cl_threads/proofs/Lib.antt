@@ -10,9 +10,7 @@ pub mod RanksJoined
 pub mod BoxesLeft
 pub mod Together
 pub mod Merged
-pub mod Counts
 pub mod Turning
-pub mod Passed
 pub mod Readied
 pub mod Settled
 pub mod Gathered

@@ -1,20 +1,9 @@
 -- On lists by number.
-use Rattle.std.specs.Prelude.{ℕ, zero, suc, ◌≡◌, ◌<◌, ◌≤◌, List, [], ◌∷◌, ◌++◌, length, map, replicate, slice_get}
-use Rattle.std.specs.Prelude.{Some, None, option_map}
+use Rattle.std.specs.Prelude.{ℕ, zero, suc, ◌≡◌, ◌<◌, ◌≤◌, List, [], ◌∷◌, ◌++◌, length, replicate, slice_get}
+use Rattle.std.specs.Prelude.{Some, None}
 use Rattle.std.proofs.Common.{refl, ap, ◌∙◌, arith}
 use Rattle.std.proofs.lemmas.List.{get_or-replicate, length-replicate}
-use Rattle.std.proofs.lemmas.Option.{same_Some, slice_get-get_or, slice_get-map, slice_get_past}
-
--- what stands at a number of what a function made of a list
-pub from_map : {X Y : Type 0} (f : X → Y) (xs : List X) (n : ℕ) (y : Y) → slice_get (map f xs) n ≡ Some y
-    → (x : X) × (slice_get xs n ≡ Some x) × (f x ≡ y)
-from_map f [] n y h = absurd (cc)
-from_map f (x ∷ xs) zero y h = (x, refl, same_Some (f x) y h)
-from_map f (x ∷ xs) (suc n) y h = from_map f xs n y h
-
-pub to_map : {X Y : Type 0} (f : X → Y) (xs : List X) (n : ℕ) (x : X) → slice_get xs n ≡ Some x
-    → slice_get (map f xs) n ≡ Some (f x)
-to_map f xs n x h = slice_get-map f xs n ∙ ap (option_map f) h
+use Rattle.std.proofs.lemmas.Option.{slice_get-get_or, slice_get_past}
 
 -- the first of two lists keeps its numbers
 pub at_front : {X : Type 0} (xs ys : List X) (n : ℕ) (x : X) → slice_get xs n ≡ Some x

@@ -1,69 +1,50 @@
 -- The sides that threads left may be settled.
-use Rattle.std.specs.Prelude.{ℕ, zero, suc, ◌≡◌, List, [], ◌∷◌, length, map, slice_get, Option, None, Some, All}
+use Rattle.std.specs.Prelude.{ℕ, zero, suc, ◌≡◌, List, [], ◌∷◌, length, map, slice_get, Some}
 use Rattle.std.proofs.Common.{refl, subst, arith}
-use Rattle.std.proofs.lemmas.Option.{get_or_from_slice_get, same_Some, slice_get_within}
+use Rattle.std.proofs.lemmas.Option.{same_Some, slice_get_within}
 use Rattle.rv_image.specs.declared.images.ImageParts.{ImageParts}
 use Rattle.rv_image.specs.declared.images.Link.{Link}
-use Rattle.rv_image.specs.Image.{IsLink}
-use Rattle.part_box.specs.declared.view.Receiving.{Receiving}
-use Rattle.part_box.specs.declared.view.Sending.{Sending}
 use Rattle.part_channel.specs.Channels.{ChannelView}
 use Rattle.part_channel.specs.Receiving.{RecvView}
 use Rattle.part_channel.specs.Sending.{SendView}
-use Rattle.cl_rank.specs.RankSides.{AreChannelsOf, HasReceiver, HasSender, receiver_key, sender_key, side_of}
+use Rattle.cl_rank.specs.RankSides.{AreChannelsOf, HasReceiver, HasSender, side_of}
 use Rattle.cl_rank.specs.Views.{view_of}
-use Rattle.cl_rank.specs.declared.ranks.Rank.{Rank}
-use Rattle.cl_record.proofs.Elements.{at_below}
+use Rattle.cl_record.proofs.BoxesLeft.{some_recvs, some_sends}
+use Rattle.cl_record.proofs.Elements.{at_below, link_at, to_map}
 use Rattle.cl_record.proofs.Wires.{new_keys}
 use Rattle.cl_record.specs.Settling.{MaySettle}
+use Rattle.cl_record.specs.Plans.{HasPlans}
 use Rattle.cl_record.specs.declared.plans.Plan.{Plan}
+use Rattle.cl_record.specs.declared.seats.Seat.{Seat}
 use Rattle.cl_threads.proofs.KeyRuns.{receiver_goes, sender_goes}
-use Rattle.cl_threads.proofs.Numbers.{to_map}
 use Rattle.cl_threads.proofs.RanksJoined.{AllWent, all_went}
 use Rattle.cl_threads.specs.OnThreads.{AreDone}
-use Rattle.cl_threads.specs.Leaving.{ends_of}
+use Rattle.cl_record.specs.Leaving.{ends_of}
 use Rattle.cl_threads.specs.Loading.{IsCluster}
 use Rattle.cl_threads.specs.declared.loading.Cluster.{Cluster}
-use Rattle.cl_threads.specs.declared.turns.Done.{Done}
-
--- a rank that has the key of a box of a link has a side of the link
-some_sends : (o : Option SendView) (part : ℕ) (s : Sending) → sender_key o part ≡ Some s → (x : SendView) × (o ≡ Some x)
-some_sends None part s e = absurd (cc)
-some_sends (Some x) part s e = (x, refl)
-
-some_recvs : (o : Option RecvView) (part : ℕ) (r : Receiving) → receiver_key o part ≡ Some r
-    → (x : RecvView) × (o ≡ Some x)
-some_recvs None part r e = absurd (cc)
-some_recvs (Some x) part r e = (x, refl)
-
-link_at : (n : ℕ) (links : List Link) (link : ℕ) (l : Link) → All (IsLink n) links → slice_get links link ≡ Some l
-    → IsLink n l
-link_at n links link l all at =
-    subst (IsLink n) (get_or_from_slice_get links link l l at) (all link l (slice_get_within links link l at))
+use Rattle.cl_record.specs.declared.done.Done.{Done}
 
 -- the sides that a thread left are over the channels
-over_at : (channels : List ChannelView) (plans : List Plan) (ranks : List Rank) (all : List Done)
-    → AreDone channels plans ranks all → (r : ℕ) (done : Done) → slice_get all r ≡ Some done
+over_at : (channels : List ChannelView) (seats : List Seat) (all : List Done) → AreDone channels seats all → (r : ℕ)
+    (done : Done) → slice_get all r ≡ Some done
     → AreChannelsOf (view_of done.rank).rank.site.version channels (view_of done.rank).sides
-over_at channels [] [] [] are r done at = absurd (cc)
-over_at channels (plan ∷ plans) (rank ∷ ranks) (d ∷ all) are zero done at =
+over_at channels [] [] are r done at = absurd (cc)
+over_at channels (seat ∷ seats) (d ∷ all) are zero done at =
     subst (λ (x : Done). AreChannelsOf (view_of x.rank).rank.site.version channels (view_of x.rank).sides)
     (same_Some d done at) are.0.over
-over_at channels (plan ∷ plans) (rank ∷ ranks) (d ∷ all) are (suc r) done at =
-    over_at channels plans ranks all are.1 r done at
-over_at channels [] [] (d ∷ all) are r done at = absurd are
-over_at channels [] (rank ∷ ranks) all are r done at = absurd are
-over_at channels (plan ∷ plans) [] all are r done at = absurd are
-over_at channels (plan ∷ plans) (rank ∷ ranks) [] are r done at = absurd are
+over_at channels (seat ∷ seats) (d ∷ all) are (suc r) done at = over_at channels seats all are.1 r done at
+over_at channels [] (d ∷ all) are r done at = absurd are
+over_at channels (seat ∷ seats) [] are r done at = absurd are
 
 module _ (image : ImageParts) (plans : List Plan) (cluster : Cluster) (all : List Done)
-    (is : IsCluster image plans cluster) (are : AreDone cluster.channels.items plans cluster.ranks.items all) where
+    (has : HasPlans image plans) (is : IsCluster image plans cluster)
+    (are : AreDone cluster.channels.items cluster.seats.items all) where
   channels : List ChannelView
   channels = cluster.channels.items
 
   ran : AllWent image channels plans all
   unfolding channels
-  ran = all_went cluster.channels.items image plans cluster.ranks.items all are is.count is.loaded
+  ran = all_went cluster.channels.items image plans cluster.seats.items all are is.count has is.plans_are is.loaded
 
   -- the side that a link's sender left, and the receiver's
   record SenderHas (link : ℕ) (l : Link) (channel : ChannelView) : Type 0 where
@@ -92,7 +73,7 @@ module _ (image : ImageParts) (plans : List Plan) (cluster : Cluster) (all : Lis
       let later = sender_goes image.version link 0 (ran.deeds l.from) went.first (view_of from.0.rank).sides key.0
       went.keys key.1 in
       let side = some_sends (side_of link from.0.rank.sends.items) 0 later.0 later.1 in
-      let over = over_at cluster.channels.items plans cluster.ranks.items all are l.from from.0 from.1 in
+      let over = over_at cluster.channels.items cluster.seats.items all are l.from from.0 from.1 in
       record {
         from = from.0;
         from_there = from.1;
@@ -113,7 +94,7 @@ module _ (image : ImageParts) (plans : List Plan) (cluster : Cluster) (all : Lis
       let later = receiver_goes image.version link 0 (ran.deeds l.to) went.first (view_of to.0.rank).sides key.0
       went.keys key.1 in
       let side = some_recvs (side_of link to.0.rank.recvs.items) 0 later.0 later.1 in
-      let over = over_at cluster.channels.items plans cluster.ranks.items all are l.to to.0 to.1 in
+      let over = over_at cluster.channels.items cluster.seats.items all are l.to to.0 to.1 in
       record {
         to = to.0;
         to_there = to.1;

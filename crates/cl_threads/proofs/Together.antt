@@ -1,6 +1,6 @@
 -- What ranks that went alone, a hub that has just their calls, and boxes that have what they made and took are together.
 use Rattle.std.specs.Prelude.{ℕ, ◌≡◌, ◌<◌, ◌*◌, ◌/◌, ◌%◌, List, [], length, map, replicate, slice_get}
-use Rattle.std.specs.Prelude.{Some, None}
+use Rattle.std.specs.Prelude.{Some, None, All}
 use Rattle.std.specs.List.{AllByRecursion, filter_map}
 use Rattle.std.proofs.Common.{refl, sym, ap, ◌∙◌, subst, arith, inl, inr}
 use Rattle.std.proofs.lemmas.Bool.{cases_lt}
@@ -8,6 +8,7 @@ use Rattle.std.proofs.lemmas.List.{length-map}
 use Rattle.std.proofs.lemmas.Option.{same_Some, slice_get_past}
 use Rattle.rv_image.specs.declared.images.ImageParts.{ImageParts}
 use Rattle.rv_image.specs.declared.images.Link.{Link}
+use Rattle.rv_image.specs.Image.{IsLink}
 use Rattle.part_box.specs.declared.settled.Settled.{Settled}
 use Rattle.part_channel.specs.Channels.{ChannelView}
 use Rattle.cl_journal.specs.Replaying.{Follows, HubHistory, Replays}
@@ -32,19 +33,20 @@ use Rattle.cl_record.specs.Plans.{HasPlans}
 use Rattle.cl_record.specs.declared.plans.Plan.{Plan}
 use Rattle.cl_record.specs.declared.records.Record.{Record}
 use Rattle.cl_stamp_laws.proofs.Ranks.{starts}
-use Rattle.cl_record.proofs.Elements.{at_below}
+use Rattle.cl_record.proofs.Elements.{at_below, from_map, to_map}
 use Rattle.cl_record.proofs.Leaves.{shows}
 use Rattle.cl_threads.specs.OnThreads.{AreDone}
-use Rattle.cl_threads.specs.Leaving.{AreOf, IsRecordOf}
+use Rattle.cl_record.specs.Leaving.{IsRecordOf}
+use Rattle.cl_threads.specs.Callers.{AreOf}
 use Rattle.cl_threads.specs.Loading.{IsCluster}
 use Rattle.cl_threads.specs.Runs.{IsBoxOf, IsTracedRank, IsThreadRun}
 use Rattle.cl_threads.specs.Ties.{AreTied}
 use Rattle.cl_threads.specs.declared.loading.Cluster.{Cluster}
-use Rattle.cl_threads.specs.declared.turns.Done.{Done}
+use Rattle.cl_record.specs.declared.done.Done.{Done}
 use Rattle.cl_threads.proofs.BoxesJoined.{box_joined}
 use Rattle.cl_threads.proofs.BoxesLeft.{BoxLeft, box_left}
 use Rattle.cl_threads.proofs.CallsJoined.{calls_joined, none_entered, replays_enters}
-use Rattle.cl_threads.proofs.Numbers.{Chosen, choose, from_map, none_replicated, replicated_at, to_map}
+use Rattle.cl_threads.proofs.Numbers.{Chosen, choose, none_replicated, replicated_at}
 use Rattle.cl_threads.proofs.RanksJoined.{AllWent, all_went, on_its_side}
 
 module _ (image : ImageParts) (channels : List ChannelView) (plans : List Plan) (all : List Done)
@@ -185,10 +187,10 @@ module _ (image : ImageParts) (channels : List ChannelView) (plans : List Plan) 
   -- ---- the whole
 
   module _ (left : Record) (entries : List Entry) (record_is : IsRecordOf image.links channels entries all left)
-      (one_each : length channels ≡ length image.links) where
+      (one_each : length channels ≡ length image.links) (links : All (IsLink image.ranks) image.links) where
     left_at : (link part : ℕ) (l : Link) → slice_get image.links link ≡ Some l → part < 16
         → BoxLeft image channels plans all ran left.boxes.items link part l
-    left_at = box_left image channels plans all ran left.boxes.items record_is.boxes_are one_each
+    left_at = box_left image channels plans all ran left.boxes.items record_is.boxes_are one_each links
 
     final : MachineCluster
     final = record {
@@ -271,12 +273,12 @@ module _ (image : ImageParts) (channels : List ChannelView) (plans : List Plan) 
 
 pub thread_run : (image : ImageParts) (plans : List Plan) (cluster : Cluster) (all : List Done) (hub : HubHistory)
     (left : Record) → HasPlans image plans → IsCluster image plans cluster
-    → AreDone cluster.channels.items plans cluster.ranks.items all
+    → AreDone cluster.channels.items cluster.seats.items all
     → hub.links ≡ image.links → Replays hub
     → IsRecordOf image.links cluster.channels.items hub.entries all left
     → AreTied left.journal.items left.traces.items → AreOf image.ranks left.journal.items
     → IsThreadRun image plans left
 thread_run image plans cluster all hub left planned is done links replays record_is tied of =
     together image cluster.channels.items plans all
-    (all_went cluster.channels.items image plans cluster.ranks.items all done is.count is.loaded)
-    left hub.entries record_is is.one_each planned (subst (λ ls. Follows ls [] 0 hub.entries) links replays) tied of
+    (all_went cluster.channels.items image plans cluster.seats.items all done is.count planned is.plans_are is.loaded)
+    left hub.entries record_is is.one_each is.joined planned (subst (λ ls. Follows ls [] 0 hub.entries) links replays) tied of

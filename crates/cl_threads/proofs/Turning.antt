@@ -1,8 +1,9 @@
 -- What a rank's turns so far are, and why it stops.
-use Rattle.std.specs.Prelude.{ℕ, ◌≡◌, ◌<◌, ◌≤◌, ◌+◌, ◌%◌, ◌⊎◌, List, [], ◌∷◌, ◌++◌, length, map, slice_get, Some}
+use Rattle.std.specs.Prelude.{ℕ, ◌≡◌, ◌≤◌, ◌+◌, ◌%◌, ◌⊎◌, List, [], ◌∷◌, ◌++◌, length, map, slice_get, slice_index, Some}
+use Rattle.std.specs.Prelude.{None, IsTrue, is_some}
 use Rattle.std.specs.List.{AllByRecursion}
 use Rattle.std.proofs.Common.{refl, sym, ap, ◌∙◌, subst, arith}
-use Rattle.std.proofs.Math.Nat.{mod-add-mod, mod-eq_of_lt, mod_self}
+use Rattle.std.proofs.Math.Nat.{mod-add-mod}
 use Rattle.std.proofs.lemmas.List.{length-append, map-append}
 use mathlib.Core.Logic.{inl, inr}
 use Rattle.cl_journal.specs.declared.journal.HubFault.{HubFault}
@@ -17,12 +18,15 @@ use Rattle.cl_rank.specs.Deeds.{Deed, PartRun, RankMoves, answer_of, event_of}
 use Rattle.cl_rank.specs.Alone.{IsAlone}
 use Rattle.cl_rank.specs.RankSides.{KeysMove, Sides}
 use Rattle.cl_rank.specs.Turns.{IsActive}
-use Rattle.cl_rank.specs.Turning.{DeskRule, IsCause, IsFault, IsTurn, RankView, stop_of}
+use Rattle.cl_rank.specs.Turning.{DeskRule, IsCause, IsFault, RankView, stop_of}
+use Rattle.cl_rank.specs.Views.{view_of}
 use Rattle.cl_rank.specs.declared.stops.Stop.{Stop}
 use Rattle.cl_record.proofs.Elements.{last_or_before}
 use Rattle.cl_record.specs.Plans.{in_slot}
 use Rattle.cl_record.specs.Records.{AsksHub, FollowsPlan, HasTurn}
+use Rattle.cl_record.specs.Seats.{GoesOn, Station, Stops, TakesTurn, station}
 use Rattle.cl_record.specs.declared.plans.Plan.{Plan}
+use Rattle.cl_record.specs.declared.seats.Seat.{Seat}
 use Rattle.cl_threads.specs.Alone.{StopsFor}
 use Rattle.cl_threads.specs.OnThreads.{KeysGo, WentBy}
 
@@ -36,17 +40,8 @@ all_more : {X : Type 0} (P : X → Type 0) (xs : List X) (x : X) → AllByRecurs
 all_more P [] x all this = (this, tt)
 all_more P (y ∷ xs) x all this = (all.0, all_more P xs x all.1 this)
 
--- the place behind one, where so many are used round and round
-pub next_place : (turns count next : ℕ) → next ≡ turns % count → next + 1 < count → next + 1 ≡ (turns + 1) % count
-next_place turns count next is below =
-    sym (mod-eq_of_lt below) ∙ ap (λ n. (n + 1) % count) is ∙ mod-add-mod turns count 1
-
-pub first_place : (turns count next : ℕ) → next ≡ turns % count → next + 1 ≡ count → 0 ≡ (turns + 1) % count
-first_place turns count next is end =
-    sym (mod_self count) ∙ ap (λ n. n % count) (sym end) ∙ ap (λ n. (n + 1) % count) is ∙ mod-add-mod turns count 1
-
 -- what a rank did so far: it takes its turns by its plan, and nobody but its own keys knows more of what it met
-pub record WentSoFar (plan : Plan) (old now : RankView) (deeds : List Deed) : Type 0 where
+pub record WentSoFar (plan : Plan) (old : RankView) (now : Station) (deeds : List Deed) : Type 0 where
   pub site : now.rank.site ≡ old.rank.site
   pub own : AllByRecursion (λ (d : Deed). d.rank ≡ old.rank.site.number) deeds
   pub alone : IsAlone old.rank deeds now.rank
@@ -55,8 +50,9 @@ pub record WentSoFar (plan : Plan) (old now : RankView) (deeds : List Deed) : Ty
   pub follows_plan : FollowsPlan plan now.events
   pub in_budget : length now.events ≤ plan.budget
 
-pub no_turns_yet : (plan : Plan) (old : RankView) → old.events ≡ [] → WentSoFar plan old old []
-no_turns_yet plan old none = record {
+pub no_turns_yet : (plan : Plan) (seat : Seat) → seat.rank.trace.events ≡ []
+    → WentSoFar plan (view_of seat.rank) (station seat) []
+no_turns_yet plan seat none = record {
   site = refl;
   own = tt;
   alone = refl;
@@ -66,29 +62,38 @@ no_turns_yet plan old none = record {
   in_budget = subst (λ (es : List Event). length es ≤ plan.budget) (sym none) (omega arith);
 }
 
--- one turn more, of the hart that the plan names
-module _ {D : Type 0} (gives : DeskRule D) (plan : Plan) (old now new : RankView) (desk left : D) (deeds : List Deed) (hart budget : ℕ)
-    (so : WentSoFar plan old now deeds) (turn : IsTurn gives hart now new desk left) (is : hart ≡ in_slot plan.order.items (length now.events))
-    (active : IsActive now.rank (length now.events) budget) (budget_is : budget ≡ plan.budget) where
+-- one turn more, at the place in the plan that the rank's turns came to
+module _ {D : Type 0} (gives : DeskRule D) (plan : Plan) (old : RankView) (now new : Station) (desk left : D)
+    (deeds : List Deed) (so : WentSoFar plan old now deeds) (place : now.next ≡ length now.events % length plan.order.items)
+    (turn : TakesTurn gives plan now desk new left) where
   pub longer : length new.events ≡ length now.events + 1
-  longer = ap (λ (es : List Event). length es) turn.event ∙ length-append now.events (event_of turn.deed ∷ [])
+  longer = ap (λ (es : List Event). length es) turn.traced ∙ length-append now.events (event_of turn.deed ∷ [])
 
-  pub one_more_turn : WentSoFar plan old new (deeds ++ turn.deed ∷ [])
-  one_more_turn = record {
+  pub next_place : new.next ≡ length new.events % length plan.order.items
+  next_place =
+      turn.next_is
+      ∙ ap (λ n. (n + 1) % length plan.order.items) place
+      ∙ mod-add-mod (length now.events) (length plan.order.items) 1
+      ∙ ap (λ n. n % length plan.order.items) (sym longer)
+
+  pub one_more_turn : now.budget ≡ plan.budget → WentSoFar plan old new (deeds ++ turn.deed ∷ [])
+  one_more_turn budget_is = record {
     site = ap (λ (x : Rank). x.site) turn.moves.4
         ∙ (told_at now.rank turn.deed.hart (answer_of turn.deed.act) turn.deed.stamp).site ∙ so.site;
     own = all_more (λ (d : Deed). d.rank ≡ old.rank.site.number) deeds turn.deed so.own
-        (turn.rank ∙ ap (λ s. s.number) so.site);
+        (turn.rank_is ∙ ap (λ s. s.number) so.site);
     alone = part_run_more RankMoves old.rank now.rank new.rank deeds turn.deed so.alone turn.moves;
-    traced = turn.event ∙ ap (λ es. es ++ event_of turn.deed ∷ []) so.traced ∙ sym (map-append event_of deeds (turn.deed ∷ []));
+    traced = turn.traced ∙ ap (λ es. es ++ event_of turn.deed ∷ []) so.traced
+        ∙ sym (map-append event_of deeds (turn.deed ∷ []));
     keys = part_run_more (λ (a : Sides) (d : Deed) (b : Sides). KeysMove old.rank.site.version d.stamp d.act a b)
         old.sides now.sides new.sides deeds turn.deed so.keys
         (subst (λ v. KeysMove v turn.deed.stamp turn.deed.act now.sides new.sides) (ap (λ s. s.version) so.site) turn.keys);
-    follows_plan = λ n e at. elim (last_or_before now.events (event_of turn.deed) e n (subst (λ es. slice_get es n ≡ Some e) turn.event at)) [
+    follows_plan = λ n e at. elim (last_or_before now.events (event_of turn.deed) e n (subst (λ es. slice_get es n ≡ Some e) turn.traced at)) [
       | inl before ↦ so.follows_plan n e before
-      | inr last ↦ ap (λ (x : Event). x.hart) (sym last.1) ∙ turn.by ∙ is ∙ ap (in_slot plan.order.items) (sym last.0)
+      | inr last ↦ ap (λ (x : Event). x.hart) (sym last.1) ∙ turn.hart_is ∙ ap (slice_index plan.order.items) place
+          ∙ ap (in_slot plan.order.items) (sym last.0)
     ];
-    in_budget = omega (arith, active.left, budget_is, longer);
+    in_budget = omega (arith, turn.turns_left, budget_is, longer);
   }
 
 -- no turn more, of the hart that the plan names
@@ -127,14 +132,36 @@ module _ (plan : Plan) (rank : Rank) (events : List Event) (hart budget : ℕ)
   ]
 
 -- it stopped as it was
-pub went_by : (plan : Plan) (old now new : RankView) (deeds : List Deed) (stop : Stop) → WentSoFar plan old now deeds
-    → new ≡ now → StopsFor plan now.rank now.events stop → WentBy plan old new stop deeds
-went_by plan old now new deeds stop so same stops = subst (λ v. WentBy plan old v stop deeds) (sym same) (record {
-  own = so.own;
-  alone = so.alone;
-  traced = so.traced;
-  keys = so.keys;
-  follows_plan = so.follows_plan;
-  in_budget = so.in_budget;
-  stops = stops;
-})
+pub went_by : {D : Type 0} (gives : DeskRule D) (plan : Plan) (old : RankView) (now : Station) (seat : Seat) (desk left : D)
+    (deeds : List Deed) → WentSoFar plan old now deeds → now.next ≡ length now.events % length plan.order.items
+    → now.budget ≡ plan.budget → (h : Stops gives plan now desk (station seat) left)
+    → WentBy plan old (view_of seat.rank) h.stop deeds
+went_by gives plan old now seat desk left deeds so place budget_is h =
+    let hart : h.hart ≡ in_slot plan.order.items (length now.events) =
+    h.hart_is ∙ ap (slice_index plan.order.items) place in
+    let stops = stops_for plan now.rank now.events h.hart now.budget hart budget_is _ _ h.stop h.holds in
+    record {
+      own = so.own;
+      alone = subst (IsAlone old.rank deeds) (sym h.rank_stays) so.alone;
+      traced = h.events_stay ∙ so.traced;
+      keys = subst (KeysGo old.rank.site.version old.sides deeds) (sym h.sides_stay) so.keys;
+      follows_plan = subst (FollowsPlan plan) (sym h.events_stay) so.follows_plan;
+      in_budget = subst (λ (es : List Event). length es ≤ plan.budget) (sym h.events_stay) so.in_budget;
+      stops = subst (λ x. StopsFor plan x (station seat).events h.stop) (sym h.rank_stays)
+          (subst (λ es. StopsFor plan now.rank es h.stop) (sym h.events_stay) stops);
+    }
+
+-- whether a seat took a turn or stopped is told by its stop; its plan is the one that it had
+module _ {D : Type 0} (gives : DeskRule D) (plan kept : Plan) (now new : Station) (desk left : D) (same : plan ≡ kept)
+    (goes : GoesOn gives plan now desk new left) where
+  pub turned_by : new.stop ≡ None → TakesTurn gives kept now desk new left
+  turned_by on = subst (λ p. TakesTurn gives p now desk new left) same (elim goes [
+    | inl turn ↦ turn
+    | inr stops ↦ (let both : None ≡ Some stops.stop = sym on ∙ stops.stops in absurd (cc))
+  ])
+
+  pub stopped_by : IsTrue (is_some new.stop) → Stops gives kept now desk new left
+  stopped_by end = subst (λ p. Stops gives p now desk new left) same (elim goes [
+    | inl turn ↦ (let none = ap is_some turn.goes_on in absurd (cc))
+    | inr stops ↦ stops
+  ])

@@ -1,10 +1,10 @@
 pub mod Alone
 pub mod OnThreads
 pub mod Loading
-pub mod Leaving
 pub mod Pacing
 pub mod PacingRows
 pub mod Ties
+pub mod Callers
 pub mod Worked
 pub mod Runs
 pub mod Refusals

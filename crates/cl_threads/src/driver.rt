@@ -5,10 +5,9 @@ ghost use Rattle.std.specs.VecDeque.{deque_capacity};
 ghost use Rattle.cl_threads.specs.OnThreads.{AreDone, AreReady, IsDone, IsReady};
 
 use crate::gates::{Gate, Passage};
-use crate::turns::{Done, run_rank};
+use crate::turns::run_rank;
 use cl_journal::Hub;
-use cl_rank::Rank;
-use cl_record::Plan;
+use cl_record::{Done, Seat};
 use part_channel::Channel;
 use std::alloc::{AllocError, Global};
 use std::collections::VecDeque;
@@ -23,16 +22,15 @@ pub(crate) struct NoThread;
 
 /// What the thread of a rank promises: the rank comes back as it went by itself.
 #[derive(Drop)]
-struct GoesAlone<'a> {
+struct GoesAlone<'a, 'p> {
     channels: &'a [Channel],
-    plan: &'a Plan,
-    rank: Snapshot<Rank>,
+    seat: Snapshot<Seat<'p>>,
 }
 
-impl<'a> Promise<Done> for GoesAlone<'a> {
+impl<'a, 'p> Promise<Done> for GoesAlone<'a, 'p> {
     ghost use Rattle.cl_threads.specs.OnThreads.{IsDone};
 
-    ghost kept_by = { λ p done. IsDone p.channels.now p.plan.now p.rank.value done };
+    ghost kept_by = { λ p done. IsDone p.channels.now p.seat.value done };
 }
 
 /// The ranks' ways past the gate, by their numbers. Whoever drops one passes `End` for its rank.
@@ -52,46 +50,40 @@ pub(crate) fn passages<'g, G: Gate>(
 
 /// Starts the first of these ranks, does the ranks above it, and joins it. Where a thread is refused, the gate is
 /// passed at once by the ranks that weren't started, and the others are joined.
-fn run_from<'s, E, R: Threads + Wait + Sync, G: Gate + Send + Drop + 's>(
+fn run_from<'s, 'p: 's, E, R: Threads + Wait + Sync, G: Gate + Send + Drop + 's>(
     scope: &Scope<'s, E>,
     rt: &'s R,
     hub: &'s Mutex<Hub>,
     channels: &'s [Channel],
-    plans: &'s [Plan],
     mut passages: VecDeque<Passage<G>>,
-    mut ranks: VecDeque<Rank>,
+    mut seats: VecDeque<Seat<'p>>,
     done: VecDeque<Done>,
 ) -> Result<VecDeque<Done>, NoThread>
-    requires ready { AreReady channels.now plans.now ranks.items }
-    requires passages { length passages.items ≡ length plans.now }
+    requires ready { AreReady channels.now seats.items }
+    requires passages { length passages.items ≡ length seats.items }
     requires empty { done.items ≡ [] }
-    requires room { length plans.now ≤ deque_capacity done }
-    ensures done { IfOk result (λ all. AreDone channels.now plans.now ranks.items all.items) }
+    requires room { length seats.items ≤ deque_capacity done }
+    ensures done { IfOk result (λ all. AreDone channels.now seats.entry.items all.items) }
     ensures room { IfOk result (λ all. deque_capacity all ≡ deque_capacity done) }
 {
-    let (Some((plan, above)), Some(passage), Some(rank)) = (
-        plans.split_first(),
-        passages.pop_front(),
-        ranks.pop_front(),
-    ) else {
+    let (Some(passage), Some(seat)) = (passages.pop_front(), seats.pop_front()) else {
         return Ok(done);
     };
     let promise = GoesAlone {
         channels,
-        plan,
-        rank: Snapshot::of(&rank),
+        seat: Snapshot::of(&seat),
     };
     let started = scope.spawn_with(
         promise,
         move || -> Done
-            requires { IsReady channels.now plan.now rank }
-            ensures { IsDone channels.entry.now plan.entry.now rank result }
-        { run_rank(rt, hub, channels, plan, passage, rank) },
+            requires { IsReady channels.now seat }
+            ensures { IsDone channels.entry.now seat.entry result }
+        { run_rank(rt, hub, channels, passage, seat) },
     );
     match started {
         Err(_refused) => Err(NoThread),
         Ok(thread) => {
-            let others = run_from(scope, rt, hub, channels, above, passages, ranks, done);
+            let others = run_from(scope, rt, hub, channels, passages, seats, done);
             let first = thread.join(rt);
             let mut all = others?;
             all.push_front_reserved(first);
@@ -101,28 +93,27 @@ fn run_from<'s, E, R: Threads + Wait + Sync, G: Gate + Send + Drop + 's>(
 }
 
 /// All ranks, each on a thread of its own, from their first turns to their stops.
-pub(crate) fn run_all<'e, R: Threads + Wait + Sync, G: Gate + Send + Drop + 'e>(
+pub(crate) fn run_all<'e, 'p: 'e, R: Threads + Wait + Sync, G: Gate + Send + Drop + 'e>(
     rt: &'e R,
     hub: &'e Mutex<Hub>,
     channels: &'e [Channel],
-    plans: &'e [Plan],
     passages: VecDeque<Passage<G>>,
-    ranks: VecDeque<Rank>,
+    seats: VecDeque<Seat<'p>>,
     done: VecDeque<Done>,
 ) -> Result<VecDeque<Done>, NoThread>
-    requires ready { AreReady channels.now plans.now ranks.items }
-    requires passages { length passages.items ≡ length plans.now }
+    requires ready { AreReady channels.now seats.items }
+    requires passages { length passages.items ≡ length seats.items }
     requires empty { done.items ≡ [] }
-    requires room { length plans.now ≤ deque_capacity done }
-    ensures done { IfOk result (λ all. AreDone channels.now plans.now ranks.items all.items) }
+    requires room { length seats.items ≤ deque_capacity done }
+    ensures done { IfOk result (λ all. AreDone channels.now seats.entry.items all.items) }
 {
     thread::scope(
         thread::scope_env::<'e>(),
         rt,
         move |scope| -> Result<VecDeque<Done>, NoThread>
-            requires { AreReady channels.now plans.now ranks.items × (length passages.items ≡ length plans.now)
-                × (done.items ≡ []) × (length plans.now ≤ deque_capacity done) }
-            ensures { IfOk result (λ all. AreDone channels.entry.now plans.entry.now ranks.items all.items) }
-        { run_from(scope, rt, hub, channels, plans, passages, ranks, done) },
+            requires { AreReady channels.now seats.items × (length passages.items ≡ length seats.items)
+                × (done.items ≡ []) × (length seats.items ≤ deque_capacity done) }
+            ensures { IfOk result (λ all. AreDone channels.entry.now seats.entry.items all.items) }
+        { run_from(scope, rt, hub, channels, passages, seats, done) },
     )
 }

@@ -1,13 +1,11 @@
 //! What threads leave behind, as a record.
 
-ghost use Rattle.std.specs.Prelude.{◌≡◌, length, map};
-ghost use Rattle.cl_record.specs.Room.{HaveRoom};
+ghost use Rattle.std.specs.Prelude.{length, map};
+ghost use Rattle.cl_record.specs.Leaving.{HaveRoom, IsRecordOf, ends_of};
 ghost use Rattle.cl_record.specs.Settling.{MaySettle};
-ghost use Rattle.cl_threads.specs.Leaving.{IsRecordOf, ends_of};
 
-use crate::turns::Done;
 use cl_journal::Hub;
-use cl_record::{Ends, Lists, Record, settle_all};
+use cl_record::{Done, Lists, Record};
 use part_channel::Channel;
 use std::collections::VecDeque;
 
@@ -17,28 +15,9 @@ pub(crate) fn leave(channels: Vec<Channel>, hub: Hub, done: VecDeque<Done>, list
     requires room { HaveRoom (length done.items) (length hub.links) lists }
     ensures { IsRecordOf hub.links channels.items hub.entries done.items result }
 {
-    let Lists {
-        mut traces,
-        mut ranks,
-        mut stops,
-        mut ends,
-        boxes,
-    } = lists;
+    let mut lists = lists;
     for one in done {
-        let Done { rank, stop } = one;
-        let (state, trace, sends, recvs) = rank.into_parts();
-        traces.push_reserved(trace);
-        ranks.push_reserved(state);
-        stops.push_reserved(stop);
-        ends.push_reserved(Ends { sends, recvs });
+        lists.add(one);
     }
-    let boxes = settle_all(channels, hub.links(), ends, boxes);
-    let (_, journal) = hub.into_parts();
-    Record {
-        traces,
-        journal,
-        ranks,
-        stops,
-        boxes,
-    }
+    lists.close(hub, channels)
 }

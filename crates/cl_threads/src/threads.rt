@@ -5,12 +5,12 @@ ghost use Rattle.cl_arrival_laws.specs.Runs.{IsArrivedRun};
 ghost use Rattle.cl_journal.specs.Replaying.{Replays};
 ghost use Rattle.cl_record.specs.Plans.{HasPlans};
 ghost use Rattle.cl_record.specs.Records.{IsMergedRun};
-ghost use Rattle.cl_record.specs.Room.{HaveRoom};
 ghost use Rattle.cl_record.specs.Settling.{MaySettle};
-ghost use Rattle.cl_threads.specs.Leaving.{AreOf, IsRecordOf, ends_of, trace_of};
+ghost use Rattle.cl_record.specs.Leaving.{HaveRoom, IsRecordOf, ends_of, trace_of};
 ghost use Rattle.cl_threads.specs.Loading.{IsCluster};
 ghost use Rattle.cl_threads.specs.Refusals.{IsRefusal};
 ghost use Rattle.cl_threads.specs.Runs.{IsThreadRun};
+ghost use Rattle.cl_threads.specs.Callers.{AreOf};
 ghost use Rattle.cl_threads.specs.Ties.{AreTied, IsUnlikeLeft};
 
 use crate::driver::{passages, run_all};
@@ -18,9 +18,8 @@ use crate::gates::{Gate, Passage};
 use crate::leaving::leave;
 use crate::loading::Cluster;
 use crate::ties::{are_same_links, compare};
-use crate::turns::Done;
 use cl_journal::Hub;
-use cl_record::{Lists, Plan, Record, RunFault, has_plans};
+use cl_record::{Done, Lists, Plan, Record, RunFault, has_plans};
 use part_channel::Channel;
 use rv_image::Image;
 use std::alloc::Global;
@@ -78,14 +77,14 @@ fn run_cluster<R: Threads + Wait + Sync, G: Gate>(
     // whoever asks for the parts knows that there are 8 ranks at most
     let _parts = image.parts();
     let Cluster {
-        ranks,
+        seats,
         hub,
         channels,
         done,
         lists,
     } = cluster;
     let hub = Mutex::new(hub);
-    let Ok(done) = run_all(rt, &hub, channels.as_slice(), plans, passages, ranks, done) else {
+    let Ok(done) = run_all(rt, &hub, channels.as_slice(), passages, seats, done) else {
         return Err(RunFault::Spawn);
     };
     gather(image, channels, hub.into_inner(), done, lists)

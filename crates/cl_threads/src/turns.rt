@@ -1,56 +1,44 @@
 //! All turns of a rank, on its own thread.
 
-ghost use Rattle.std.specs.Prelude.{List};
+ghost use Rattle.std.specs.Prelude.{◌≡◌, List, Some};
 ghost use Rattle.cl_rank.specs.Deeds.{Deed};
 ghost use Rattle.cl_rank.specs.RankSides.{AreChannelsOf};
 ghost use Rattle.cl_rank.specs.Views.{view_of};
+ghost use Rattle.cl_rank.specs.declared.stops.Stop.{Stop};
 ghost use Rattle.cl_threads.specs.OnThreads.{IsDone, IsReady, WentBy};
 
 use crate::gates::{Gate, Passage};
 use crate::rests::RestingDesk;
 use cl_journal::Hub;
-use cl_rank::{Rank, Stop};
-use cl_record::Plan;
+use cl_record::{Done, Seat};
 use part_channel::Channel;
 use std::sync::{Mutex, Wait};
 
-/// A rank that takes no turn any more, and why.
-#[derive(Drop)]
-pub(crate) struct Done {
-    pub rank: Rank,
-    pub stop: Stop,
-}
-
-/// Takes turns of the rank by its plan, until it has none. Its calls of the hub go through the lock, with a rest
-/// behind one in vain, and its steps on boxes to their channels.
+/// Takes turns of the seat, until it has none. Its calls of the hub go through the lock, with a rest behind one in vain,
+/// and its steps on boxes to their channels.
 fn take_turns<R: Wait, G: Gate + Drop>(
     rt: &R,
     hub: &Mutex<Hub>,
     channels: &[Channel],
-    plan: &Plan,
     passage: &Passage<G>,
-    rank: &mut Rank,
-) -> Stop
-    requires { IsReady channels.now plan.now rank.old }
-    ensures went { (deeds : List Deed) × WentBy plan.now (view_of rank.old) (view_of rank.new) result deeds }
-    ensures over { AreChannelsOf (view_of rank.new).rank.site.version channels.now (view_of rank.new).sides }
+    seat: &mut Seat,
+)
+    requires { IsReady channels.now seat.old }
+    ensures went { (deeds : List Deed) × (stop : Stop) × (seat.new.stop ≡ Some stop)
+        × WentBy seat.old.plan.now (view_of seat.old.rank) (view_of seat.new.rank) stop deeds }
+    ensures over { AreChannelsOf (view_of seat.new.rank).rank.site.version channels.now (view_of seat.new.rank).sides }
 {
     let mut desk = RestingDesk::new(hub);
-    let mut next = 0;
     let mut number: u64 = 0;
     loop {
-        passage.turn(number);
-        number = number.wrapping_add(1);
-        let hart = plan.order[next];
-        if let Err(stop) = rank.turn(rt, &mut desk, channels, hart) {
-            return stop;
-        }
         if desk.is_due {
             desk.rest(passage);
         }
-        next += 1;
-        if next == plan.order.len() {
-            next = 0;
+        passage.turn(number);
+        number = number.wrapping_add(1);
+        let goes_on = seat.turn(rt, &mut desk, channels);
+        if !goes_on {
+            return;
         }
     }
 }
@@ -60,16 +48,15 @@ pub(crate) fn run_rank<R: Wait, G: Gate + Drop>(
     rt: &R,
     hub: &Mutex<Hub>,
     channels: &[Channel],
-    plan: &Plan,
     passage: Passage<G>,
-    rank: Rank,
+    seat: Seat,
 ) -> Done
-    requires { IsReady channels.now plan.now rank }
-    ensures { IsDone channels.now plan.now rank result }
+    requires { IsReady channels.now seat }
+    ensures { IsDone channels.now seat.entry result }
 {
-    let mut rank = rank;
+    let mut seat = seat;
     passage.begin();
-    let stop = take_turns(rt, hub, channels, plan, &passage, &mut rank);
+    take_turns(rt, hub, channels, &passage, &mut seat);
     drop(passage);
-    Done { rank, stop }
+    seat.end()
 }

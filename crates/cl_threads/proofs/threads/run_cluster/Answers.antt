@@ -1,23 +1,31 @@
 use Rattle.std.proofs.Common.{arith, length, subst, sym}
-use Rattle.cl_record.specs.Room.{HaveRoom}
+use Rattle.cl_record.specs.Leaving.{HaveRoom}
+use Rattle.cl_threads.specs.OnThreads.{AreReady}
+use Rattle.cl_threads.proofs.Readied.{all_ready}
 use Rattle.cl_threads.proofs.Gathered.{gathered, refused}
 use Rattle.cl_threads.proofs.Settled.{count, may_settle}
 use Rattle.cl_threads.proofs.threads.run_cluster.Goals as goal
 
+pub run_all-requires-clause-ready : goal.run_all-requires-clause-ready
+run_all-requires-clause-ready g c = λ lifetimes lives.
+    let cluster = c.args.cluster in
+    subst (λ channels. AreReady channels cluster.seats.items) (sym c.as_slice.ensures.value)
+    (all_ready c.args.image.now cluster.channels.items cluster.seats.items c.requires.loaded.loaded)
+
 pub gather-requires-clause-settle : goal.gather-requires-clause-settle
 gather-requires-clause-settle g c =
-    may_settle c.args.image.now c.args.plans.now c.args.cluster c.in-Ok.done.items c.requires.loaded
+    may_settle c.args.image.now c.args.plans.now c.args.cluster c.in-Ok.done.items c.requires.planned c.requires.loaded
     (rw c.as_slice.ensures.value at c.in-Ok.ensures.done)
 
 pub gather-requires-clause-room : goal.gather-requires-clause-room
 gather-requires-clause-room g c =
-    let many = count c.args.image.now c.args.plans.now c.args.cluster c.in-Ok.done.items c.requires.loaded
+    let many = count c.args.image.now c.args.plans.now c.args.cluster c.in-Ok.done.items c.requires.planned c.requires.loaded
     (rw c.as_slice.ensures.value at c.in-Ok.ensures.done) in
     subst (λ n. HaveRoom n (length c.args.image.now.links) c.args.cluster.lists) (sym many) c.requires.loaded.room
 
 pub gather-requires-clause-few : goal.gather-requires-clause-few
 gather-requires-clause-few g c =
-    let many = count c.args.image.now c.args.plans.now c.args.cluster c.in-Ok.done.items c.requires.loaded
+    let many = count c.args.image.now c.args.plans.now c.args.cluster c.in-Ok.done.items c.requires.planned c.requires.loaded
     (rw c.as_slice.ensures.value at c.in-Ok.ensures.done) in
     omega (arith, many, c.parts-parts.ensures.limits.few_ranks)
 

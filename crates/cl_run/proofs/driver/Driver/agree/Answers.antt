@@ -4,9 +4,10 @@ use Rattle.std.proofs.lemmas.Option.{slice_get-get_or, slice_get_read}
 use Rattle.rv_image.specs.declared.images.Link.{Link}
 use Rattle.rv_image.specs.Image.{IsLink}
 use Rattle.part_channel.specs.Channels.{ChannelView}
-use Rattle.cl_run.specs.Driver.{HaveKeys, KeysAgree, station}
-use Rattle.cl_run.specs.declared.driver.Seat.{Seat}
-use Rattle.cl_run.proofs.Joined.{link_at}
+use Rattle.cl_record.specs.Seats.{station}
+use Rattle.cl_run.specs.Driver.{HaveKeys, KeysAgree}
+use Rattle.cl_record.specs.declared.seats.Seat.{Seat}
+use Rattle.cl_record.proofs.Elements.{link_at}
 use Rattle.cl_run.proofs.Pairs.{agree_asked, asked_there, have_keys}
 use Rattle.cl_run.proofs.driver.Driver.agree.Goals as goal
 

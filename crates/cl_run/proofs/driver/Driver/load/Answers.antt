@@ -7,6 +7,7 @@ pub returns : goal.returns
 returns c = record {
   count_is = c.in_ok-seats.ensures.count;
   ranks_are = c.in_ok-seats.ensures.ranks;
+  plans_are = c.in_ok-seats.ensures.plans;
   fresh = c.in_ok-seats.ensures.fresh c.in_ok-channels.field-0.channels.items c.in_ok-channels.ensures.each;
   channels_are = c.in_ok-channels.ensures.channels_count;
   few_links = c.parts-parts.ensures.limits.few_links;

@@ -1,24 +1,44 @@
-use Rattle.std.proofs.Common.{ℕ, ◌≡◌, ◌+◌, ◌*◌, length, subst, arith}
+use Rattle.std.proofs.Common.{ℕ, ◌≡◌, ◌∙◌, ◌+◌, ◌*◌, ◌<◌, refl, length, subst, sym, arith, All}
 use Rattle.cl_run.specs.Driver.{stations}
 use Rattle.cl_run.specs.UnderWay.{IsUnderWay}
 use Rattle.cl_run.proofs.driver.Driver.run.Goals as goal
 
+pub round-requires-clause-there : goal.round-requires-clause-there
+round-requires-clause-there c =
+    subst (λ n. All (λ r. r < n) c.args.order.now) (sym c.loop.invariant.count) c.requires.there
+
 pub returns-then-not-round-clause-goes : goal.returns-then-not-round-clause-goes
-returns-then-not-round-clause-goes c = λ image start.
-    let far = c.loop.invariant.goes image start in ((far.0 + 1) * length c.args.order.now, c.round.ensures.goes image far.0 far.1)
+returns-then-not-round-clause-goes c = λ image plans seated start.
+    let kept = c.loop.invariant in
+    let far = kept.goes image plans seated start in (
+      (far.0 + 1) * length c.args.order.now,
+      c.round.ensures.goes image plans far.0 (kept.seated plans seated) far.1,
+    )
+
+pub returns-then-not-round-clause-seated : goal.returns-then-not-round-clause-seated
+returns-then-not-round-clause-seated c = λ plans seated.
+    c.round.ensures.seated plans (c.loop.invariant.seated plans seated)
 
 pub loop-preserved : goal.loop-preserved
-loop-preserved c = record {
-  seated = c.round.ensures.seated;
-  goes = λ image start. let far = c.loop.invariant.goes image start in (far.0 + 1, c.round.ensures.goes image far.0 far.1);
-}
+loop-preserved c =
+    let kept = c.loop.invariant in
+    record {
+      joined = c.round.ensures.joined;
+      count = c.round.ensures.count ∙ kept.count;
+      seated = λ plans seated. c.round.ensures.seated plans (kept.seated plans seated);
+      goes = λ image plans seated start.
+          let far = kept.goes image plans seated start in
+          (far.0 + 1, c.round.ensures.goes image plans far.0 (kept.seated plans seated) far.1);
+    }
 
 pub loop-init : goal.loop-init
 loop-init c = record {
-  seated = c.requires.seated;
-  goes = λ image start.
+  joined = c.requires.joined;
+  count = refl;
+  seated = λ plans seated. seated;
+  goes = λ image plans seated start.
       let none : ◌≡◌ {A = ℕ} 0 (0 * length c.args.order.now) = omega arith in (
         0,
-        subst (IsUnderWay image c.args.plans.now c.args.order.now (stations c.args.self.now) c.args.self.now.hub) none start,
+        subst (IsUnderWay image plans c.args.order.now (stations c.args.self.now) c.args.self.now.hub) none start,
       );
 }

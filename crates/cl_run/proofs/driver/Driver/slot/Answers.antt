@@ -1,10 +1,12 @@
 use Rattle.std.proofs.Common.{◌≡◌, ◌∙◌, refl, sym, ap, subst, map, None}
 use Rattle.std.proofs.lemmas.Option.{same_Some, slice_get_read}
-use Rattle.cl_run.specs.declared.driver.Seat.{Seat}
+use Rattle.cl_record.specs.declared.seats.Seat.{Seat}
 use Rattle.cl_run.proofs.Seats.{no_stop, some_stop, station_at}
 use Rattle.cl_machine.proofs.Lists.{get-set_same}
 use Rattle.cl_rank.specs.RankSides.{AreChannelsOf}
-use Rattle.cl_run.specs.Driver.{Agree, GoesOn, station, stations}
+use Rattle.cl_rank.specs.Turning.{Answered}
+use Rattle.cl_record.specs.Seats.{GoesOn, station}
+use Rattle.cl_run.specs.Driver.{Agree, stations}
 use Rattle.cl_run.proofs.Joined.{links_stay}
 use Rattle.cl_run.proofs.Slots.{seats_joined}
 use Rattle.cl_run.proofs.driver.Driver.slot.Goals as goal
@@ -16,12 +18,6 @@ returns-then-is_some c =
     let at = slice_get_read seats.items _ c.args.rank seat seats.ok.0 c.requires.there c.index.ensures in
     let stop = some_stop seat.stop (sym c.is_some.ensures ∙ c.if-is_some.true) in
     (refl, (station seat, stop.0, station_at seats.items c.args.rank seat at, stop.1))
-
-pub turn-requires-clause-seated : goal.turn-requires-clause-seated
-turn-requires-clause-seated c =
-    let seats = c.args.self.now.seats in
-    let seat = c.index_mut.result.now in
-    c.requires.seated seat (slice_get_read seats.items _ c.args.rank seat seats.ok.0 c.requires.there c.index_mut.ensures.value)
 
 pub turn-requires-clause-channels : goal.turn-requires-clause-channels
 turn-requires-clause-channels c =
@@ -37,9 +33,9 @@ agree-requires-clause-joined c =
     let driver = c.args.self.now in
     let seats = driver.seats in
     let seat = c.index_mut.result.now in
-    let later = c.turn.new.self in
+    let later = c.turn.new.seat in
     let at = slice_get_read seats.items _ c.args.rank seat seats.ok.0 c.requires.there c.index_mut.ensures.value in
-    seats_joined c.args.plan.now c.args.rank driver _ seat later at c.turn.ensures.goes
+    seats_joined c.args.rank driver _ seat later at c.turn.ensures.goes
     (subst (λ cs. AreChannelsOf (station later).rank.site.version cs (station later).sides)
     c.as_slice-channels.ensures.value c.turn.ensures.channels)
     refl refl c.requires.joined
@@ -49,7 +45,7 @@ returns c =
     let driver = c.args.self.now in
     let seats = driver.seats in
     let seat = c.index_mut.result.now in
-    let later = c.turn.new.self in
+    let later = c.turn.new.seat in
     let goes = c.turn.ensures.goes in
     let at = slice_get_read seats.items _ c.args.rank seat seats.ok.0 c.requires.there c.index_mut.ensures.value in
     let first =
@@ -60,15 +56,15 @@ returns c =
     ∙ no_stop c.index.result.now.stop (sym c.is_some.ensures ∙ c.if-is_some.false) in
     let later_at = get-set_same seats.items c.args.rank seat later at in
     let agree = c.agree.ensures.agree (station later) (station_at _ c.args.rank later later_at) in
-    let links = links_stay c.args.plan.now (station seat) (station later) driver.hub c.turn.new.hub goes in
+    let links = links_stay seat.plan.now (station seat) (station later) driver.hub c.turn.new.hub goes in
     record {
       seat = seat;
       later = later;
       there = at;
       runs = running;
-      goes = subst (λ hub. GoesOn c.args.plan.now (station seat) driver.hub (station later) hub)
+      goes = subst (λ hub. GoesOn Answered seat.plan.now (station seat) driver.hub (station later) hub)
           (sym c.agree.ensures.hub) goes;
-      seated = c.turn.ensures.seated;
+      plan_stays = c.turn.ensures.plan;
       channels = subst (λ cs. AreChannelsOf (station later).rank.site.version cs (station later).sides)
           c.as_slice-channels.ensures.value c.turn.ensures.channels;
       seats_are = c.agree.ensures.seats;

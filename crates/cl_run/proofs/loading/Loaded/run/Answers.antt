@@ -1,8 +1,8 @@
-use Rattle.std.proofs.Common.{◌∙◌, List, length, subst, sym}
+use Rattle.std.proofs.Common.{◌<◌, ◌∙◌, All, List, length, subst, sym}
 use Rattle.rv_image.specs.Image.{IsImage}
 use Rattle.rv_image.specs.declared.images.Link.{Link}
 use Rattle.cl_arrival_laws.proofs.Runs.{arrived_run}
-use Rattle.cl_record.specs.Room.{HaveRoom}
+use Rattle.cl_record.specs.Leaving.{HaveRoom}
 use Rattle.cl_record.specs.Records.{IsMergedRun}
 use Rattle.cl_run.specs.Setups.{Setup}
 use Rattle.cl_run.specs.Runs.{IsOneRun}
@@ -10,15 +10,33 @@ use Rattle.cl_run.proofs.Ends.{all_stopped, one_run, seated_at_start, under_way_
 use Rattle.cl_run.proofs.Merged.{one_merged}
 use Rattle.cl_run.proofs.loading.Loaded.run.Goals as goal
 
-pub run-requires-clause-seated : goal.run-requires-clause-seated
-run-requires-clause-seated c =
+pub run-requires-clause-joined : goal.run-requires-clause-joined
+run-requires-clause-joined c =
     let l = c.self.inside in
     let loaded = c.self.invariant.1 in
-    seated_at_start l.image.now l.plans.now l.order.now c.self.invariant.0 l.driver loaded.loaded
+    (seated_at_start l.image.now l.plans.now l.order.now c.self.invariant.0 l.driver loaded.loaded).joined
+
+pub run-requires-clause-there : goal.run-requires-clause-there
+run-requires-clause-there c =
+    let l = c.self.inside in
+    let are = c.self.invariant.0 in
+    let loaded = c.self.invariant.1 in
+    let count = sym loaded.loaded.count_is ∙ sym l.driver.seats.ok.0 in
+    subst (λ n. All (λ r. r < n) l.order.now) count are.is_order.there
 
 pub into_record-requires-clause-stopped : goal.into_record-requires-clause-stopped
 into_record-requires-clause-stopped c =
-    all_stopped _ _ _ c.self.invariant.0 c.run.new.self c.run.ensures.seated c.run.ensures.done
+    let l = c.self.inside in
+    let are = c.self.invariant.0 in
+    let first = seated_at_start l.image.now l.plans.now l.order.now are l.driver c.self.invariant.1.loaded in
+    all_stopped _ _ _ are c.run.new.self (c.run.ensures.seated l.plans.now first) c.run.ensures.done
+
+pub into_record-requires-clause-joined : goal.into_record-requires-clause-joined
+into_record-requires-clause-joined c =
+    let l = c.self.inside in
+    let are = c.self.invariant.0 in
+    let first = seated_at_start l.image.now l.plans.now l.order.now are l.driver c.self.invariant.1.loaded in
+    (c.run.ensures.seated l.plans.now first).joined
 
 pub returns-clause-run : goal.returns-clause-run
 returns-clause-run c =
@@ -26,9 +44,11 @@ returns-clause-run c =
     let are = c.self.invariant.0 in
     let loaded = c.self.invariant.1 in
     let start = under_way_at_start l.image.now l.plans.now l.order.now are l.driver loaded.loaded in
-    let end = c.run.ensures.goes l.image.now start in
+    let first = seated_at_start l.image.now l.plans.now l.order.now are l.driver loaded.loaded in
+    let end = c.run.ensures.goes l.image.now l.plans.now first start in
+    let seated = c.run.ensures.seated l.plans.now first in
     subst (λ (s : Setup). IsOneRun s.image s.plans s.order c.into_record.result) c.self.view_is
-    (one_run l.image.now l.plans.now l.order.now are c.run.new.self c.into_record.result c.into_record.ensures end.0 end.1 c.run.ensures.seated)
+    (one_run l.image.now l.plans.now l.order.now are c.run.new.self c.into_record.result seated c.into_record.ensures end.0 end.1)
 
 pub into_record-requires-clause-room : goal.into_record-requires-clause-room
 into_record-requires-clause-room c =
@@ -36,8 +56,10 @@ into_record-requires-clause-room c =
     let are = c.self.invariant.0 in
     let loaded = c.self.invariant.1 in
     let start = under_way_at_start l.image.now l.plans.now l.order.now are l.driver loaded.loaded in
-    let end = c.run.ensures.goes l.image.now start in
-    let count = c.run.ensures.seated.one_each ∙ are.planned.one_each in
+    let first = seated_at_start l.image.now l.plans.now l.order.now are l.driver loaded.loaded in
+    let end = c.run.ensures.goes l.image.now l.plans.now first start in
+    let seated = c.run.ensures.seated l.plans.now first in
+    let count = seated.one_each ∙ are.planned.one_each in
     subst (λ n. HaveRoom n (length c.run.new.self.hub.links) l.lists) (sym count)
     (subst (λ (ls : List Link). HaveRoom l.image.now.ranks (length ls) l.lists) (sym end.1.links_are) loaded.room)
 
@@ -47,10 +69,12 @@ returns-clause-merged c =
     let are = c.self.invariant.0 in
     let loaded = c.self.invariant.1 in
     let start = under_way_at_start l.image.now l.plans.now l.order.now are l.driver loaded.loaded in
-    let end = c.run.ensures.goes l.image.now start in
+    let first = seated_at_start l.image.now l.plans.now l.order.now are l.driver loaded.loaded in
+    let end = c.run.ensures.goes l.image.now l.plans.now first start in
+    let seated = c.run.ensures.seated l.plans.now first in
     subst (λ (s : Setup). IsMergedRun s.image c.into_record.result) c.self.view_is
     (one_merged l.image.now l.plans.now l.order.now c.into_record.result c.parts-parts.ensures.limits
-    (one_run l.image.now l.plans.now l.order.now are c.run.new.self c.into_record.result c.into_record.ensures end.0 end.1 c.run.ensures.seated))
+    (one_run l.image.now l.plans.now l.order.now are c.run.new.self c.into_record.result seated c.into_record.ensures end.0 end.1))
 
 pub returns-clause-arrived : goal.returns-clause-arrived
 returns-clause-arrived c =

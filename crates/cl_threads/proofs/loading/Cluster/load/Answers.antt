@@ -1,7 +1,8 @@
-use Rattle.std.proofs.Common.{◌≡◌, ◌∙◌, List, ap, subst, arith, length}
+use Rattle.std.proofs.Common.{◌≡◌, ◌∙◌, List, sym, ap, subst, arith, length}
 use Rattle.rv_image.specs.declared.images.ImageParts.{ImageParts}
 use Rattle.rv_image.specs.declared.images.Link.{Link}
-use Rattle.cl_record.specs.Room.{HaveRoom}
+use Rattle.cl_record.specs.Leaving.{HaveRoom}
+use Rattle.cl_record.specs.Seats.{AreAt, AreFresh}
 use Rattle.cl_threads.proofs.loading.Cluster.load.Goals as goal
 
 pub returns : goal.returns
@@ -11,9 +12,9 @@ returns c =
     let new = c.in_ok-channels.ensures.each in
     let links : c.as_slice.result.now ≡ image.links = c.as_slice.ensures ∙ ap (λ (x : ImageParts). x.links) c.parts-parts.ensures.parts in
     record {
-      count = c.in_ok-ranks.ensures.count;
-      loaded = c.in_ok-ranks.ensures.loaded channels new;
-      ready = c.in_ok-ranks.ensures.ready channels new;
+      count = ap length c.in_ok-seats.ensures ∙ c.in_ok-loaded.ensures.count;
+      plans_are = subst (AreAt c.args.plans.now) (sym c.in_ok-seats.ensures) c.in_ok-loaded.ensures.plans;
+      loaded = subst (AreFresh image channels) (sym c.in_ok-seats.ensures) (c.in_ok-loaded.ensures.fresh channels new);
       few_links = c.parts-parts.ensures.limits.few_links;
       joined = c.parts-parts.ensures.limits.links;
       one_each = c.in_ok-channels.ensures.channels_count;
