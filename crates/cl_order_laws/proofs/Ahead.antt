@@ -12,7 +12,7 @@ use Rattle.mp_request.specs.declared.entries.State.TheVariants.{Ordinary, Inacti
 use Rattle.mp_request.specs.Table.{Table}
 use Rattle.cl_state.specs.declared.asking.Answer.{Answer}
 use Rattle.cl_state.specs.declared.asking.Ask.{Ask}
-use Rattle.cl_state.specs.Asked.{asked, part_of}
+use Rattle.cl_state.specs.Asked.{asked}
 use Rattle.cl_state.specs.Rank.{Rank}
 use Rattle.cl_state.specs.Told.{told}
 use Rattle.cl_state_laws.specs.Vain.{IsStopped, mode_of}

@@ -1,16 +1,14 @@
 -- A turn that needs only its rank and a turn of another rank, exchanged.
-use Rattle.std.proofs.Common.{◌≡◌, ℕ, zero, suc, ◌+◌, ◌<◌, ◌⊎◌, inl, inr, List, [], ◌∷◌, Some, refl, sym, ap, ◌∙◌, subst}
+use Rattle.std.proofs.Common.{◌≡◌, ℕ, zero, suc, inl, inr, List, [], ◌∷◌, Some, refl, sym, ap, ◌∙◌, subst}
 use Rattle.std.specs.Prelude.{◌≢◌}
 use Rattle.std.specs.List.{slice_get, slice_set}
 use Rattle.mp_wait_laws.proofs.Sets.{get-set_other}
 use Rattle.cl_state.specs.declared.asking.Answer.{Answer}
-use Rattle.cl_state.specs.Asked.{asked}
 use Rattle.cl_state.specs.Rank.{Rank}
 use Rattle.cl_state.specs.Told.{told}
 use Rattle.cl_trace.specs.declared.events.Kind.{Kind}
 use Rattle.cl_machine.specs.declared.steps.Step.{Step}
 use Rattle.cl_machine.specs.Cluster.{CaseOf, Cluster, IsStep, only_told}
-use Rattle.cl_order_laws.specs.Closed.{NeedsOnlyRank}
 use Rattle.cl_order_laws.specs.Laws.{CommuteLaw, IsAlone}
 use Rattle.cl_order_laws.proofs.Covered.{alone}
 

@@ -1,9 +1,8 @@
 -- Each step from a cluster that is covered leads to one that is.
-use Rattle.std.proofs.Common.{◌≡◌, ℕ, zero, suc, ◌+◌, ◌<◌, ◌⊎◌, inl, inr, List, [], ◌∷◌, length, Option, Some, None, refl, sym, ap, ◌∙◌, subst, arith}
-use Rattle.std.specs.Prelude.{◌==◌, cond}
+use Rattle.std.proofs.Common.{◌≡◌, ℕ, zero, suc, ◌+◌, ◌⊎◌, inl, inr, List, [], ◌∷◌, length, Some, refl, sym, ap, ◌∙◌, subst}
+use Rattle.std.specs.Prelude.{◌==◌}
 use Rattle.std.specs.List.{slice_get, slice_set}
 use Rattle.std.proofs.lemmas.Bool.{cases_eq, eq-eqb, ne_eqb, cond-true, cond-false}
-use Rattle.std.proofs.lemmas.Option.{same_Some}
 use Rattle.mp_hub.specs.Hub.{HubView}
 use Rattle.mp_wait_laws.proofs.Sets.{get-set_other}
 use Rattle.mp_alike_laws.specs.Renaming.{Renaming, followed_by}
@@ -16,15 +15,14 @@ use Rattle.cl_state.specs.Rank.{Rank}
 use Rattle.cl_state.specs.Told.{told}
 use Rattle.cl_state_laws.specs.VainLaws.{at_clock}
 use Rattle.cl_state_laws.proofs.Vain.{vain_law}
-use Rattle.cl_names_laws.specs.Named.{rank_by}
 use Rattle.cl_trace.specs.declared.events.Kind.{Kind}
 use Rattle.cl_machine.specs.declared.steps.Step.{Step}
 use Rattle.cl_machine.specs.Boxes.{Box}
 use Rattle.cl_machine.specs.Cluster.{CaseOf, Cluster, IsRun, only_told}
-use Rattle.cl_order_laws.specs.Alike.{AlikeBoxes, AlikeRanks, AreEach, IsFull, Leads, at_stamp, both_empty, both_full, hub_of}
-use Rattle.cl_order_laws.specs.Closed.{FollowPlans, IsAhead, IsBehind, IsClosed, IsCovered, IsDone, IsSamePlace, NeedsOnlyRank, Node, Plans, Turns, had_after, none_had, one_more}
+use Rattle.cl_order_laws.specs.Alike.{AlikeBoxes, AlikeRanks, AreEach, Leads, at_stamp, hub_of}
+use Rattle.cl_order_laws.specs.Closed.{FollowPlans, IsAhead, IsBehind, IsClosed, IsCovered, IsDone, IsSamePlace, NeedsOnlyRank, Node, Plans, Turns, had_after, one_more}
 use Rattle.cl_order_laws.specs.Laws.{CoveredLaw}
-use Rattle.cl_order_laws.proofs.Ahead.{behind_on, done_back, done_rests, one_on, same_hart}
+use Rattle.cl_order_laws.proofs.Ahead.{behind_on, done_back, one_on, same_hart}
 use Rattle.cl_order_laws.proofs.Boxes.{boxes_on}
 use Rattle.cl_order_laws.proofs.Each.{set_here, set_length, was_there}
 use Rattle.cl_order_laws.proofs.GoAlike.{Went, goes}

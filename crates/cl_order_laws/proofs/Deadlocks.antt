@@ -1,13 +1,9 @@
 -- Alike clusters are ends alike, and tell the same.
-use Rattle.std.proofs.Common.{◌≡◌, ℕ, ◌⊎◌, inl, inr, List, [], ◌∷◌, length, Some, refl, sym, ap, ◌∙◌, subst}
-use Rattle.std.specs.Prelude.{true}
-use Rattle.std.specs.List.{slice_get}
-use Rattle.std.proofs.lemmas.Option.{same_Some}
+use Rattle.std.proofs.Common.{◌≡◌, ℕ, inl, inr, refl, sym, ap, ◌∙◌, subst}
 use Rattle.rv_hart.specs.State.{State}
 use Rattle.rv_hart.specs.declared.state.Mode.{Mode}
 use Rattle.rv_hart.specs.declared.state.Mode.TheVariants.{Running, Waiting, Ended, Trapped}
 use Rattle.rv_hart.specs.declared.state.Wait.TheVariants.{Post, Again}
-use Rattle.cl_calls.specs.declared.calls.Call.TheVariants as call
 use Rattle.mp_alike_laws.specs.Renaming.{Renaming}
 use Rattle.cl_state.specs.declared.asking.Ask.{Ask}
 use Rattle.cl_state.specs.declared.asking.Doing.{Doing}
@@ -15,19 +11,18 @@ use Rattle.cl_state.specs.declared.asking.Doing.TheVariants.{Step, Refused, Go, 
 use Rattle.cl_state.specs.Asked.{asked, doing, part_of}
 use Rattle.cl_state.specs.Rank.{Rank}
 use Rattle.cl_state_laws.specs.Vain.{IsPatient, IsStopped, IsWaiting, mode_of, waits_on}
-use Rattle.cl_state_laws.specs.VainLaws.{at_clock}
-use Rattle.cl_names_laws.specs.Named.{ask_by, hart_by, mode_by, rank_by}
+use Rattle.cl_names_laws.specs.Named.{ask_by, hart_by, mode_by}
 use Rattle.cl_names_laws.proofs.Asks.{doing_by, doing_named, part_named}
-use Rattle.cl_machine.specs.Boxes.{Box, IsEmpty, box_number}
+use Rattle.cl_machine.specs.Boxes.{box_number}
 use Rattle.cl_machine.specs.Cluster.{Cluster}
-use Rattle.cl_order_laws.specs.Alike.{AlikeBoxes, AlikeClusters, AlikeRanks, AreEach}
-use Rattle.cl_order_laws.specs.Closed.{IsEnd, IsInVain, Plans, WaitsInVain}
-use Rattle.cl_order_laws.specs.Laws.{AreAlike, EndsLaw, HasEnded, IsSameMode, NoDeadlockLaw, TellsAlike}
+use Rattle.cl_order_laws.specs.Alike.{AlikeClusters, AlikeRanks}
+use Rattle.cl_order_laws.specs.Closed.{IsEnd, IsInVain, Plans}
+use Rattle.cl_order_laws.specs.Laws.{EndsLaw, IsSameMode, NoDeadlockLaw, TellsAlike}
 use Rattle.cl_order_laws.proofs.Ahead.{mode_alike, stopped_back, stopped_on}
 use Rattle.cl_order_laws.proofs.Boxes.{empty_before, empty_too}
 use Rattle.cl_order_laws.proofs.Ends.{every_end_law}
 use Rattle.cl_order_laws.proofs.GoAlike.{same_reply}
-use Rattle.cl_order_laws.proofs.Likeness.{each_from, likeness_law}
+use Rattle.cl_order_laws.proofs.Likeness.{each_from}
 use Rattle.cl_order_laws.proofs.Ranks.{asked_alike}
 
 module _ (names : Renaming) (a b : Rank) (alike : AlikeRanks names a b) where

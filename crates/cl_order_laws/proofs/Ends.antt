@@ -1,18 +1,17 @@
 -- Where nobody goes on, a rank's turns change nothing but its clock: so the node that covers is alike.
-use Rattle.std.proofs.Common.{◌≡◌, ℕ, ◌⊎◌, inl, inr, List, Some, refl, sym, ap, ◌∙◌, subst}
+use Rattle.std.proofs.Common.{◌≡◌, ℕ, inl, inr, List, Some, refl, ap, ◌∙◌, subst}
 use Rattle.std.specs.List.{slice_get}
 use Rattle.cl_state.specs.declared.asking.Answer.{Answer}
 use Rattle.cl_state.specs.declared.asking.Ask.{Ask}
 use Rattle.cl_state.specs.Asked.{asked}
 use Rattle.cl_state.specs.Rank.{Rank}
 use Rattle.cl_state.specs.Told.{told}
-use Rattle.cl_state_laws.specs.Vain.{IsPatient, IsStopped, mode_of}
 use Rattle.cl_state_laws.specs.VainLaws.{at_clock}
 use Rattle.cl_state_laws.proofs.Vain.{vain_law}
 use Rattle.cl_names_laws.specs.Named.{rank_by}
 use Rattle.cl_machine.specs.Cluster.{Cluster}
-use Rattle.cl_order_laws.specs.Alike.{AlikeClusters, AlikeRanks, AreEach}
-use Rattle.cl_order_laws.specs.Closed.{IsCovered, IsEnd, IsInVain, NeedsOnlyRank, Node, Plans, Turns, WaitsInVain, had_after, none_had}
+use Rattle.cl_order_laws.specs.Alike.{AlikeClusters}
+use Rattle.cl_order_laws.specs.Closed.{IsCovered, IsEnd, IsInVain, NeedsOnlyRank, Node, Plans, Turns, WaitsInVain, had_after}
 use Rattle.cl_order_laws.specs.Laws.{EveryEndLaw}
 use Rattle.cl_order_laws.proofs.Ahead.{Rests, resting}
 use Rattle.cl_order_laws.proofs.Covered.{covered_law}

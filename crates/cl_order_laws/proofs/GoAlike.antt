@@ -1,11 +1,11 @@
 -- Alike clusters go alike, kind by kind.
-use Rattle.std.proofs.Common.{◌≡◌, ℕ, ◌+◌, ◌<◌, ◌⊎◌, inl, inr, List, [], ◌∷◌, ◌++◌, length, Bool, Option, Some, None, refl, sym, ap, ◌∙◌, subst, arith}
+use Rattle.std.proofs.Common.{◌≡◌, ℕ, ◌+◌, ◌<◌, ◌⊎◌, inl, inr, [], ◌∷◌, ◌++◌, length, Bool, Some, refl, sym, ap, ◌∙◌, subst, arith}
 use Rattle.std.specs.Prelude.{max}
 use Rattle.std.specs.List.{slice_get, slice_set}
 use Rattle.mp_types.specs.declared.replies.Reply.{Reply}
 use Rattle.mp_types.specs.declared.replies.Reply.TheVariants as reply
 use Rattle.mp_types.specs.declared.requests.Request.{Request}
-use Rattle.mp_hub.specs.Hub.{HubView, hub_after}
+use Rattle.mp_hub.specs.Hub.{hub_after}
 use Rattle.mp_alike_laws.specs.Renaming.{Renaming, number_by, request_by}
 use Rattle.mp_alike_laws.specs.Alike.{AlikeHubs}
 use Rattle.mp_alike_laws.proofs.Answers.{answers_law}
@@ -20,10 +20,10 @@ use Rattle.cl_state.specs.Told.{told}
 use Rattle.cl_names_laws.specs.Named.{IsSameNamed, ask_by}
 use Rattle.cl_trace.specs.declared.events.Kind.{Kind}
 use Rattle.cl_machine.specs.declared.steps.Step.{Step}
-use Rattle.cl_machine.specs.Boxes.{Box, Holds, IsEmpty, box_number, with_made, with_taken}
+use Rattle.cl_machine.specs.Boxes.{Box, box_number, with_made, with_taken}
 use Rattle.cl_machine.specs.Cluster.{CaseOf, Cluster, only_told, ranks_told, with_box}
 use Rattle.cl_machine.specs.Journal.{Journal, reply_in, with_entry}
-use Rattle.cl_order_laws.specs.Alike.{AlikeBoxes, AlikeClusters, AlikeRanks, AreEach, IsFull, Leads, at_stamp, hub_of}
+use Rattle.cl_order_laws.specs.Alike.{AlikeBoxes, AlikeRanks, AreEach, Leads, at_stamp, hub_of}
 use Rattle.cl_order_laws.specs.Laws.{GoAlikeLaw}
 use Rattle.cl_order_laws.proofs.Boxes.{empty_too, holds_too, made_alike, taken_alike}
 use Rattle.cl_order_laws.proofs.Each.{each_set}

@@ -1,4 +1,5 @@
 pub mod Steps
+pub mod Turns
 pub mod Each
 pub mod Boxes
 pub mod Ranks
@@ -13,4 +14,5 @@ pub mod Vain
 pub mod Deadlocks
 pub mod SelfClosed
 pub mod Rows
+pub mod Race
 pub mod Stays

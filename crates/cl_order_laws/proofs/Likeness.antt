@@ -1,5 +1,5 @@
 -- Likeness of clusters is an equivalence, and a reached cluster is alike itself.
-use Rattle.std.proofs.Common.{◌≡◌, ℕ, zero, suc, ◌+◌, ◌<◌, ◌⊎◌, inl, inr, List, [], ◌∷◌, ◌++◌, length, map, Option, Some, None, refl, sym, ap, ◌∙◌, subst, arith}
+use Rattle.std.proofs.Common.{◌≡◌, ℕ, zero, suc, ◌<◌, inl, inr, List, [], ◌∷◌, length, map, Option, Some, None, refl, sym, ap, ◌∙◌, subst, arith}
 use Rattle.std.specs.Prelude.{replicate}
 use Rattle.std.specs.List.{slice_get, slice_set}
 use Rattle.std.specs.Option.{option_map}
@@ -9,7 +9,6 @@ use Rattle.rv_hart.specs.State.{State, in_mode}
 use Rattle.rv_hart.specs.declared.state.Mode.{Mode}
 use Rattle.rv_hart.specs.declared.state.Mode.TheVariants.{Running, Waiting, Ended, Trapped}
 use Rattle.rv_hart.specs.declared.state.Wait.TheVariants.{Post, Again}
-use Rattle.rv_image.specs.declared.images.ImageParts.{ImageParts}
 use Rattle.mp_request.specs.declared.entries.OpenRequest.{OpenRequest}
 use Rattle.mp_request.specs.declared.entries.Progress.TheVariants.{Finished, OnPost, InPhase}
 use Rattle.mp_request.specs.declared.entries.State.{State as RequestState}
@@ -17,19 +16,18 @@ use Rattle.mp_request.specs.declared.entries.State.TheVariants.{Ordinary, Inacti
 use Rattle.mp_request.specs.Table.{Table}
 use Rattle.mp_wait_laws.proofs.Sets.{get-set_other}
 use Rattle.mp_alike_laws.specs.Renaming.{Renaming, followed_by, no_renaming, number_by, turned}
-use Rattle.mp_alike_laws.specs.Alike.{AlikeHubs}
 use Rattle.mp_alike_laws.proofs.Likeness.{hub_back, itself as hub_itself}
 use Rattle.cl_state.specs.Rank.{Rank}
 use Rattle.cl_state_laws.specs.VainLaws.{at_clock}
 use Rattle.cl_names_laws.specs.Named.{hart_by, mode_by, open_by, rank_by, state_by, table_by}
 use Rattle.cl_trace.specs.declared.events.Kind.{Kind}
 use Rattle.cl_machine.specs.declared.steps.Step.{Step}
-use Rattle.cl_machine.specs.Boxes.{Box, Holds, IsEmpty, Thing, empty_box, with_made, with_taken}
+use Rattle.cl_machine.specs.Boxes.{Box, Holds, IsEmpty, empty_box, with_made, with_taken}
 use Rattle.cl_machine.specs.Cluster.{CaseOf, Cluster, IsRun, loaded_cluster}
-use Rattle.cl_order_laws.specs.Alike.{AlikeBoxes, AlikeClusters, AlikeRanks, AreEach, IsFull, both_empty, both_full, hub_of}
+use Rattle.cl_order_laws.specs.Alike.{AlikeBoxes, AlikeClusters, AlikeRanks, AreEach, both_empty, both_full, hub_of}
 use Rattle.cl_order_laws.specs.Laws.{AreAlike, IsReached, LikenessLaw}
 use Rattle.cl_order_laws.proofs.Ahead.{alike_on, rank_on}
-use Rattle.cl_order_laws.proofs.Boxes.{boxes_on, made_full, not_both}
+use Rattle.cl_order_laws.proofs.Boxes.{made_full}
 use Rattle.cl_order_laws.proofs.Covered.{each_on, hubs_on}
 use Rattle.cl_order_laws.proofs.Each.{was_there}
 

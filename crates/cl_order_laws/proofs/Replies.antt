@@ -1,9 +1,9 @@
 -- The number that a reply tells of a post is the same in alike hubs.
-use Rattle.std.proofs.Common.{◌≡◌, ℕ, suc, ◌+◌, length, List, [], ◌∷◌, Bool, true, false, cond, Option, Some, None, refl, sym, ap, ◌∙◌, subst, arith}
+use Rattle.std.proofs.Common.{◌≡◌, ℕ, suc, length, List, Bool, true, false, cond, Option, Some, None, refl, sym, ap, ◌∙◌, subst, arith}
 use Rattle.std.specs.Prelude.{◌&&◌, nat_lt}
 use Rattle.std.specs.List.{list_all}
 use Rattle.rv_image.specs.declared.images.Link.{Link}
-use Rattle.mp_types.specs.declared.codes.Code.TheVariants.{BadMessage, BadRequest, Full, NoChannel, Shape}
+use Rattle.mp_types.specs.declared.codes.Code.TheVariants.{BadMessage, BadRequest, Full, Shape}
 use Rattle.mp_types.specs.declared.messages.Envelope.{Envelope}
 use Rattle.mp_types.specs.declared.messages.Message.{Message}
 use Rattle.mp_types.specs.declared.replies.Reply.{Reply}

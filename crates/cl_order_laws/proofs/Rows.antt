@@ -1,12 +1,20 @@
 -- The worked rows.
-use Rattle.std.proofs.Common.{◌≡◌, ℕ, zero, suc, ◌+◌, ◌⊎◌, inl, inr, List, [], ◌∷◌, length, Some, refl, sym, ap, ◌∙◌, subst, arith}
-use Rattle.cl_machine.specs.Boxes.{Box, empty_box, with_made, with_taken}
-use Rattle.cl_order_laws.specs.Alike.{AlikeBoxes, IsFull, both_empty, both_full}
+use Rattle.std.proofs.Common.{◌≡◌, ℕ, suc, ◌+◌, inl, inr, List, [], ◌∷◌, None, true, false, refl, sym, ap, ◌∙◌, arith}
+use Rattle.cl_machine.specs.Boxes.{empty_box, with_made, with_taken}
+use Rattle.cl_order_laws.specs.Alike.{both_full}
 use Rattle.cl_order_laws.specs.Closed.{IsSamePlace}
-use Rattle.cl_order_laws.specs.Rows.{BytesAreKept, CallsAreCovered, FullIsNotEmpty, MissesAreCovered, PhasesAreAlike, PlacesOfPlans, WorkedOrders, by_turns, second_phase, turn_of}
+use Rattle.cl_order_laws.specs.Rows.{AskBy, BytesAreKept, CallsAreCovered, FullIsNotEmpty, MissesAreCovered, PhasesAreAlike, PlacesOfPlans, SendBy, TwoPlans, WorkedOrders, by_turns, other_way, turn_of}
 use Rattle.cl_state.specs.declared.asking.Answer.{Answer}
 use Rattle.cl_trace.specs.declared.events.Kind.{Kind}
-use Rattle.cl_machine.specs.Cluster.{only_told}
+use Rattle.mp_types.specs.declared.replies.Reply.{Reply}
+use Rattle.mp_types.specs.declared.replies.Reply.TheVariants as reply
+use Rattle.mp_types.specs.declared.requests.Request.TheVariants as request
+use Rattle.cl_state.specs.Asked.{asked, doing}
+use Rattle.cl_state.specs.Told.{returned, told}
+use Rattle.cl_machine.specs.Cluster.{Cluster, only_told}
+use Rattle.cl_machine.specs.Journal.{reply_in}
+use Rattle.cl_order_laws.specs.Laws.{AreAlike}
+use Rattle.cl_order_laws.proofs.GoAlike.{same_reply}
 use Rattle.cl_order_laws.proofs.Boxes.{empty_too, holds_too, made_full}
 use Rattle.cl_order_laws.proofs.SelfClosed.{ends_closed}
 use Rattle.std.proofs.lemmas.Option.{same_Some}
@@ -36,6 +44,75 @@ places = record { same = same; other = λ e. (let f : 0 ≡ 1 = e 0 in absurd (o
         let f : 2 + k ≡ suc (suc k) = omega arith in
         ap by_turns e ∙ sym (ap by_turns f)
 
+first_of : List ℕ → ℕ
+first_of [] = 0
+first_of (byte ∷ bytes) = byte
+
+-- the byte that a reply brings
+byte : Reply → ℕ
+byte (reply.Got m) = first_of m.bytes
+byte _ = 0
+
+-- what rank 1 would receive
+next_byte : Cluster → ℕ
+next_byte cluster = byte (reply_in cluster.journal 1 (request.Recv true 0 None None))
+
+alike_bytes : (a b : Cluster) → AreAlike a b → next_byte b ≡ next_byte a
+unfolding next_byte
+alike_bytes a b alike =
+    ap byte
+    (same_reply a.journal 1 (request.Recv true 0 None None) b.journal (request.Recv true 0 None None) alike.0
+    (alike.1).hubs refl)
+
+send_by_turns : (end : Cluster) × SendBy by_turns end × (next_byte end ≡ 104)
+unfolding asked doing told returned reply_in next_byte byte first_of
+send_by_turns = (
+  _,
+  (
+    _,
+    (_, refl, omega arith, omega arith, (request.Send false 0 1 7 (104 ∷ []), refl, refl, refl, refl)),
+    (_, (_, refl, omega arith, omega arith, (request.Send false 0 1 7 (105 ∷ []), refl, refl, refl, refl)), refl),
+  ),
+  refl,
+)
+
+send_other_way : (end : Cluster) × SendBy other_way end × (next_byte end ≡ 105)
+unfolding asked doing told returned reply_in next_byte byte first_of
+send_other_way = (
+  _,
+  (
+    _,
+    (_, refl, omega arith, omega arith, (request.Send false 0 1 7 (105 ∷ []), refl, refl, refl, refl)),
+    (_, (_, refl, omega arith, omega arith, (request.Send false 0 1 7 (104 ∷ []), refl, refl, refl, refl)), refl),
+  ),
+  refl,
+)
+
+apart : (a b : Cluster) → next_byte a ≡ 104 → next_byte b ≡ 105 → ¬ AreAlike a b
+apart a b first second alike =
+    let e : 105 ≡ 104 = sym second ∙ alike_bytes a b alike ∙ first in absurd (omega (arith, e))
+
+meet : (end : Cluster) × AskBy by_turns end × AskBy other_way end
+unfolding asked doing told returned
+meet = (
+  _,
+  (_, (_, refl, omega arith, omega arith, (refl, refl, refl)), (_, (_, refl, omega arith, omega arith, (refl, refl, refl)), refl)),
+  (_, (_, refl, omega arith, omega arith, (refl, refl, refl)), (_, (_, refl, omega arith, omega arith, (refl, refl, refl)), refl)),
+)
+
+two_plans : TwoPlans
+two_plans = record {
+  follow = λ plan first second. (refl, (refl, tt));
+  apart = (
+    send_by_turns.0,
+    send_other_way.0,
+    send_by_turns.1,
+    send_other_way.1,
+    apart send_by_turns.0 send_other_way.0 send_by_turns.2 send_other_way.2,
+  );
+  meet = meet;
+}
+
 calls : CallsAreCovered
 calls plans nodes i r node rank e new next is hart leads = elim ((next.closed).each i r node rank next.there next.has) [
   | inl done ↦ absurd (next.going done)
@@ -54,6 +131,7 @@ worked_orders = record {
   bytes = bytes_kept;
   phases = phases;
   places = places;
+  plans = two_plans;
   misses = misses;
   calls = calls;
   ends = ends_closed;

@@ -1,5 +1,5 @@
 -- An end is a closed set by itself, where each plan names one hart.
-use Rattle.std.proofs.Common.{◌≡◌, ℕ, zero, suc, ◌+◌, ◌⊎◌, inl, inr, List, [], ◌∷◌, length, Some, refl, sym, ap, ◌∙◌, subst}
+use Rattle.std.proofs.Common.{◌≡◌, ℕ, zero, suc, ◌+◌, ◌⊎◌, inl, inr, [], ◌∷◌, Some, refl, sym, ap, ◌∙◌, subst}
 use Rattle.std.specs.List.{slice_get}
 use Rattle.std.proofs.lemmas.Option.{same_Some}
 use Rattle.mp_alike_laws.specs.Renaming.{Renaming, no_renaming, turned}
@@ -7,7 +7,7 @@ use Rattle.cl_state.specs.Rank.{Rank}
 use Rattle.cl_state_laws.specs.Vain.{IsStopped, mode_of}
 use Rattle.cl_machine.specs.declared.steps.Step.{Step}
 use Rattle.cl_machine.specs.Cluster.{Cluster}
-use Rattle.cl_order_laws.specs.Alike.{AlikeClusters, AlikeRanks, Leads}
+use Rattle.cl_order_laws.specs.Alike.{AlikeClusters, Leads}
 use Rattle.cl_order_laws.specs.Closed.{IsClosed, IsCovered, IsDone, IsEnd, Node, Plans, Turns, WaitsInVain, one_more}
 use Rattle.cl_order_laws.specs.Laws.{IsReached}
 use Rattle.cl_order_laws.specs.Rows.{EndsAreClosed}

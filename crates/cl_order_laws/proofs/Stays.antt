@@ -1,8 +1,6 @@
 -- An end stays one.
-use Rattle.std.proofs.Common.{◌≡◌, ℕ, zero, suc, ◌+◌, ◌<◌, ◌⊎◌, inl, inr, List, [], ◌∷◌, length, Some, refl, sym, ap, ◌∙◌, subst, arith}
-use Rattle.std.specs.List.{slice_get}
+use Rattle.std.proofs.Common.{◌≡◌, ℕ, ◌⊎◌, inl, inr, List, sym, ◌∙◌, subst, arith}
 use Rattle.std.proofs.lemmas.Option.{slice_get_within}
-use Rattle.mp_types.specs.declared.replies.Reply.TheVariants as reply
 use Rattle.cl_state.specs.declared.asking.Answer.{Answer}
 use Rattle.cl_state.specs.declared.asking.Ask.{Ask}
 use Rattle.cl_state.specs.Asked.{asked}
@@ -12,9 +10,9 @@ use Rattle.cl_state_laws.proofs.Vain.{vain_law as rank_vain}
 use Rattle.cl_trace.specs.declared.events.Kind.{Kind}
 use Rattle.cl_machine.specs.declared.steps.Step.{Step}
 use Rattle.cl_machine.specs.Boxes.{Box, Holds, IsEmpty}
-use Rattle.cl_machine.specs.Cluster.{CaseOf, Cluster, IsStep}
-use Rattle.cl_order_laws.specs.Closed.{IsEnd, IsInVain, Plans, WaitsInVain}
-use Rattle.cl_order_laws.specs.Laws.{AreAlike, EndStaysLaw, IsVainTurn}
+use Rattle.cl_machine.specs.Cluster.{CaseOf, Cluster}
+use Rattle.cl_order_laws.specs.Closed.{IsInVain, WaitsInVain}
+use Rattle.cl_order_laws.specs.Laws.{EndStaysLaw, IsVainTurn}
 use Rattle.cl_order_laws.proofs.Deadlocks.{ends_law}
 use Rattle.cl_order_laws.proofs.Vain.{vain_law}
 

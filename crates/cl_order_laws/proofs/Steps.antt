@@ -1,5 +1,4 @@
 -- A turn whose stamp is below the greatest is a step, and each step is a turn.
-use Rattle.std.proofs.Common.{◌≡◌}
 use Rattle.cl_machine.specs.declared.steps.Step.{Step}
 use Rattle.cl_machine.specs.Cluster.{Cluster, IsStep}
 use Rattle.cl_order_laws.specs.Alike.{Leads}

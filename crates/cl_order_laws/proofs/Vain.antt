@@ -1,18 +1,16 @@
 -- A turn in vain leads to a cluster that is alike.
-use Rattle.std.proofs.Common.{◌≡◌, ℕ, ◌+◌, ◌⊎◌, inl, inr, List, [], ◌∷◌, ◌++◌, length, Some, refl, sym, ap, ◌∙◌, subst}
+use Rattle.std.proofs.Common.{◌≡◌, ℕ, ◌⊎◌, inl, inr, length, Some, sym, ap, ◌∙◌, subst}
 use Rattle.std.specs.List.{slice_get, slice_set}
 use Rattle.std.proofs.lemmas.Bool.{cases_eq}
 use Rattle.std.proofs.lemmas.Option.{same_Some}
-use Rattle.rv_image.specs.declared.images.Link.{Link}
 use Rattle.mp_types.specs.declared.replies.Reply.{Reply}
 use Rattle.mp_types.specs.declared.replies.Reply.TheVariants as reply
-use Rattle.mp_types.specs.declared.requests.Request.{Request}
-use Rattle.mp_hub.specs.Hub.{Call, HubView, hub_after, outcome, reply_of}
+use Rattle.mp_hub.specs.Hub.{HubView, hub_after}
 use Rattle.mp_hub.proofs.Histories.{hub_more}
 use Rattle.mp_hub.proofs.Vain.{in_vain}
 use Rattle.mp_wait_laws.proofs.Sets.{get-set_other}
 use Rattle.mp_wait_laws.proofs.Vain.{vain_law as told_in_vain}
-use Rattle.mp_alike_laws.specs.Renaming.{Renaming, no_renaming}
+use Rattle.mp_alike_laws.specs.Renaming.{no_renaming}
 use Rattle.mp_alike_laws.specs.Alike.{AlikeHubs}
 use Rattle.mp_alike_laws.proofs.Likeness.{itself as hub_itself}
 use Rattle.cl_journal.specs.declared.entries.Entry.{Entry}
@@ -24,16 +22,14 @@ use Rattle.cl_state.specs.Asked.{asked}
 use Rattle.cl_state.specs.Rank.{Rank}
 use Rattle.cl_state.specs.Told.{told}
 use Rattle.cl_state_laws.specs.Laws.{IsLook}
-use Rattle.cl_state_laws.specs.Vain.{IsPatient, IsStopped, mode_of}
 use Rattle.cl_state_laws.specs.VainLaws.{at_clock}
 use Rattle.cl_state_laws.proofs.Vain.{vain_law as rank_vain}
 use Rattle.cl_trace.specs.declared.events.Kind.{Kind}
 use Rattle.cl_machine.specs.declared.steps.Step.{Step}
-use Rattle.cl_machine.specs.Boxes.{Box}
-use Rattle.cl_machine.specs.Cluster.{CaseOf, Cluster, IsStep, only_told}
+use Rattle.cl_machine.specs.Cluster.{CaseOf, Cluster, only_told}
 use Rattle.cl_machine.specs.Journal.{Journal, reply_in, with_entry}
 use Rattle.cl_order_laws.specs.Alike.{AlikeBoxes, AlikeClusters, AlikeRanks, AreEach, hub_of}
-use Rattle.cl_order_laws.specs.Laws.{AreAlike, IsReached, IsVainTurn, VainLaw}
+use Rattle.cl_order_laws.specs.Laws.{IsReached, IsVainTurn, VainLaw}
 use Rattle.cl_order_laws.proofs.Each.{set_here, set_length}
 use Rattle.cl_order_laws.proofs.Likeness.{rank_itself, reached_sound}
 

@@ -13,7 +13,7 @@ use Rattle.cl_trace.specs.declared.events.Kind.{Kind}
 use Rattle.cl_machine.specs.declared.steps.Step.{Step}
 use Rattle.cl_machine.specs.Cluster.{Cluster, IsRun, IsStep, loaded_cluster}
 use Rattle.cl_order_laws.specs.Alike.{AlikeClusters, Leads, at_stamp}
-use Rattle.cl_order_laws.specs.Closed.{FollowPlans, IsClosed, IsCovered, IsEnd, Node, Plans, had_after, none_had}
+use Rattle.cl_order_laws.specs.Closed.{FollowPlans, IsClosed, IsCovered, IsEnd, Node, Plans, had_after}
 
 abbrev pub AreAlike : Cluster → Cluster → Type 0
 AreAlike a b = (names : Renaming) × AlikeClusters names a b

@@ -1,4 +1,6 @@
 pub mod Alike
 pub mod Closed
 pub mod Laws
+pub mod Turns
+pub mod Race
 pub mod Rows

@@ -1,18 +1,21 @@
 -- Worked rows: boxes, places of plans, and turns that a closed set can't leave out.
-use Rattle.std.specs.Prelude.{ℕ, zero, suc, ◌+◌, ◌<◌, ◌≡◌, ◌≢◌, List, [], ◌∷◌, length, slice_get, Some}
-use Rattle.mp_types.specs.declared.replies.Reply.TheVariants.{NotYet}
-use Rattle.mp_types.specs.declared.requests.Request.{Request}
+use Rattle.std.specs.Prelude.{ℕ, zero, suc, ◌+◌, ◌<◌, ◌≡◌, ◌≢◌, List, [], ◌∷◌, length, slice_get, Some, true}
+use Rattle.rv_hart.specs.State.{State}
+use Rattle.mp_types.specs.declared.replies.Reply.TheVariants as reply
 use Rattle.cl_state.specs.declared.asking.Answer.{Answer}
 use Rattle.cl_state.specs.declared.asking.Ask.{Ask}
 use Rattle.cl_state.specs.Asked.{asked}
 use Rattle.cl_state.specs.Rank.{Rank}
+use Rattle.cl_state.specs.Rows.{calling, guest}
 use Rattle.cl_trace.specs.declared.events.Kind.{Kind}
 use Rattle.cl_machine.specs.declared.steps.Step.{Step}
 use Rattle.cl_machine.specs.Boxes.{Box, empty_box, with_made, with_taken}
-use Rattle.cl_machine.specs.Cluster.{Cluster, only_told}
+use Rattle.cl_machine.specs.Cluster.{Cluster, IsRun, only_told}
+use Rattle.cl_machine.specs.Journal.{empty_journal}
+use Rattle.cl_machine.specs.Worked.{receiving, step_by}
 use Rattle.cl_order_laws.specs.Alike.{AlikeBoxes, Leads}
-use Rattle.cl_order_laws.specs.Closed.{IsClosed, IsCovered, IsDone, IsEnd, IsSamePlace, Node, Plans, one_more}
-use Rattle.cl_order_laws.specs.Laws.{IsReached}
+use Rattle.cl_order_laws.specs.Closed.{FollowPlans, IsClosed, IsCovered, IsDone, IsEnd, IsSamePlace, Node, Plans, none_had, one_more}
+use Rattle.cl_order_laws.specs.Laws.{AreAlike, IsReached}
 
 -- ---- boxes
 
@@ -44,6 +47,43 @@ by_turns (suc (suc n)) = by_turns n
 pub record PlacesOfPlans : Type 0 where
   pub same : IsSamePlace by_turns 0 2
   pub other : ¬ IsSamePlace by_turns 0 1
+
+-- the other hart first
+abbrev pub other_way : ℕ → ℕ
+other_way n = by_turns (n + 1)
+
+abbrev pub two_harts : State → State → Rank
+two_harts first second = record (guest [] 0) { harts = first ∷ second ∷ [] }
+
+-- rank 0 beside a rank that receives from it
+abbrev pub beside : Rank → Cluster
+beside rank = record { ranks = rank ∷ receiving ∷ []; journal = empty_journal []; boxes = [] }
+
+-- the first two turns of rank 0 by its plan
+abbrev pub turns_by : (ℕ → ℕ) → Kind → Kind → List Step
+turns_by plan first second = step_by (plan 0) 0 9 first ∷ step_by (plan 1) 0 10 second ∷ []
+
+-- one hart is at the SEND of the byte at 8, the other at that of the byte at 9, both to rank 1 with tag 7
+abbrev pub both_send : Cluster
+both_send = beside (two_harts (calling (8 ∷ 1 ∷ 1 ∷ 7 ∷ 0 ∷ []) 16) (calling (9 ∷ 1 ∷ 1 ∷ 7 ∷ 0 ∷ []) 16))
+
+-- one hart is at RANK, the other at SIZE, of communicator 0
+abbrev pub both_ask : Cluster
+both_ask = beside (two_harts (calling (0 ∷ []) 2) (calling (0 ∷ []) 3))
+
+abbrev pub SendBy : (ℕ → ℕ) → Cluster → Type 0
+SendBy plan end =
+    IsRun both_send (turns_by plan (Kind.Hub (reply.Posted 1 true)) (Kind.Hub (reply.Posted 2 true))) end
+
+abbrev pub AskBy : (ℕ → ℕ) → Cluster → Type 0
+AskBy plan end = IsRun both_ask (turns_by plan Kind.Local Kind.Local) end
+
+-- a rank of two harts under two plans: two sends lead to clusters that aren't alike, since rank 1 receives the one or the
+-- other first; turns that need only the rank lead to the very same cluster
+pub record TwoPlans : Type 0 where
+  pub follow : (plan : ℕ → ℕ) (first second : Kind) → FollowPlans (λ r. plan) none_had (turns_by plan first second)
+  pub apart : (a : Cluster) × (b : Cluster) × SendBy by_turns a × SendBy other_way b × ¬ AreAlike a b
+  pub meet : (end : Cluster) × AskBy by_turns end × AskBy other_way end
 
 -- ---- what a closed set can't leave out
 
@@ -89,6 +129,7 @@ pub record WorkedOrders : Type 0 where
   pub bytes : BytesAreKept
   pub phases : PhasesAreAlike
   pub places : PlacesOfPlans
+  pub plans : TwoPlans
   pub misses : MissesAreCovered
   pub calls : CallsAreCovered
   pub ends : EndsAreClosed

@@ -1,6 +1,7 @@
 //! Laws of the cluster, over the definitions alone: functions with empty bodies, whose contracts are the laws.
 
 ghost use Rattle.cl_order_laws.specs.Laws.{BelowLaw, CommuteLaw, CoveredLaw, EndStaysLaw, EndsLaw, EveryEndLaw, GoAlikeLaw, LikenessLaw, NoDeadlockLaw, VainLaw};
+ghost use Rattle.cl_order_laws.specs.Turns.{TurnsLaw};
 
 /// A cluster that was reached is alike itself, and likeness goes both ways and on.
 pub fn likeness_law()
@@ -53,4 +54,10 @@ pub fn no_deadlock_law()
 /// An end stays one: no turn of a hart that its plan names changes anything but clocks.
 pub fn end_stays_law()
     ensures { EndStaysLaw }
+{}
+
+/// Where a turn leads hangs on what its hart asks: there is one cluster behind, or two where a look may see; but for the
+/// stamp.
+pub fn turns_law()
+    ensures { TurnsLaw }
 {}

@@ -29,6 +29,7 @@ use Rattle.mp_wait_laws.proofs.Owned.{AreOwned, owned_after, waits_for_it}
 use Rattle.mp_alike_laws.specs.Renaming.{Renaming, number_by, request_by}
 use Rattle.mp_alike_laws.specs.Alike.{AlikeBoards, AlikeHubs}
 use Rattle.mp_alike_laws.specs.Laws.{AnswersLaw}
+use Rattle.mp_alike_laws.proofs.Held.{held_same}
 use Rattle.mp_alike_laws.proofs.Named.{all_known_named, all_ready_named, complete_named, distinct_named, envelope_named, kept, may_named, send_named, some_by}
 use Rattle.mp_alike_laws.proofs.Partners.{found_named}
 use Rattle.mp_alike_laws.proofs.Posting.{posted_alike}
@@ -205,7 +206,7 @@ module _ (names : Renaming) where
         (reply.Code Full, h)
         (reply.Posted (next_number k.board) (is_done k.board s), with_board k (send_posted k.board s bytes))
         (reply.Code Full, k)
-        (ap (λ n. nat_lt n 65536) board.held) (sends s bytes) (still (reply.Code Full) (reply.Code Full) refl)
+        (ap (λ n. nat_lt n 65536) (held_same names h.board k.board board)) (sends s bytes) (still (reply.Code Full) (reply.Code Full) refl)
     answers rank (Recv true comm source tag) =
         let a = selecting rank comm source tag in
         got_same h k (reply.Posted (next_number h.board) false) (reply.Posted (next_number k.board) false)

@@ -1,9 +1,9 @@
 -- Boards stay alike where the same message is collected in both.
-use Rattle.std.proofs.Common.{◌≡◌, ℕ, zero, suc, ◌+◌, inl, inr, List, [], ◌∷◌, map, Bool, true, false, cond, Option, Some, None, refl, sym, ap, ◌∙◌, subst, arith}
+use Rattle.std.proofs.Common.{◌≡◌, ℕ, zero, suc, inl, inr, List, [], ◌∷◌, map, Bool, true, false, cond, Option, Some, None, refl, sym, ap, ◌∙◌, subst}
 use Rattle.std.specs.List.{slice_get, slice_set}
 use Rattle.std.specs.Option.{option_map}
 use Rattle.std.proofs.lemmas.Bool.{cases_eq}
-use Rattle.mp_match.specs.Board.{Board, collect, collect_from, held_count, is_send_of, line_of, partner_of, without}
+use Rattle.mp_match.specs.Board.{Board, collect, collect_from, is_send_of, line_of, partner_of, without}
 use Rattle.mp_hub.specs.Hub.{all_got, one_got}
 use Rattle.mp_wait_laws.proofs.Sets.{get-set_other}
 use Rattle.mp_alike_laws.specs.Renaming.{Renaming, number_by}
@@ -12,20 +12,6 @@ use Rattle.mp_alike_laws.proofs.Named.{message_named, partner_named, send_named}
 
 Bodies : Type 0
 Bodies = List (Option (List ℕ))
-
--- what is held at the place
-abbrev held_at : Option (Option (List ℕ)) → ℕ
-held_at None = 0
-held_at (Some None) = 0
-held_at (Some (Some x)) = 1
-
-fewer_held : (bodies : List (Option (List ℕ))) (place : ℕ)
-    → held_count (slice_set bodies place None) + held_at (slice_get bodies place) ≡ held_count bodies
-fewer_held [] place = refl
-fewer_held (None ∷ bodies) zero = (omega arith)
-fewer_held (Some x ∷ bodies) zero = refl
-fewer_held (None ∷ bodies) (suc place) = fewer_held bodies place
-fewer_held (Some x ∷ bodies) (suc place) = (let e = fewer_held bodies place in omega (arith, e))
 
 -- where something was there, nothing is
 abbrev emptied : Option (Option (List ℕ)) → Option (Option (List ℕ))
@@ -62,12 +48,6 @@ module _ (names : Renaming) (a b : Board) (alike : AlikeBoards names a b) where
           ∙ alike.bodies i
           ∙ sym (get-set_other a.bodies place i None other)
     ];
-    held =
-        let f = fewer_held a.bodies place in
-        let g = fewer_held b.bodies (names.to place) in
-        let e = ap held_at (alike.bodies place) in
-        let h = alike.held in
-        omega (arith, f, g, e, h);
     claims = alike.claims;
     ranks = alike.ranks;
     sends = alike.sends;

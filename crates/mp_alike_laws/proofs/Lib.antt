@@ -3,6 +3,7 @@ pub mod Named
 pub mod Partners
 pub mod Sides
 pub mod Posting
+pub mod Held
 pub mod Collecting
 pub mod Answers
 pub mod Rows

@@ -33,7 +33,6 @@ itself a = record {
     next = λ place past. refl;
     lines = λ place. same_line (slice_get a.board.lines place);
     bodies = λ place. refl;
-    held = refl;
     claims = λ place line what here is. refl;
     ranks = λ i j m n below here there same. below;
     sends = λ i j s t below here there dest comm. below;
@@ -99,7 +98,6 @@ board_back names a b alike = record {
       sym (back_line names (slice_get a.lines (names.back place)))
       ∙ ap (option_map (line_by (turned names))) (sym (alike.lines (names.back place)) ∙ ap (slice_get b.lines) (names.again place));
   bodies = λ place. sym (alike.bodies (names.back place)) ∙ ap (slice_get b.bodies) (names.again place);
-  held = sym alike.held;
   claims = λ place line what here is.
       let o = origin names a b alike place line here in
       let same : names.to (names.back place) ≡ names.back place = alike.claims (names.back place) o.from what o.here
@@ -166,7 +164,6 @@ board_on names more a b c f g = record {
       g.lines (names.to place) ∙ ap (option_map (line_by more)) (f.lines place)
       ∙ on_line names more (slice_get a.lines place);
   bodies = λ place. g.bodies (names.to place) ∙ f.bodies place;
-  held = g.held ∙ f.held;
   claims = λ place line what here is.
       let same : names.to place ≡ place = f.claims place line what here is in
       ap more.to same ∙ g.claims place (line_by names line) what

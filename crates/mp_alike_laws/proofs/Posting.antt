@@ -8,23 +8,13 @@ use Rattle.mp_match.specs.declared.posts.Line.{Line}
 use Rattle.mp_match.specs.declared.posts.Post.{Post}
 use Rattle.mp_match.specs.declared.posts.Post.TheVariants.{Send}
 use Rattle.mp_match.specs.declared.posts.Sent.{Sent}
-use Rattle.mp_match.specs.Board.{Board, board_with, held_count}
+use Rattle.mp_match.specs.Board.{Board, board_with}
 use Rattle.mp_match.specs.Pairs.{add, partner_for}
 use Rattle.mp_match.proofs.Places.{get_last, get_within}
 use Rattle.mp_match.proofs.Lines.{Look, add_given, add_length, add_new, add_old, given, is_given, is_new, is_old, look}
 use Rattle.mp_alike_laws.specs.Renaming.{Renaming, line_by}
 use Rattle.mp_alike_laws.specs.Alike.{AlikeBoards, IsUnpaired, maker}
 use Rattle.mp_alike_laws.proofs.Partners.{found_named}
-
-held_more : (bodies : List (Option (List ℕ))) (body : Option (List ℕ))
-    → held_count (bodies ++ body ∷ []) ≡ held_count bodies + held_count (body ∷ [])
-held_more [] body = go body
-  where
-    go : (o : Option (List ℕ)) → held_count (o ∷ []) ≡ 0 + held_count (o ∷ [])
-    go None = refl
-    go (Some x) = refl
-held_more (None ∷ bodies) body = held_more bodies body
-held_more (Some x ∷ bodies) body = (let e = held_more bodies body in omega (arith, e))
 
 back_some : (names : Renaming) (p : ℕ) (o : Option ℕ) → option_map names.to o ≡ Some (names.to p) → o ≡ Some p
 back_some names p None h = absurd (cc)
@@ -175,8 +165,6 @@ module _ (names : Renaming) (a b : Board) (alike : AlikeBoards names a b) where
       next = λ place past. alike.next place (let l = longer in omega (arith, past, l));
       lines = more_lines;
       bodies = more_bodies;
-      held =
-          held_more b.bodies body ∙ ap (λ n. n + held_count (body ∷ [])) alike.held ∙ sym (held_more a.bodies body);
       claims = λ place line what here is. elim (cases_eq place (length a.lines)) [
         | inl at ↦ ap names.to at ∙ last ∙ sym at
         | inr other ↦

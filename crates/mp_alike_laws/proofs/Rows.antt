@@ -18,6 +18,7 @@ use Rattle.mp_alike_laws.specs.Renaming.{Renaming, line_by}
 use Rattle.mp_alike_laws.specs.Alike.{IsUnpaired, maker}
 use Rattle.mp_alike_laws.specs.Rows.{ByTwoClaims, Collected, OfOneRank, SynchronousPartner, ToOneRank, ToTwoRanks, WorkedHubs, after, claims_any, sends_sync}
 use Rattle.mp_alike_laws.proofs.Answers.{answers_law}
+use Rattle.mp_alike_laws.proofs.Held.{held_same}
 
 -- ---- what tells replies apart
 
@@ -65,7 +66,6 @@ two_ranks = (
       next = next;
       lines = lines;
       bodies = bodies;
-      held = refl;
       claims = claims;
       ranks = ranks;
       sends = sends;
@@ -159,7 +159,7 @@ claims alike =
     absurd (omega (arith, e))
 
 collected : Collected
-collected alike = (let e : 0 ≡ 1 = ((alike.1).board).held in absurd (omega (arith, e)))
+collected alike = (let e : 0 ≡ 1 = held_same alike.0 _ _ (alike.1).board in absurd (omega (arith, e)))
 
 partner : SynchronousPartner
 unfolding is_done

@@ -7,7 +7,7 @@ use Rattle.mp_match.specs.declared.posts.Post.{Post}
 use Rattle.mp_match.specs.declared.posts.Post.TheVariants.{Send, Receive, Claim}
 use Rattle.mp_match.specs.declared.posts.Selection.{Selection}
 use Rattle.mp_match.specs.declared.posts.Sent.{Sent}
-use Rattle.mp_match.specs.Board.{Board, held_count}
+use Rattle.mp_match.specs.Board.{Board}
 use Rattle.mp_transfers.specs.declared.sides.Setup.{Setup}
 use Rattle.mp_transfers.specs.Inits.{is_reserved, is_same_side, sender_over}
 use Rattle.mp_hub.specs.Hub.{HubView}
@@ -31,7 +31,6 @@ pub record AlikeBoards (names : Renaming) (a b : Board) : Type 0 where
   pub lines : (place : ℕ) → slice_get b.lines (names.to place) ≡ option_map (line_by names) (slice_get a.lines place)
   -- and the same message, or none where it was collected
   pub bodies : (place : ℕ) → slice_get b.bodies (names.to place) ≡ slice_get a.bodies place
-  pub held : held_count b.bodies ≡ held_count a.bodies
   -- a claim keeps its number, for guests hold it
   pub claims : (place : ℕ) (line : Line) (what : Selection) → slice_get a.lines place ≡ Some line
       → line.post ≡ Claim what → names.to place ≡ place

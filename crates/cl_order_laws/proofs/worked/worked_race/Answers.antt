@@ -1,0 +1,5 @@
+use Rattle.cl_order_laws.proofs.Race as law
+use Rattle.cl_order_laws.proofs.worked.worked_race.Goals as goal
+
+pub returns : goal.returns
+returns c = law.worked_race
