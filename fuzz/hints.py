@@ -5,8 +5,8 @@ import re
 import assembler
 import formats
 
-# a hint's line
-LINE = re.compile(rb"hint: [ -~]+\n")
+# a hint's line: printable bytes, and what stands in a string of the source as it is, a tab or a carriage return
+LINE = re.compile(rb"hint: [ -~\t\r]+\n")
 
 # what a source is told to be given to, by what is wanted in its place
 REMEDIES = {
