@@ -1,0 +1,8 @@
+//! Laws of the definitions, with no code: each function's contract is the law.
+
+ghost use Rattle.rvmc_requests.specs.Laws.{NumberLaw};
+
+/// A number that is written in hexadecimal digits is read as that number.
+pub fn number_law()
+    ensures { NumberLaw }
+{}
