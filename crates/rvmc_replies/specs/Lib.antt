@@ -1,0 +1,5 @@
+pub mod Digits
+pub mod Laws
+pub mod Parts
+pub mod Stops
+pub mod Threads

@@ -1,0 +1,19 @@
+-- Why threads stand: a trap, which is signal 5, its cause, and the thread that is meant (GDB manual, 'Stop Reply Packets').
+use Rattle.std.specs.Prelude.{ℕ, List, [], ◌++◌, codes, false}
+use Rattle.std.specs.Fmt.{digits}
+use Rattle.rvmc_replies.specs.Threads.{thread_number}
+use Rattle.rvmc_replies.specs.declared.stops.Stop.{Stop}
+use Rattle.rvmc_replies.specs.declared.stops.Stop.TheVariants.{Step, Before, HardwareBefore, Written, Read, Touched, Begin, End}
+
+abbrev pub cause_text : Stop → List ℕ
+cause_text Step = []
+cause_text Before = codes "swbreak:;"
+cause_text HardwareBefore = codes "hwbreak:;"
+cause_text (Written address) = codes "watch:" ++ digits 16 false address ++ codes ";"
+cause_text (Read address) = codes "rwatch:" ++ digits 16 false address ++ codes ";"
+cause_text (Touched address) = codes "awatch:" ++ digits 16 false address ++ codes ";"
+cause_text Begin = codes "replaylog:begin;"
+cause_text End = codes "replaylog:end;"
+
+abbrev pub stop_text : Stop → ℕ → List ℕ
+stop_text stop hart = codes "T05" ++ cause_text stop ++ codes "thread:" ++ thread_number hart ++ codes ";"

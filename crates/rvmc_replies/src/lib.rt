@@ -1,0 +1,14 @@
+//! The texts of answers to gdb (GDB manual, appendix 'Remote Protocol'): what the payloads of packets to it say of
+//! registers, bytes, threads and stops. What they tell of a record is not known here.
+#![tactic(auto)]
+
+mod digits;
+pub mod laws;
+mod parts;
+mod stops;
+mod threads;
+
+pub use digits::{put_bytes, put_register};
+pub use parts::put_part;
+pub use stops::{Stop, put_stop};
+pub use threads::{put_current, put_supported, put_threads};
