@@ -1,0 +1,5 @@
+pub mod Ranges
+pub mod Counters
+pub mod Mails
+pub mod Tabling
+pub mod EachKind

@@ -1,0 +1,184 @@
+-- What is counted of steps: each number is that of the steps, or of the messages, of which something holds.
+use Rattle.std.specs.Prelude.{ℕ, ◌*◌, ◌==◌, ◌&&◌, not, if◌then◌else◌, nat_lt, Bool, true, false, List, [], ◌∷◌, length}
+use Rattle.std.specs.Prelude.{map, Option, Some, None}
+use Rattle.std.specs.List.{count_by, filter, filter_map, flat_map, sum_by}
+use Rattle.mp_types.specs.declared.messages.Message.{Message}
+use Rattle.mp_types.specs.declared.replies.Reply.{Reply}
+use Rattle.mp_types.specs.declared.replies.Reply.TheVariants as reply
+use Rattle.rv_hart.specs.State.{State, read}
+use Rattle.rv_hart.specs.declared.state.Mode.{Mode}
+use Rattle.rv_hart.specs.declared.state.Mode.TheVariants.{Running, Waiting, Ended, Trapped}
+use Rattle.cl_calls.specs.Calls.{call_named}
+use Rattle.cl_calls.specs.declared.calls.Call.{Call}
+use Rattle.cl_calls.specs.declared.calls.Call.TheVariants as call
+use Rattle.cl_trace.specs.declared.events.Kind.{Kind}
+use Rattle.cl_machine.specs.declared.steps.Step.{Step}
+
+-- what is seen of a step: its hart before it, and its hart after it
+pub record Taken : Type 0 where
+  pub step : Step
+  pub before : State
+  pub after : State
+
+-- ---- turns
+
+-- the column of a kind
+abbrev pub kind_place : Kind → ℕ
+kind_place Kind.Plain = 0
+kind_place Kind.Local = 1
+kind_place (Kind.Hub r) = 2
+kind_place Kind.Ready = 3
+kind_place Kind.Take = 4
+kind_place Kind.Miss = 5
+kind_place Kind.Freed = 6
+kind_place Kind.Held = 7
+kind_place Kind.Idle = 8
+
+abbrev pub is_turn : ℕ → ℕ → Taken → Bool
+is_turn rank column taken = (rank == taken.step.rank) && (column == kind_place taken.step.kind)
+
+-- how many turns of a kind a rank took
+abbrev pub turns_of : List Taken → ℕ → ℕ → ℕ
+turns_of all rank column = count_by (is_turn rank column) all
+
+-- of any kind
+abbrev pub is_of : ℕ → Taken → Bool
+is_of rank taken = rank == taken.step.rank
+
+abbrev pub taken_by : List Taken → ℕ → ℕ
+taken_by all rank = count_by (is_of rank) all
+
+-- a turn of a hart that found nothing new, and isn't stopped
+abbrev pub is_not_yet : Reply → Bool
+is_not_yet reply.NotYet = true
+is_not_yet _ = false
+
+abbrev pub is_wait : Kind → Bool
+is_wait (Kind.Hub r) = is_not_yet r
+is_wait Kind.Miss = true
+is_wait Kind.Held = true
+is_wait _ = false
+
+abbrev pub is_waiting : ℕ → Taken → Bool
+is_waiting rank taken = is_wait taken.step.kind && (rank == taken.step.rank)
+
+abbrev pub waits_of : List Taken → ℕ → ℕ
+waits_of all rank = count_by (is_waiting rank) all
+
+-- ---- calls
+
+-- a turn that made a call: neither an instruction nor one of a stopped hart
+abbrev pub is_call : Kind → Bool
+is_call Kind.Plain = false
+is_call Kind.Idle = false
+is_call _ = true
+
+-- the number of a call, as docs/CALLS.md has it; behind them all, 44 where the number is no call's
+abbrev pub call_number : Call → ℕ
+call_number (call.Exit code) = 0
+call_number (call.Put buffer count) = 1
+call_number (call.Rank comm) = 2
+call_number (call.Size comm) = 3
+call_number call.Hart = 4
+call_number (call.Send s) = 16
+call_number (call.Ssend s) = 17
+call_number (call.Recv r status) = 18
+call_number (call.Isend s) = 19
+call_number (call.Issend s) = 20
+call_number (call.Irecv r) = 21
+call_number (call.Test c) = 22
+call_number (call.Wait c) = 23
+call_number (call.Iprobe p) = 24
+call_number (call.Probe p) = 25
+call_number (call.Improbe p) = 26
+call_number (call.Mprobe p) = 27
+call_number (call.Imrecv m) = 28
+call_number (call.Mrecv m status) = 29
+call_number (call.SendInit s) = 30
+call_number (call.RecvInit r) = 31
+call_number (call.Start handle) = 32
+call_number (call.RequestFree handle) = 33
+call_number (call.Testall s) = 34
+call_number (call.Waitall s) = 35
+call_number (call.PsendInit t) = 40
+call_number (call.PrecvInit t) = 41
+call_number (call.Pready handle part) = 42
+call_number (call.Parrived handle part) = 43
+call_number call.Unknown = 44
+
+-- how a call ended: with the code that it left in a0, from 0 to 16; with another number there, which none does; or its
+-- hart waits, and makes it again; or has ended; or has trapped, which no call does
+abbrev pub code_place : ℕ → ℕ
+code_place code = if nat_lt code 17 then code else 17
+
+abbrev pub outcome_place : State → Mode → ℕ
+outcome_place after Running = code_place (read after 10)
+outcome_place after (Waiting w) = 18
+outcome_place after (Ended code) = 19
+outcome_place after (Trapped cause at) = 20
+
+abbrev pub is_made : ℕ → ℕ → Taken → Bool
+is_made number outcome taken =
+    is_call taken.step.kind
+    && ((number == call_number (call_named taken.before)) && (outcome == outcome_place taken.after taken.after.mode))
+
+-- how many turns made this call, and ended so
+abbrev pub calls_of : List Taken → ℕ → ℕ → ℕ
+calls_of all number outcome = count_by (is_made number outcome) all
+
+-- ---- messages
+
+-- a message that a rank received
+pub record Received : Type 0 where
+  pub to : ℕ
+  pub message : Message
+
+-- those that a reply brings
+abbrev pub messages_by_reply : Reply → List Message
+messages_by_reply (reply.Got m) = m ∷ []
+messages_by_reply (reply.AllGot gots) = filter_map (λ got. got) gots
+messages_by_reply _ = []
+
+abbrev pub messages_by_kind : Kind → List Message
+messages_by_kind (Kind.Hub r) = messages_by_reply r
+messages_by_kind _ = []
+
+abbrev pub received_by : ℕ → List Message → List Received
+received_by to messages = map (λ (m : Message). record { to = to; message = m }) messages
+
+abbrev pub received_in : Taken → List Received
+received_in taken = received_by taken.step.rank (messages_by_kind taken.step.kind)
+
+abbrev pub received : List Taken → List Received
+received all = flat_map received_in all
+
+abbrev pub is_between : ℕ → ℕ → Received → Bool
+is_between from to r = (from == r.message.envelope.source) && (to == r.to)
+
+-- how many messages of one rank another received, and how many bytes they have
+abbrev pub messages_of : List Received → ℕ → ℕ → ℕ
+messages_of all from to = count_by (is_between from to) all
+
+abbrev pub size_of : Received → ℕ
+size_of r = length r.message.bytes
+
+abbrev pub bytes_of : List Received → ℕ → ℕ → ℕ
+bytes_of all from to = sum_by size_of (filter (is_between from to) all)
+
+-- ---- places of the text
+
+-- a turn of a hart that isn't stopped, at this word of the text
+abbrev pub is_idle : Kind → Bool
+is_idle Kind.Idle = true
+is_idle _ = false
+
+abbrev pub is_at : ℕ → Taken → Bool
+is_at word taken = not (is_idle taken.step.kind) && (taken.before.pc == 4 * word)
+
+abbrev pub turns_at : List Taken → ℕ → ℕ
+turns_at all word = count_by (is_at word) all
+
+-- ---- what is seen
+
+abbrev pub taken_seen : Step → State → State → Taken
+taken_seen step before after = record { step = step; before = before; after = after }
