@@ -23,12 +23,12 @@ use Rattle.rvmc_list.specs.List.{AreSights, IsSightAt, ListFaultHolds, is_past, 
 use Rattle.rvmc_list.specs.Pieces.{behind, closing, opened_by, piece_of}
 use Rattle.rvmc_list.specs.Putting.{ArePut, AreTold, IsPut, PutFaultHolds, Puts, StepsFaultHolds}
 use Rattle.rvmc_list.specs.declared.folding.Wanted.{Wanted}
-use Rattle.rvmc_list.specs.declared.listing.ListFault.{ListFault}
-use Rattle.rvmc_list.specs.declared.listing.ListFault.TheVariants as fault
+use Rattle.rvmc_list.specs.declared.walk.ListFault.{ListFault}
+use Rattle.rvmc_list.specs.declared.walk.ListFault.TheVariants as fault
 use Rattle.rvmc_list.proofs.Folds.{behind_none, sight_more}
 
 -- what holds of each holds of each with one more
-each_more : {X : Type 0} (P : ℕ → X → Type 0) (xs : List X) (y : X)
+pub each_more : {X : Type 0} (P : ℕ → X → Type 0) (xs : List X) (y : X)
     → ((k : ℕ) (x : X) → slice_get xs k ≡ Some x → P k x) → P (length xs) y
     → (k : ℕ) (x : X) → slice_get (xs ++ y ∷ []) k ≡ Some x → P k x
 each_more P [] y each last zero x at = subst (P zero) (same_Some y x at) last
@@ -56,16 +56,16 @@ module _ (ranks : List Rank) (states : List RankState) (are : ranks ≡ map rank
       go (Some s) is same = (s, is, same_Some (rank_of s) rank same)
 
 -- what was seen of one step more: the states of its rank before and after it, and its sight
-record IsSeen (image : ImageParts) (steps : List Step) (n : ℕ) (state : ClusterState) (e : Step) (new : ClusterState) : Type 0 where
-  s : RankState
-  t : RankState
-  s_there : slice_get state.ranks.items e.rank ≡ Some s
-  t_there : slice_get new.ranks.items e.rank ≡ Some t
-  s_hart : e.hart < length s.harts.items
-  t_hart : e.hart < length t.harts.items
-  sight : IsSightAt image steps n (sight_of n e (rank_of s) (rank_of t))
+pub record IsSeen (image : ImageParts) (steps : List Step) (n : ℕ) (state : ClusterState) (e : Step) (new : ClusterState) : Type 0 where
+  pub s : RankState
+  pub t : RankState
+  pub s_there : slice_get state.ranks.items e.rank ≡ Some s
+  pub t_there : slice_get new.ranks.items e.rank ≡ Some t
+  pub s_hart : e.hart < length s.harts.items
+  pub t_hart : e.hart < length t.harts.items
+  pub sight : IsSightAt image steps n (sight_of n e (rank_of s) (rank_of t))
 
-seen_at : (image : ImageParts) (steps : List Step) (n : ℕ) (state : ClusterState) → IsReached image steps n state
+pub seen_at : (image : ImageParts) (steps : List Step) (n : ℕ) (state : ClusterState) → IsReached image steps n state
     → (e : Step) → slice_get steps n ≡ Some e → (new : ClusterState) → Leads state e new
     → IsSeen image steps n state e new
 seen_at image steps n state reached e there new leads =
@@ -106,6 +106,18 @@ seen_at image steps n state reached e there new leads =
       };
     }
 
+-- one sight more
+pub sights_more : (image : ImageParts) (steps : List Step) (from n : ℕ) → from ≤ n → (sights : List Sight)
+    → AreSights image steps from n sights → (sight : Sight) → IsSightAt image steps n sight
+    → AreSights image steps from (n + 1) (sights ++ sight ∷ [])
+sights_more image steps from n forwards sights are sight seen =
+    let here : from + length sights ≡ n = (let count = are.count in omega (arith, forwards)) in
+    record {
+      count = (let count = are.count in omega (arith, forwards, length-append sights (sight ∷ [])));
+      each = each_more (λ k x. IsSightAt image steps (from + k) x) sights sight are.each
+          (subst (λ k. IsSightAt image steps k sight) (sym here) seen);
+    }
+
 -- one step more
 module _ (image : ImageParts) (steps : List Step) (wanted : Wanted) (from n : ℕ) (forwards : from ≤ n)
     (state : ClusterState) (begun : Option ℕ) (old text : List ℕ)
@@ -120,9 +132,6 @@ module _ (image : ImageParts) (steps : List Step) (wanted : Wanted) (from n : �
 
   is_put : IsPut wanted begun (sight_line image.symbols wanted sight) e text after next
   is_put = puts seen.s seen.t seen.s_there seen.t_there seen.s_hart seen.t_hart
-
-  here : from + length put.sights ≡ n
-  here = let count = put.are.count in omega arith
 
   text_more : (rest : List Sight)
       → old ++ sights_text image.symbols wanted ((put.sights ++ sight ∷ []) ++ rest)
@@ -141,11 +150,7 @@ module _ (image : ImageParts) (steps : List Step) (wanted : Wanted) (from n : �
   put_more = record {
     reached = reached_more image steps n state put.reached e there new leads;
     sights = put.sights ++ sight ∷ [];
-    are = record {
-      count = (let count = put.are.count in omega (arith, length-append put.sights (sight ∷ [])));
-      each = each_more (λ k x. IsSightAt image steps (from + k) x) put.sights sight put.are.each
-          (subst (λ k. IsSightAt image steps k sight) (sym here) seen.sight);
-    };
+    are = sights_more image steps from n forwards put.sights put.are sight seen.sight;
     text = text_more;
   }
 

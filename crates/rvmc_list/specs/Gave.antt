@@ -14,7 +14,7 @@ use Rattle.cl_calls.specs.declared.calls.Call.{Call}
 use Rattle.cl_calls.specs.declared.calls.Call.TheVariants as call
 use Rattle.cl_trace.specs.declared.events.Kind.{Kind}
 use Rattle.rvmc_list.specs.Arguments.{wild_text}
-use Rattle.rvmc_list.specs.Names.{code_name}
+use Rattle.rvmc_stats.specs.Names.{code_name}
 
 -- each thing that a call gave stands behind an arrow
 

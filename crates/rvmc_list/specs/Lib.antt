@@ -9,3 +9,7 @@ pub mod Laws
 pub mod List
 pub mod Pieces
 pub mod Putting
+pub mod Places
+pub mod Placing
+pub mod Stats
+pub mod Counting

@@ -17,7 +17,7 @@ use Rattle.rvmc_inspect.specs.Texts.{call_name}
 use Rattle.rvmc_list.specs.Arguments.{arguments_text}
 use Rattle.rvmc_list.specs.Gave.{box_text, end_text, is_refused, kind_text}
 use Rattle.rvmc_list.specs.Instructions.{instruction_text}
-use Rattle.rvmc_list.specs.Names.{code_name}
+use Rattle.rvmc_stats.specs.Names.{code_name}
 
 -- ---- what is seen of a step
 

@@ -10,8 +10,8 @@ use Rattle.cl_replay.specs.InnerReplaying.{BreaksAt}
 use Rattle.rvmc_list.specs.Folding.{sights_text}
 use Rattle.rvmc_list.specs.Lines.{Sight, sight_of}
 use Rattle.rvmc_list.specs.declared.folding.Wanted.{Wanted}
-use Rattle.rvmc_list.specs.declared.listing.ListFault.{ListFault}
-use Rattle.rvmc_list.specs.declared.listing.ListFault.TheVariants as fault
+use Rattle.rvmc_list.specs.declared.walk.ListFault.{ListFault}
+use Rattle.rvmc_list.specs.declared.walk.ListFault.TheVariants as fault
 
 -- ---- what is seen of a record
 

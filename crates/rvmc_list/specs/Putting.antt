@@ -1,5 +1,5 @@
 -- How the text of a record is put together, one step after another.
-use Rattle.std.specs.Prelude.{ℕ, ◌≡◌, ◌<◌, ◌++◌, List, Option, Some, length, slice_get}
+use Rattle.std.specs.Prelude.{ℕ, ◌≡◌, ◌<◌, ◌++◌, List, Option, None, Some, false, length, slice_get}
 use Rattle.rv_hart.specs.State.{State}
 use Rattle.rv_image.specs.declared.images.ImageParts.{ImageParts}
 use Rattle.rv_image.specs.declared.images.Symbol.{Symbol}
@@ -12,13 +12,14 @@ use Rattle.cl_state.specs.Room.{rank_of}
 use Rattle.cl_state.specs.declared.state.RankState.{RankState}
 use Rattle.rvmc_list.specs.Folding.{Line, is_wanted, sight_line, lines_of, sights_text}
 use Rattle.rvmc_list.specs.Lines.{Sight, hart_of, sight_of}
-use Rattle.rvmc_list.specs.Seen.{IsSeenBefore}
-use Rattle.rvmc_list.specs.List.{AreSights}
+use Rattle.rvmc_list.specs.Seen.{IsSeenBefore, seen}
+use Rattle.rvmc_list.specs.List.{AreSights, is_past, last_place, names_no_rank}
 use Rattle.rvmc_list.specs.Pieces.{behind, opened_by, piece_of}
 use Rattle.rvmc_list.specs.declared.folding.Wanted.{Wanted}
 use Rattle.rvmc_list.specs.declared.lines.Seen.{Seen}
-use Rattle.rvmc_list.specs.declared.listing.ListFault.{ListFault}
-use Rattle.rvmc_list.specs.declared.listing.ListFault.TheVariants as fault
+use Rattle.rvmc_list.specs.declared.walk.Done.{Done}
+use Rattle.rvmc_list.specs.declared.walk.ListFault.{ListFault}
+use Rattle.rvmc_list.specs.declared.walk.ListFault.TheVariants as fault
 
 -- a step was put: whatever its rank was before and after it, its sight was added, and this line is begun behind it
 pub record IsPut (wanted : Wanted) (begun : Option ℕ) (line : Line) (e : Step) (old new : List ℕ)
@@ -40,6 +41,25 @@ abbrev pub IsHartAfter : ClusterState → Step → Option State → Type 0
 IsHartAfter state e hart =
     (t : RankState) → slice_get state.ranks.items e.rank ≡ Some t → e.hart < length t.harts.items
     → hart ≡ Some (hart_of e (rank_of t))
+
+-- what was seen of a step that was done, whatever its rank was before and after it
+abbrev pub IsDoneAs : Step → RankState → RankState → Option Done → Type 0
+IsDoneAs e s t None = ⊥
+IsDoneAs e s t (Some done) =
+    (place : ℕ) → seen place e done.before done.after ≡ sight_of place e (rank_of s) (rank_of t)
+
+abbrev pub IsDone : ClusterState → Step → ClusterState → Option Done → Type 0
+IsDone old e new done =
+    (s t : RankState) → slice_get old.ranks.items e.rank ≡ Some s → slice_get new.ranks.items e.rank ≡ Some t
+    → e.hart < length s.harts.items → e.hart < length t.harts.items → IsDoneAs e s t done
+
+-- the cluster where what is wanted begins, and the place where it ends
+pub record IsStart (image : ImageParts) (steps : List Step) (wanted : Wanted) (state : ClusterState) (to : ℕ)
+    : Type 0 where
+  pub reached : IsReached image steps wanted.from state
+  pub to_is : to ≡ last_place wanted steps
+  pub rank : names_no_rank wanted.rank image.ranks ≡ false
+  pub within : is_past wanted steps ≡ false
 
 -- why a step wasn't put
 abbrev pub PutFaultHolds : ClusterState → ℕ → Step → ListFault → Type 0

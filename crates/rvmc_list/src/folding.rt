@@ -30,7 +30,7 @@ pub struct Wanted {
 }
 
 /// Whether the steps of a rank are wanted.
-fn is_of_rank(wanted: Option<u64>, rank: u8) -> bool
+pub(crate) fn is_of_rank(wanted: Option<u64>, rank: u8) -> bool
     ensures { result ≡ is_of_rank_of wanted rank }
 {
     match wanted {

@@ -9,12 +9,12 @@ ghost use Rattle.rvmc_list.specs.Gave.{is_refused as is_refused_of, kind_text, m
 ghost use Rattle.rvmc_list.specs.Gave.{value_name as value_name_of};
 
 use crate::arguments::Wild;
-use crate::names::code_name;
 use cl_calls::Call;
 use cl_machine::KindRef;
 use mp_types::{Envelope, Message, Reply};
 use rv_decode::Reg;
 use rv_hart::{Hart, Mode};
+use rvmc_stats::code_name;
 use std::io;
 use std::io::Write;
 

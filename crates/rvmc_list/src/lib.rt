@@ -1,6 +1,7 @@
-//! A record in words: a line for each of its steps.
+//! A record in words: a line for each of its steps, or tables of their numbers.
 //!
-//! The meaning stands in specs/: what is seen of a step, its line, which lines are told, and the text of a record.
+//! The meaning stands in specs/: what is seen of a step, its line, which lines are told, the text of a record, and its
+//! tables.
 #![tactic(auto)]
 
 mod arguments;
@@ -11,6 +12,11 @@ pub mod laws;
 mod lines;
 mod listing;
 mod names;
+mod places;
+mod tables;
+mod walk;
 
 pub use folding::Wanted;
-pub use listing::{ListFault, list};
+pub use listing::list;
+pub use tables::stats;
+pub use walk::ListFault;

@@ -13,7 +13,6 @@ ghost use Rattle.rvmc_list.specs.Seen.{IsSeenBefore, seen};
 use crate::arguments::put_arguments;
 use crate::gave::{BoxNumber, is_refused, put_box, put_end, put_kind};
 use crate::instructions::put_instruction;
-use crate::names::code_name;
 use cl_calls::Call;
 use cl_machine::{KindRef, Step};
 use cl_state::{Ask, RankState};
@@ -22,6 +21,7 @@ use rv_decode::Reg;
 use rv_hart::Hart;
 use rv_image::Symbol;
 use rvmc_inspect::{call_name, nearest};
+use rvmc_stats::code_name;
 use std::alloc::AllocError;
 use std::io;
 use std::io::Write;
@@ -90,7 +90,7 @@ fn put_name(text: &mut Vec<u8>, symbol: &Symbol, at: u64) -> io::Result<()>
 
 /// Adds an address and the symbol nearest before it, as `0x1c (go+0x4)`.
 #[tactic(auto, unfolding(rvmc_inspect::specs::Places::named_address_text))]
-fn put_place(text: &mut Vec<u8>, symbols: &[Symbol], at: u64) -> io::Result<()>
+pub(crate) fn put_place(text: &mut Vec<u8>, symbols: &[Symbol], at: u64) -> io::Result<()>
     ensures { OnOk result (text.new.items ≡ text.old.items ++ named_address_text symbols.now at) }
 {
     write!(text, "0x{at:x}")?;

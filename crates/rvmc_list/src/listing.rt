@@ -1,81 +1,18 @@
 //! The text of a record.
 
-ghost use Rattle.std.specs.Prelude.{◌≡◌, ◌+◌, ◌-◌, ◌<◌, ◌≤◌, ◌^◌, ◌||◌, IfErr, IfOk, OnOk, length, nat_lt};
+ghost use Rattle.std.specs.Prelude.{◌≡◌, ◌+◌, ◌-◌, ◌<◌, ◌≤◌, ◌^◌, IfErr, IfOk, OnOk, length};
 ghost use Rattle.cl_replay.specs.Replaying.{IsReached};
 ghost use Rattle.cl_replay.specs.Steps.{Leads};
-ghost use Rattle.rvmc_list.specs.List.{IsList, ListFaultHolds, names_no_rank as names_no_rank_of};
+ghost use Rattle.rvmc_list.specs.List.{IsList, ListFaultHolds};
 ghost use Rattle.rvmc_list.specs.Pieces.{IsWithin};
-ghost use Rattle.rvmc_list.specs.Putting.{AreTold, IsHartAfter, IsLook, PutFaultHolds, Puts, StepsFaultHolds};
-ghost use Rattle.rvmc_list.specs.declared.listing.ListFault.TheVariants as faults;
+ghost use Rattle.rvmc_list.specs.Putting.{AreTold, PutFaultHolds, Puts, StepsFaultHolds};
 
 use crate::folding::{Told, Wanted, close, is_wanted, put_line};
-use crate::lines::{Seen, look};
+use crate::walk::{ListFault, advance, do_step, start};
 use cl_machine::Step;
-use cl_replay::{ClusterState, ReplayFault, StepFault, replay};
-use rv_hart::Hart;
+use cl_replay::ClusterState;
 use rv_image::{Image, Symbol};
-use std::alloc::{AllocError, Global};
-use std::io;
-
-/// Why a record isn't listed.
-#[derive(Clone, Copy, PartialEq, Eq, Drop, Debug)]
-pub enum ListFault {
-    /// 1: the image has no such rank.
-    NoRank,
-    /// 2: a place is behind the end. Carries the number of steps.
-    PastEnd(u64),
-    /// 3: the machine has no such step where the steps before it lead. Carries its number, from 0.
-    NotARun(u64),
-    /// 4: memory was refused.
-    Memory,
-}
-
-impl From<AllocError> for ListFault {
-    ghost from_gives = { λ _ e. e ≡ faults.Memory };
-
-    fn from(_e: AllocError) -> ListFault {
-        ListFault::Memory
-    }
-}
-
-impl From<io::Error> for ListFault {
-    ghost from_gives = { λ _ e. e ≡ faults.Memory };
-
-    fn from(_e: io::Error) -> ListFault {
-        ListFault::Memory
-    }
-}
-
-/// What is seen of a step before it is done.
-fn look_at(state: &ClusterState, step: &Step) -> Result<Option<Seen>, AllocError>
-    ensures { IfOk result (λ seen. IsLook state.now step.now seen) }
-{
-    let Some(own) = state.ranks.get(usize::from(step.rank())) else {
-        return Ok(None);
-    };
-    look(own, step)
-}
-
-/// A step's hart.
-fn hart_after(state: &ClusterState, step: &Step) -> Option<Hart>
-    ensures { IsHartAfter state.now step.now result }
-{
-    let own = state.ranks.get(usize::from(step.rank()))?;
-    let hart = own.harts.get(usize::from(step.hart()))?;
-    Some(*hart)
-}
-
-/// Does a step that stands at this place.
-fn advance(state: &mut ClusterState, place: u64, step: &Step) -> Result<(), ListFault>
-    ensures leads { OnOk result (Leads state.old step.now state.new) }
-    ensures fault { IfErr result (PutFaultHolds state.old place step.now) }
-{
-    match state.step(step) {
-        Ok(()) => Ok(()),
-        Err(StepFault::NotAStep) => Err(ListFault::NotARun(place)),
-        Err(StepFault::Memory) => Err(ListFault::Memory),
-    }
-}
+use std::alloc::Global;
 
 /// Does a step, and adds it to what is told.
 fn put_step(
@@ -99,19 +36,14 @@ fn put_step(
         advance(state, place, step)?;
         return Ok(begun);
     }
-    let before = look_at(state, step)?;
-    advance(state, place, step)?;
-    let Some(before) = before else {
-        return Ok(begun);
-    };
-    let Some(after) = hart_after(state, step) else {
+    let Some(done) = do_step(state, place, step)? else {
         return Ok(begun);
     };
     let told = Told {
         place,
         step,
-        before: &before,
-        after: &after,
+        before: &done.before,
+        after: &done.after,
     };
     Ok(put_line(text, symbols, wanted, begun, &told)?)
 }
@@ -139,42 +71,6 @@ fn put_steps(
     Ok(())
 }
 
-/// Whether a rank that is wanted isn't one of the image's.
-fn names_no_rank(rank: Option<u64>, ranks: u8) -> bool
-    ensures { result ≡ names_no_rank_of rank ranks }
-{
-    match rank {
-        None => false,
-        Some(rank) => rank >= u64::from(ranks),
-    }
-}
-
-/// Whether a list would begin or end behind the last step.
-fn is_past(from: u64, to: u64, len: u64) -> bool
-    ensures { result ≡ nat_lt len from || nat_lt len to }
-{
-    from > len || to > len
-}
-
-/// The cluster at a place.
-fn state_at(
-    alloc: Global,
-    image: &Image,
-    steps: &[Step],
-    place: u64,
-) -> Result<ClusterState, ListFault>
-    requires { place ≤ length steps.now }
-    ensures reached { IfOk result (IsReached image.now steps.now place) }
-    ensures fault { IfErr result (StepsFaultHolds image.now steps.now place) }
-{
-    match replay(alloc, image, steps, place) {
-        Ok(state) => Ok(state),
-        Err(ReplayFault::Step(n)) => Err(ListFault::NotARun(n)),
-        Err(ReplayFault::Memory) => Err(ListFault::Memory),
-        Err(ReplayFault::PastEnd(_)) => unreachable!(),
-    }
-}
-
 /// A record in words: a line for each of its steps that is wanted, in their order. Step n, from 0, leads from place n to
 /// place n + 1, and its line has the place n.
 ///
@@ -189,17 +85,8 @@ pub fn list(
     ensures list { IfOk result (λ text. IsList image.now steps.now wanted.now text.items) }
     ensures fault { IfErr result (ListFaultHolds image.now steps.now wanted.now) }
 {
-    let parts = image.parts();
-    if names_no_rank(wanted.rank, parts.ranks) {
-        return Err(ListFault::NoRank);
-    }
-    let len = steps.len() as u64;
-    let to = wanted.to.unwrap_or(len);
-    if is_past(wanted.from, to, len) {
-        return Err(ListFault::PastEnd(len));
-    }
+    let (mut state, to) = start(alloc, image, steps, wanted)?;
     let mut text = Vec::new(alloc);
-    let mut state = state_at(alloc, image, steps, wanted.from)?;
     put_steps(&mut state, &mut text, image, steps, wanted, to)?;
     Ok(text)
 }

@@ -21,7 +21,7 @@ use Rattle.rvmc_line.specs.declared.line.RecordCommand.{RecordCommand}
 use Rattle.rvmc_line.specs.declared.line.RecordCommand.TheVariants.{Check, Debug, List as ListSteps, Report, Why}
 use Rattle.rvmc_list.specs.List.{IsList, ListFaultHolds}
 use Rattle.rvmc_list.specs.declared.folding.Wanted.{Wanted}
-use Rattle.rvmc_list.specs.declared.listing.ListFault.TheVariants as list
+use Rattle.rvmc_list.specs.declared.walk.ListFault.TheVariants as list
 use Rattle.rvmc_report.specs.Faults.{fault_of_debug, fault_status}
 use Rattle.rvmc_report.specs.Recorded.{IsReportOf}
 use Rattle.rvmc_report.specs.Verdicts.{verdict_status, verdict_text}
