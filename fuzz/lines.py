@@ -33,12 +33,12 @@ COMMANDS = {
     "report": ((), ()),
     "one": (("--source", "--record", "--why"), (BUDGET, PLAN, ("--order", listed))),
     "run": (("--source", "--record", "--why"), (BUDGET, PLAN, ("--lead", lambda text: bounded(text, MOST_LEAD)))),
-    "list": (("--calls",), (("--from", PLACE), ("--to", PLACE), ("--rank", lambda text: bounded(text, 255, 0)))),
+    "list": (("--calls", "--stats"), (("--from", PLACE), ("--to", PLACE), ("--rank", lambda text: bounded(text, 255, 0)))),
     "why": (("--frames",), (("--at", PLACE),)),
 }
 
 # flags that don't go together
-APART = {"--record", "--why"}
+APART = ({"--record", "--why"}, {"--calls", "--stats"})
 
 # options whose values are numbers
 NUMBERED = ("--budget", "--lead", "--at", "--from", "--to", "--rank")
@@ -83,7 +83,7 @@ def meaning(words):
             if value is None:
                 return None
             values[name] = value
-    if APART <= seen or values.get("--to", MOST_PLACE) < values.get("--from", 0):
+    if any(flags <= seen for flags in APART) or values.get("--to", MOST_PLACE) < values.get("--from", 0):
         return None
     return Meaning(command, seen & set(flags), values)
 
@@ -109,7 +109,7 @@ class Lines:
                 words += self.option(name)
         if self.random.randrange(6) == 0:
             options = ["--budget", "--plan", "--order", "--lead", "--at", "--to", "--rank"]
-            other = self.random.choice([*options, "--source", "--record", "--from", "--why", "--frames", "--calls"])
+            other = self.random.choice([*options, "--source", "--record", "--from", "--why", "--frames", "--calls", "--stats"])
             extra = self.option(other) if other in options else [other]
             extra = self.random.choice([extra, [self.random.choice(WORDS)]])
             at = 1 + self.random.randrange(len(words))

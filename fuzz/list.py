@@ -1,11 +1,12 @@
-"""A record in words, as docs/DEBUGGING.md ("A record in words") has it."""
+"""A record in words and in tables, as docs/DEBUGGING.md ("A record in words") has it."""
 
 import struct
+from collections import Counter
 
 from cluster import Walk
 from formats import FREED, HELD, HUB, IDLE, MISS, PLAIN, READY, TAKE
 from hub import NOT_YET
-from machine import BRANCHES, RUNNING, TRAPPED, WAITING, WORD, listed, word_of
+from machine import BRANCHES, ENDED, RUNNING, TRAPPED, WAITING, WORD, listed, word_of
 from why import place as named_place
 
 CODES = (
@@ -221,14 +222,84 @@ class Lines:
         return "".join(f"{text}\n" for text in self.lines).encode()
 
 
-def told(image, steps, first=0, last=None, rank=None, calls=False):
+# ---- tables
+
+
+def gots(reply):
+    """The sender and the length of each message that a reply brings."""
+    tag, rest, found = reply[0], reply[1:], []
+    if tag == 7:
+        rest = rest[1:]
+    while tag in (2, 7) and rest:
+        if tag == 7:
+            there, rest = rest[0], rest[1:]
+            if not there:
+                continue
+        source, count = rest[1], struct.unpack("<H", rest[4:6])[0]
+        found.append((source, count))
+        rest = rest[6 + count :]
+    return found
+
+
+class Tables:
+    """What steps are counted by."""
+
+    HEADS = [
+        "rank turns waited plain local hub ready take miss freed held idle",
+        "turns call and how it ended",
+        "messages bytes from to",
+        "turns place",
+    ]
+
+    def __init__(self, image):
+        self.image = image
+        self.turns, self.waits, self.kinds, self.calls = Counter(), Counter(), Counter(), Counter()
+        self.messages, self.bytes, self.places = Counter(), Counter(), Counter()
+
+    def add(self, step, before, hart):
+        """Counts a step."""
+        self.turns[step.rank] += 1
+        self.kinds[step.rank, step.kind] += 1
+        self.waits[step.rank] += is_vain(step) and step.kind != IDLE
+        if step.kind not in (PLAIN, IDLE):
+            number = before.regs[17] if before.regs[17] in CALLS else 44
+            ended = {WAITING: 18, ENDED: 19, TRAPPED: 20}.get(hart.mode, hart.regs[10])
+            self.calls[number, ended] += 1
+        for source, count in gots(step.reply) if step.kind == HUB else []:
+            self.messages[source, step.rank] += 1
+            self.bytes[source, step.rank] += count
+        if step.kind != IDLE and before.pc % 4 == 0 and before.pc < len(self.image.text):
+            self.places[before.pc] += 1
+
+    def told(self):
+        """All of them."""
+        ends = [*CODES, "no code", "waits", "ended", "trapped"]
+        lines = [
+            [
+                " ".join(str(n) for n in (rank, self.turns[rank], self.waits[rank], *(self.kinds[rank, k] for k in range(9))))
+                for rank in sorted(self.turns)
+            ],
+            [
+                f"{self.calls[number, ended]} {CALLS.get(number, ('no call',))[0]} {ends[ended]}"
+                for number, ended in sorted(self.calls)
+            ],
+            [f"{self.messages[pair]} {self.bytes[pair]} {pair[0]} {pair[1]}" for pair in sorted(self.messages)],
+            [
+                f"{turns} {named_place(self.image, at)}"
+                for at, turns in sorted(self.places.items(), key=lambda found: (-found[1], found[0]))[:10]
+            ],
+        ]
+        return "\n".join("".join(f"{line}\n" for line in [head, *told]) for head, told in zip(self.HEADS, lines)).encode()
+
+
+def told(image, steps, first=0, last=None, rank=None, calls=False, stats=False):
     """What `list` tells of a record: the status and both texts."""
     end = len(steps) if last is None else last
     if rank is not None and rank >= image.ranks:
         return 1, b"", b"rvmc: list: NoRank\n"
     if max(first, end) > len(steps):
         return 1, b"", f"rvmc: list: PastEnd {len(steps)}\n".encode()
-    walk, lines = Walk(image, len(steps)), Lines(calls)
+    walk, lines, tables = Walk(image, len(steps)), Lines(calls), Tables(image)
     for number, step in enumerate(steps[: max(first, end)]):
         owner = walk.cluster.ranks[step.rank]
         before = Before(owner, step)
@@ -236,7 +307,10 @@ def told(image, steps, first=0, last=None, rank=None, calls=False):
         before.end()
         if not done:
             return 1, b"", f"rvmc: list: NotARun {number}\n".encode()
-        is_wanted = rank in (None, step.rank) and not (calls and step.kind == PLAIN)
-        if first <= number < end and is_wanted:
+        if not first <= number < end or rank not in (None, step.rank):
+            continue
+        if stats:
+            tables.add(step, before, owner.harts[step.hart])
+        elif not (calls and step.kind == PLAIN):
             lines.add(line(image, number, step, before, owner.harts[step.hart]), step)
-    return 0, lines.told(), b""
+    return 0, tables.told() if stats else lines.told(), b""

@@ -9,7 +9,9 @@ use Rattle.rvmc_line.specs.Debug.{debug_words_in}
 use Rattle.rvmc_line.specs.declared.line.CommandLine.{CommandLine}
 use Rattle.rvmc_line.specs.declared.line.CommandLine.TheVariants.{OfImage, OfRecord}
 use Rattle.rvmc_line.specs.declared.line.ImageCommand.TheVariants.{Asm, Dis, One, Run}
-use Rattle.rvmc_line.specs.declared.line.RecordCommand.TheVariants.{Check, Debug, List as ListSteps, Report, Why}
+use Rattle.rvmc_line.specs.declared.line.RecordCommand.TheVariants.{Check, Debug, List as ListSteps, Report, Stats}
+use Rattle.rvmc_line.specs.declared.line.RecordCommand.TheVariants.{Why}
+use Rattle.rvmc_line.specs.declared.line.RecordCommand.{RecordCommand}
 use Rattle.rvmc_line.specs.declared.line.Written.{Written}
 use Rattle.rvmc_line.specs.declared.line.Written.TheVariants as written
 
@@ -104,16 +106,25 @@ report_row =
       meaning = λ rows. Some (OfRecord Report);
     }
 
--- `list [--from N] [--to N] [--rank R] [--calls]`, places below 2^64, of which the second isn't before the first, and
--- R from 0 to 255
+-- lines, or with `--stats` tables in place of them; `--calls` is about lines, and doesn't go with it
+abbrev pub listing_in : ℕ → Option ℕ → Option ℕ → List Row → Option RecordCommand
+listing_in from to rank rows =
+    if flag_in (codes "stats") rows
+    then (if flag_in (codes "calls") rows then None else Some (Stats from to rank))
+    else Some (ListSteps from to rank (flag_in (codes "calls") rows))
+
+-- `list [--from N] [--to N] [--rank R] [--calls] [--stats]`, places below 2^64, of which the second isn't before the
+-- first, and R from 0 to 255
 abbrev pub list_row : CommandRow
 list_row =
     record {
       name = codes "list";
-      rules = option (codes "from") ∷ option (codes "to") ∷ option (codes "rank") ∷ flag (codes "calls") ∷ [];
+      rules =
+          option (codes "from") ∷ option (codes "to") ∷ option (codes "rank") ∷ flag (codes "calls")
+          ∷ flag (codes "stats") ∷ [];
       meaning = λ rows.
-          option_and_then (λ from. option_and_then (λ to. option_map (λ rank.
-          OfRecord (ListSteps from to rank (flag_in (codes "calls") rows)))
+          option_and_then (λ from. option_and_then (λ to. option_and_then (λ rank.
+          option_map (λ command. OfRecord command) (listing_in from to rank rows))
           (optional_number (codes "rank") 0 255 rows))
           (optional_number (codes "to") from 18446744073709551615 rows))
           (number_option (codes "from") 0 18446744073709551615 0 rows);

@@ -1,11 +1,11 @@
-//! `list [--from N] [--to N] [--rank R] [--calls]`.
+//! `list [--from N] [--to N] [--rank R] [--calls] [--stats]`.
 
 ghost use Rattle.std.specs.Prelude.{IfOk};
 ghost use Rattle.clap.specs.Walk.{rows_of};
 ghost use Rattle.clap.specs.Words.{found_of};
 ghost use Rattle.rvmc_cli.specs.Built.{StandsFor};
-ghost use Rattle.rvmc_cli.specs.Commands.{app_of, list_row};
-ghost use Rattle.rvmc_cli.specs.Parsing.{Finds};
+ghost use Rattle.rvmc_cli.specs.Commands.{app_of, list_row, listing_in};
+ghost use Rattle.rvmc_cli.specs.Parsing.{Finds, Reads};
 
 use crate::parts::{command as new_command, flag, option};
 use crate::values::{self, number, optional_number};
@@ -27,6 +27,11 @@ there before it. --to names the place behind the last step. With --calls
 instructions are left out, and looks in vain that follow one another are one
 line, with their number.
 
+With --stats the steps are counted: turns by rank and kind, calls by how they
+ended, messages and bytes by sender and receiver, and the ten places of the text
+with most turns. A line stands where there is something to count, its numbers
+first.
+
 The status is 0. A rank or a place that isn't there is a fault, as
 `rvmc: list: NoRank` and `rvmc: list: PastEnd 10`, and so are steps that are no
 run of the image, as `rvmc: list: NotARun 3`: all have status 1.
@@ -41,7 +46,8 @@ Status:
 Examples:
   rvmc one --record <hi.image >hi.record
   rvmc list --from 2 --to 7 <hi.record
-  rvmc list --calls --rank 0 <hi.record";
+  rvmc list --calls --rank 0 <hi.record
+  rvmc list --stats <hi.record         what was done how often";
 
 /// The command as clap builds it.
 pub fn command<'a>(alloc: Global) -> Result<Command<'a>, AllocError>
@@ -70,7 +76,39 @@ pub fn command<'a>(alloc: Global) -> Result<Command<'a>, AllocError>
         alloc,
         "calls",
         "Leaves instructions out, and folds looks in vain",
+    ))?
+    .arg(flag(
+        alloc,
+        "stats",
+        "Counts the steps, and prints tables in place of lines",
     ))
+}
+
+/// Lines or tables.
+fn listing<'a>(
+    matches: &ArgMatches<'a>,
+    from: u64,
+    to: Option<u64>,
+    rank: Option<u64>,
+) -> Result<RecordCommand, Wrong<'a>>
+    ensures { Reads (listing_in from to rank (rows_of (found_of matches.now))) result }
+{
+    let calls = values::flag(matches, "calls");
+    if !values::flag(matches, "stats") {
+        return Ok(RecordCommand::List {
+            from,
+            to,
+            rank,
+            calls,
+        });
+    }
+    if calls {
+        return Err(Wrong::Both {
+            flag: "stats",
+            other: "calls",
+        });
+    }
+    Ok(RecordCommand::Stats { from, to, rank })
 }
 
 /// What it asks for, of what clap found.
@@ -80,11 +118,6 @@ pub fn line<'a>(_alloc: Global, matches: &ArgMatches<'a>) -> Result<CommandLine,
     let from = number(matches, "from", 0, u64::MAX, 0)?;
     let to = optional_number(matches, "to", from, u64::MAX)?;
     let rank = optional_number(matches, "rank", 0, 255)?;
-    let calls = values::flag(matches, "calls");
-    Ok(CommandLine::OfRecord(RecordCommand::List {
-        from,
-        to,
-        rank,
-        calls,
-    }))
+    let command = listing(matches, from, to, rank)?;
+    Ok(CommandLine::OfRecord(command))
 }

@@ -79,6 +79,13 @@ pub enum RecordCommand {
         rank: Option<u64>,
         calls: bool,
     },
+    /// The steps are counted, and tables of their numbers are written: those from place `from` on, up to place `to` or else
+    /// to the end, of `rank` alone if one is given. Whether there are such places, and such a rank, is not known here.
+    Stats {
+        from: u64,
+        to: Option<u64>,
+        rank: Option<u64>,
+    },
     /// It is written how each hart is after the first `at` steps, or else after all, what it waits for,
     /// and which ranks are in a deadlock; with `frames` also which calls led there. Whether there are so
     /// many steps is not known here.

@@ -1,6 +1,6 @@
 -- What a command says of the image and the steps of a record, and for which fault it says nothing: one definition of each
 -- a command.
-use Rattle.std.specs.Prelude.{◌≡◌, ◌≤◌, ◌⊎◌, ℕ, Bool, List, [], length, MatchResult, Option, None, Some}
+use Rattle.std.specs.Prelude.{◌≡◌, ◌≤◌, ◌⊎◌, ℕ, Bool, false, List, [], length, MatchResult, Option, None, Some}
 use Rattle.cl_debug.specs.declared.faults.DebugFault.{DebugFault}
 use Rattle.cl_debug.specs.declared.faults.DebugFault.TheVariants as debug
 use Rattle.cl_machine.specs.declared.steps.Step.{Step}
@@ -18,8 +18,10 @@ use Rattle.rvmc_inspect.specs.Why.{IsWhy}
 use Rattle.rvmc_inspect.specs.Words.{IsTextOfWords}
 use Rattle.rvmc_line.specs.declared.debug.DebugWord.{DebugWord}
 use Rattle.rvmc_line.specs.declared.line.RecordCommand.{RecordCommand}
-use Rattle.rvmc_line.specs.declared.line.RecordCommand.TheVariants.{Check, Debug, List as ListSteps, Report, Why}
+use Rattle.rvmc_line.specs.declared.line.RecordCommand.TheVariants.{Check, Debug, List as ListSteps, Report, Stats}
+use Rattle.rvmc_line.specs.declared.line.RecordCommand.TheVariants.{Why}
 use Rattle.rvmc_list.specs.List.{IsList, ListFaultHolds}
+use Rattle.rvmc_list.specs.Stats.{IsStats}
 use Rattle.rvmc_list.specs.declared.folding.Wanted.{Wanted}
 use Rattle.rvmc_list.specs.declared.walk.ListFault.TheVariants as list
 use Rattle.rvmc_report.specs.Faults.{fault_of_debug, fault_status}
@@ -61,7 +63,11 @@ IsNoReport image steps other = ⊥
 abbrev pub wanted_of : ℕ → Option ℕ → Option ℕ → Bool → Wanted
 wanted_of from to rank calls = record { from = from; to = to; rank = rank; calls = calls }
 
--- a rank or a place that isn't there, and steps that are no run up to the list's end, are faults
+-- with `--stats` no lines are wanted
+abbrev pub counted_of : ℕ → Option ℕ → Option ℕ → Wanted
+counted_of from to rank = wanted_of from to rank false
+
+-- a rank or a place that isn't there, and steps that are no run up to the list's end, are faults, of tables as of lines
 abbrev pub IsNoList : ImageParts → List Step → Wanted → Fault → Type 0
 IsNoList image steps wanted (faults.List refusal.NoRank) = ListFaultHolds image steps wanted list.NoRank
 IsNoList image steps wanted (faults.List (refusal.PastEnd n)) = ListFaultHolds image steps wanted (list.PastEnd n)
@@ -119,6 +125,8 @@ TellsOfSteps Check image steps text end = IsChecked image steps text end
 TellsOfSteps Report image steps text end = IsReported image steps text end
 TellsOfSteps (ListSteps from to rank calls) image steps text end =
     IsList image steps (wanted_of from to rank calls) text × (end ≡ Status 0)
+TellsOfSteps (Stats from to rank) image steps text end =
+    IsStats image steps (counted_of from to rank) text × (end ≡ Status 0)
 TellsOfSteps (Debug words) image steps text end = IsDebugged image steps words text end
 TellsOfSteps (Why at frames) image steps text end =
     IsWhyAt frames image steps (place_asked at steps) text × (end ≡ Status 0)
@@ -129,6 +137,7 @@ RefusesSteps Check image steps fault = ⊥
 RefusesSteps Report image steps fault = IsNoReport image steps fault
 RefusesSteps (ListSteps from to rank calls) image steps fault =
     IsNoList image steps (wanted_of from to rank calls) fault
+RefusesSteps (Stats from to rank) image steps fault = IsNoList image steps (counted_of from to rank) fault
 RefusesSteps (Debug words) image steps fault = IsNoRun image steps fault
 RefusesSteps (Why at frames) image steps fault = IsNoPlace image steps (place_asked at steps) fault
 

@@ -11,7 +11,7 @@ use crate::answers::Answer;
 use crate::checks::checked;
 use crate::debugging::debugged;
 use crate::explaining::explained;
-use crate::listing::listed_steps;
+use crate::listing::{counted_steps, listed_steps};
 use crate::reporting::reported;
 use cl_machine::Step;
 use cl_text::read_record;
@@ -60,6 +60,9 @@ fn told(
             image,
             steps,
         ),
+        RecordCommand::Stats { from, to, rank } => {
+            counted_steps(alloc, *from, *to, *rank, image, steps)
+        }
         RecordCommand::Debug { words } => debugged(alloc, words, image, steps),
         RecordCommand::Why { at, frames } => explained(alloc, *at, *frames, image, steps),
     }
