@@ -20,7 +20,7 @@ use Rattle.rvmc_list.specs.Folding.{is_of_rank}
 use Rattle.rvmc_list.specs.Lines.{Sight, sight_of}
 use Rattle.rvmc_list.specs.List.{AreSights, last_place}
 use Rattle.rvmc_list.specs.Putting.{IsDone}
-use Rattle.rvmc_list.specs.Stats.{IsStats, IsTablesText, counted, taken_of, words_of}
+use Rattle.rvmc_list.specs.Stats.{IsStats, IsTablesText, counted, taken_in, text_words}
 use Rattle.rvmc_list.specs.Counting.{AreAllCounted, AreCounted, Counts, CountsStep}
 use Rattle.rvmc_list.specs.declared.folding.Wanted.{Wanted}
 use Rattle.rvmc_list.specs.declared.walk.Done.{Done}
@@ -33,7 +33,7 @@ pub not_counted : (rank : Option ℕ) (old : ClusterState) (place : ℕ) (e : St
     → is_of_rank rank e.rank ≡ false → CountsStep rank old place e new tables tables
 not_counted rank old place e new tables no_rank s t s_there t_there s_hart t_hart =
     let sight : Sight = sight_of place e (rank_of s) (rank_of t) in
-    let none : counted rank (sight ∷ []) ≡ [] = ap (λ b. map taken_of (cond b (sight ∷ []) [])) no_rank in
+    let none : counted rank (sight ∷ []) ≡ [] = ap (λ b. map taken_in (cond b (sight ∷ []) [])) no_rank in
     record {
       counts = λ ranks words all is. subst (λ more. AreOf ranks words (all ++ more) tables) (sym none)
           (subst (λ ts. AreOf ranks words ts tables) (sym (append-nil all)) is);
@@ -53,7 +53,7 @@ is_counted rank old place e new tables after done of_rank is_done adds s t s_the
     let sight : Sight = sight_of place e (rank_of s) (rank_of t) in
     let same = is_done s t s_there t_there s_hart t_hart place in
     let one : counted rank (sight ∷ []) ≡ taken_seen e done.before.hart done.after ∷ [] =
-    ap (λ b. map taken_of (cond b (sight ∷ []) [])) of_rank ∙ ap (λ x. taken_of x ∷ []) (sym same)
+    ap (λ b. map taken_in (cond b (sight ∷ []) [])) of_rank ∙ ap (λ x. taken_in x ∷ []) (sym same)
     in
     record {
       counts = λ ranks words all is. subst (λ more. AreOf ranks words (all ++ more) after) (sym one)
@@ -64,8 +64,8 @@ is_counted rank old place e new tables after done of_rank is_done adds s t s_the
 
 counted_append : (rank : Option ℕ) (xs ys : List Sight) → counted rank (xs ++ ys) ≡ counted rank xs ++ counted rank ys
 counted_append rank xs ys =
-    ap (λ sights. map taken_of sights) (filter-append (λ (sight : Sight). is_of_rank rank sight.step.rank) xs ys)
-    ∙ map-append taken_of (filter (λ (sight : Sight). is_of_rank rank sight.step.rank) xs)
+    ap (λ sights. map taken_in sights) (filter-append (λ (sight : Sight). is_of_rank rank sight.step.rank) xs ys)
+    ∙ map-append taken_in (filter (λ (sight : Sight). is_of_rank rank sight.step.rank) xs)
     (filter (λ (sight : Sight). is_of_rank rank sight.step.rank) ys)
 
 pub counted_more : (image : ImageParts) (steps : List Step) (rank : Option ℕ) (from n : ℕ) → from ≤ n
@@ -116,19 +116,19 @@ counted_all image steps wanted n to state old tables put same = record {
 -- ---- all of them
 
 pub is_stats : (image : ImageParts) (steps : List Step) (wanted : Wanted) (to : ℕ) (old tables : Tables) (text : List ℕ)
-    → to ≡ last_place wanted steps → AreOf image.ranks (words_of image) [] old
+    → to ≡ last_place wanted steps → AreOf image.ranks (text_words image) [] old
     → AreAllCounted image steps wanted to old tables → IsTablesText image.symbols tables text
     → IsStats image steps wanted text
 is_stats image steps wanted to old tables text to_is none all told = record {
   sights = all.sights;
   are = subst (λ end. AreSights image steps wanted.from end all.sights) to_is all.are;
   tables = tables;
-  tables_are = all.counts.counts image.ranks (words_of image) [] none;
+  tables_are = all.counts.counts image.ranks (text_words image) [] none;
   is = told;
 }
 
 -- as many words are counted as the text has
 pub words_are : (image : ImageParts) (steps : List Step) (wanted : Wanted) (to : ℕ) (old tables : Tables)
-    → AreOf image.ranks (words_of image) [] old → AreAllCounted image steps wanted to old tables
-    → length tables.places ≡ words_of image
-words_are image steps wanted to old tables none all = (all.counts.counts image.ranks (words_of image) [] none).places.len_is
+    → AreOf image.ranks (text_words image) [] old → AreAllCounted image steps wanted to old tables
+    → length tables.places ≡ text_words image
+words_are image steps wanted to old tables none all = (all.counts.counts image.ranks (text_words image) [] none).places.len_is

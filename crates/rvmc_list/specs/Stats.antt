@@ -6,7 +6,7 @@ use Rattle.rv_image.specs.declared.images.Symbol.{Symbol}
 use Rattle.cl_machine.specs.declared.steps.Step.{Step}
 use Rattle.rvmc_stats.specs.Counted.{Taken, taken_seen}
 use Rattle.rvmc_stats.specs.Tables.{AreOf}
-use Rattle.rvmc_stats.specs.Texts.{calls_text, messages_text, turns_text}
+use Rattle.rvmc_stats.specs.Texts.{calls_table, messages_table, turns_table}
 use Rattle.rvmc_stats.specs.declared.tables.Tables.{Tables}
 use Rattle.rvmc_list.specs.Folding.{is_of_rank}
 use Rattle.rvmc_list.specs.Lines.{Sight}
@@ -16,28 +16,28 @@ use Rattle.rvmc_list.specs.declared.folding.Wanted.{Wanted}
 
 -- ---- what is counted
 
-abbrev pub taken_of : Sight → Taken
-taken_of sight = taken_seen sight.step sight.before sight.after
+abbrev pub taken_in : Sight → Taken
+taken_in sight = taken_seen sight.step sight.before sight.after
 
 -- of what was seen, the steps of the wanted rank
 abbrev pub counted : Option ℕ → List Sight → List Taken
-counted rank sights = map taken_of (filter (λ (sight : Sight). is_of_rank rank sight.step.rank) sights)
+counted rank sights = map taken_in (filter (λ (sight : Sight). is_of_rank rank sight.step.rank) sights)
 
 -- the words of an image's text
-abbrev pub words_of : ImageParts → ℕ
-words_of image = length image.text / 4
+abbrev pub text_words : ImageParts → ℕ
+text_words image = length image.text / 4
 
 -- ---- the text
 
 -- the tables, one behind another
 abbrev pub IsTablesText : List Symbol → Tables → List ℕ → Type 0
 IsTablesText symbols tables text =
-    HasPlaces symbols tables.places (turns_text tables ++ (calls_text tables ++ messages_text tables.mail)) text
+    HasPlaces symbols tables.places (turns_table tables ++ (calls_table tables ++ messages_table tables.mail)) text
 
 -- of the steps from one place to another
 pub record IsStats (image : ImageParts) (steps : List Step) (wanted : Wanted) (text : List ℕ) : Type 0 where
   pub sights : List Sight
   pub are : AreSights image steps wanted.from (last_place wanted steps) sights
   pub tables : Tables
-  pub tables_are : AreOf image.ranks (words_of image) (counted wanted.rank sights) tables
+  pub tables_are : AreOf image.ranks (text_words image) (counted wanted.rank sights) tables
   pub is : IsTablesText image.symbols tables text

@@ -5,7 +5,7 @@ ghost use Rattle.cl_replay.specs.Replaying.{IsReached};
 ghost use Rattle.cl_replay.specs.Steps.{Leads};
 ghost use Rattle.rvmc_list.specs.List.{ListFaultHolds};
 ghost use Rattle.rvmc_list.specs.Putting.{PutFaultHolds, StepsFaultHolds};
-ghost use Rattle.rvmc_list.specs.Stats.{IsStats, IsTablesText, words_of};
+ghost use Rattle.rvmc_list.specs.Stats.{IsStats, IsTablesText, text_words};
 ghost use Rattle.rvmc_list.specs.Counting.{AreAllCounted, CountsStep};
 ghost use Rattle.rvmc_stats.specs.Tables.{AreOf};
 
@@ -64,8 +64,8 @@ fn count_steps(
 
 /// No steps, in tables for an image.
 fn no_steps(alloc: Global, image: &Image) -> Result<Tables, AllocError>
-    ensures none { IfOk result (AreOf image.now.ranks (words_of image.now) []) }
-    ensures small { OnOk result (words_of image.now < 2 ^ 62) }
+    ensures none { IfOk result (AreOf image.now.ranks (text_words image.now) []) }
+    ensures small { OnOk result (text_words image.now < 2 ^ 62) }
 {
     let parts = image.parts();
     Tables::new(alloc, parts.ranks, parts.text.as_slice().len() / 4)

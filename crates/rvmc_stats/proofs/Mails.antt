@@ -8,9 +8,9 @@ use Rattle.std.proofs.lemmas.List.Elements.{filter_map-append}
 use Rattle.mp_types.specs.declared.messages.Message.{Message}
 use Rattle.rvmc_tally.proofs.Counting.{grid_more, grid_none}
 use Rattle.rvmc_tally.specs.Counts.{IsGrid}
-use Rattle.rvmc_tally.specs.Tallies.{added_in}
+use Rattle.rvmc_tally.specs.Adding.{added_in}
 use Rattle.rvmc_stats.proofs.Counters.{both, count_more, sum_more}
-use Rattle.rvmc_stats.specs.Counted.{Received, bytes_of, is_between, messages_of, received_by, size_of}
+use Rattle.rvmc_stats.specs.Counted.{Received, bytes_between, is_from_to, messages_of, received_by, size_in_bytes}
 use Rattle.rvmc_stats.specs.Tables.{AreOfMail}
 use Rattle.rvmc_stats.specs.Adding.{AddsMail}
 use Rattle.rvmc_stats.specs.declared.mail.Mail.{Mail}
@@ -32,12 +32,12 @@ one_more old new to m messages bytes = record {
   adds = λ ranks all is. record {
     messages = subst (λ cells. IsGrid ranks ranks (messages_of (all ++ r ∷ [])) cells) (sym messages)
         (grid_more ranks ranks (messages_of all) (messages_of (all ++ r ∷ [])) old.messages from to 1 is.messages
-        (λ a b within below. count_more (is_between a b) all r
+        (λ a b within below. count_more (is_from_to a b) all r
         ∙ ap (λ n. messages_of all a b + n) (both (a == from) (b == to) 1)));
-    bytes = subst (λ cells. IsGrid ranks ranks (bytes_of (all ++ r ∷ [])) cells) (sym bytes)
-        (grid_more ranks ranks (bytes_of all) (bytes_of (all ++ r ∷ [])) old.bytes from to (length m.bytes) is.bytes
-        (λ a b within below. sum_more size_of (is_between a b) all r
-        ∙ ap (λ n. bytes_of all a b + n) (both (a == from) (b == to) (length m.bytes))));
+    bytes = subst (λ cells. IsGrid ranks ranks (bytes_between (all ++ r ∷ [])) cells) (sym bytes)
+        (grid_more ranks ranks (bytes_between all) (bytes_between (all ++ r ∷ [])) old.bytes from to (length m.bytes) is.bytes
+        (λ a b within below. sum_more size_in_bytes (is_from_to a b) all r
+        ∙ ap (λ n. bytes_between all a b + n) (both (a == from) (b == to) (length m.bytes))));
   };
 }
   where

@@ -6,10 +6,10 @@ use Rattle.std.proofs.lemmas.Grind.{flat_map-append}
 use Rattle.cl_calls.specs.Calls.{call_named}
 use Rattle.rvmc_tally.proofs.Counting.{grid_more, grid_none, grid_same, tally_more, tally_none, tally_same}
 use Rattle.rvmc_tally.specs.Counts.{IsGrid, IsTally}
-use Rattle.rvmc_tally.specs.Tallies.{added, added_in}
+use Rattle.rvmc_tally.specs.Adding.{added, added_in}
 use Rattle.rvmc_stats.proofs.Counters.{both, count_more, no_word, word_is}
-use Rattle.rvmc_stats.specs.Counted.{Taken, call_number, calls_of, is_at, is_call, is_idle, is_made, is_of, is_turn}
-use Rattle.rvmc_stats.specs.Counted.{is_wait, is_waiting, kind_place, messages_by_kind, outcome_place, received}
+use Rattle.rvmc_stats.specs.Counted.{Taken, call_number, calls_made, is_at, is_call, is_stopped_turn, is_made, is_turn_by, is_turn}
+use Rattle.rvmc_stats.specs.Counted.{is_wait, is_waiting_turn, kind_place, messages_by_kind, outcome_place, all_received}
 use Rattle.rvmc_stats.specs.Counted.{received_by, received_in, taken_by, turns_at, turns_of, waits_of}
 use Rattle.rvmc_stats.specs.Tables.{AreOf, AreOfMail}
 use Rattle.rvmc_stats.specs.Adding.{Adds, AddsMail}
@@ -41,7 +41,7 @@ module _ (ranks words : ℕ) (all : List Taken) (t : Taken) where
   taken_more : (counts : List ℕ) → IsTally ranks (taken_by all) counts
       → IsTally ranks (taken_by more) (added counts t.step.rank 1)
   taken_more counts is =
-      tally_more ranks (taken_by all) (taken_by more) counts t.step.rank 1 is (λ r below. count_more (is_of r) all t)
+      tally_more ranks (taken_by all) (taken_by more) counts t.step.rank 1 is (λ r below. count_more (is_turn_by r) all t)
 
   turns_more : (cells : List (List ℕ)) → IsGrid ranks 9 (turns_of all) cells
       → IsGrid ranks 9 (turns_of more) (added_in cells t.step.rank (kind_place t.step.kind) 1)
@@ -54,11 +54,11 @@ module _ (ranks words : ℕ) (all : List Taken) (t : Taken) where
       → IsTally ranks (waits_of more) (cond waits (added counts t.step.rank 1) counts)
   waits_more true waits counts is =
       tally_more ranks (waits_of all) (waits_of more) counts t.step.rank 1 is
-      (λ r below. count_more (is_waiting r) all t
+      (λ r below. count_more (is_waiting_turn r) all t
       ∙ ap (λ b. waits_of all r + cond (b && (r == t.step.rank)) 1 0) waits)
   waits_more false waits counts is =
       tally_same ranks (waits_of all) (waits_of more) counts is
-      (λ r below. count_more (is_waiting r) all t
+      (λ r below. count_more (is_waiting_turn r) all t
       ∙ ap (λ b. waits_of all r + cond (b && (r == t.step.rank)) 1 0) waits ∙ plus_none (waits_of all r))
 
   abbrev number : ℕ
@@ -67,28 +67,28 @@ module _ (ranks words : ℕ) (all : List Taken) (t : Taken) where
   abbrev outcome : ℕ
   outcome = outcome_place t.after t.after.mode
 
-  calls_more : (made : Bool) → is_call t.step.kind ≡ made → (cells : List (List ℕ)) → IsGrid 45 21 (calls_of all) cells
-      → IsGrid 45 21 (calls_of more) (cond made (added_in cells number outcome 1) cells)
+  calls_more : (made : Bool) → is_call t.step.kind ≡ made → (cells : List (List ℕ)) → IsGrid 45 21 (calls_made all) cells
+      → IsGrid 45 21 (calls_made more) (cond made (added_in cells number outcome 1) cells)
   calls_more true made cells is =
-      grid_more 45 21 (calls_of all) (calls_of more) cells number outcome 1 is
+      grid_more 45 21 (calls_made all) (calls_made more) cells number outcome 1 is
       (λ r c within below. count_more (is_made r c) all t
-      ∙ ap (λ b. calls_of all r c + cond (b && ((r == number) && (c == outcome))) 1 0) made
-      ∙ ap (λ n. calls_of all r c + n) (both (r == number) (c == outcome) 1))
+      ∙ ap (λ b. calls_made all r c + cond (b && ((r == number) && (c == outcome))) 1 0) made
+      ∙ ap (λ n. calls_made all r c + n) (both (r == number) (c == outcome) 1))
   calls_more false made cells is =
-      grid_same 45 21 (calls_of all) (calls_of more) cells is
+      grid_same 45 21 (calls_made all) (calls_made more) cells is
       (λ r c within below. count_more (is_made r c) all t
-      ∙ ap (λ b. calls_of all r c + cond (b && ((r == number) && (c == outcome))) 1 0) made
-      ∙ plus_none (calls_of all r c))
+      ∙ ap (λ b. calls_made all r c + cond (b && ((r == number) && (c == outcome))) 1 0) made
+      ∙ plus_none (calls_made all r c))
 
   mail_more : (old new : Mail) → AddsMail old (received_by t.step.rank (messages_by_kind t.step.kind)) new
-      → AreOfMail ranks (received all) old → AreOfMail ranks (received more) new
+      → AreOfMail ranks (all_received all) old → AreOfMail ranks (all_received more) new
   mail_more old new adds is =
-      let one : received (t ∷ []) ≡ received_in t = append-nil (received_in t) in
-      let same : received more ≡ received all ++ received_in t =
-      flat_map-append received_in all (t ∷ []) ∙ ap (λ ms. received all ++ ms) one in
-      subst (λ ms. AreOfMail ranks ms new) (sym same) (adds.adds ranks (received all) is)
+      let one : all_received (t ∷ []) ≡ received_in t = append-nil (received_in t) in
+      let same : all_received more ≡ all_received all ++ received_in t =
+      flat_map-append received_in all (t ∷ []) ∙ ap (λ ms. all_received all ++ ms) one in
+      subst (λ ms. AreOfMail ranks ms new) (sym same) (adds.adds ranks (all_received all) is)
 
-  places_more : (idle whole : Bool) → is_idle t.step.kind ≡ idle → (t.before.pc % 4 == 0) ≡ whole → (counts : List ℕ)
+  places_more : (idle whole : Bool) → is_stopped_turn t.step.kind ≡ idle → (t.before.pc % 4 == 0) ≡ whole → (counts : List ℕ)
       → IsTally words (turns_at all) counts
       → IsTally words (turns_at more) (cond (not idle && whole) (added counts (t.before.pc / 4) 1) counts)
   places_more true whole idle is_whole counts is =
@@ -114,7 +114,7 @@ pub one_step : (old new : Tables) (t : Taken) → new.taken ≡ added old.taken 
     then added_in old.calls (call_number (call_named t.before)) (outcome_place t.after t.after.mode) 1
     else old.calls)
     → AddsMail old.mail (received_by t.step.rank (messages_by_kind t.step.kind)) new.mail
-    → new.places ≡ (if not (is_idle t.step.kind) && (t.before.pc % 4 == 0) then added old.places (t.before.pc / 4) 1 else old.places)
+    → new.places ≡ (if not (is_stopped_turn t.step.kind) && (t.before.pc % 4 == 0) then added old.places (t.before.pc / 4) 1 else old.places)
     → Adds old t new
 one_step old new t taken waits turns calls mail places = record {
   adds = λ ranks words all is. record {
@@ -122,10 +122,10 @@ one_step old new t taken waits turns calls mail places = record {
     waits = subst (λ c. IsTally ranks (waits_of (all ++ t ∷ [])) c) (sym waits)
         (waits_more ranks words all t (is_wait t.step.kind) refl old.waits is.waits);
     turns = subst (λ c. IsGrid ranks 9 (turns_of (all ++ t ∷ [])) c) (sym turns) (turns_more ranks words all t old.turns is.turns);
-    calls = subst (λ c. IsGrid 45 21 (calls_of (all ++ t ∷ [])) c) (sym calls)
+    calls = subst (λ c. IsGrid 45 21 (calls_made (all ++ t ∷ [])) c) (sym calls)
         (calls_more ranks words all t (is_call t.step.kind) refl old.calls is.calls);
     mail = mail_more ranks words all t old.mail new.mail mail is.mail;
     places = subst (λ c. IsTally words (turns_at (all ++ t ∷ [])) c) (sym places)
-        (places_more ranks words all t (is_idle t.step.kind) (t.before.pc % 4 == 0) refl refl old.places is.places);
+        (places_more ranks words all t (is_stopped_turn t.step.kind) (t.before.pc % 4 == 0) refl refl old.places is.places);
   };
 }

@@ -42,28 +42,28 @@ abbrev pub turns_of : List Taken → ℕ → ℕ → ℕ
 turns_of all rank column = count_by (is_turn rank column) all
 
 -- of any kind
-abbrev pub is_of : ℕ → Taken → Bool
-is_of rank taken = rank == taken.step.rank
+abbrev pub is_turn_by : ℕ → Taken → Bool
+is_turn_by rank taken = rank == taken.step.rank
 
 abbrev pub taken_by : List Taken → ℕ → ℕ
-taken_by all rank = count_by (is_of rank) all
+taken_by all rank = count_by (is_turn_by rank) all
 
 -- a turn of a hart that found nothing new, and isn't stopped
-abbrev pub is_not_yet : Reply → Bool
-is_not_yet reply.NotYet = true
-is_not_yet _ = false
+abbrev pub is_told_not_yet : Reply → Bool
+is_told_not_yet reply.NotYet = true
+is_told_not_yet _ = false
 
 abbrev pub is_wait : Kind → Bool
-is_wait (Kind.Hub r) = is_not_yet r
+is_wait (Kind.Hub r) = is_told_not_yet r
 is_wait Kind.Miss = true
 is_wait Kind.Held = true
 is_wait _ = false
 
-abbrev pub is_waiting : ℕ → Taken → Bool
-is_waiting rank taken = is_wait taken.step.kind && (rank == taken.step.rank)
+abbrev pub is_waiting_turn : ℕ → Taken → Bool
+is_waiting_turn rank taken = is_wait taken.step.kind && (rank == taken.step.rank)
 
 abbrev pub waits_of : List Taken → ℕ → ℕ
-waits_of all rank = count_by (is_waiting rank) all
+waits_of all rank = count_by (is_waiting_turn rank) all
 
 -- ---- calls
 
@@ -123,8 +123,8 @@ is_made number outcome taken =
     && ((number == call_number (call_named taken.before)) && (outcome == outcome_place taken.after taken.after.mode))
 
 -- how many turns made this call, and ended so
-abbrev pub calls_of : List Taken → ℕ → ℕ → ℕ
-calls_of all number outcome = count_by (is_made number outcome) all
+abbrev pub calls_made : List Taken → ℕ → ℕ → ℕ
+calls_made all number outcome = count_by (is_made number outcome) all
 
 -- ---- messages
 
@@ -149,31 +149,31 @@ received_by to messages = map (λ (m : Message). record { to = to; message = m }
 abbrev pub received_in : Taken → List Received
 received_in taken = received_by taken.step.rank (messages_by_kind taken.step.kind)
 
-abbrev pub received : List Taken → List Received
-received all = flat_map received_in all
+abbrev pub all_received : List Taken → List Received
+all_received all = flat_map received_in all
 
-abbrev pub is_between : ℕ → ℕ → Received → Bool
-is_between from to r = (from == r.message.envelope.source) && (to == r.to)
+abbrev pub is_from_to : ℕ → ℕ → Received → Bool
+is_from_to from to r = (from == r.message.envelope.source) && (to == r.to)
 
 -- how many messages of one rank another received, and how many bytes they have
 abbrev pub messages_of : List Received → ℕ → ℕ → ℕ
-messages_of all from to = count_by (is_between from to) all
+messages_of all from to = count_by (is_from_to from to) all
 
-abbrev pub size_of : Received → ℕ
-size_of r = length r.message.bytes
+abbrev pub size_in_bytes : Received → ℕ
+size_in_bytes r = length r.message.bytes
 
-abbrev pub bytes_of : List Received → ℕ → ℕ → ℕ
-bytes_of all from to = sum_by size_of (filter (is_between from to) all)
+abbrev pub bytes_between : List Received → ℕ → ℕ → ℕ
+bytes_between all from to = sum_by size_in_bytes (filter (is_from_to from to) all)
 
 -- ---- places of the text
 
 -- a turn of a hart that isn't stopped, at this word of the text
-abbrev pub is_idle : Kind → Bool
-is_idle Kind.Idle = true
-is_idle _ = false
+abbrev pub is_stopped_turn : Kind → Bool
+is_stopped_turn Kind.Idle = true
+is_stopped_turn _ = false
 
 abbrev pub is_at : ℕ → Taken → Bool
-is_at word taken = not (is_idle taken.step.kind) && (taken.before.pc == 4 * word)
+is_at word taken = not (is_stopped_turn taken.step.kind) && (taken.before.pc == 4 * word)
 
 abbrev pub turns_at : List Taken → ℕ → ℕ
 turns_at all word = count_by (is_at word) all

@@ -39,8 +39,8 @@ abbrev pub outcome_name : ℕ → List ℕ
 outcome_name place = name_in (code_name place) place other_outcome_rows
 
 -- the calls, by their numbers, as docs/CALLS.md lists them
-abbrev pub call_rows : List (ℕ × List ℕ)
-call_rows =
+abbrev pub call_name_rows : List (ℕ × List ℕ)
+call_name_rows =
     (0, codes "EXIT") ∷
     (1, codes "PUT") ∷
     (2, codes "RANK") ∷
@@ -73,4 +73,4 @@ call_rows =
     []
 
 abbrev pub named_call : ℕ → List ℕ
-named_call number = name_in (codes "no call") number call_rows
+named_call number = name_in (codes "no call") number call_name_rows

@@ -8,8 +8,8 @@ use Rattle.rvmc_stats.specs.declared.mail.Mail.{Mail}
 use Rattle.rvmc_stats.specs.declared.tables.Tables.{Tables}
 
 -- the numbers below a number
-abbrev pub below : ℕ → List ℕ
-below n = range_with_len 0 n
+abbrev pub numbers_below : ℕ → List ℕ
+numbers_below n = range_with_len 0 n
 
 -- ---- turns
 
@@ -21,7 +21,7 @@ abbrev pub column_text : Tables → ℕ → ℕ → List ℕ
 column_text tables rank column = codes " " ++ decimal (cell_at tables.turns rank column)
 
 abbrev pub columns_text : Tables → ℕ → List ℕ
-columns_text tables rank = flat_map (column_text tables rank) (below 9)
+columns_text tables rank = flat_map (column_text tables rank) (numbers_below 9)
 
 -- the rank, all its turns, those of them that waited, and those of each kind
 unfoldable pub turn_line : Tables → ℕ → List ℕ
@@ -34,10 +34,10 @@ turn_line tables rank =
 
 -- by rank
 abbrev pub turn_lines : Tables → List ℕ
-turn_lines tables = flat_map (turn_line tables) (below (length tables.taken))
+turn_lines tables = flat_map (turn_line tables) (numbers_below (length tables.taken))
 
-abbrev pub turns_text : Tables → List ℕ
-turns_text tables = turns_head ++ turn_lines tables
+abbrev pub turns_table : Tables → List ℕ
+turns_table tables = turns_head ++ turn_lines tables
 
 -- ---- calls
 
@@ -52,13 +52,13 @@ call_line tables number outcome =
 
 -- by the call's number and its code
 unfoldable pub call_lines : Tables → ℕ → List ℕ
-call_lines tables number = flat_map (call_line tables number) (below 21)
+call_lines tables number = flat_map (call_line tables number) (numbers_below 21)
 
 abbrev pub all_call_lines : Tables → List ℕ
-all_call_lines tables = flat_map (call_lines tables) (below 45)
+all_call_lines tables = flat_map (call_lines tables) (numbers_below 45)
 
-abbrev pub calls_text : Tables → List ℕ
-calls_text tables = calls_head ++ all_call_lines tables
+abbrev pub calls_table : Tables → List ℕ
+calls_table tables = calls_head ++ all_call_lines tables
 
 -- ---- messages
 
@@ -75,10 +75,10 @@ pair_line mail from to =
 
 -- by sender and receiver
 unfoldable pub pair_lines : Mail → ℕ → List ℕ
-pair_lines mail from = flat_map (pair_line mail from) (below (length mail.messages))
+pair_lines mail from = flat_map (pair_line mail from) (numbers_below (length mail.messages))
 
 abbrev pub all_pair_lines : Mail → List ℕ
-all_pair_lines mail = flat_map (pair_lines mail) (below (length mail.messages))
+all_pair_lines mail = flat_map (pair_lines mail) (numbers_below (length mail.messages))
 
-abbrev pub messages_text : Mail → List ℕ
-messages_text mail = messages_head ++ all_pair_lines mail
+abbrev pub messages_table : Mail → List ℕ
+messages_table mail = messages_head ++ all_pair_lines mail

@@ -2,7 +2,7 @@
 
 ghost use Rattle.std.specs.Prelude.{◌≡◌};
 ghost use Rattle.cl_machine.specs.SameSteps.{kind_seen};
-ghost use Rattle.rvmc_stats.specs.Counted.{is_call as is_call_of, is_idle as is_idle_of, is_wait as is_wait_of};
+ghost use Rattle.rvmc_stats.specs.Counted.{is_call as is_call_of, is_stopped_turn as is_idle_of, is_wait as is_wait_of};
 ghost use Rattle.rvmc_stats.specs.Counted.{kind_place as kind_place_of};
 
 use cl_machine::KindRef;

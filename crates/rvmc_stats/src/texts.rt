@@ -1,8 +1,8 @@
 //! The text of tables: a head, and a line for each number that isn't 0.
 
 ghost use Rattle.std.specs.Prelude.{◌≡◌, ◌++◌, OnOk};
-ghost use Rattle.rvmc_stats.specs.Texts.{all_call_lines, all_pair_lines, call_lines, calls_head, calls_text};
-ghost use Rattle.rvmc_stats.specs.Texts.{messages_head, messages_text, pair_lines, turn_lines, turns_head, turns_text};
+ghost use Rattle.rvmc_stats.specs.Texts.{all_call_lines, all_pair_lines, call_lines, calls_head, calls_table};
+ghost use Rattle.rvmc_stats.specs.Texts.{messages_head, messages_table, pair_lines, turn_lines, turns_head, turns_table};
 
 use crate::lines::{put_call_line, put_pair_line, put_turn_line};
 use crate::mail::Mail;
@@ -30,7 +30,7 @@ fn put_turns_head(text: &mut Vec<u8>) -> io::Result<()>
 
 /// Adds the turns of each rank that took one. The only error is want of memory.
 pub fn put_turns(text: &mut Vec<u8>, tables: &Tables) -> io::Result<()>
-    ensures { OnOk result (text.new.items ≡ text.old.items ++ turns_text tables.now) }
+    ensures { OnOk result (text.new.items ≡ text.old.items ++ turns_table tables.now) }
 {
     put_turns_head(text)?;
     put_turn_lines(text, tables)
@@ -68,7 +68,7 @@ fn put_calls_head(text: &mut Vec<u8>) -> io::Result<()>
 
 /// Adds the calls that were made, by how they ended. The only error is want of memory.
 pub fn put_calls(text: &mut Vec<u8>, tables: &Tables) -> io::Result<()>
-    ensures { OnOk result (text.new.items ≡ text.old.items ++ calls_text tables.now) }
+    ensures { OnOk result (text.new.items ≡ text.old.items ++ calls_table tables.now) }
 {
     put_calls_head(text)?;
     put_all_call_lines(text, tables)
@@ -106,7 +106,7 @@ fn put_messages_head(text: &mut Vec<u8>) -> io::Result<()>
 
 /// Adds the messages that were received, by sender and receiver.
 fn put_mail(text: &mut Vec<u8>, mail: &Mail) -> io::Result<()>
-    ensures { OnOk result (text.new.items ≡ text.old.items ++ messages_text mail.now) }
+    ensures { OnOk result (text.new.items ≡ text.old.items ++ messages_table mail.now) }
 {
     put_messages_head(text)?;
     put_all_pair_lines(text, mail)
@@ -114,7 +114,7 @@ fn put_mail(text: &mut Vec<u8>, mail: &Mail) -> io::Result<()>
 
 /// Adds the messages that were received. The only error is want of memory.
 pub fn put_messages(text: &mut Vec<u8>, tables: &Tables) -> io::Result<()>
-    ensures { OnOk result (text.new.items ≡ text.old.items ++ messages_text tables.now.mail) }
+    ensures { OnOk result (text.new.items ≡ text.old.items ++ messages_table tables.now.mail) }
 {
     put_mail(text, &tables.mail)
 }

@@ -5,7 +5,8 @@ use Rattle.std.proofs.Common.{refl, sym, ap, ◌∙◌, subst, arith, rules}
 use Rattle.std.proofs.lemmas.Grind.{common_steps}
 use Rattle.std.proofs.lemmas.List.{get_or-replicate, get_or-set_other, get_or-set_same, length-replicate, length-set}
 use Rattle.rvmc_tally.specs.Counts.{IsGrid, IsTally}
-use Rattle.rvmc_tally.specs.Tallies.{added, added_in, capped, cell_at, count_at}
+use Rattle.rvmc_tally.specs.Adding.{added, added_in}
+use Rattle.rvmc_tally.specs.Tallies.{capped, cell_at, count_at}
 
 -- what is added to a number that was told as 64 bits hold it
 capped_more : (n more : ℕ) → capped (capped n + more) ≡ capped (n + more)

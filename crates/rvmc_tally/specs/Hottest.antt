@@ -13,18 +13,18 @@ abbrev pub is_behind : List ℕ → Option ℕ → ℕ → Bool
 is_behind counts None place = true
 is_behind counts (Some last) place = is_hotter counts last place
 
-abbrev pub is_left : List ℕ → Option ℕ → ℕ → Bool
-is_left counts last place = not (count_at counts place == 0) && is_behind counts last place
+abbrev pub is_yet_left : List ℕ → Option ℕ → ℕ → Bool
+is_yet_left counts last place = not (count_at counts place == 0) && is_behind counts last place
 
 -- one of those below an end, before which none of them comes
 pub record IsFirstBelow (counts : List ℕ) (last : Option ℕ) (end place : ℕ) : Type 0 where
   pub within : place < end
-  pub left : is_left counts last place ≡ true
-  pub first : (other : ℕ) → other < end → is_left counts last other ≡ true → is_hotter counts other place ≡ false
+  pub left : is_yet_left counts last place ≡ true
+  pub first : (other : ℕ) → other < end → is_yet_left counts last other ≡ true → is_hotter counts other place ≡ false
 
 -- there is none, or this one
 abbrev pub IsNextBelow : List ℕ → Option ℕ → ℕ → Option ℕ → Type 0
-IsNextBelow counts last end None = (other : ℕ) → other < end → is_left counts last other ≡ false
+IsNextBelow counts last end None = (other : ℕ) → other < end → is_yet_left counts last other ≡ false
 IsNextBelow counts last end (Some place) = IsFirstBelow counts last end place
 
 -- at most so many places of a list of this length, the first ones in this order: where they are fewer there are no others

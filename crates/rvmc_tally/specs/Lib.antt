@@ -1,3 +1,4 @@
 pub mod Tallies
+pub mod Adding
 pub mod Counts
 pub mod Hottest

@@ -1,5 +1,5 @@
 -- A list of numbers that are counted up, and a table of them.
-use Rattle.std.specs.Prelude.{ℕ, ◌+◌, ◌-◌, ◌^◌, min, List, [], get_or, set}
+use Rattle.std.specs.Prelude.{ℕ, ◌-◌, ◌^◌, min, List, [], get_or}
 
 -- a number as 64 bits hold it: where it is greater, the greatest that they hold
 abbrev pub capped : ℕ → ℕ
@@ -11,10 +11,3 @@ count_at counts place = get_or counts place 0
 
 abbrev pub cell_at : List (List ℕ) → ℕ → ℕ → ℕ
 cell_at rows row column = count_at (get_or rows row []) column
-
--- with more at one place
-abbrev pub added : List ℕ → ℕ → ℕ → List ℕ
-added counts place more = set counts place (capped (count_at counts place + more))
-
-abbrev pub added_in : List (List ℕ) → ℕ → ℕ → ℕ → List (List ℕ)
-added_in rows row column more = set rows row (added (get_or rows row []) column more)

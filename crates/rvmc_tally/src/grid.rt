@@ -1,7 +1,8 @@
 //! A table of numbers that are counted up.
 
 ghost use Rattle.std.specs.Prelude.{◌≡◌, IfOk, length, replicate};
-ghost use Rattle.rvmc_tally.specs.Tallies.{added_in, cell_at};
+ghost use Rattle.rvmc_tally.specs.Adding.{added_in};
+ghost use Rattle.rvmc_tally.specs.Tallies.{cell_at};
 
 use crate::tally::Tally;
 use std::alloc::{AllocError, Global};

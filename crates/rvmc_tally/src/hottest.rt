@@ -1,7 +1,7 @@
 //! The place of a list whose number is greatest.
 
 ghost use Rattle.std.specs.Prelude.{◌≡◌, ◌<◌, ◌+◌, length};
-ghost use Rattle.rvmc_tally.specs.Hottest.{IsNextBelow, is_hotter as is_hotter_of, is_left as is_left_of};
+ghost use Rattle.rvmc_tally.specs.Hottest.{IsNextBelow, is_hotter as is_hotter_of, is_yet_left as is_left_of};
 
 use crate::tally::Tally;
 

@@ -1,7 +1,8 @@
 //! A list of numbers that are counted up.
 
 ghost use Rattle.std.specs.Prelude.{◌≡◌, IfOk, length, replicate};
-ghost use Rattle.rvmc_tally.specs.Tallies.{added, count_at};
+ghost use Rattle.rvmc_tally.specs.Adding.{added};
+ghost use Rattle.rvmc_tally.specs.Tallies.{count_at};
 
 use std::alloc::{AllocError, Global};
 use std::marker::Model;
