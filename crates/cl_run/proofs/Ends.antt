@@ -42,6 +42,7 @@ use Rattle.cl_record.specs.Keys.{Shows}
 use Rattle.cl_record.specs.BoxKeys.{HasKeysOf, box_of}
 use Rattle.cl_record.specs.Plans.{ArePlans}
 use Rattle.cl_record.specs.Records.{IsEndOf, is_hub}
+use Rattle.cl_run.specs.Cuts.{IsEndedRun}
 use Rattle.cl_run.specs.Runs.{HasCause, IsOneRun, IsRankOf}
 use Rattle.cl_run.specs.UnderWay.{AreBoxes, IsSoFar, IsUnderWay, cluster_of}
 use Rattle.cl_record.proofs.Leaves.{shows}
@@ -49,6 +50,7 @@ use Rattle.cl_record.specs.Leaving.{ends_of, state_of, stop_of, trace_of}
 use Rattle.cl_record.specs.declared.done.Done.{Done}
 use Rattle.cl_record.proofs.BoxesLeft.{left_in, some_sends}
 use Rattle.cl_record.proofs.Elements.{at_below, from_map, link_at, to_map}
+use Rattle.cl_run.proofs.Closed.{all_closed, are_cuts, closed, closed_plan, closed_under_way}
 use Rattle.cl_run.proofs.Left.{as_many, done_at, seat_at, states_are}
 use Rattle.cl_run.proofs.Rounds.{goes_round}
 use Rattle.cl_run.proofs.Seats.{station_at}
@@ -197,108 +199,137 @@ module _ (image : ImageParts) (plans : List Plan) (order : List ℕ) (are : AreP
     }
 
   -- each rank stands in the order, so all are stopped
-  pub all_stopped : AreSeated plans driver
+  pub stopped_at : AreSeated plans driver
       → ((place : ℕ) → place < length order → IsStoppedAt (stations driver) (slice_index order place))
-      → All (λ (seat : Seat). IsTrue (is_some seat.stop)) driver.seats.items
-  all_stopped seated done k d there =
-      let named = are.misses_none k (omega (arith, there, seated.one_each, are.planned.one_each)) in
-      let is : k ≡ slice_index order named.0 = get_or_read order named.0 k named.1 (sym named.2) 0 in
+      → (r : ℕ) (seat : Seat) → slice_get driver.seats.items r ≡ Some seat → (stop : Stop) × (seat.stop ≡ Some stop)
+  stopped_at seated done r seat at =
+      let there = slice_get_within driver.seats.items r seat at in
+      let named = are.misses_none r (omega (arith, there, seated.one_each, are.planned.one_each)) in
+      let is : r ≡ slice_index order named.0 = get_or_read order named.0 r named.1 (sym named.2) 0 in
       let stopped = subst (IsStoppedAt (stations driver)) (sym is) (done named.0 named.1) in
-      let seat = from_map station driver.seats.items k stopped.0 stopped.2 in
-      let at : get_or driver.seats.items k d ≡ seat.0 = get_or_from_slice_get driver.seats.items k seat.0 d seat.1 in
-      let stop = ap (λ (s : Seat). s.stop) at ∙ ap (λ (s : Station). s.stop) seat.2 ∙ stopped.3 in
-      ap is_some stop
+      let own = from_map station driver.seats.items r stopped.0 stopped.2 in (
+        stopped.1,
+        ap (λ (s : Seat). s.stop) (same_Some seat own.0 (sym at ∙ own.1)) ∙ ap (λ (s : Station). s.stop) own.2 ∙ stopped.3,
+      )
 
-  module _ (left : Record) (seated : AreSeated plans driver) (is : IsLeftBy driver left) (slot : ℕ)
-      (w : IsUnderWay image plans order (stations driver) driver.hub slot) where
-    box_shown : (link part : ℕ) → link < length image.links → part < 16
-        → (settled : List Settled) × (b : Settled) × (box : Box)
-        × (slice_get left.boxes.items link ≡ Some settled) × (slice_get settled part ≡ Some b)
-        × (slice_get w.boxes (box_number link part) ≡ Some box)
-        × Shows image.version b box
-    box_shown link part below low =
-        let l = at_below image.links link below in
-        let at : slice_get driver.hub.links link ≡ Some l.0 = ap (λ ls. slice_get ls link) w.links_are ∙ l.1 in
-        let old = w.are_boxes link part l.0 l.1 low in
-        let h = old.4 in
-        let from = from_map station driver.seats.items l.0.from old.0 old.2 in
-        let to = from_map station driver.seats.items l.0.to old.1 old.3 in
-        let from_done = done_at driver.seats.items is.all l.0.from from.0 is.done from.1 in
-        let to_done = done_at driver.seats.items is.all l.0.to to.0 is.done to.1 in
-        let sends : sender_of (station from.0).sides link part ≡ Some h.sender =
-        ap (λ (x : Station). sender_of x.sides link part) from.2 ∙ h.sends in
-        let receives : receiver_of (station to.0).sides link part ≡ Some h.receiver =
-        ap (λ (x : Station). receiver_of x.sides link part) to.2 ∙ h.receives in
-        let k = left_in driver.hub.links driver.channels.items (map ends_of is.all) left.boxes.items is.record_is.boxes_are
-        seated.joined.one_each link part l.0 (ends_of from_done.0) (ends_of to_done.0) h.sender h.receiver at
-        (to_map ends_of is.all l.0.from from_done.0 from_done.1) (to_map ends_of is.all l.0.to to_done.0 to_done.1)
-        (ap (λ (x : RankOfTurns). sender_key (side_of link x.sends.items) part) from_done.2 ∙ sends)
-        (ap (λ (x : RankOfTurns). receiver_key (side_of link x.recvs.items) part) to_done.2 ∙ receives) in
-        let over = (seated.joined.each l.0.from (station from.0) (station_at driver.seats.items l.0.from from.0 from.1)).over in
-        let side = some_sends (side_of link (station from.0).sides.sends) part h.sender sends in
-        let width : k.channel.width ≡ box_words (station from.0).rank.site.version =
-        (subst (λ o. HasSender (station from.0).rank.site.version o side.0) k.channel_there
-        (over.sends link side.0 side.1)).0 in
-        let version : (station from.0).rank.site.version ≡ image.version =
-        ap (λ (x : Site). x.version)
-        (w.sites l.0.from (station from.0) (station_at driver.seats.items l.0.from from.0 from.1)) in (
-          k.settled,
-          k.left,
-          box_of image.version h.sender h.receiver,
-          k.there,
-          k.place,
-          h.box_is,
-          shows image.version h.sender h.receiver k.left
-              (subst (λ n. IsSettled n h.sender h.receiver k.left) (width ∙ ap box_words version) k.is),
-        )
+-- what seats leave that are told to stop where they haven't
+module _ (image : ImageParts) (plans cuts : List Plan) (order : List ℕ) (driver : Driver) (left : Record)
+    (seated : AreSeated plans driver) (many : length plans ≡ image.ranks) (cuts_many : length cuts ≡ image.ranks)
+    (is : IsLeftBy driver left) (slot : ℕ)
+    (w : IsUnderWay image cuts order (map closed driver.seats.items) driver.hub slot) where
+  box_shown : (link part : ℕ) → link < length image.links → part < 16
+      → (settled : List Settled) × (b : Settled) × (box : Box)
+      × (slice_get left.boxes.items link ≡ Some settled) × (slice_get settled part ≡ Some b)
+      × (slice_get w.boxes (box_number link part) ≡ Some box)
+      × Shows image.version b box
+  box_shown link part below low =
+      let l = at_below image.links link below in
+      let at : slice_get driver.hub.links link ≡ Some l.0 = ap (λ ls. slice_get ls link) w.links_are ∙ l.1 in
+      let old = w.are_boxes link part l.0 l.1 low in
+      let h = old.4 in
+      let from = from_map closed driver.seats.items l.0.from old.0 old.2 in
+      let to = from_map closed driver.seats.items l.0.to old.1 old.3 in
+      let from_done = done_at driver.seats.items is.all l.0.from from.0 is.done from.1 in
+      let to_done = done_at driver.seats.items is.all l.0.to to.0 is.done to.1 in
+      let sends : sender_of (station from.0).sides link part ≡ Some h.sender =
+      ap (λ (x : Station). sender_of x.sides link part) from.2 ∙ h.sends in
+      let receives : receiver_of (station to.0).sides link part ≡ Some h.receiver =
+      ap (λ (x : Station). receiver_of x.sides link part) to.2 ∙ h.receives in
+      let k = left_in driver.hub.links driver.channels.items (map ends_of is.all) left.boxes.items is.record_is.boxes_are
+      seated.joined.one_each link part l.0 (ends_of from_done.0) (ends_of to_done.0) h.sender h.receiver at
+      (to_map ends_of is.all l.0.from from_done.0 from_done.1) (to_map ends_of is.all l.0.to to_done.0 to_done.1)
+      (ap (λ (x : RankOfTurns). sender_key (side_of link x.sends.items) part) from_done.2 ∙ sends)
+      (ap (λ (x : RankOfTurns). receiver_key (side_of link x.recvs.items) part) to_done.2 ∙ receives) in
+      let over = (seated.joined.each l.0.from (station from.0) (station_at driver.seats.items l.0.from from.0 from.1)).over in
+      let side = some_sends (side_of link (station from.0).sides.sends) part h.sender sends in
+      let width : k.channel.width ≡ box_words (station from.0).rank.site.version =
+      (subst (λ o. HasSender (station from.0).rank.site.version o side.0) k.channel_there
+      (over.sends link side.0 side.1)).0 in
+      let version : (station from.0).rank.site.version ≡ image.version =
+      ap (λ (x : Site). x.version)
+      (w.sites l.0.from (closed from.0) (to_map closed driver.seats.items l.0.from from.0 from.1)) in (
+        k.settled,
+        k.left,
+        box_of image.version h.sender h.receiver,
+        k.there,
+        k.place,
+        h.box_is,
+        shows image.version h.sender h.receiver k.left
+            (subst (λ n. IsSettled n h.sender h.receiver k.left) (width ∙ ap box_words version) k.is),
+      )
 
-    ends : IsEndOf image left (cluster_of (stations driver) driver.hub w.boxes)
-    ends = record {
-      ranks_are = map-map (λ (s : Station). s.rank) station driver.seats.items
-          ∙ sym (map-map rank_of (λ (seat : Seat). seat.rank.state) driver.seats.items)
-          ∙ ap (map rank_of) (sym (is.record_is.ranks_are ∙ states_are driver.seats.items is.all is.done));
-      journal_is = λ i. record {
-        links = w.links_are i;
-        entries = (sym is.record_is.journal_is) i;
-        clock = stamp_after 0 ((sym is.record_is.journal_is) i);
-      };
-      boxes_show = record {
-        links = is.record_is.boxes_are.count ∙ ap (λ (ls : List Link). length ls) w.links_are;
-        each = box_shown;
-      };
-    }
+  ends : IsEndOf image left (cluster_of (map closed driver.seats.items) driver.hub w.boxes)
+  ends = record {
+    ranks_are = map-map (λ (s : Station). s.rank) closed driver.seats.items
+        ∙ sym (map-map rank_of (λ (seat : Seat). seat.rank.state) driver.seats.items)
+        ∙ ap (map rank_of) (sym (is.record_is.ranks_are ∙ states_are driver.seats.items is.all is.done));
+    journal_is = λ i. record {
+      links = w.links_are i;
+      entries = (sym is.record_is.journal_is) i;
+      clock = stamp_after 0 ((sym is.record_is.journal_is) i);
+    };
+    boxes_show = record {
+      links = is.record_is.boxes_are.count ∙ ap (λ (ls : List Link). length ls) w.links_are;
+      each = box_shown;
+    };
+  }
 
-    pub one_run : IsOneRun image plans order left
-    one_run =
-        let count : length is.all ≡ image.ranks =
-        as_many driver.seats.items is.all is.done ∙ seated.one_each ∙ are.planned.one_each in
-        let own = is.record_is in
-        record {
-          steps = w.steps;
-          final = cluster_of (stations driver) driver.hub w.boxes;
-          run = w.run;
-          end = ends;
-          none_idles = w.none_idles;
-          round = goes_round order (IsStoppedAt (stations driver)) 0 (map (λ (e : Step). e.rank) w.steps) slot w.round;
-          plans_count = are.planned.one_each;
-          traces_count = ap (λ (xs : List TraceView). length xs) own.traces_are ∙ length-map is.all trace_of ∙ count;
-          ranks_count = ap (λ (xs : List RankState). length xs) own.ranks_are ∙ length-map is.all state_of ∙ count;
-          stops_count = ap (λ (xs : List Stop). length xs) own.stops_are ∙ length-map is.all stop_of ∙ count;
-          each = λ r plan trace state stop at_plan at_trace at_state at_stop.
-              let a = from_map trace_of is.all r trace (ap (λ xs. slice_get xs r) (sym own.traces_are) ∙ at_trace) in
-              let b = from_map state_of is.all r state (ap (λ xs. slice_get xs r) (sym own.ranks_are) ∙ at_state) in
-              let c = from_map stop_of is.all r stop (ap (λ xs. slice_get xs r) (sym own.stops_are) ∙ at_stop) in
-              let seat = seat_at driver.seats.items is.all r a.0 is.done a.1 in
-              let events_are : seat.0.rank.trace.events ≡ trace.events =
-              ap (λ (x : RankOfTurns). x.trace.events) seat.2 ∙ ap (λ (t : TraceView). t.events) a.2 in
-              let state_is : rank_of seat.0.rank.state ≡ rank_of state =
-              ap (λ (x : RankOfTurns). rank_of x.state) seat.2
-              ∙ ap (λ (x : Done). rank_of x.rank.state) (same_Some a.0 b.0 (sym a.1 ∙ b.1)) ∙ ap rank_of b.2 in
-              let stop_is : seat.0.stop ≡ Some stop =
-              seat.3 ∙ ap (λ (x : Done). Some x.stop) (same_Some a.0 c.0 (sym a.1 ∙ c.1)) ∙ ap Some c.2 in
-              let so = w.each r plan (station seat.0) at_plan (station_at driver.seats.items r seat.0 seat.1) in
-              subst (λ es. IsRankOf w.steps es r plan trace.events (rank_of state) stop) (sym own.journal_is)
-              (subst (λ events. IsRankOf w.steps driver.hub.entries r plan events (rank_of state) stop) events_are
-              (subst (λ rank. IsRankOf w.steps driver.hub.entries r plan seat.0.rank.trace.events rank stop) state_is
-              (rank_of_run w.steps driver.hub.entries r plan (station seat.0) stop so stop_is)));
-        }
+  pub one_run : IsOneRun image cuts order left
+  one_run =
+      let count : length is.all ≡ image.ranks =
+      as_many driver.seats.items is.all is.done ∙ seated.one_each ∙ many in
+      let own = is.record_is in
+      record {
+        steps = w.steps;
+        final = cluster_of (map closed driver.seats.items) driver.hub w.boxes;
+        run = w.run;
+        end = ends;
+        none_idles = w.none_idles;
+        round = goes_round order (IsStoppedAt (map closed driver.seats.items)) 0 (map (λ (e : Step). e.rank) w.steps) slot w.round;
+        plans_count = cuts_many;
+        traces_count = ap (λ (xs : List TraceView). length xs) own.traces_are ∙ length-map is.all trace_of ∙ count;
+        ranks_count = ap (λ (xs : List RankState). length xs) own.ranks_are ∙ length-map is.all state_of ∙ count;
+        stops_count = ap (λ (xs : List Stop). length xs) own.stops_are ∙ length-map is.all stop_of ∙ count;
+        each = λ r plan trace state stop at_plan at_trace at_state at_stop.
+            let a = from_map trace_of is.all r trace (ap (λ xs. slice_get xs r) (sym own.traces_are) ∙ at_trace) in
+            let b = from_map state_of is.all r state (ap (λ xs. slice_get xs r) (sym own.ranks_are) ∙ at_state) in
+            let c = from_map stop_of is.all r stop (ap (λ xs. slice_get xs r) (sym own.stops_are) ∙ at_stop) in
+            let seat = seat_at driver.seats.items is.all r a.0 is.done a.1 in
+            let events_are : seat.0.rank.trace.events ≡ trace.events =
+            ap (λ (x : RankOfTurns). x.trace.events) seat.2 ∙ ap (λ (t : TraceView). t.events) a.2 in
+            let state_is : rank_of seat.0.rank.state ≡ rank_of state =
+            ap (λ (x : RankOfTurns). rank_of x.state) seat.2
+            ∙ ap (λ (x : Done). rank_of x.rank.state) (same_Some a.0 b.0 (sym a.1 ∙ b.1)) ∙ ap rank_of b.2 in
+            let stop_is : (closed seat.0).stop ≡ Some stop =
+            seat.3 ∙ ap (λ (x : Done). Some x.stop) (same_Some a.0 c.0 (sym a.1 ∙ c.1)) ∙ ap Some c.2 in
+            let so = w.each r plan (closed seat.0) at_plan (to_map closed driver.seats.items r seat.0 seat.1) in
+            subst (λ es. IsRankOf w.steps es r plan trace.events (rank_of state) stop) (sym own.journal_is)
+            (subst (λ events. IsRankOf w.steps driver.hub.entries r plan events (rank_of state) stop) events_are
+            (subst (λ rank. IsRankOf w.steps driver.hub.entries r plan seat.0.rank.trace.events rank stop) state_is
+            (rank_of_run w.steps driver.hub.entries r plan (closed seat.0) stop so stop_is)));
+      }
+
+module _ (image : ImageParts) (plans : List Plan) (order : List ℕ) (are : ArePlans image plans order) (driver : Driver)
+    (left : Record) (seated : AreSeated plans driver) (is : IsLeftBy driver left) (slot : ℕ)
+    (w : IsUnderWay image plans order (stations driver) driver.hub slot) where
+  -- each rank stopped by its plan
+  pub whole_run : ((place : ℕ) → place < length order → IsStoppedAt (stations driver) (slice_index order place))
+      → IsOneRun image plans order left
+  whole_run done =
+      let many = are.planned.one_each in
+      let same = all_closed driver.seats.items (stopped_at image plans order are driver seated done) in
+      one_run image plans plans order driver left seated many many is slot
+      (subst (λ ss. IsUnderWay image plans order ss driver.hub slot) (sym same) w)
+
+  -- or was told to
+  pub ended_run : IsEndedRun image plans order left
+  ended_run =
+      let many = are.planned.one_each in
+      let cuts = map closed_plan driver.seats.items in
+      record {
+        cuts = cuts;
+        are_cuts = are_cuts image plans order driver seated slot w;
+        run = one_run image plans cuts order driver left seated many
+            (length-map driver.seats.items closed_plan ∙ seated.one_each ∙ many) is slot
+            (closed_under_way image plans order driver seated slot w);
+      }

@@ -10,7 +10,7 @@ use Rattle.cl_rank.specs.declared.stops.Stop.{Stop}
 use Rattle.cl_run.specs.declared.driver.Driver.{Driver}
 use Rattle.cl_record.specs.declared.seats.Seat.{Seat}
 use Rattle.cl_record.specs.Seats.{station}
-use Rattle.cl_run.specs.Driver.{AreDone, AreJoined, end_of, ended}
+use Rattle.cl_run.specs.Driver.{AreDone, AreJoined, end_of, ended, last_stop}
 use Rattle.cl_record.specs.Leaving.{ends_of, state_of}
 use Rattle.cl_record.specs.Settling.{MaySettle}
 use Rattle.cl_record.specs.declared.done.Done.{Done}
@@ -26,10 +26,11 @@ as_many seats all are =
 
 -- one seat more
 pub done_more : (seats : List Seat) (all : List Done) (seat : Seat) (done : Done) → AreDone seats all
-    → seat.rank ≡ done.rank → seat.stop ≡ Some done.stop → AreDone (seats ++ seat ∷ []) (all ++ done ∷ [])
+    → seat.rank ≡ done.rank → last_stop (station seat).rank seat.stop ≡ done.stop
+    → AreDone (seats ++ seat ∷ []) (all ++ done ∷ [])
 done_more seats all seat done are rank stop =
     map-append end_of seats (seat ∷ [])
-    ∙ (λ i. are i ++ (rank i, stop i) ∷ [])
+    ∙ (λ i. are i ++ (rank i, Some (stop i)) ∷ [])
     ∙ sym (map-append ended all (done ∷ []))
 
 -- the states that are left are those of the seats
@@ -43,18 +44,18 @@ states_are seats all are =
 -- the seat at a number, and what it left
 pub done_at : (seats : List Seat) (all : List Done) (r : ℕ) (seat : Seat) → AreDone seats all
     → slice_get seats r ≡ Some seat
-    → (done : Done) × (slice_get all r ≡ Some done) × (done.rank ≡ seat.rank) × (Some done.stop ≡ seat.stop)
+    → (done : Done) × (slice_get all r ≡ Some done) × (done.rank ≡ seat.rank)
 done_at seats all r seat are at =
     let done = from_map ended all r (end_of seat) (ap (λ xs. slice_get xs r) (sym are) ∙ to_map end_of seats r seat at) in (
       done.0,
       done.1,
       ap (λ (x : RankOfTurns × Option Stop). x.0) done.2,
-      ap (λ (x : RankOfTurns × Option Stop). x.1) done.2,
     )
 
 pub seat_at : (seats : List Seat) (all : List Done) (r : ℕ) (done : Done) → AreDone seats all
     → slice_get all r ≡ Some done
-    → (seat : Seat) × (slice_get seats r ≡ Some seat) × (seat.rank ≡ done.rank) × (seat.stop ≡ Some done.stop)
+    → (seat : Seat) × (slice_get seats r ≡ Some seat) × (seat.rank ≡ done.rank)
+    × (Some (last_stop (station seat).rank seat.stop) ≡ Some done.stop)
 seat_at seats all r done are at =
     let seat = from_map end_of seats r (ended done) (ap (λ xs. slice_get xs r) are ∙ to_map ended all r done at) in (
       seat.0,

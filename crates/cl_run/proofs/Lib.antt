@@ -7,6 +7,8 @@ pub mod Seats
 pub mod Joined
 pub mod Pairs
 pub mod Slots
+pub mod Closed
+pub mod Going
 pub mod Ends
 pub mod Left
 pub mod Merged

@@ -8,8 +8,9 @@ use Rattle.part_channel.specs.Channels.{ChannelView}
 use Rattle.cl_rank.specs.RankSides.{AreChannelsOf, receiver_of, sender_of}
 use Rattle.cl_rank.specs.Turning.{Answered}
 use Rattle.cl_rank.specs.declared.ranks.Rank.{Rank as RankOfTurns}
+use Rattle.cl_rank.specs.Turns.{all_stopped}
 use Rattle.cl_rank.specs.declared.stops.Stop.{Stop}
-use Rattle.cl_state.specs.Rank.{below, loaded}
+use Rattle.cl_state.specs.Rank.{Rank, below, loaded}
 use Rattle.rv_image.specs.declared.images.ImageParts.{ImageParts}
 use Rattle.rv_image.specs.declared.images.Link.{Link}
 use Rattle.rv_image.specs.Image.{IsLink}
@@ -100,9 +101,17 @@ left_of s = (s.budget - length s.events) + (if is_some s.stop then 0 else 1)
 abbrev pub left : Driver → ℕ
 left driver = sum_by left_of (stations driver)
 
+-- why a rank stops that is told to, where it hasn't stopped: its harts are stopped, or its turns are as many as it gets
+abbrev pub told_stop : Rank → Stop
+told_stop rank = if all_stopped rank then Stop.AllEnded else Stop.Budget
+
+abbrev pub last_stop : Rank → Option Stop → Stop
+last_stop rank None = told_stop rank
+last_stop rank (Some stop) = stop
+
 -- seats that are at their ends, one after another
 abbrev pub end_of : Seat → RankOfTurns × Option Stop
-end_of seat = (seat.rank, seat.stop)
+end_of seat = (seat.rank, Some (last_stop (station seat).rank seat.stop))
 
 abbrev pub ended : Done → RankOfTurns × Option Stop
 ended done = (done.rank, Some done.stop)

@@ -11,5 +11,7 @@ pub use Rattle.cl_machine.specs.Worked
 pub mod Setups
 pub mod Rounds
 pub mod Runs
+pub mod Cuts
 pub mod Driver
 pub mod UnderWay
+pub mod Going

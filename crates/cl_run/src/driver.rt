@@ -1,6 +1,6 @@
 //! The driver of a run on one thread.
 
-ghost use Rattle.std.specs.Prelude.{◌≡◌, ◌<◌, ◌+◌, ◌*◌, ℕ, List, None, Some, All, IfOk, IsTrue, is_some};
+ghost use Rattle.std.specs.Prelude.{◌≡◌, ◌<◌, ◌≤◌, ◌+◌, ◌*◌, ℕ, List, None, Some, All, IfOk};
 ghost use Rattle.std.specs.Prelude.{false, true, length, map, slice_get, slice_index, vec_len};
 ghost use Rattle.rv_image.specs.declared.images.ImageParts.{ImageParts};
 ghost use Rattle.rv_image.specs.Image.{IsLink};
@@ -17,6 +17,8 @@ ghost use Rattle.cl_run.specs.Driver.{Agree, AreJoined, AreSeated, HaveKeys, IsD
 ghost use Rattle.cl_run.specs.Driver.{KeysAgree, SlotGoes, left, stations};
 ghost use Rattle.cl_run.specs.UnderWay.{IsUnderWay};
 
+use crate::closing::close;
+use crate::looks::Watch;
 use cl_journal::Hub;
 use cl_rank::{BoxId, PlainDesk, agree};
 use cl_record::{Lists, Plan, Record, Seat, Wiring, load_seats};
@@ -170,8 +172,8 @@ impl<'a> Driver<'a> {
         true
     }
 
-    /// One round: each rank that the order names, in that order. Whether anything was done.
-    fn round(&mut self, order: &[u8]) -> bool
+    /// One round: each rank that the order names, in that order, watched by this one. Whether anything was done.
+    pub(crate) fn round<W: Watch>(&mut self, order: &[u8], watch: &mut W) -> bool
         requires joined { AreJoined self.old }
         requires there { All (λ r. r < vec_len self.old.seats) order.now }
         ensures seated { (plans : List Plan) → AreSeated plans self.old → AreSeated plans self.new }
@@ -183,10 +185,12 @@ impl<'a> Driver<'a> {
         ensures done { result ≡ false → (place : ℕ) → place < length order.now
             → IsStoppedAt (stations self.new) (slice_index order.now place) }
         ensures less { result ≡ true → left self.new < left self.old }
+        ensures no_more { left self.new ≤ left self.old }
     {
         let mut moved = false;
         for rank in order {
             let goes_on = self.slot(*rank);
+            watch.see(self.seats.get(*rank as usize), *rank);
             moved = moved || goes_on;
         }
         moved
@@ -204,15 +208,14 @@ impl<'a> Driver<'a> {
         ensures seated { (plans : List Plan) → AreSeated plans self.old → AreSeated plans self.new }
     {
         loop {
-            if !self.round(order) {
+            if !self.round(order, &mut ()) {
                 return;
             }
         }
     }
 
-    /// What the run left, in lists that have room for it.
+    /// What the run left, in lists that have room for it. A rank that hasn't stopped is told to, here.
     pub(crate) fn into_record(self, lists: Lists) -> Record
-        requires stopped { All (λ seat. IsTrue (is_some seat.stop)) self.seats.items }
         requires joined { AreJoined self }
         requires room { HaveRoom (length self.seats.items) (length self.hub.links) lists }
         ensures { IsLeftBy self.entry result }
@@ -224,7 +227,7 @@ impl<'a> Driver<'a> {
         } = self;
         let mut lists = lists;
         for seat in seats {
-            lists.add(seat.end());
+            lists.add(close(seat));
         }
         lists.close(hub, channels)
     }

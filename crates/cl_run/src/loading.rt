@@ -1,13 +1,16 @@
 //! Ranks that are loaded, and their run.
 
-ghost use Rattle.std.specs.Prelude.{◌≡◌, ◌↔◌, ◌⊎◌, Err, IfErr, IfOk, length};
+ghost use Rattle.std.specs.Prelude.{◌≡◌, ◌↔◌, ◌⊎◌, Err, IfErr, IfOk, false, length};
 ghost use Rattle.cl_arrival_laws.specs.Runs.{IsArrivedRun};
 ghost use Rattle.cl_run.specs.Driver.{IsLoaded};
 ghost use Rattle.cl_record.specs.Plans.{ArePlans, HasPlans};
 ghost use Rattle.cl_record.specs.Records.{IsMergedRun};
+ghost use Rattle.cl_run.specs.Cuts.{IsEndedRun};
 ghost use Rattle.cl_run.specs.Runs.{IsOneRun};
 
 use crate::driver::Driver;
+use crate::ended::Ended;
+use crate::quiet::longest;
 use cl_record::{Lists, Plan, Record, RunFault, are_plans};
 use rv_image::Image;
 use std::alloc::{AllocError, Global};
@@ -103,5 +106,30 @@ impl<'a> Loaded<'a> {
         let _parts = image.parts();
         driver.run(order);
         driver.into_record(lists)
+    }
+
+    /// Runs all ranks, each by its plan, until each is stopped, or until no hart runs and each that waits has looked in
+    /// vain over and over: then each rank that hasn't stopped is told to, and the record says Budget of it, with fewer
+    /// turns than its plan gives. Whether what they wait for can come at all isn't asked here.
+    pub fn run_until_quiet(self) -> Ended
+        ensures plans { ArePlans self.entry.image self.entry.plans self.entry.order }
+        ensures run { IsEndedRun self.entry.image self.entry.plans self.entry.order result.left }
+        ensures whole { result.quiet ≡ false
+            → IsOneRun self.entry.image self.entry.plans self.entry.order result.left }
+        ensures merged { IsMergedRun self.entry.image result.left }
+        ensures arrived { IsArrivedRun self.entry.image result.left }
+    {
+        let Loaded {
+            image,
+            plans,
+            order,
+            mut driver,
+            lists,
+        } = self;
+        // whoever asks for the parts knows that they are an image's
+        let _parts = image.parts();
+        let quiet = driver.run_until_quiet(order, longest(plans));
+        let left = driver.into_record(lists);
+        Ended { left, quiet }
     }
 }

@@ -28,14 +28,14 @@ loop-seat-preserved c =
     record {
       rest = seam_more l.yielded _ seats c.in-Some.seat _ l.invariant.rest c.in-Some.ensures.steps.0;
       left = (
-        left.0 ++ c.end.result ∷ [],
-        done_more l.yielded left.0 c.in-Some.seat c.end.result left.1 (sym c.end.ensures.rank) (sym c.end.ensures.stop),
+        left.0 ++ c.close.result ∷ [],
+        done_more l.yielded left.0 c.in-Some.seat c.close.result left.1 (sym c.close.ensures.rank) (sym c.close.ensures.stop),
         c.add.ensures (length seats) (length c.args.self.hub.links) left.0 left.2,
       );
     }
 
-pub close-requires : goal.close-requires
-close-requires c =
+pub close-requires-2 : goal.close-requires-2
+close-requires-2 c =
     let l = c.loop-seat in
     let rest = l.seat-iterator.rest in
     let seats = c.args.self.seats.items in
@@ -57,5 +57,5 @@ returns c =
     record {
       all = left.0;
       done = subst (λ xs. AreDone xs left.0) all_is left.1;
-      record_is = c.close.ensures (length seats) left.0 left.2;
+      record_is = c.close-2.ensures (length seats) left.0 left.2;
     }

@@ -9,7 +9,7 @@ use Rattle.cl_run.proofs.driver.Driver.round.Goals as goal
 use Rattle.cl_run.proofs.driver.Driver.round.Goals.{then-moved, else-moved}
 
 pub slot-goes_on-requires-clause-there : goal.slot-goes_on-requires-clause-there
-slot-goes_on-requires-clause-there c =
+slot-goes_on-requires-clause-there g c =
     let order = c.args.order.now in
     let i = c.loop-rank.rank-index in
     let there : slice_index order i < vec_len c.args.self.now.seats = All-contains
@@ -18,7 +18,7 @@ slot-goes_on-requires-clause-there c =
     omega (arith, there, c.loop-rank.invariant.count)
 
 pub loop-rank-preserved : goal.loop-rank-preserved
-loop-rank-preserved c =
+loop-rank-preserved g c =
     let order = c.args.order.now in
     let i = c.loop-rank.rank-index in
     let r = slice_index order i in
@@ -48,3 +48,6 @@ loop-rank-preserved c =
       less = subst (λ b. left new + cond b 1 0 ≤ left c.args.self.now) (sym either)
           (less_more (left c.args.self.now) (left old) (left new) c.loop-rank.moved went kept.less (slot_left r old new went goes));
     }
+
+pub returns-clause-no_more : goal.returns-clause-no_more
+returns-clause-no_more g c = omega (arith, c.loop-rank.invariant.less)

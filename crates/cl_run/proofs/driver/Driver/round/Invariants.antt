@@ -6,7 +6,7 @@ use Rattle.cl_run.specs.UnderWay.{IsUnderWay}
 use Rattle.cl_run.proofs.driver.Driver.round.Given as goal
 
 abbrev pub invariant-loop-rank : goal.invariant-loop-rank
-invariant-loop-rank l = record {
+invariant-loop-rank g l = record {
   joined : AreJoined l.self;
   count : vec_len l.self.seats ≡ vec_len l.initial.self.seats;
   seated : (plans : List Plan) → AreSeated plans l.initial.self → AreSeated plans l.self;

@@ -6,7 +6,7 @@ use Rattle.cl_record.specs.Leaving.{HaveRoom}
 use Rattle.cl_record.specs.Records.{IsMergedRun}
 use Rattle.cl_run.specs.Setups.{Setup}
 use Rattle.cl_run.specs.Runs.{IsOneRun}
-use Rattle.cl_run.proofs.Ends.{all_stopped, one_run, seated_at_start, under_way_at_start}
+use Rattle.cl_run.proofs.Ends.{seated_at_start, under_way_at_start, whole_run}
 use Rattle.cl_run.proofs.Merged.{one_merged}
 use Rattle.cl_run.proofs.loading.Loaded.run.Goals as goal
 
@@ -23,13 +23,6 @@ run-requires-clause-there c =
     let loaded = c.self.invariant.1 in
     let count = sym loaded.loaded.count_is ∙ sym l.driver.seats.ok.0 in
     subst (λ n. All (λ r. r < n) l.order.now) count are.is_order.there
-
-pub into_record-requires-clause-stopped : goal.into_record-requires-clause-stopped
-into_record-requires-clause-stopped c =
-    let l = c.self.inside in
-    let are = c.self.invariant.0 in
-    let first = seated_at_start l.image.now l.plans.now l.order.now are l.driver c.self.invariant.1.loaded in
-    all_stopped _ _ _ are c.run.new.self (c.run.ensures.seated l.plans.now first) c.run.ensures.done
 
 pub into_record-requires-clause-joined : goal.into_record-requires-clause-joined
 into_record-requires-clause-joined c =
@@ -48,7 +41,8 @@ returns-clause-run c =
     let end = c.run.ensures.goes l.image.now l.plans.now first start in
     let seated = c.run.ensures.seated l.plans.now first in
     subst (λ (s : Setup). IsOneRun s.image s.plans s.order c.into_record.result) c.self.view_is
-    (one_run l.image.now l.plans.now l.order.now are c.run.new.self c.into_record.result seated c.into_record.ensures end.0 end.1)
+    (whole_run l.image.now l.plans.now l.order.now are c.run.new.self c.into_record.result seated c.into_record.ensures
+    end.0 end.1 c.run.ensures.done)
 
 pub into_record-requires-clause-room : goal.into_record-requires-clause-room
 into_record-requires-clause-room c =
@@ -74,7 +68,8 @@ returns-clause-merged c =
     let seated = c.run.ensures.seated l.plans.now first in
     subst (λ (s : Setup). IsMergedRun s.image c.into_record.result) c.self.view_is
     (one_merged l.image.now l.plans.now l.order.now c.into_record.result c.parts-parts.ensures.limits
-    (one_run l.image.now l.plans.now l.order.now are c.run.new.self c.into_record.result seated c.into_record.ensures end.0 end.1))
+    (whole_run l.image.now l.plans.now l.order.now are c.run.new.self c.into_record.result seated c.into_record.ensures
+    end.0 end.1 c.run.ensures.done))
 
 pub returns-clause-arrived : goal.returns-clause-arrived
 returns-clause-arrived c =

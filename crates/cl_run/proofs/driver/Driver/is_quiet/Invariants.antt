@@ -1,0 +1,5 @@
+use Rattle.cl_run.specs.Going.{GoesRounds}
+use Rattle.cl_run.proofs.driver.Driver.is_quiet.Given as goal
+
+abbrev pub invariant-loop-round : goal.invariant-loop-round
+invariant-loop-round l = GoesRounds l.order l.initial.self l.self
