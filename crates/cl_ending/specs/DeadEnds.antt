@@ -1,0 +1,31 @@
+-- Runs that ended in a deadlock.
+use Rattle.std.specs.Prelude.{ℕ, ◌≡◌, ◌≢◌, IsTrue, List, Some, slice_get}
+use Rattle.rv_image.specs.declared.images.ImageParts.{ImageParts}
+use Rattle.cl_deadlock.specs.Why.{IsFound}
+use Rattle.cl_deadlock_laws.specs.Stuck.{is_among}
+use Rattle.cl_machine.specs.Cluster.{Cluster, IsRun, loaded_cluster}
+use Rattle.cl_machine.specs.Merge.{IsMerge}
+use Rattle.cl_machine.specs.declared.steps.Step.{Step}
+use Rattle.cl_rank.specs.declared.stops.Stop.{Stop}
+use Rattle.cl_record.specs.Records.{steps_in}
+use Rattle.cl_record.specs.declared.records.Record.{Record}
+
+-- the events of a record, in order of their stamps, lead from the loaded cluster to one in which these ranks are in a
+-- deadlock: no run of the machine from there lets any of them go on. They are the most that are stuck together
+pub record IsDeadEnd (image : ImageParts) (left : Record) (ranks : List ℕ) : Type 0 where
+  pub steps : List Step
+  pub sorted : IsMerge (steps_in left) steps
+  pub final : Cluster
+  pub run : IsRun (loaded_cluster image) steps final
+  pub found : IsFound ranks final
+
+-- each rank that stopped for another cause than that all its harts are stopped is among these
+abbrev pub HasAll : List ℕ → List Stop → Type 0
+HasAll ranks stops =
+    (r : ℕ) (stop : Stop) → slice_get stops r ≡ Some stop → stop ≢ Stop.AllEnded → IsTrue (is_among ranks r)
+
+-- such ranks are in a deadlock, all of them
+pub record IsStuckAt (image : ImageParts) (left : Record) : Type 0 where
+  pub ranks : List ℕ
+  pub dead_end : IsDeadEnd image left ranks
+  pub all : HasAll ranks left.stops.items

@@ -1,0 +1,74 @@
+//! Whether a run ended in a deadlock.
+
+ghost use Rattle.std.specs.Prelude.{◌≡◌, ◌≤◌, IfOk, IfSome, length, true};
+ghost use Rattle.cl_deadlock_laws.specs.Stuck.{is_among as is_among_of};
+ghost use Rattle.cl_ending.specs.DeadEnds.{HasAll, IsDeadEnd, IsStuckAt};
+ghost use Rattle.cl_rank.specs.declared.stops.Stop.TheVariants as stops;
+ghost use Rattle.cl_record.specs.Records.{IsMergedRun};
+
+use cl_deadlock::deadlock;
+use cl_merge::merge;
+use cl_rank::Stop;
+use cl_record::Record;
+use cl_replay::{ReplayFault, replay};
+use rv_image::Image;
+use std::alloc::{AllocError, Global};
+
+/// Whether the rank is one of these.
+fn is_among(among: &[u8], rank: usize) -> bool
+    ensures { result ≡ is_among_of among.now rank }
+{
+    among.iter().any(|other| usize::from(*other) == rank)
+}
+
+/// Whether all harts of a rank that stopped so are stopped.
+fn is_ended(stop: Stop) -> bool
+    ensures { result ≡ true → stop ≡ stops.AllEnded }
+{
+    matches!(stop, Stop::AllEnded)
+}
+
+/// Whether each rank that didn't stop because all its harts are stopped is one of these.
+fn has_all(among: &[u8], stops: &[Stop]) -> bool
+    ensures { result ≡ true → HasAll among.now stops.now }
+{
+    for rank in 0..stops.len() {
+        if !is_ended(stops[rank]) && !is_among(among, rank) {
+            return false;
+        }
+    }
+    true
+}
+
+/// The ranks of the deadlock to which the steps of a record lead, if they lead to one. The only error is want of memory.
+fn dead_end(
+    alloc: Global,
+    image: &Image,
+    left: &Record,
+) -> Result<Option<Vec<u8>>, AllocError>
+    requires merged { IsMergedRun image.now left.now }
+    requires few { length left.now.traces.items ≤ 256 }
+    ensures { IfOk result (λ found. IfSome found (λ ranks. IsDeadEnd image.now left.now ranks.items)) }
+{
+    // whoever asks for the parts knows that they are an image's
+    let _parts = image.parts();
+    let steps = merge(alloc, left)?;
+    match replay(alloc, image, steps.as_slice(), steps.len() as u64) {
+        Ok(state) => deadlock(alloc, &state),
+        Err(ReplayFault::Memory) => Err(AllocError),
+        Err(ReplayFault::PastEnd(_)) => unreachable!(),
+        Err(ReplayFault::Step(_)) => unreachable!(),
+    }
+}
+
+/// Whether all ranks of a record that have a hart that isn't stopped are in a deadlock. The only error is want of memory.
+pub(crate) fn is_stuck(alloc: Global, image: &Image, left: &Record) -> Result<bool, AllocError>
+    requires merged { IsMergedRun image.now left.now }
+    requires few { length left.now.traces.items ≤ 256 }
+    ensures { IfOk result (λ stuck. stuck ≡ true → IsStuckAt image.now left.now) }
+{
+    match dead_end(alloc, image, left)? {
+        None => Ok(false),
+        Some(ranks) => Ok(has_all(ranks.as_slice(), left.stops.as_slice())),
+    }
+}
