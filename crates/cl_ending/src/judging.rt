@@ -41,11 +41,7 @@ fn has_all(among: &[u8], stops: &[Stop]) -> bool
 }
 
 /// The ranks of the deadlock to which the steps of a record lead, if they lead to one. The only error is want of memory.
-fn dead_end(
-    alloc: Global,
-    image: &Image,
-    left: &Record,
-) -> Result<Option<Vec<u8>>, AllocError>
+fn dead_end(alloc: Global, image: &Image, left: &Record) -> Result<Option<Vec<u8>>, AllocError>
     requires merged { IsMergedRun image.now left.now }
     requires few { length left.now.traces.items ≤ 256 }
     ensures { IfOk result (λ found. IfSome found (λ ranks. IsDeadEnd image.now left.now ranks.items)) }

@@ -1,7 +1,7 @@
 -- Seats that are told to stop where they haven't, and the plans that they stop by.
 use Rattle.std.specs.Prelude.{ℕ, ◌≡◌, ◌≤◌, Bool, true, false, List, [], ◌∷◌, length, map, slice_get, IfSome}
 use Rattle.std.specs.Prelude.{Option, None, Some, if◌then◌else◌}
-use Rattle.std.proofs.Common.{zero, suc, refl, sym, ap, ◌∙◌, subst, arith}
+use Rattle.std.proofs.Common.{suc, refl, sym, ap, ◌∙◌, subst, arith}
 use Rattle.std.proofs.lemmas.Bool.{false≢true}
 use Rattle.std.proofs.lemmas.List.{length-map}
 use Rattle.std.proofs.lemmas.Option.{same_Some, slice_get_within}
@@ -154,7 +154,10 @@ module _ (image : ImageParts) (plans : List Plan) (order : List ℕ) (driver : D
               (slice_get w.boxes (box_number link part))) (sym to.2) old.4),
         );
     run = subst (λ rs. IsRun (loaded_cluster image) w.steps (record {
-              ranks = rs; journal = shown driver.hub; boxes = w.boxes }))
+      ranks = rs;
+      journal = shown driver.hub;
+      boxes = w.boxes;
+    }))
         (map-map (λ (s : Station). s.rank) station driver.seats.items
         ∙ sym (map-map (λ (s : Station). s.rank) closed driver.seats.items)) w.run;
     none_idles = w.none_idles;

@@ -1,4 +1,3 @@
-use Rattle.std.proofs.Common.{◌<◌}
 use Rattle.cl_run.proofs.Going.{from_start, more_rounds, one_round}
 use Rattle.cl_run.proofs.driver.Driver.run_until_quiet.Goals as goal
 
