@@ -1,5 +1,5 @@
 -- The commands, one row each: its name, what clap reads for it, and what it asks for.
-use Rattle.std.specs.Prelude.{ℕ, false, List, [], ◌∷◌, ◌++◌, Option, Some, None, if◌then◌else◌, codes, map, not, option_map}
+use Rattle.std.specs.Prelude.{ℕ, Bool, false, true, List, [], ◌∷◌, ◌++◌, Option, Some, None, if◌then◌else◌, codes, map, not, option_map}
 use Rattle.std.specs.Prelude.{option_and_then}
 use Rattle.std.specs.Str.{bytes_eq}
 use Rattle.clap.specs.Words.{App, Row, Rule, Text, all_of, new_app}
@@ -8,7 +8,8 @@ use Rattle.rvmc_cli.specs.Options.{flag_in, list_option, number_option, optional
 use Rattle.rvmc_line.specs.Debug.{debug_words_in}
 use Rattle.rvmc_line.specs.declared.line.CommandLine.{CommandLine}
 use Rattle.rvmc_line.specs.declared.line.CommandLine.TheVariants.{OfImage, OfRecord}
-use Rattle.rvmc_line.specs.declared.line.ImageCommand.TheVariants.{Asm, Dis, One, Run}
+use Rattle.rvmc_line.specs.declared.line.ImageCommand.{ImageCommand}
+use Rattle.rvmc_line.specs.declared.line.ImageCommand.TheVariants.{Asm, Dis, One, OneUntilStuck, Run}
 use Rattle.rvmc_line.specs.declared.line.RecordCommand.TheVariants.{Check, Debug, List as ListSteps, Report, Stats}
 use Rattle.rvmc_line.specs.declared.line.RecordCommand.TheVariants.{Why}
 use Rattle.rvmc_line.specs.declared.line.RecordCommand.{RecordCommand}
@@ -74,15 +75,20 @@ run_row =
           (list_option (codes "plan") rows)) (written_in rows)) (lead_in rows)) (budget_in rows);
     }
 
--- `one [--source] [--budget N] [--plan HARTS] [--record] [--why] [--order RANKS]`
+-- a run on one thread, to the end of its plans or `until_stuck`
+abbrev pub one_by : Bool → ℕ → Option (List ℕ) → Option (List ℕ) → Written → ImageCommand
+one_by false budget plan order written = One budget plan order written
+one_by true budget plan order written = OneUntilStuck budget plan order written
+
+-- `one [--source] [--budget N] [--plan HARTS] [--record] [--why] [--order RANKS] [--until-stuck]`
 abbrev pub one_row : CommandRow
 one_row =
     record {
       name = codes "one";
-      rules = runner_rules ++ option (codes "order") ∷ [];
+      rules = runner_rules ++ option (codes "order") ∷ flag (codes "until-stuck") ∷ [];
       meaning = λ rows.
           option_and_then (λ budget. option_and_then (λ written. option_and_then (λ plan. option_map (λ order.
-          OfImage (flag_in (codes "source") rows) (One budget plan order written))
+          OfImage (flag_in (codes "source") rows) (one_by (flag_in (codes "until-stuck") rows) budget plan order written))
           (list_option (codes "order") rows)) (list_option (codes "plan") rows)) (written_in rows)) (budget_in rows);
     }
 

@@ -1,18 +1,18 @@
-//! `one [--source] [--budget N] [--plan HARTS] [--record] [--why] [--order RANKS]`.
+//! `one [--source] [--budget N] [--plan HARTS] [--record] [--why] [--order RANKS] [--until-stuck]`.
 
-ghost use Rattle.std.specs.Prelude.{IfOk};
+ghost use Rattle.std.specs.Prelude.{◌≡◌, IfOk};
 ghost use Rattle.clap.specs.Walk.{rows_of};
 ghost use Rattle.clap.specs.Words.{found_of};
 ghost use Rattle.rvmc_cli.specs.Built.{StandsFor};
-ghost use Rattle.rvmc_cli.specs.Commands.{app_of, one_row};
+ghost use Rattle.rvmc_cli.specs.Commands.{app_of, one_by, one_row};
 ghost use Rattle.rvmc_cli.specs.Parsing.{Finds};
 
-use crate::parts::option;
+use crate::parts::{flag, option};
 use crate::runner::{budget, runner, written};
 use crate::values::{self, list};
 use crate::wrong::Wrong;
 use clap::{ArgMatches, Command};
-use rvmc_line::{CommandLine, ImageCommand};
+use rvmc_line::{CommandLine, ImageCommand, Numbers, Written};
 use std::alloc::{AllocError, Global};
 
 /// What help says below its options.
@@ -29,12 +29,15 @@ in its place: the image, and each step in order. `rvmc check` reads it. With
 --why it is told behind the report what each hart waits for, as `rvmc why` tells
 it.
 
+With --until-stuck the run ends once each rank that has a running or a waiting
+hart is in a deadlock, and the text of --why stands behind the report.
+
 At most 67,108,864 bytes are read.
 
 Status:
   0 done, 1 fault of the source, the image, the plan or the order,
   2 fault of the command line, 3 a hart trapped,
-  4 a rank stopped by its budget, a full clock or too many calls,
+  4 a rank stopped by its budget, a full clock or too many calls, or is stuck,
   5 out of memory, 6 a read or write failed, or the input is too long
 
 Examples:
@@ -43,7 +46,8 @@ Examples:
   rvmc one --order 1,0 <hi.image       rank 1 takes the first turn
   rvmc one --plan 0,0,1 <hi.image      hart 0 takes two turns, then hart 1 one
   rvmc one --record <hi.image >hi.record
-  rvmc one --why <hi.image             a deadlock is told behind the report";
+  rvmc one --why <hi.image             a deadlock is told behind the report
+  rvmc one --until-stuck <hi.image     and at once";
 
 /// The command as clap builds it.
 pub fn command<'a>(alloc: Global) -> Result<Command<'a>, AllocError>
@@ -60,7 +64,39 @@ pub fn command<'a>(alloc: Global) -> Result<Command<'a>, AllocError>
         "order",
         "RANKS",
         "The ranks that take turns, as 0,1 [default: all in order]",
+    ))?
+    .arg(flag(
+        alloc,
+        "until-stuck",
+        "Ends the run at a deadlock, and tells of it",
     ))
+}
+
+/// A run on one thread, to the end of its plans or `until_stuck`.
+fn one_by(
+    until_stuck: bool,
+    budget: u64,
+    plan: Option<Numbers>,
+    order: Option<Numbers>,
+    written: Written,
+) -> ImageCommand
+    ensures { result ≡ one_by until_stuck budget plan order written }
+{
+    if until_stuck {
+        ImageCommand::OneUntilStuck {
+            budget,
+            plan,
+            order,
+            written,
+        }
+    } else {
+        ImageCommand::One {
+            budget,
+            plan,
+            order,
+            written,
+        }
+    }
 }
 
 /// What it asks for, of what clap found.
@@ -73,11 +109,12 @@ pub fn line<'a>(alloc: Global, matches: &ArgMatches<'a>) -> Result<CommandLine, 
     let order = list(alloc, matches, "order")?;
     Ok(CommandLine::OfImage {
         source: values::flag(matches, "source"),
-        command: ImageCommand::One {
+        command: one_by(
+            values::flag(matches, "until-stuck"),
             budget,
             plan,
             order,
             written,
-        },
+        ),
     })
 }

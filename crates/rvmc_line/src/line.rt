@@ -57,6 +57,14 @@ pub enum ImageCommand {
         order: Option<Numbers>,
         written: Written,
     },
+    /// The same, but that the run ends once each rank that has a running or a waiting hart is in a deadlock. Then what
+    /// each hart waits for is written behind the report, also where `written` doesn't ask for it.
+    OneUntilStuck {
+        budget: u64,
+        plan: Option<Numbers>,
+        order: Option<Numbers>,
+        written: Written,
+    },
 }
 
 /// What is done with the image and the steps of a record.

@@ -1,4 +1,5 @@
 pub mod Report
+pub mod Stuck
 pub mod WholeRecord
 pub mod Listing
 pub mod Laws

@@ -8,4 +8,5 @@ pub mod laws;
 pub mod listing;
 pub mod recorded;
 pub mod report;
+pub mod stuck;
 pub mod verdicts;

@@ -63,7 +63,7 @@ fn stop_name(stop: Option<Stop>) -> &'static str
 }
 
 /// The line of a rank's stop.
-fn stop_text(
+pub(crate) fn stop_text(
     alloc: Global,
     rank: usize,
     stop: Option<Stop>,
@@ -92,7 +92,7 @@ pub fn put_output(
 }
 
 /// Adds the lines of a rank's harts.
-fn put_harts(
+pub(crate) fn put_harts(
     alloc: Global,
     report: &mut Vec<u8>,
     rank: usize,

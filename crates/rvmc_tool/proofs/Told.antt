@@ -9,7 +9,7 @@ use Rattle.rv_image.specs.declared.images.ImageParts.{ImageParts}
 use Rattle.rvmc_line.specs.declared.line.CommandLine.{CommandLine}
 use Rattle.rvmc_line.specs.declared.line.CommandLine.TheVariants.{OfImage, OfRecord}
 use Rattle.rvmc_line.specs.declared.line.ImageCommand.{ImageCommand}
-use Rattle.rvmc_line.specs.declared.line.ImageCommand.TheVariants.{One, Run}
+use Rattle.rvmc_line.specs.declared.line.ImageCommand.TheVariants.{One, OneUntilStuck, Run}
 use Rattle.rvmc_line.specs.declared.line.RecordCommand.{RecordCommand}
 use Rattle.rvmc_report.specs.Faults.{fault_status}
 use Rattle.rvmc_report.specs.declared.faults.Fault.{Fault}
@@ -30,6 +30,8 @@ misplanned : (command : ImageCommand) (image : ImageParts) → IsMisplanned comm
 misplanned (Run budget plan lead written) image (plans, of, wrong) =
     (plans, of, record { told = λ right. absurd (wrong right); refused = λ _. (refl, refl) })
 misplanned (One budget plan order written) image (plans, of, wrong) =
+    (plans, of, record { told = λ right. absurd (wrong right); refused = λ _. (refl, refl) })
+misplanned (OneUntilStuck budget plan order written) image (plans, of, wrong) =
     (plans, of, record { told = λ right. absurd (wrong right); refused = λ _. (refl, refl) })
 misplanned other image wrong = absurd wrong
 

@@ -1,11 +1,13 @@
 -- What each command answers: the text on standard output, and the status.
-use Rattle.std.specs.Prelude.{◌≡◌, ◌++◌, ℕ, Bool, true, false, List, length, MatchResult, Option}
+use Rattle.std.specs.Prelude.{◌≡◌, ◌⊎◌, ◌++◌, ℕ, Bool, true, false, List, length, MatchResult, Option}
+use Rattle.cl_ending.specs.DeadEnds.{IsStuckAt}
 use Rattle.cl_machine.specs.Merge.{IsMerge}
 use Rattle.cl_machine.specs.declared.steps.Step.{Step}
 use Rattle.cl_record.specs.Plans.{ArePlans, HasPlans}
 use Rattle.cl_record.specs.Records.{IsMergedRun, steps_in}
 use Rattle.cl_record.specs.declared.plans.Plan.{Plan}
 use Rattle.cl_record.specs.declared.records.Record.{Record}
+use Rattle.cl_run.specs.Cuts.{IsEndedRun}
 use Rattle.cl_run.specs.Runs.{IsOneRun}
 use Rattle.cl_text.specs.Text.{record_text}
 use Rattle.cl_text.specs.Whole.{IsRecord}
@@ -16,11 +18,12 @@ use Rattle.rv_image.specs.declared.images.ImageParts.{ImageParts}
 use Rattle.rvmc_line.specs.declared.line.CommandLine.{CommandLine}
 use Rattle.rvmc_line.specs.declared.line.CommandLine.TheVariants.{OfImage, OfRecord}
 use Rattle.rvmc_line.specs.declared.line.ImageCommand.{ImageCommand}
-use Rattle.rvmc_line.specs.declared.line.ImageCommand.TheVariants.{Asm, Dis, One, Run}
+use Rattle.rvmc_line.specs.declared.line.ImageCommand.TheVariants.{Asm, Dis, One, OneUntilStuck, Run}
 use Rattle.rvmc_line.specs.declared.line.Written.{Written}
 use Rattle.rvmc_line.specs.declared.line.Written.TheVariants as written
 use Rattle.rvmc_report.specs.Listing.{listing}
 use Rattle.rvmc_report.specs.Report.{rank_ends, report, status_of}
+use Rattle.rvmc_report.specs.Stuck.{stuck_report}
 use Rattle.rvmc_tool.specs.Ends.{IsDone, IsFaulty}
 use Rattle.rvmc_tool.specs.Images.{image_in}
 use Rattle.rvmc_tool.specs.Plans.{ArePlansOf, listed}
@@ -98,6 +101,43 @@ IsOne image budget harts ranks written text status =
     let order = listed ranks image.ranks in
     IsRunBy (ArePlans image plans order) (IsLeftByOne image plans order) (IsTextOf written image) text status)
 
+-- ---- a run that ends at a deadlock
+
+-- what ranks leave that ran on one thread until each that has a running or a waiting hart was in a deadlock
+pub record IsLeftStuck (image : ImageParts) (plans : List Plan) (order : List ℕ) (left : Record) : Type 0 where
+  pub turns : IsEndedRun image plans order left
+  pub merged : IsMergedRun image left
+  pub stuck : IsStuckAt image left
+
+-- the report of a record that ends in a deadlock, where a rank that was told to stop is stuck, and what its harts wait for
+pub record IsStuckReport (image : ImageParts) (budget : ℕ) (left : Record) (text : List ℕ) : Type 0 where
+  pub why : List ℕ
+  pub told : IsWhyOf image left why
+  pub spelled : text ≡ stuck_report budget (rank_ends left) ++ why
+
+-- or with `--record` the text of the record, as of any run
+abbrev pub IsStuckTextOf : Written → ImageParts → ℕ → Record → List ℕ → Type 0
+IsStuckTextOf written.Record image budget left text = IsRecordOf image left text
+IsStuckTextOf other image budget left text = IsStuckReport image budget left text
+
+-- the run came to the end of its plans, or to a deadlock
+abbrev pub IsToldOfEither : ImageParts → ℕ → List Plan → List ℕ → Written → List ℕ → ℕ → Type 0
+IsToldOfEither image budget plans order written text status =
+    IsTold (IsLeftByOne image plans order) (IsTextOf written image) text status
+    ⊎ IsTold (IsLeftStuck image plans order) (IsStuckTextOf written image budget) text status
+
+-- a run, if its plans are right: else there is a fault
+pub record IsRunUntilStuck (image : ImageParts) (budget : ℕ) (plans : List Plan) (order : List ℕ) (written : Written)
+    (text : List ℕ) (status : ℕ) : Type 0 where
+  pub told : ArePlans image plans order → IsToldOfEither image budget plans order written text status
+  pub refused : ¬ ArePlans image plans order → IsFaulty text status
+
+-- `one --until-stuck`
+abbrev pub IsOneUntilStuck : ImageParts → ℕ → Option (List ℕ) → Option (List ℕ) → Written → List ℕ → ℕ → Type 0
+IsOneUntilStuck image budget harts ranks written text status =
+    ByPlans image budget harts (λ plans.
+    IsRunUntilStuck image budget plans (listed ranks image.ranks) written text status)
+
 -- ---- the commands
 
 -- one case a command, of the image that it takes
@@ -107,6 +147,8 @@ Makes (Asm true) image text status = IsDone (image_text (in_version_two image)) 
 Makes Dis image text status = IsDone (listing image) text status
 Makes (Run budget plan lead written) image text status = IsRunAnswer image budget plan written text status
 Makes (One budget plan order written) image text status = IsOne image budget plan order written text status
+Makes (OneUntilStuck budget plan order written) image text status =
+    IsOneUntilStuck image budget plan order written text status
 
 -- what a command says that takes an image from the bytes, or with `source` a source
 abbrev pub SaysOfImage : Bool → ImageCommand → List ℕ → List ℕ → ℕ → Type 0

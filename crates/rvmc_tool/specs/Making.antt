@@ -11,7 +11,7 @@ use Rattle.rv_image.specs.declared.images.ImageParts.{ImageParts}
 use Rattle.rvmc_line.specs.declared.line.CommandLine.{CommandLine}
 use Rattle.rvmc_line.specs.declared.line.CommandLine.TheVariants.{OfImage, OfRecord}
 use Rattle.rvmc_line.specs.declared.line.ImageCommand.{ImageCommand}
-use Rattle.rvmc_line.specs.declared.line.ImageCommand.TheVariants.{One, Run}
+use Rattle.rvmc_line.specs.declared.line.ImageCommand.TheVariants.{One, OneUntilStuck, Run}
 use Rattle.rvmc_line.specs.declared.line.RecordCommand.{RecordCommand}
 use Rattle.rvmc_report.specs.WholeRecord.{HasEachRank}
 use Rattle.rvmc_report.specs.declared.faults.Fault.{Fault}
@@ -58,6 +58,8 @@ abbrev pub IsMisplanned : ImageCommand → ImageParts → Type 0
 IsMisplanned (Run budget plan lead written) image =
     ByPlans image budget plan (λ plans. ¬ (HasPlans image plans))
 IsMisplanned (One budget plan order written) image =
+    ByPlans image budget plan (λ plans. ¬ (ArePlans image plans (listed order image.ranks)))
+IsMisplanned (OneUntilStuck budget plan order written) image =
     ByPlans image budget plan (λ plans. ¬ (ArePlans image plans (listed order image.ranks)))
 IsMisplanned other image = ⊥
 

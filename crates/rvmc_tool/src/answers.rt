@@ -13,6 +13,7 @@ use crate::images::image_in;
 use crate::outputs::Output;
 use crate::records::answer_of_record;
 use crate::runs::{one, run};
+use crate::stuck::one_until_stuck;
 use rv_image::{Image, write_image};
 use rvmc_line::{CommandLine, ImageCommand};
 use rvmc_report::faults::Fault;
@@ -88,6 +89,12 @@ fn made(alloc: Global, command: &ImageCommand, image: Image) -> Result<Answer, F
             order,
             written,
         } => one(alloc, &image, *budget, plan, order, *written),
+        ImageCommand::OneUntilStuck {
+            budget,
+            plan,
+            order,
+            written,
+        } => one_until_stuck(alloc, &image, *budget, plan, order, *written),
         ImageCommand::Run { .. } => unreachable!(),
     }
 }

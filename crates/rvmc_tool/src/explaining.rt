@@ -74,7 +74,7 @@ pub(crate) fn explained(
 
 /// What the harts wait for where a record ends. The record is dropped as soon as its steps are copied, so that only one
 /// of the two stands in memory while they are done again.
-fn why_of(alloc: Global, image: &Image, left: Record) -> Result<Vec<u8>, AllocError>
+pub(crate) fn why_of(alloc: Global, image: &Image, left: Record) -> Result<Vec<u8>, AllocError>
     requires { IsLeft image.now left }
     ensures { IfOk result (λ text. IsWhyOf image.now left text.items) }
 {

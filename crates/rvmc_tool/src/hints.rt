@@ -83,7 +83,7 @@ fn plans<'a>(alloc: Global, line: &CommandLine, bytes: &[u8]) -> Option<Hint<'a>
     let parts = image.parts();
     match command {
         ImageCommand::Run { plan, .. } => plans_hint(parts.ranks, parts.harts, numbers(plan), None),
-        ImageCommand::One { plan, order, .. } => {
+        ImageCommand::One { plan, order, .. } | ImageCommand::OneUntilStuck { plan, order, .. } => {
             plans_hint(parts.ranks, parts.harts, numbers(plan), numbers(order))
         }
         _ => None,

@@ -14,5 +14,6 @@ mod program;
 mod records;
 mod reporting;
 mod runs;
+mod stuck;
 
 pub use program::{tool, tool_plain};

@@ -13,7 +13,7 @@ use Rattle.cl_text.proofs.ReadAgain.{read_again}
 use Rattle.cl_text.specs.Reading.{reading_record}
 use Rattle.cl_text.specs.declared.faults.RecordFault.{RecordFault}
 use Rattle.rv_image.specs.declared.images.ImageParts.{ImageParts}
-use Rattle.rvmc_tool.specs.Answers.{IsOne, IsRecordOf, IsRunAnswer, IsRunBy, IsTextOf}
+use Rattle.rvmc_tool.specs.Answers.{IsOne, IsOneUntilStuck, IsRecordOf, IsRunAnswer, IsRunBy, IsTextOf}
 use Rattle.rvmc_tool.specs.Ends.{IsDone, IsFaulty, end_status}
 use Rattle.rvmc_tool.specs.Images.{image_in}
 use Rattle.rvmc_tool.specs.Records.{IsChecked, SaysOfRecord, SaysOfSteps}
@@ -21,7 +21,7 @@ use Rattle.rvmc_tool.specs.declared.answers.End.{End}
 use Rattle.rvmc_tool_laws.specs.Answers.{RecordedIsGoodLaw}
 use Rattle.rvmc_tool.proofs.Reading.{ok≢err}
 use Rattle.rvmc_line.specs.declared.line.CommandLine.TheVariants.{OfImage}
-use Rattle.rvmc_line.specs.declared.line.ImageCommand.TheVariants.{One, Run}
+use Rattle.rvmc_line.specs.declared.line.ImageCommand.TheVariants.{One, OneUntilStuck, Run}
 use Rattle.rvmc_line.specs.declared.line.RecordCommand.TheVariants.{Check}
 use Rattle.rvmc_line.specs.declared.line.Written.TheVariants as written
 use Rattle.rvmc_report.specs.Verdicts.{verdict_status, verdict_text}
@@ -114,9 +114,23 @@ one_text (Ok image) budget harts ranks text status some (plans, of, by) =
     told_by _ _ image text status (λ left is. is.merged) some by
 one_text (Err fault) budget harts ranks text status some faulty = λ none. some faulty.0
 
+until_text : (meant : Result ImageParts Fault) (budget : ℕ) (harts ranks : Option (List ℕ)) (text : List ℕ) (status : ℕ)
+    → text ≢ []
+    → MatchResult meant (λ image. IsOneUntilStuck image budget harts ranks written.Record text status)
+    (λ _. IsFaulty text status)
+    → ¬ (¬ (IsMergedText text))
+until_text (Ok image) budget harts ranks text status some (plans, of, by) none =
+    some (by.refused (λ right. elim (by.told right) [
+      | inl told ↦ none (record { image = image; left = told.left; merged = told.run.merged; spells = told.told })
+      | inr told ↦ none (record { image = image; left = told.left; merged = told.run.merged; spells = told.told })
+    ])).0
+until_text (Err fault) budget harts ranks text status some faulty = λ none. some faulty.0
+
 pub recorded_is_good : RecordedIsGoodLaw
 recorded_is_good (OfImage source (Run budget plan lead written.Record)) bytes text told status ended asked says some checked =
     good_text text told ended (run_text (image_in source bytes) budget plan text status some says) checked
 recorded_is_good (OfImage source (One budget plan order written.Record)) bytes text told status ended asked says some checked =
     good_text text told ended (one_text (image_in source bytes) budget plan order text status some says) checked
+recorded_is_good (OfImage source (OneUntilStuck budget plan order written.Record)) bytes text told status ended asked says some checked =
+    good_text text told ended (until_text (image_in source bytes) budget plan order text status some says) checked
 recorded_is_good other bytes text told status ended asked says some checked = absurd (true≢false (sym asked))

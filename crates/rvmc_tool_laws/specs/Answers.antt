@@ -15,7 +15,7 @@ use Rattle.rvmc_tool.specs.Records.{IsWhyAt}
 use Rattle.rvmc_tool.specs.Plans.{ArePlansOf, listed}
 use Rattle.rvmc_line.specs.declared.line.CommandLine.{CommandLine}
 use Rattle.rvmc_line.specs.declared.line.CommandLine.TheVariants.{OfImage, OfRecord}
-use Rattle.rvmc_line.specs.declared.line.ImageCommand.TheVariants.{One, Run}
+use Rattle.rvmc_line.specs.declared.line.ImageCommand.TheVariants.{One, OneUntilStuck, Run}
 use Rattle.rvmc_line.specs.declared.line.RecordCommand.TheVariants.{Check}
 use Rattle.rvmc_line.specs.declared.line.Written.{Written}
 use Rattle.rvmc_line.specs.declared.line.Written.TheVariants as written
@@ -52,6 +52,7 @@ is_record other = false
 abbrev pub is_recorded : CommandLine → Bool
 is_recorded (OfImage source (Run budget plan lead written)) = is_record written
 is_recorded (OfImage source (One budget plan order written)) = is_record written
+is_recorded (OfImage source (OneUntilStuck budget plan order written)) = is_record written
 is_recorded other = false
 
 -- what `run` or `one` leaves with `--record`, if it leaves anything, is good by `check`, and nothing else: it is no

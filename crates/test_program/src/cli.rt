@@ -4,7 +4,7 @@ ghost use Rattle.std.specs.Prelude.{◌≡◌, [], ◌∷◌, IfErr, IfOk, IsErr
 ghost use Rattle.clap.specs.declared.error.kind.ErrorKind.TheVariants.{DisplayVersion};
 ghost use Rattle.rvmc_cli.specs.Meaning.{IsParseFault};
 ghost use Rattle.rvmc_line.specs.declared.line.CommandLine.TheVariants.{OfImage, OfRecord};
-ghost use Rattle.rvmc_line.specs.declared.line.ImageCommand.TheVariants.{Asm, Dis, One, Run};
+ghost use Rattle.rvmc_line.specs.declared.line.ImageCommand.TheVariants.{Asm, Dis, One, OneUntilStuck, Run};
 ghost use Rattle.rvmc_line.specs.declared.line.RecordCommand.TheVariants.{Check, Report, Why};
 ghost use Rattle.rvmc_line.specs.declared.line.ParseFault.TheVariants as faults;
 ghost use Rattle.rvmc_line.specs.declared.line.Written.TheVariants as written;
@@ -237,6 +237,17 @@ pub fn record_of_a_source(alloc: Global) -> Result<CommandLine, ParseFault>
     ensures { IfOk result (λ line. line ≡ OfImage true (One 1000000 None None written.Record)) }
 {
     parse(alloc, &["one", "--record", "--source"])
+}
+
+/// A run on one thread may end at a deadlock.
+#[tactic(auto, unfolding(rvmc_cli::specs::Meaning::faults_in, rvmc_cli::specs::Meaning::command_in, rvmc_cli::specs::Commands::line_in, clap::proofs::OnLiterals::clap_on_literals))]
+pub fn one_until_stuck(alloc: Global) -> Result<CommandLine, ParseFault>
+    ensures { IfOk result (λ line. line ≡ OfImage true (OneUntilStuck 5 None None written.Report)) }
+{
+    parse(
+        alloc,
+        &["one", "--source", "--until-stuck", "--budget", "5"],
+    )
 }
 
 /// `report` tells of a record.
