@@ -3,13 +3,18 @@ use Rattle.std.specs.Prelude.{ℕ, false, [], ◌∷◌, Option, Some, None}
 use Rattle.mp_types.specs.declared.messages.Envelope.{Envelope}
 use Rattle.mp_match.specs.declared.posts.Sent.{Sent}
 use Rattle.mp_match.specs.declared.posts.Selection.{Selection}
-use Rattle.mp_match.specs.Board.{Board, no_posts, send_posted, receive_posted, claim_posted, without}
+use Rattle.mp_match.specs.Board.{Board, no_posts, send_posted, receive_posted}
 
 abbrev pub envelope : ℕ → Envelope
 envelope tag = record { comm = 0; source = 0; tag = tag; count = 1 }
 
 abbrev pub sending : ℕ → Sent
 sending tag = record { sync = false; dest = 1; envelope = envelope tag }
+
+-- the same in another communicator
+abbrev pub sending_in : ℕ → ℕ → Sent
+sending_in comm tag =
+    record { sync = false; dest = 1; envelope = record { comm = comm; source = 0; tag = tag; count = 1 } }
 
 abbrev pub asked : Option ℕ → Selection
 asked tag = record { rank = 1; comm = 0; source = Some 0; tag = tag }
@@ -22,14 +27,10 @@ two_sent = send_posted (send_posted no_posts (sending 9) (1 ∷ [])) (sending 3)
 abbrev pub two_receives : Board
 two_receives = receive_posted (receive_posted no_posts (asked None)) (asked (Some 3))
 
--- post 3 is a send that both accept
-abbrev pub served : Board
-served = send_posted two_receives (sending 3) (2 ∷ [])
+-- a receive of any source and any tag waits
+abbrev pub receive_of_any : Board
+receive_of_any = receive_posted no_posts (record { rank = 1; comm = 0; source = None; tag = None })
 
--- post 3 claims the first send
-abbrev pub one_claimed : Board
-one_claimed = claim_posted two_sent (asked None)
-
--- post 3 received the first send, and was collected
-abbrev pub one_collected : Board
-one_collected = without (receive_posted two_sent (asked None)) 0
+-- post 3 received the first send, and wasn't collected yet
+abbrev pub one_received : Board
+one_received = receive_posted two_sent (asked None)

@@ -1,10 +1,12 @@
 //! What is matched on boards of two posts or three, which `specs/Boards.antt` writes down.
 
-ghost use Rattle.std.specs.Prelude.{◌≡◌, false, true, None, Some, IfOk};
-ghost use Rattle.test_match.specs.Boards.{envelope, one_claimed, one_collected, sending, served, two_receives, two_sent};
+ghost use Rattle.std.specs.Prelude.{◌≡◌, ◌∷◌, [], false, true, None, Some, IfOk};
+ghost use Rattle.mp_match.specs.Board.{held_count, no_posts};
+ghost use Rattle.test_match.specs.Boards.{envelope, one_received, receive_of_any, sending, sending_in, two_receives, two_sent};
 
 use mp_match::{PostFault, Queues, Selection, Sent};
 use mp_types::{Bytes, Envelope, Message};
+use std::alloc::{AllocError, Global};
 
 // Rank 1 takes any tag of rank 0.
 const ANY_TAG: Selection = Selection {
@@ -35,29 +37,69 @@ pub fn other_communicator_is_not_found(queues: &Queues) -> Option<Envelope>
     })
 }
 
+/// A message that was sent in another communicator isn't found, though its source and tag are asked for.
+pub fn message_of_another_communicator_is_not_found(
+    queues: &mut Queues,
+    sent: Sent,
+    bytes: Bytes,
+) -> Result<Option<Envelope>, PostFault>
+    requires board { queues.old ≡ no_posts }
+    requires sent { sent ≡ sending_in 1 3 }
+    ensures { IfOk result (λ found. found ≡ None) }
+{
+    queues.post_send(sent, bytes)?;
+    Ok(queues.probe(ANY_TAG))
+}
+
+/// A copy has the messages, the earlier before the later.
+pub fn copy_has_the_messages(alloc: Global, queues: &Queues) -> Result<Option<Envelope>, AllocError>
+    requires { queues.now ≡ two_sent }
+    ensures { IfOk result (λ found. found ≡ Some (envelope 9)) }
+{
+    let copy = queues.try_copy(alloc)?;
+    Ok(copy.probe(ANY_TAG))
+}
+
+/// A receive of any tag is given the earlier of two messages, and the later has no partner.
+pub fn earlier_message_is_received(queues: &mut Queues) -> Result<(bool, bool), AllocError>
+    requires { queues.old ≡ two_sent }
+    ensures { IfOk result (λ given. given ≡ (true, false)) }
+{
+    queues.post_recv(ANY_TAG)?;
+    Ok((queues.has_partner(1), queues.has_partner(2)))
+}
+
 /// Once the earlier is claimed, the later is found.
-pub fn claimed_message_is_not_found(queues: &Queues) -> Option<Envelope>
-    requires { queues.now ≡ one_claimed }
-    ensures { result ≡ Some (envelope 3) }
+pub fn claimed_message_is_not_found(queues: &mut Queues) -> Result<Option<Envelope>, AllocError>
+    requires { queues.old ≡ two_sent }
+    ensures { IfOk result (λ found. found ≡ Some (envelope 3)) }
 {
-    queues.probe(ANY_TAG)
+    queues.claim(ANY_TAG)?;
+    Ok(queues.probe(ANY_TAG))
 }
 
-/// What was collected isn't collected again.
-pub fn collected_message_is_gone(queues: &mut Queues) -> Option<Message>
-    requires { queues.old ≡ one_collected }
-    ensures message { result ≡ None }
-    ensures after { queues.new ≡ one_collected }
+/// A message is collected once, and isn't held any more: what is held is the other.
+pub fn message_is_collected_once(queues: &mut Queues) -> (Option<Message>, Option<Message>)
+    requires { queues.old ≡ one_received }
+    ensures messages { result ≡ (Some (record { envelope = envelope 9; bytes = 1 ∷ [] }), None) }
+    ensures held { held_count queues.new.bodies ≡ 1 }
 {
-    queues.collect(3)
+    let first = queues.collect(3);
+    (first, queues.collect(3))
 }
 
-/// The earlier receive, of any tag, has the message; the later one, of its own tag, has none.
-pub fn earlier_receive_is_served(queues: &Queues) -> (bool, bool)
-    requires { queues.now ≡ served }
-    ensures { result ≡ (true, false) }
+/// The earlier receive, of any tag, is given a message that both accept; the later one, of its own tag, is given none.
+pub fn earlier_receive_is_served(
+    queues: &mut Queues,
+    sent: Sent,
+    bytes: Bytes,
+) -> Result<(bool, bool), PostFault>
+    requires board { queues.old ≡ two_receives }
+    requires sent { sent ≡ sending 3 }
+    ensures { IfOk result (λ given. given ≡ (true, false)) }
 {
-    (queues.has_partner(1), queues.has_partner(2))
+    queues.post_send(sent, bytes)?;
+    Ok((queues.has_partner(1), queues.has_partner(2)))
 }
 
 /// A send compares both receives that wait for it.
@@ -65,6 +107,19 @@ pub fn two_are_compared(queues: &mut Queues, sent: Sent, bytes: Bytes) -> Result
     requires board { queues.old ≡ two_receives }
     requires sent { sent ≡ sending 3 }
     ensures { IfOk result (λ _. queues.new.compared ≡ 2) }
+{
+    queues.post_send(sent, bytes)
+}
+
+/// A receive of any source and any tag is compared too.
+pub fn receive_of_any_is_compared(
+    queues: &mut Queues,
+    sent: Sent,
+    bytes: Bytes,
+) -> Result<bool, PostFault>
+    requires board { queues.old ≡ receive_of_any }
+    requires sent { sent ≡ sending 3 }
+    ensures { IfOk result (λ _. queues.new.compared ≡ 1) }
 {
     queues.post_send(sent, bytes)
 }
