@@ -2,7 +2,7 @@
 
 use crate::drawing::{Arrow, Carried, Drawing, Spot};
 use crate::labels::{Places, wide};
-use crate::layout::{TOP, rank_at, row_of, spot_at};
+use crate::layout::{Layout, TOP, rank_at};
 use crate::marks::put_across;
 use std::io;
 use std::io::Write;
@@ -141,19 +141,18 @@ fn part_way(from: u64, to: u64, hundredths: u64) -> u64 {
 }
 
 /// Where an arrow begins and ends. Where one of its steps isn't shown it goes to the picture's border.
-fn line_of(drawing: &Drawing, rows: &[u64], foot: u64, arrow: &Arrow) -> Line {
-    let marks = drawing.marks.as_slice();
-    let from = spot_at(drawing, arrow.from);
-    let from_row = row_of(marks, rows, arrow.from.place).unwrap_or(TOP);
+fn line_of(layout: &Layout<'_>, arrow: &Arrow) -> Line {
+    let from = layout.lane_of(arrow.from);
+    let from_row = layout.row_at(arrow.from.place).unwrap_or(TOP);
     match arrow.to {
         Some(to) => Line {
             from,
             from_row,
-            to: spot_at(drawing, to),
-            to_row: row_of(marks, rows, to.place).unwrap_or(foot),
+            to: layout.lane_of(to),
+            to_row: layout.row_at(to.place).unwrap_or(layout.foot),
         },
         None => {
-            let dest = rank_at(drawing, arrow.dest);
+            let dest = rank_at(layout.drawing, arrow.dest);
             Line {
                 from,
                 from_row,
@@ -186,14 +185,8 @@ fn put_border(text: &mut Vec<u8>, drawing: &Drawing, line: &Line, arrow: &Arrow)
 }
 
 /// Adds an arrow.
-fn put_arrow(
-    text: &mut Vec<u8>,
-    drawing: &Drawing,
-    rows: &[u64],
-    foot: u64,
-    arrow: &Arrow,
-) -> io::Result<()> {
-    let line = line_of(drawing, rows, foot, arrow);
+fn put_arrow(text: &mut Vec<u8>, layout: &Layout<'_>, arrow: &Arrow) -> io::Result<()> {
+    let line = line_of(layout, arrow);
     text.extend_from_slice(b"<g>")?;
     put_title(text, arrow)?;
     if line.from == line.to {
@@ -201,26 +194,21 @@ fn put_arrow(
     } else {
         put_straight(text, arrow, &line)?;
     }
-    put_border(text, drawing, &line, arrow)?;
+    put_border(text, layout.drawing, &line, arrow)?;
     text.extend_from_slice(b"</g>\n")?;
     Ok(())
 }
 
 /// Adds all arrows. Those that tell of what could have been lie below the others.
-pub(crate) fn put_arrows(
-    text: &mut Vec<u8>,
-    drawing: &Drawing,
-    rows: &[u64],
-    foot: u64,
-) -> io::Result<()> {
-    for arrow in drawing.arrows.as_slice() {
+pub(crate) fn put_arrows(text: &mut Vec<u8>, layout: &Layout<'_>) -> io::Result<()> {
+    for arrow in layout.drawing.arrows.as_slice() {
         if matches!(arrow.carried, Carried::Could { .. }) {
-            put_arrow(text, drawing, rows, foot, arrow)?;
+            put_arrow(text, layout, arrow)?;
         }
     }
-    for arrow in drawing.arrows.as_slice() {
+    for arrow in layout.drawing.arrows.as_slice() {
         if !matches!(arrow.carried, Carried::Could { .. }) {
-            put_arrow(text, drawing, rows, foot, arrow)?;
+            put_arrow(text, layout, arrow)?;
         }
     }
     Ok(())
@@ -305,13 +293,11 @@ fn put_lost(text: &mut Vec<u8>, places: &mut Places, line: &Line, arrow: &Arrow)
 pub(crate) fn put_losses(
     text: &mut Vec<u8>,
     places: &mut Places,
-    drawing: &Drawing,
-    rows: &[u64],
-    foot: u64,
+    layout: &Layout<'_>,
 ) -> io::Result<()> {
-    for arrow in drawing.arrows.as_slice() {
+    for arrow in layout.drawing.arrows.as_slice() {
         if arrow.to.is_none() && message_of(arrow).is_some() {
-            let line = line_of(drawing, rows, foot, arrow);
+            let line = line_of(layout, arrow);
             put_lost(text, places, &line, arrow)?;
         }
     }
@@ -322,16 +308,15 @@ pub(crate) fn put_losses(
 pub(crate) fn put_labels(
     text: &mut Vec<u8>,
     places: &mut Places,
-    drawing: &Drawing,
-    rows: &[u64],
-    foot: u64,
+    layout: &Layout<'_>,
 ) -> io::Result<()> {
-    if shared_kind(drawing.arrows.as_slice()).is_some() {
+    let arrows = layout.drawing.arrows.as_slice();
+    if shared_kind(arrows).is_some() {
         return Ok(());
     }
-    for arrow in drawing.arrows.as_slice() {
+    for arrow in arrows {
         if let Some(kind) = message_of(arrow) {
-            let line = line_of(drawing, rows, foot, arrow);
+            let line = line_of(layout, arrow);
             if line.from != line.to && arrow.to.is_some() {
                 put_label(text, places, &line, arrow.from.rank, kind)?;
             }

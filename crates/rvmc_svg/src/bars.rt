@@ -1,9 +1,9 @@
 //! Bars: looks in vain of a hart that follow one another.
 
-use crate::drawing::{Bar, Drawing};
+use crate::drawing::Bar;
 use crate::labels::Places;
-use crate::layout::{TOP, row_of, spot_at};
-use crate::marks::put_across;
+use crate::layout::{Layout, TOP};
+use crate::marks::{put_across, put_count};
 use std::io;
 use std::io::Write;
 
@@ -30,39 +30,18 @@ fn put_title(text: &mut Vec<u8>, bar: &Bar) -> io::Result<()> {
 /// The least number of looks that is written beside a bar.
 const MANY: u64 = 40;
 
-/// Adds the number of looks at the left of a bar, where there is room.
-fn put_looks(
-    text: &mut Vec<u8>,
-    places: &mut Places,
-    at: u64,
-    row: u64,
-    looks: u64,
-) -> io::Result<()> {
-    if looks < MANY || !places.take(at.saturating_sub(580), 520, row)? {
-        return Ok(());
-    }
-    text.extend_from_slice(
-        b"<text class=\"dim halo wide\" font-size=\"9\" dx=\"-7\" text-anchor=\"end\" x=\"",
-    )?;
-    put_across(text, at)?;
-    writeln!(text, "\" y=\"{row}\">{looks} looks</text>")
-}
-
 /// Adds a bar.
 fn put_bar(
     text: &mut Vec<u8>,
     places: &mut Places,
-    drawing: &Drawing,
-    rows: &[u64],
-    foot: u64,
+    layout: &Layout<'_>,
     bar: &Bar,
 ) -> io::Result<()> {
-    let marks = drawing.marks.as_slice();
-    let above = row_of(marks, rows, bar.first.place).unwrap_or(TOP);
+    let above = layout.row_at(bar.first.place).unwrap_or(TOP);
     let below = if bar.went_on {
-        row_of(marks, rows, bar.last).unwrap_or(foot)
+        layout.row_at(bar.last).unwrap_or(layout.foot)
     } else {
-        foot
+        layout.foot
     };
     let high = below.saturating_sub(above);
     let class = if bar.went_on { "wait" } else { "ever" };
@@ -72,22 +51,30 @@ fn put_bar(
         text,
         "<rect class=\"{class}\" rx=\"2\" width=\"6\" transform=\"translate(-3 0)\" x=\""
     )?;
-    let at = spot_at(drawing, bar.first);
+    let at = layout.lane_of(bar.first);
     put_across(text, at)?;
     writeln!(text, "\" y=\"{above}\" height=\"{high}\"/></g>")?;
-    put_looks(text, places, at, above.saturating_add(high / 2), bar.looks)
+    if bar.looks < MANY {
+        return Ok(());
+    }
+    put_count(
+        text,
+        places,
+        at,
+        above.saturating_add(high / 2),
+        bar.looks,
+        "looks",
+    )
 }
 
 /// Adds all bars.
 pub(crate) fn put_bars(
     text: &mut Vec<u8>,
     places: &mut Places,
-    drawing: &Drawing,
-    rows: &[u64],
-    foot: u64,
+    layout: &Layout<'_>,
 ) -> io::Result<()> {
-    for bar in drawing.bars.as_slice() {
-        put_bar(text, places, drawing, rows, foot, bar)?;
+    for bar in layout.drawing.bars.as_slice() {
+        put_bar(text, places, layout, bar)?;
     }
     Ok(())
 }

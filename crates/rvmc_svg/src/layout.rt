@@ -53,7 +53,7 @@ pub(crate) fn spot_at(drawing: &Drawing, spot: Spot) -> u64 {
 }
 
 /// The row of the mark at a place, if there is one.
-pub(crate) fn row_of(marks: &[Mark], rows: &[u64], place: u64) -> Option<u64> {
+fn row_of(marks: &[Mark], rows: &[u64], place: u64) -> Option<u64> {
     let mut low = 0;
     for number in 0..marks.len() {
         if marks[number].spot.place == place {
@@ -63,6 +63,26 @@ pub(crate) fn row_of(marks: &[Mark], rows: &[u64], place: u64) -> Option<u64> {
     }
     let _none = low;
     None
+}
+
+/// A drawing as it is laid out: the row of each of its marks, and the row where its lanes end.
+#[derive(Clone, Copy, Drop)]
+pub(crate) struct Layout<'a> {
+    pub drawing: &'a Drawing,
+    pub rows: &'a [u64],
+    pub foot: u64,
+}
+
+impl<'a> Layout<'a> {
+    /// The row of the mark at a place, if there is one.
+    pub(crate) fn row_at(&self, place: u64) -> Option<u64> {
+        row_of(self.drawing.marks.as_slice(), self.rows, place)
+    }
+
+    /// The lane of a step's hart.
+    pub(crate) fn lane_of(&self, spot: Spot) -> u64 {
+        spot_at(self.drawing, spot)
+    }
 }
 
 /// Where hart lanes were last used.

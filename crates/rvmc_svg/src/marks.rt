@@ -1,8 +1,8 @@
 //! Marks: a shape for each step that is shown, and what stands beside it.
 
-use crate::drawing::{Drawing, Mark, Shape};
+use crate::drawing::{Mark, Shape};
 use crate::labels::{Places, wide};
-use crate::layout::{LONG, TOP, spot_at};
+use crate::layout::{LONG, Layout, TOP};
 use crate::safe::put_text;
 use std::io;
 use std::io::Write;
@@ -77,19 +77,16 @@ fn put_note(
     Ok(())
 }
 
-/// How many steps the hart took without a mark.
-fn put_quiet(
+/// Adds how many of these there were, at the left of a lane, where there is room.
+pub(crate) fn put_count(
     text: &mut Vec<u8>,
     places: &mut Places,
-    mark: &Mark,
     at: u64,
     row: u64,
+    count: u64,
+    these: &'static str,
 ) -> io::Result<()> {
-    let above = row.saturating_sub(11);
-    if mark.quiet < LONG || above < TOP {
-        return Ok(());
-    }
-    if !places.take(at.saturating_sub(580), 520, above)? {
+    if !places.take(at.saturating_sub(580), 520, row)? {
         return Ok(());
     }
     write!(
@@ -97,19 +94,18 @@ fn put_quiet(
         "<text class=\"dim halo wide\" font-size=\"9\" dx=\"-7\" text-anchor=\"end\" x=\""
     )?;
     put_across(text, at)?;
-    let quiet = mark.quiet;
-    writeln!(text, "\" y=\"{above}\">{quiet} steps</text>")
+    writeln!(text, "\" y=\"{row}\">{count} {these}</text>")
 }
 
 /// Adds a mark, with what is told of it.
 fn put_mark(
     text: &mut Vec<u8>,
     places: &mut Places,
-    drawing: &Drawing,
+    layout: &Layout<'_>,
     mark: &Mark,
     row: u64,
 ) -> io::Result<()> {
-    let at = spot_at(drawing, mark.spot);
+    let at = layout.lane_of(mark.spot);
     let place = mark.spot.place;
     write!(text, "<g id=\"step{place}\"><title>")?;
     put_text(text, mark.tip.as_slice())?;
@@ -124,31 +120,35 @@ fn put_mark(
     put_use(text, shape_name(mark.shape), mark.spot.rank, at, row)?;
     put_note(text, places, mark, at, row)?;
     text.extend_from_slice(b"</g>\n")?;
-    put_quiet(text, places, mark, at, row)
+    // how many steps the hart took without a mark
+    let above = row.saturating_sub(11);
+    if mark.quiet < LONG || above < TOP {
+        return Ok(());
+    }
+    put_count(text, places, at, above, mark.quiet, "steps")
 }
 
 /// Adds all marks.
 pub(crate) fn put_marks(
     text: &mut Vec<u8>,
     places: &mut Places,
-    drawing: &Drawing,
-    rows: &[u64],
+    layout: &Layout<'_>,
 ) -> io::Result<()> {
     let mut number: usize = 0;
-    for mark in drawing.marks.as_slice() {
-        let row = rows.get(number).copied().unwrap_or(0);
-        put_mark(text, places, drawing, mark, row)?;
+    for mark in layout.drawing.marks.as_slice() {
+        let row = layout.rows.get(number).copied().unwrap_or(0);
+        put_mark(text, places, layout, mark, row)?;
         number = number.saturating_add(1);
     }
     Ok(())
 }
 
 /// Adds the places of marks at the left, as many as there is room for.
-pub(crate) fn put_places(text: &mut Vec<u8>, drawing: &Drawing, rows: &[u64]) -> io::Result<()> {
+pub(crate) fn put_places(text: &mut Vec<u8>, layout: &Layout<'_>) -> io::Result<()> {
     let mut number: usize = 0;
     let mut last: u64 = 0;
-    for mark in drawing.marks.as_slice() {
-        let row = rows.get(number).copied().unwrap_or(0);
+    for mark in layout.drawing.marks.as_slice() {
+        let row = layout.rows.get(number).copied().unwrap_or(0);
         number = number.saturating_add(1);
         if row >= last.saturating_add(11) {
             last = row;

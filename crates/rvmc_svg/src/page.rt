@@ -10,7 +10,7 @@ use crate::drawing::Drawing;
 use crate::ends::{put_rows, put_told};
 use crate::fonts::{SHAPES, STYLE};
 use crate::labels::Places;
-use crate::layout::{TOP, lane_at, rank_at, rows, share};
+use crate::layout::{Layout, TOP, lane_at, rank_at, rows, share};
 use crate::legend::put_legend;
 use crate::marks::{put_across, put_marks, put_places};
 use crate::safe::put_safe;
@@ -80,12 +80,17 @@ fn body(alloc: Global, drawing: &Drawing, text: &mut Vec<u8>) -> io::Result<u64>
     let mut places = Places::new(alloc);
     put_heads(text, drawing.ranks)?;
     put_ranks(text, drawing, foot)?;
-    put_bars(text, &mut places, drawing, rows.as_slice(), foot)?;
-    put_arrows(text, drawing, rows.as_slice(), foot)?;
-    put_places(text, drawing, rows.as_slice())?;
-    put_marks(text, &mut places, drawing, rows.as_slice())?;
-    put_labels(text, &mut places, drawing, rows.as_slice(), foot)?;
-    put_losses(text, &mut places, drawing, rows.as_slice(), foot)?;
+    let layout = Layout {
+        drawing,
+        rows: rows.as_slice(),
+        foot,
+    };
+    put_bars(text, &mut places, &layout)?;
+    put_arrows(text, &layout)?;
+    put_places(text, &layout)?;
+    put_marks(text, &mut places, &layout)?;
+    put_labels(text, &mut places, &layout)?;
+    put_losses(text, &mut places, &layout)?;
     let down = put_rows(text, drawing, foot.saturating_add(20))?;
     let down = put_told(text, drawing.told.as_slice(), down.saturating_add(10))?;
     put_legend(text, drawing, down.saturating_add(12))
