@@ -1,9 +1,9 @@
-//! Images and records, written and read.
+//! Images and records, written and read, and where steps lead.
 
 ghost use Rattle.std.specs.Prelude.{IfOk, IfSome};
 ghost use Rattle.cl_text.specs.Limits.{FitSteps};
 
-use cl_replay::Step;
+use cl_replay::{ClusterState, ReplayFault, Step, replay};
 use cl_text::{RecordFault, read_record, write_record};
 use rv_image::{Image, ImageFault, read_image, write_image};
 use std::io;
@@ -56,6 +56,22 @@ pub fn read_steps(rt: &HostRuntime, text: &[u8]) -> io::Result<Option<(Image, Ve
         Err(RecordFault::Memory) => {
             tell(rt, "read_record")?;
             Ok(read_record(rt.alloc(), text).ok())
+        }
+        answer => Ok(answer.ok()),
+    }
+}
+
+/// Where all of these steps lead.
+pub fn replayed(
+    rt: &HostRuntime,
+    image: &Image,
+    steps: &[Step],
+) -> io::Result<Option<ClusterState>> {
+    let n = steps.len() as u64;
+    match replay(rt.alloc(), image, steps, n) {
+        Err(ReplayFault::Memory) => {
+            tell(rt, "replay")?;
+            Ok(replay(rt.alloc(), image, steps, n).ok())
         }
         answer => Ok(answer.ok()),
     }

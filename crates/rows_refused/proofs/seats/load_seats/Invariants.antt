@@ -1,5 +1,5 @@
 use Rattle.std.proofs.Common.{◌≡◌, ◌++◌, length, vec_len}
-use Rattle.rows_turn.proofs.seats.load_seats.Given as goal
+use Rattle.rows_refused.proofs.seats.load_seats.Given as goal
 
 abbrev pub invariant-loop-own : goal.invariant-loop-own
 invariant-loop-own l = record {

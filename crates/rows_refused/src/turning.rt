@@ -1,11 +1,10 @@
 //! Turns of ranks, one by one.
 
-use crate::kinds::{Next, next_of};
-use crate::reading::tell;
-use crate::same::is_same_rank;
+use crate::kinds::next_of;
 use crate::seats::{Seat, load_seats};
+use crate::walking::is_alike;
 use cl_journal::Hub;
-use cl_rank::{RankState, Stop};
+use cl_rank::Stop;
 use cl_record::Wiring;
 use cl_replay::ClusterState;
 use rv_image::Image;
@@ -14,35 +13,12 @@ use std::io;
 /// The most rounds of turns.
 const ROUNDS: u64 = 10_000;
 
-/// The same rank in memory of its own.
-fn copied(rt: &HostRuntime, seat: &Seat<'_>) -> io::Result<RankState> {
-    match seat.state().try_copy(rt.alloc()) {
-        Ok(copy) => Ok(copy),
-        Err(_refused) => {
-            tell(rt, "try_copy of a rank")?;
-            Ok(seat.state().try_copy(rt.alloc())?)
-        }
-    }
-}
-
-/// Says that a turn was refused memory, and whether the rank is as before, and took no turn.
-fn tell_refused(
-    rt: &HostRuntime,
-    next: Next,
-    before: &RankState,
-    turns: u64,
-    seat: &Seat<'_>,
-) -> io::Result<()> {
-    let same = seat.turns() == turns && is_same_rank(before, seat.state());
-    println!(rt; "memory: turn, {next}, same: {same}")
-}
-
 /// Takes a rank's next turn. Whether there was one.
 fn takes(rt: &HostRuntime, seat: &mut Seat<'_>, hub: &mut Hub) -> io::Result<bool> {
-    let (before, turns, next) = (copied(rt, seat)?, seat.turns(), next_of(seat.state()));
+    let next = next_of(seat.state());
     match seat.turn(hub) {
         Err(Stop::Memory) => {
-            tell_refused(rt, next, &before, turns, seat)?;
+            println!(rt; "memory: turn, {next}")?;
             Ok(seat.turn(hub).is_ok())
         }
         answer => Ok(answer.is_ok()),
@@ -68,10 +44,10 @@ fn take_all(rt: &HostRuntime, seats: &mut [Seat<'_>], hub: &mut Hub) -> io::Resu
     println!(rt; "no end")
 }
 
-/// Prints of each rank how many turns it took, and whether it is the one of the cluster.
+/// Prints of each rank how many turns it took, and whether it is like that of the cluster.
 fn print_seats(rt: &HostRuntime, seats: &[Seat<'_>], cluster: &ClusterState) -> io::Result<()> {
     for (seat, there) in seats.iter().zip(cluster.ranks.iter()) {
-        let same = is_same_rank(seat.state(), there);
+        let same = is_alike(seat.state(), there);
         println!(rt; "turns {} same: {same}", seat.turns())?;
     }
     Ok(())

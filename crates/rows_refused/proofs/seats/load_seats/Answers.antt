@@ -2,7 +2,7 @@ use Rattle.std.proofs.Common.{◌≡◌, ◌∙◌, ◌∷◌, [], arith}
 use Rattle.std.proofs.lemmas.List.{length-append}
 use Rattle.std.proofs.lemmas.Option.{slice_get_within}
 use Rattle.cl_record.proofs.Sides.{next_at, seam_more}
-use Rattle.rows_turn.proofs.seats.load_seats.Goals as goal
+use Rattle.rows_refused.proofs.seats.load_seats.Goals as goal
 
 pub overflow_cast-number : goal.overflow_cast-number
 overflow_cast-number c =

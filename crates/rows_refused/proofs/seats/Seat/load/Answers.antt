@@ -1,7 +1,7 @@
 use Rattle.cl_record.proofs.Wires.{new_sides}
 use Rattle.cl_record.specs.Wiring.{sides_in}
-use Rattle.rows_turn.proofs.Loaded.{apart, own_channels}
-use Rattle.rows_turn.proofs.seats.Seat.load.Goals as goal
+use Rattle.rows_refused.proofs.Loaded.{apart, own_channels}
+use Rattle.rows_refused.proofs.seats.Seat.load.Goals as goal
 
 pub new-requires : goal.new-requires
 new-requires c =
