@@ -1,5 +1,6 @@
 pub mod Turning
 pub mod Boxing
+pub mod Orders
 pub mod Planning
 pub mod Merging
 pub mod Checking

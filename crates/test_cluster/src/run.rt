@@ -4,7 +4,7 @@ ghost use Rattle.std.specs.Prelude.{◌≡◌, ◌<◌, ◌⊎◌, ◌∷◌, �
 ghost use Rattle.std.specs.Prelude.{true, false};
 ghost use Rattle.cl_record.specs.Plans.{ArePlans};
 ghost use Rattle.cl_record.specs.declared.plans.Plan.{Plan};
-ghost use Rattle.test_cluster.specs.Runs.{OfEachRank, RoundAndRound};
+ghost use Rattle.test_cluster.specs.Runs.{AllBudgetsAreUsed, IsLedOffBy, OfEachRank, RoundAndRound};
 
 use cl_run::{Loaded, Plan, Record, RunFault, are_plans, run_one};
 use rv_image::Image;
@@ -99,6 +99,31 @@ pub fn a_run_leaves_each_rank(
     order: &[u8],
 ) -> Result<Record, RunFault>
     ensures { IfOk result (OfEachRank image.now plans.now order.now) }
+{
+    run_one(alloc, image, plans, order)
+}
+
+/// By the order 1, 0 the first turn is rank 1's, where it takes any.
+pub fn the_first_of_the_order_leads_off(
+    alloc: Global,
+    image: &Image,
+    plans: &[Plan],
+    order: &[u8],
+) -> Result<Record, RunFault>
+    requires { order.now ≡ 1 ∷ 0 ∷ [] }
+    ensures { IfOk result (IsLedOffBy 1 image.now) }
+{
+    run_one(alloc, image, plans, order)
+}
+
+/// Each rank that stops for its budget took all its turns.
+pub fn budgets_are_used(
+    alloc: Global,
+    image: &Image,
+    plans: &[Plan],
+    order: &[u8],
+) -> Result<Record, RunFault>
+    ensures { IfOk result (AllBudgetsAreUsed plans.now) }
 {
     run_one(alloc, image, plans, order)
 }
