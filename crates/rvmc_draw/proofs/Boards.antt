@@ -14,8 +14,8 @@ use Rattle.rvmc_draw.specs.Board.{arrow_if, arrow_in, arrow_of, arrow_to, carrie
 use Rattle.rvmc_draw.specs.Laws.{ArrowLaw, BoardLaw, IsMadeAt, JoinsSend}
 use Rattle.rvmc_draw.specs.declared.board.Manner.{Manner}
 use Rattle.rvmc_draw.specs.declared.deeds.Deed.{Deed}
-use Rattle.rvmc_svg.specs.declared.drawing.Arrow.{Arrow}
-use Rattle.rvmc_svg.specs.declared.drawing.Spot.{Spot}
+use Rattle.rvmc_draw.specs.declared.drawing.Arrow.{Arrow}
+use Rattle.rvmc_draw.specs.declared.drawing.Spot.{Spot}
 
 -- ---- a step more
 

@@ -1,21 +1,23 @@
 -- The posts that steps made, each with the step that made it, and the arrows between the two steps of a message. Which
 -- post has which partner is the hub's rule: `pairs` of the posts (MPI 4.1, chapter 3.5).
 use Rattle.std.specs.Prelude.{ℕ, zero, suc, ◌==◌, ◌&&◌, Bool, false, List, [], ◌∷◌, ◌++◌, length}
-use Rattle.std.specs.Prelude.{Option, Some, None, option_to_list, cond}
-use Rattle.std.specs.List.{flat_map, position_from, range_with_len, slice_get}
+use Rattle.std.specs.Prelude.{Option, Some, None, option_to_list, cond, if◌then◌else◌, not}
+use Rattle.std.specs.List.{flat_map, list_any, position_from, range_with_len, slice_get}
 use Rattle.mp_match.specs.Pairs.{add, fits, partner_at, partner_for}
 use Rattle.mp_match.specs.declared.posts.Line.{Line}
 use Rattle.mp_match.specs.declared.posts.Post.{Post}
 use Rattle.mp_match.specs.declared.posts.Post.TheVariants.{Send, Receive, Claim}
 use Rattle.mp_match.specs.declared.posts.Selection.{Selection}
 use Rattle.mp_match.specs.declared.posts.Sent.{Sent}
+use Rattle.rvmc_draw.specs.Views.{is_in_view}
 use Rattle.rvmc_draw.specs.declared.board.Manner.{Manner}
 use Rattle.rvmc_draw.specs.declared.board.Manner.TheVariants as manner
 use Rattle.rvmc_draw.specs.declared.deeds.Deed.{Deed}
-use Rattle.rvmc_svg.specs.declared.drawing.Arrow.{Arrow}
-use Rattle.rvmc_svg.specs.declared.drawing.Carried.{Carried}
-use Rattle.rvmc_svg.specs.declared.drawing.Carried.TheVariants.{Message, Could, Claim as Claimed}
-use Rattle.rvmc_svg.specs.declared.drawing.Spot.{Spot}
+use Rattle.rvmc_draw.specs.declared.drawing.Arrow.{Arrow}
+use Rattle.rvmc_draw.specs.declared.drawing.Carried.{Carried}
+use Rattle.rvmc_draw.specs.declared.drawing.Carried.TheVariants.{Message, Could, Claim as Claimed}
+use Rattle.rvmc_draw.specs.declared.drawing.Spot.{Spot}
+use Rattle.rvmc_draw.specs.declared.views.View.{View}
 
 -- ---- posts and their steps
 
@@ -131,6 +133,32 @@ could_of_all ranks lines spots to a = flat_map (could_from lines spots to a) (ra
 abbrev pub could : ℕ → List Line → List Spot → Spot → Option Selection → List Arrow
 could ranks lines spots to None = []
 could ranks lines spots to (Some a) = could_of_all ranks lines spots to a
+
+-- ---- what nobody got
+
+-- the places of the partners of these posts
+abbrev pub partners_of : List Line → List ℕ → List ℕ
+partners_of lines numbers = flat_map (λ number. option_to_list (partner_numbered lines number)) numbers
+
+abbrev pub is_got_in : List ℕ → ℕ → Bool
+is_got_in got place = list_any (λ other. other == place) got
+
+abbrev pub lost_by : View → List Line → List Spot → List ℕ → ℕ → Option Spot → List Arrow
+lost_by view lines spots got place None = []
+lost_by view lines spots got place (Some spot) =
+    if is_in_view view spot && not (is_got_in got place)
+    then option_to_list (arrow_at lines spots manner.Got None place) else []
+
+abbrev pub lost_here : View → List Line → List Spot → List ℕ → ℕ → List Arrow
+lost_here view lines spots got place = lost_by view lines spots got place (slice_get spots place)
+
+-- the arrow from the send at the place, if its step is shown and its message isn't among those that were got
+unfoldable pub lost_from : View → List Line → List Spot → List ℕ → ℕ → List Arrow
+lost_from view lines spots got place = lost_here view lines spots got place
+
+-- of all posts
+abbrev pub lost : View → List Line → List Spot → List ℕ → List Arrow
+lost view lines spots got = flat_map (lost_from view lines spots got) (range_with_len 0 (length lines))
 
 -- ---- one step
 

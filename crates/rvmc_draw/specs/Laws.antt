@@ -8,8 +8,8 @@ use Rattle.mp_match.specs.declared.posts.Sent.{Sent}
 use Rattle.rvmc_draw.specs.Board.{arrow_to, carried_by, lines_with, partner_numbered, posts_made, spot_if, spots_made}
 use Rattle.rvmc_draw.specs.declared.board.Manner.{Manner}
 use Rattle.rvmc_draw.specs.declared.deeds.Deed.{Deed}
-use Rattle.rvmc_svg.specs.declared.drawing.Arrow.{Arrow}
-use Rattle.rvmc_svg.specs.declared.drawing.Spot.{Spot}
+use Rattle.rvmc_draw.specs.declared.drawing.Arrow.{Arrow}
+use Rattle.rvmc_draw.specs.declared.drawing.Spot.{Spot}
 
 -- these are the posts that the steps made, in their order and with their partners, and the steps that made them
 pub record IsBoardOf (deeds : List Deed) (lines : List Line) (spots : List Spot) : Type 0 where

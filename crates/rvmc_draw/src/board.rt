@@ -7,12 +7,14 @@ ghost use Rattle.mp_match.specs.Pairs.{partner_for as partner_for_of, partner_se
 ghost use Rattle.mp_match.specs.declared.posts.Post.TheVariants as post;
 ghost use Rattle.rvmc_draw.specs.Board.{arrow_at, arrow_if, arrow_in, arrow_to, arrows_to, carried_by, claims, could, could_from, message};
 ghost use Rattle.rvmc_draw.specs.Board.{could_of_all, first_of, is_open_to as is_open_to_of, is_sent_by as is_sent_by_of};
-ghost use Rattle.rvmc_draw.specs.Board.{lines_with, messages, other_first, partner_numbered, spot_if};
+ghost use Rattle.rvmc_draw.specs.Board.{is_got_in, lines_with, lost, lost_from, lost_here, messages, other_first};
+ghost use Rattle.rvmc_draw.specs.Board.{partner_numbered, partners_of, spot_if};
 ghost use Rattle.rvmc_draw.specs.Board.{unless_taken as unless_taken_of, wildcard_in as wildcard_in_of};
 
 use crate::deeds::Deed;
 use mp_match::{Line, Post, Selection, Sent};
-use rvmc_svg::{Arrow, Carried, Spot};
+use crate::drawing::{Arrow, Carried, Spot};
+use crate::views::View;
 use std::alloc::{AllocError, Global};
 
 /// The posts, by their numbers less 1.
@@ -231,19 +233,41 @@ fn partner_in(lines: &[Line], number: u64) -> Option<u64>
     }
 }
 
-/// Adds the places of the partners of these posts.
-fn put_partners(got: &mut Vec<u64>, lines: &[Line], numbers: &[u64]) -> Result<(), AllocError> {
-    for number in numbers {
-        if let Some(place) = partner_in(lines, *number) {
-            got.push(place)?;
-        }
+/// Adds the place of a partner, if there is one.
+fn put_partner(got: &mut Vec<u64>, partner: Option<u64>) -> Result<(), AllocError>
+    ensures { OnOk result (got.new.items ≡ got.old.items ++ option_to_list partner) }
+{
+    if let Some(place) = partner {
+        got.push(place)?;
     }
     Ok(())
 }
 
+/// Adds the places of the partners of these posts.
+fn put_partners(got: &mut Vec<u64>, lines: &[Line], numbers: &[u64]) -> Result<(), AllocError>
+    ensures { OnOk result (got.new.items ≡ got.old.items ++ partners_of lines.now numbers.now) }
+{
+    for number in numbers {
+        put_partner(got, partner_in(lines, *number))?;
+    }
+    Ok(())
+}
+
+/// Whether a place is among those of the sends whose messages were got.
+fn is_got(got: &[u64], place: u64) -> bool
+    ensures { result ≡ is_got_in got.now place }
+{
+    got.iter().any(|other| *other == place)
+}
+
 impl Board {
     /// No posts.
-    pub fn new(alloc: Global, ranks: u8) -> Board {
+    pub fn new(alloc: Global, ranks: u8) -> Board
+        ensures ranks { result.ranks ≡ ranks }
+        ensures lines { result.lines.items ≡ [] }
+        ensures spots { result.spots.items ≡ [] }
+        ensures got { result.got.items ≡ [] }
+    {
         Board {
             ranks,
             lines: Vec::new(alloc),
@@ -264,6 +288,7 @@ impl Board {
         ensures lines { OnOk result (self.new.lines.items ≡ add self.old.lines.items new) }
         ensures spots { OnOk result (self.new.spots.items ≡ self.old.spots.items ++ spot ∷ []) }
         ensures ranks { self.new.ranks ≡ self.old.ranks }
+        ensures got { self.new.got.items ≡ self.old.got.items }
     {
         let own = self.lines.len() as u64;
         let partner = partner_for(self.lines.as_slice(), &new);
@@ -420,6 +445,7 @@ impl Board {
         ensures lines { OnOk result (self.new.lines.items ≡ lines_with self.old.lines.items made) }
         ensures spots { OnOk result (self.new.spots.items ≡ self.old.spots.items ++ spot_if made spot) }
         ensures ranks { self.new.ranks ≡ self.old.ranks }
+        ensures got { self.new.got.items ≡ self.old.got.items }
     {
         match made {
             None => Ok(()),
@@ -432,22 +458,53 @@ impl Board {
         ensures lines { self.new.lines.items ≡ self.old.lines.items }
         ensures spots { self.new.spots.items ≡ self.old.spots.items }
         ensures ranks { self.new.ranks ≡ self.old.ranks }
+        ensures got { OnOk result
+            (self.new.got.items ≡ self.old.got.items ++ partners_of self.old.lines.items numbers.now) }
     {
         put_partners(&mut self.got, self.lines.as_slice(), numbers)
     }
 
-    /// Adds the arrows of messages that nobody got. The only error is want of memory.
-    pub fn put_lost(&self, alloc: Global, arrows: &mut Vec<Arrow>) -> Result<(), AllocError> {
-        let mut is_got = Vec::from_elem(alloc, false, self.lines.len())?;
-        for place in self.got.as_slice() {
-            if let Some(own) = is_got.get_mut(*place as usize) {
-                *own = true;
+    /// The arrow of the message of the send at a place, if that is shown and nobody got it.
+    fn lost_at(&self, view: View, place: usize) -> Option<Arrow>
+        ensures { option_to_list result
+            ≡ lost_here view self.now.lines.items self.now.spots.items self.now.got.items place }
+    {
+        match self.spots.get(place) {
+            None => None,
+            Some(spot) => {
+                if view.has(*spot) && !is_got(self.got.as_slice(), place as u64) {
+                    self.arrow_at(Manner::Got, None, place)
+                } else {
+                    None
+                }
             }
         }
-        for place in 0..is_got.len() {
-            if !is_got[place] {
-                put_arrow(arrows, self.arrow_at(Manner::Got, None, place))?;
-            }
+    }
+
+    /// Adds the arrow of the message of the send at a place, if that is shown and nobody got it.
+    #[tactic(auto, unfolding(crate::specs::Board::lost_from))]
+    fn put_lost_at(
+        &self,
+        arrows: &mut Vec<Arrow>,
+        view: View,
+        place: usize,
+    ) -> Result<(), AllocError>
+        ensures { OnOk result
+            (arrows.new.items
+            ≡ arrows.old.items
+            ++ lost_from view self.now.lines.items self.now.spots.items self.now.got.items place) }
+    {
+        put_arrow(arrows, self.lost_at(view, place))
+    }
+
+    /// Adds the arrows of messages that are shown and that nobody got. The only error is want of memory.
+    pub fn put_lost(&self, arrows: &mut Vec<Arrow>, view: View) -> Result<(), AllocError>
+        ensures { OnOk result
+            (arrows.new.items
+            ≡ arrows.old.items ++ lost view self.now.lines.items self.now.spots.items self.now.got.items) }
+    {
+        for place in 0..self.lines.len() {
+            self.put_lost_at(arrows, view, place)?;
         }
         Ok(())
     }
@@ -461,6 +518,10 @@ impl Board {
         ensures spots { OnOk result
             (self.new.spots.items ≡ self.old.spots.items ++ spot_if deed.now.made deed.now.spot) }
         ensures ranks { self.new.ranks ≡ self.old.ranks }
+        ensures got { OnOk result
+            (self.new.got.items
+            ≡ self.old.got.items
+            ++ partners_of (lines_with self.old.lines.items deed.now.made) deed.now.got.items) }
     {
         self.put_could(arrows, wildcard_in(deed.made), deed.spot)?;
         self.add_if(deed.made, deed.spot)?;

@@ -1,7 +1,7 @@
 //! What a step did, as far as a picture shows it.
 
 use mp_match::Post;
-use rvmc_svg::{Shape, Spot};
+use crate::drawing::{Shape, Spot};
 
 /// What a step did.
 #[derive(Drop)]

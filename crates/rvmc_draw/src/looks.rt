@@ -1,12 +1,12 @@
 //! Looks in vain, which follow one another in bars.
 
-ghost use Rattle.std.specs.Prelude.{◌≡◌, ◌++◌, ◌+◌, ◌*◌, OnOk};
-ghost use Rattle.std.specs.List.{slice_get, slice_set};
-ghost use Rattle.rvmc_draw.specs.Looks.{begun_by as begun_by_of, begun_in, ended as ended_of, ended_by as ended_by_of};
-ghost use Rattle.rvmc_draw.specs.Looks.{ended_if as ended_if_of, longer as longer_of};
+ghost use Rattle.std.specs.Prelude.{◌≡◌, ◌++◌, ◌*◌, IfOk, None, OnOk, replicate};
+ghost use Rattle.std.specs.List.{flat_map, slice_get, slice_set};
+ghost use Rattle.rvmc_draw.specs.Looks.{begun_by as begun_by_of, begun_in, lane_of, ended as ended_of, ended_by as ended_by_of};
+ghost use Rattle.rvmc_draw.specs.Looks.{ended_if as ended_if_of, longer as longer_of, open_to};
 
 use crate::deeds::Deed;
-use rvmc_svg::{Bar, Spot};
+use crate::drawing::{Bar, Spot};
 use std::alloc::{AllocError, Global};
 
 /// The bar of each hart that looks in vain.
@@ -87,16 +87,35 @@ fn put_ended_by(bars: &mut Vec<Bar>, begun: Option<Bar>, deed: &Deed) -> Result<
     Ok(())
 }
 
+/// Adds the bar as it is at the end, if there is one.
+#[tactic(auto, unfolding(crate::specs::Looks::open_to))]
+fn put_open_one(bars: &mut Vec<Bar>, begun: &Option<Bar>, end: u64) -> Result<(), AllocError>
+    ensures { OnOk result (bars.new.items ≡ bars.old.items ++ open_to end begun.now) }
+{
+    if let Some(bar) = begun {
+        bars.push(Bar {
+            first: bar.first,
+            last: end,
+            went_on: false,
+            looks: bar.looks,
+        })?;
+    }
+    Ok(())
+}
+
 /// The place of a hart among all.
-fn lane(harts: u8, spot: Spot) -> usize
-    ensures { result ≡ spot.rank * harts + spot.hart }
+pub(crate) fn lane(harts: u8, spot: Spot) -> usize
+    ensures { result ≡ lane_of harts spot }
 {
     usize::from(spot.rank) * usize::from(harts) + usize::from(spot.hart)
 }
 
 impl Looks {
     /// No bars. The only error is want of memory.
-    pub fn new(alloc: Global, ranks: u8, harts: u8) -> Result<Looks, AllocError> {
+    pub fn new(alloc: Global, ranks: u8, harts: u8) -> Result<Looks, AllocError>
+        ensures begun { IfOk result (λ looks. looks.begun.items ≡ replicate (ranks * harts) None) }
+        ensures harts { IfOk result (λ looks. looks.harts ≡ harts) }
+    {
         let count = usize::from(ranks) * usize::from(harts);
         Ok(Looks {
             harts,
@@ -106,7 +125,7 @@ impl Looks {
 
     /// The bar of the step's hart, if it looked in vain before.
     pub fn begun(&self, spot: Spot) -> Option<Bar>
-        ensures { result ≡ begun_in self.now.begun.items (spot.rank * self.now.harts + spot.hart) }
+        ensures { result ≡ begun_in self.now.begun.items (lane_of self.now.harts spot) }
     {
         match self.begun.get(lane(self.harts, spot)) {
             None => None,
@@ -117,7 +136,7 @@ impl Looks {
     /// Sets the bar of the step's hart.
     fn set(&mut self, spot: Spot, bar: Option<Bar>)
         ensures begun { self.new.begun.items
-            ≡ slice_set self.old.begun.items (spot.rank * self.old.harts + spot.hart) bar }
+            ≡ slice_set self.old.begun.items (lane_of self.old.harts spot) bar }
         ensures harts { self.new.harts ≡ self.old.harts }
     {
         let lane = lane(self.harts, spot);
@@ -133,12 +152,12 @@ impl Looks {
             (bars.new.items
             ≡ bars.old.items
             ++ ended_by_of
-            (begun_in self.old.begun.items (deed.now.spot.rank * self.old.harts + deed.now.spot.hart)) deed.now) }
+            (begun_in self.old.begun.items (lane_of self.old.harts deed.now.spot)) deed.now) }
         ensures begun { OnOk result
             (self.new.begun.items
-            ≡ slice_set self.old.begun.items (deed.now.spot.rank * self.old.harts + deed.now.spot.hart)
+            ≡ slice_set self.old.begun.items (lane_of self.old.harts deed.now.spot)
             (begun_by_of
-            (begun_in self.old.begun.items (deed.now.spot.rank * self.old.harts + deed.now.spot.hart)) deed.now)) }
+            (begun_in self.old.begun.items (lane_of self.old.harts deed.now.spot)) deed.now)) }
         ensures harts { self.new.harts ≡ self.old.harts }
     {
         let begun = self.begun(deed.spot);
@@ -148,16 +167,11 @@ impl Looks {
     }
 
     /// Adds the bars that nothing ended up to this place. The only error is want of memory.
-    pub fn put_open(&self, bars: &mut Vec<Bar>, end: u64) -> Result<(), AllocError> {
+    pub fn put_open(&self, bars: &mut Vec<Bar>, end: u64) -> Result<(), AllocError>
+        ensures { OnOk result (bars.new.items ≡ bars.old.items ++ flat_map (open_to end) self.now.begun.items) }
+    {
         for begun in self.begun.as_slice() {
-            if let Some(bar) = begun {
-                bars.push(Bar {
-                    first: bar.first,
-                    last: end,
-                    went_on: false,
-                    looks: bar.looks,
-                })?;
-            }
+            put_open_one(bars, begun, end)?;
         }
         Ok(())
     }

@@ -1,9 +1,9 @@
 //! Arrows: messages, claims, what a wildcard receive could have taken, and partitions.
 
-use crate::drawing::{Arrow, Carried, Drawing, Spot};
 use crate::labels::{Places, wide};
 use crate::layout::{Layout, TOP, rank_at};
 use crate::marks::put_across;
+use rvmc_draw::{Arrow, Carried, Drawing, Spot};
 use std::io;
 use std::io::Write;
 

@@ -1,9 +1,9 @@
 //! Bars: looks in vain of a hart that follow one another.
 
-use crate::drawing::Bar;
 use crate::labels::Places;
 use crate::layout::{Layout, TOP};
 use crate::marks::{put_across, put_count};
+use rvmc_draw::Bar;
 use std::io;
 use std::io::Write;
 

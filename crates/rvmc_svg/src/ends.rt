@@ -1,9 +1,9 @@
 //! The end: whom each hart that waits there waits for, and what is told of it.
 
-use crate::drawing::{Drawing, Row};
 use crate::layout::rank_at;
 use crate::marks::put_across;
 use crate::safe::put_text;
+use rvmc_draw::{Drawing, Row};
 use std::io;
 use std::io::Write;
 

@@ -1,6 +1,6 @@
 //! Where on the page things stand: across in hundredths of a per cent of its width, down in pixels.
 
-use crate::drawing::{Arrow, Drawing, Mark, Spot};
+use rvmc_draw::{Arrow, Drawing, Mark, Spot};
 use std::alloc::{AllocError, Global};
 
 /// Where the first row may stand.

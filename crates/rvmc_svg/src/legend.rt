@@ -1,8 +1,8 @@
 //! The legend: each shape that the picture has, drawn.
 
 use crate::arrows::shared_kind;
-use crate::drawing::{Carried, Drawing, Shape};
 use crate::marks::shape_name;
+use rvmc_draw::{Carried, Drawing, Shape};
 use std::io;
 use std::io::Write;
 

@@ -7,7 +7,6 @@
 
 mod arrows;
 mod bars;
-mod drawing;
 mod ends;
 mod fonts;
 mod labels;
@@ -17,5 +16,5 @@ mod marks;
 mod page;
 mod safe;
 
-pub use drawing::{Arrow, Bar, Carried, Drawing, Mark, Row, Shape, Spot};
 pub use page::svg;
+pub use rvmc_draw::{Arrow, Bar, Carried, Drawing, Mark, Row, Shape, Spot};

@@ -1,9 +1,9 @@
 //! Marks: a shape for each step that is shown, and what stands beside it.
 
-use crate::drawing::{Mark, Shape};
 use crate::labels::{Places, wide};
 use crate::layout::{LONG, Layout, TOP};
 use crate::safe::put_text;
+use rvmc_draw::{Mark, Shape};
 use std::io;
 use std::io::Write;
 

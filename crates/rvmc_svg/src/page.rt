@@ -6,7 +6,6 @@ ghost use Rattle.rvmc_svg.specs.Safe.{IsAllowed};
 
 use crate::arrows::{put_arrows, put_heads, put_labels, put_losses};
 use crate::bars::put_bars;
-use crate::drawing::Drawing;
 use crate::ends::{put_rows, put_told};
 use crate::fonts::{SHAPES, STYLE};
 use crate::labels::Places;
@@ -14,6 +13,7 @@ use crate::layout::{Layout, TOP, lane_at, rank_at, rows, share};
 use crate::legend::put_legend;
 use crate::marks::{put_across, put_marks, put_places};
 use crate::safe::put_safe;
+use rvmc_draw::Drawing;
 use std::alloc::Global;
 use std::io;
 use std::io::Write;
