@@ -164,7 +164,7 @@ min_more a b = omega arith
 counts_more : (spots : List Spot) (spot : Spot) → cell_counts (spots ++ spot ∷ []) ≡ made_ready (cell_counts spots) spot
 counts_more spots spot =
     let phase : min (length (spots ++ spot ∷ [])) (2 ^ 64 - 1)
-        ≡ min (min (length spots) (2 ^ 64 - 1) + 1) (2 ^ 64 - 1) =
+    ≡ min (min (length spots) (2 ^ 64 - 1) + 1) (2 ^ 64 - 1) =
     ap (λ n. min n (2 ^ 64 - 1)) (length-append spots (spot ∷ [])) ∙ min_more (length spots) (2 ^ 64 - 1) in
     let last : last_or None (spots ++ spot ∷ []) ≡ Some spot = last_append None spots (spot ∷ []) in
     ap (λ n. record { phase = n; last = last_or None (spots ++ spot ∷ []) }) phase

@@ -52,8 +52,11 @@ cells_with cells d = cells_if cells d.ready d.spot
 
 -- from the step that made the box ready last to this one, in the phase that it began
 abbrev pub arrow_from : ℕ × ℕ → Spot → Cell → List Arrow
-arrow_from box to cell = elim cell.last [ None ↦ [] | Some from ↦
-    record { from = from; to = Some to; dest = to.rank; carried = Partition box.0 box.1 cell.phase } ∷ [] ]
+arrow_from box to cell = elim cell.last [
+  | None ↦ []
+  | Some from ↦
+      record { from = from; to = Some to; dest = to.rank; carried = Partition box.0 box.1 cell.phase } ∷ []
+]
 
 abbrev pub arrow_if_there : ℕ × ℕ → Spot → Option Cell → List Arrow
 arrow_if_there box to None = []

@@ -35,7 +35,10 @@ pub fn made_by(rank: u8, request: &Request, reply: &Reply) -> Option<Post>
             _ => None,
         },
         Request::Recv {
-            comm, source, tag, ..
+            comm,
+            source,
+            tag,
+            ..
         } => Some(Post::Receive(Selection {
             rank,
             comm: *comm,

@@ -12,9 +12,9 @@ ghost use Rattle.rvmc_draw.specs.Board.{partner_numbered, partners_of, spot_if};
 ghost use Rattle.rvmc_draw.specs.Board.{unless_taken as unless_taken_of, wildcard_in as wildcard_in_of};
 
 use crate::deeds::Deed;
-use mp_match::{Line, Post, Selection, Sent};
 use crate::drawing::{Arrow, Carried, Spot};
 use crate::views::View;
+use mp_match::{Line, Post, Selection, Sent};
 use std::alloc::{AllocError, Global};
 
 /// The posts, by their numbers less 1.

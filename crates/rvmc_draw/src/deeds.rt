@@ -1,7 +1,7 @@
 //! What a step did, as far as a picture shows it.
 
-use mp_match::Post;
 use crate::drawing::{Shape, Spot};
+use mp_match::Post;
 
 /// What a step did.
 #[derive(Drop)]

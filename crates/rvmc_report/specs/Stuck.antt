@@ -19,7 +19,7 @@ end_line budget rank stop turns =
     else stop_line rank stop turns
 
 -- a rank's output, its harts in order, and that line
-abbrev pub told_rank : ℕ → ℕ → RankEnd → List ℕ
+unfoldable pub told_rank : ℕ → ℕ → RankEnd → List ℕ
 told_rank budget rank end =
     output_text rank end.output ++ (harts_text rank 0 end.harts ++ end_line budget rank end.stop end.turns)
 

@@ -35,6 +35,7 @@ fn end_line(
 }
 
 /// Adds what is told of a rank.
+#[tactic(auto, unfolding(crate::specs::Stuck::told_rank))]
 fn put_told(
     alloc: Global,
     report: &mut Vec<u8>,

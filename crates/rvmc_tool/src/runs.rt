@@ -31,7 +31,11 @@ use std::thread::Threads;
 
 /// The text of a record. The record is dropped as soon as its steps are copied, so that only one of the two stands in
 /// memory while the text is made ready and written.
-pub(crate) fn record_of(alloc: Global, image: &Image, left: Record) -> Result<RecordText, AllocError>
+pub(crate) fn record_of(
+    alloc: Global,
+    image: &Image,
+    left: Record,
+) -> Result<RecordText, AllocError>
     requires { IsLeft image.now left }
     ensures { IfOk result (IsRecordOf image.now left) }
 {
@@ -58,7 +62,12 @@ fn output_of(
 }
 
 /// The same, with the status of the run.
-pub(crate) fn told(alloc: Global, image: &Image, left: Record, written: Written) -> Result<Answer, AllocError>
+pub(crate) fn told(
+    alloc: Global,
+    image: &Image,
+    left: Record,
+    written: Written,
+) -> Result<Answer, AllocError>
     requires { IsLeft image.now left }
     ensures text { IfOk result (λ answer. IsTextOf written image.now left (output_bytes answer.output)) }
     ensures status { IfOk result (λ answer. end_status answer.end ≡ status_of (rank_ends left)) }

@@ -124,7 +124,7 @@ until_text (Ok image) budget harts ranks text status some (plans, of, by) none =
       | inl told ↦ none (record { image = image; left = told.left; merged = told.run.merged; spells = told.told })
       | inr told ↦ none (record { image = image; left = told.left; merged = told.run.merged; spells = told.told })
     ])).0
-until_text (Err fault) budget harts ranks text status some faulty = λ none. some faulty.0
+until_text (Err fault) budget harts ranks text status some faulty none = some faulty.0
 
 pub recorded_is_good : RecordedIsGoodLaw
 recorded_is_good (OfImage source (Run budget plan lead written.Record)) bytes text told status ended asked says some checked =

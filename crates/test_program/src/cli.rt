@@ -242,12 +242,9 @@ pub fn record_of_a_source(alloc: Global) -> Result<CommandLine, ParseFault>
 /// A run on one thread may end at a deadlock.
 #[tactic(auto, unfolding(rvmc_cli::specs::Meaning::faults_in, rvmc_cli::specs::Meaning::command_in, rvmc_cli::specs::Commands::line_in, clap::proofs::OnLiterals::clap_on_literals))]
 pub fn one_until_stuck(alloc: Global) -> Result<CommandLine, ParseFault>
-    ensures { IfOk result (λ line. line ≡ OfImage true (OneUntilStuck 5 None None written.Report)) }
+    ensures { IfOk result (λ line. line ≡ OfImage true (OneUntilStuck 1000000 None None written.Report)) }
 {
-    parse(
-        alloc,
-        &["one", "--source", "--until-stuck", "--budget", "5"],
-    )
+    parse(alloc, &["one", "--source", "--until-stuck"])
 }
 
 /// `report` tells of a record.

@@ -21,3 +21,29 @@ told-requires c =
       each = record { traces = run.traces_count ∙ sym run.ranks_count; stops = run.stops_count ∙ sym run.ranks_count };
       merged = c.in_ok-left.ensures.merged;
     }
+
+pub returns-in_ok-told_stuck-clause-says : goal.returns-in_ok-told_stuck-clause-says
+returns-in_ok-told_stuck-clause-says c =
+    let ran = c.in_ok-left.ensures in
+    record {
+      told = λ are. inr (record {
+        left = c.in_ok-left.field-0.left;
+        run = record { turns = ran.run; merged = ran.merged; stuck = ran.stuck c.if-stuck.true };
+        told = search rules;
+        status_is = search rules;
+      });
+      refused = λ none. absurd (ok≢err _ _ (ran.plans.1 none));
+    }
+
+pub returns-in_ok-told-clause-says : goal.returns-in_ok-told-clause-says
+returns-in_ok-told-clause-says c =
+    let ran = c.in_ok-left.ensures in
+    record {
+      told = λ are. inl (record {
+        left = c.in_ok-left.field-0.left;
+        run = record { turns = ran.whole c.if-stuck.false; merged = ran.merged };
+        told = search rules;
+        status_is = search rules;
+      });
+      refused = λ none. absurd (ok≢err _ _ (ran.plans.1 none));
+    }
