@@ -13,6 +13,7 @@ pub mod Looked
 pub mod Moves
 pub mod Pairs
 pub mod Plain
+pub mod PlainTurns
 pub mod Replied
 pub mod Rows
 pub mod Stayed

@@ -11,4 +11,5 @@ pub mod Follows
 pub mod Laws
 pub mod Turns
 pub mod Turning
+pub mod Plains
 pub mod Views

@@ -7,6 +7,7 @@
 mod agreeing;
 mod desks;
 pub mod laws;
+mod plains;
 mod ranks;
 mod sides;
 mod stops;

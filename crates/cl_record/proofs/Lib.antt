@@ -7,3 +7,4 @@ pub mod Sides
 pub mod Loads
 pub mod Wires
 pub mod Merged
+pub mod Plains

@@ -9,7 +9,8 @@ use Rattle.cl_state.specs.Room.{rank_of}
 use Rattle.cl_rank.specs.Deeds.{Deed, RankMoves, event_of}
 use Rattle.cl_rank.specs.RankSides.{KeysMove, Sides}
 use Rattle.cl_rank.specs.Sides.{box_id_of}
-use Rattle.cl_rank.specs.Turning.{DeskRule, StopHolds, Tells}
+use Rattle.cl_rank.specs.Plains.{IsPlainTurn}
+use Rattle.cl_rank.specs.Turning.{DeskRule, RankView, StopHolds, Tells}
 use Rattle.cl_rank.specs.Turns.{AllStopped}
 use Rattle.cl_rank.specs.Views.{view_of}
 use Rattle.cl_rank.specs.declared.stops.Stop.{Stop}
@@ -52,6 +53,17 @@ pub record TakesTurn {D : Type 0} (gives : DeskRule D) (plan : Plan) (old : Stat
   pub runs : ¬ (AllStopped old.rank)
   pub turns_left : length old.events < old.budget
   pub traced : new.events ≡ old.events ++ event_of deed ∷ []
+  pub next_is : new.next ≡ (old.next + 1) % length plan.order.items
+  pub budget_stays : new.budget ≡ old.budget
+  pub goes_on : new.stop ≡ None
+
+abbrev pub viewed : Station → RankView
+viewed s = record { rank = s.rank; events = s.events; sides = s.sides; asked_box = s.asked }
+
+-- a running rank took a plain turn, of the hart that its plan names: a turn over any desk, which is told nothing
+pub record TakesPlainTurn (plan : Plan) (old new : Station) : Type 0 where
+  pub turn : IsPlainTurn (slice_index plan.order.items old.next) (viewed old) (viewed new)
+  pub turns_left : length old.events < old.budget
   pub next_is : new.next ≡ (old.next + 1) % length plan.order.items
   pub budget_stays : new.budget ≡ old.budget
   pub goes_on : new.stop ≡ None

@@ -1,6 +1,6 @@
 //! A rank at its plan, from its first turn to its end.
 
-ghost use Rattle.std.specs.Prelude.{◌≡◌, ◌<◌, ◌+◌, ◌%◌, List, All, None, Some, IfOk, IsTrue, IsFalse, length, vec_len, is_some};
+ghost use Rattle.std.specs.Prelude.{◌≡◌, ◌<◌, ◌≤◌, ◌+◌, ◌%◌, List, All, None, Some, IfOk, IsTrue, IsFalse, length, vec_len, is_some};
 ghost use Rattle.rv_image.specs.Image.{IsLink};
 ghost use Rattle.part_channel.specs.Channels.{ChannelView};
 ghost use Rattle.cl_rank.specs.RankSides.{AreChannelsOf};
@@ -42,7 +42,8 @@ fn place_after(place: usize, count: usize) -> usize
 }
 
 impl<'a> Seat<'a> {
-    ghost use Rattle.cl_record.specs.Seats.{GoesOn, IsFresh, station};
+    ghost use Rattle.cl_rank.specs.Plains.{Repeats};
+    ghost use Rattle.cl_record.specs.Seats.{GoesOn, IsFresh, TakesPlainTurn, station};
 
     /// A rank as it is loaded, with its plan and its ends of the links. It took no turn.
     pub fn load(
@@ -93,6 +94,24 @@ impl<'a> Seat<'a> {
                 false
             }
         }
+    }
+
+    /// Takes plain turns of the rank by its plan, one after another and at most so many: how many. They are taken where one
+    /// hart has all turns of the plan, and else none. It ends where the next turn isn't plain, or there is none.
+    pub fn run_plain(&mut self, most: u64) -> u64
+        requires running { self.old.stop ≡ None }
+        ensures within { result ≤ most }
+        ensures turns { Repeats (TakesPlainTurn self.old.plan.now) result (station self.old) (station self.new) }
+        ensures plan { self.new.plan.now ≡ self.old.plan.now }
+        ensures channels { (channels : List ChannelView)
+            → AreChannelsOf (station self.old).rank.site.version channels (station self.old).sides
+            → AreChannelsOf (station self.new).rank.site.version channels (station self.new).sides }
+    {
+        if self.plan.order.len() != 1 {
+            return 0;
+        }
+        let hart = self.plan.order[self.next];
+        self.rank.run_plain(hart, most)
     }
 
     /// The rank at its end, and why it stopped.

@@ -9,6 +9,7 @@ pub mod Pairs
 pub mod Slots
 pub mod Closed
 pub mod Going
+pub mod Alone
 pub mod Ends
 pub mod Left
 pub mod Merged

@@ -15,6 +15,7 @@ ghost use Rattle.cl_record.specs.Seats.{GoesOn, Station, station};
 ghost use Rattle.cl_record.specs.declared.plans.Plan.{Plan};
 ghost use Rattle.cl_run.specs.Driver.{Agree, AreJoined, AreSeated, HaveKeys, IsDriver, IsLeftBy, IsStoppedAt};
 ghost use Rattle.cl_run.specs.Driver.{KeysAgree, SlotGoes, left, stations};
+ghost use Rattle.cl_run.specs.Going.{GoesRounds};
 ghost use Rattle.cl_run.specs.UnderWay.{IsUnderWay};
 
 use crate::closing::close;
@@ -196,6 +197,19 @@ impl<'a> Driver<'a> {
         moved
     }
 
+    /// Plain turns of a rank that is alone, as many as follow one another, each in a slot of its own, where the order has
+    /// one. Nothing is done where there are more, or the rank is stopped.
+    fn go_on(&mut self, order: &[u8])
+        requires joined { AreJoined self.old }
+        requires there { All (λ r. r < vec_len self.old.seats) order.now }
+        ensures { GoesRounds order.now self.old self.new }
+    {
+        if order.len() != 1 || self.seats.len() != 1 || self.seats[0].stop.is_some() {
+            return;
+        }
+        self.seats[0].run_plain(u64::MAX);
+    }
+
     /// Round by round, until each rank that the order names is stopped.
     pub(crate) fn run(&mut self, order: &[u8])
         requires joined { AreJoined self.old }
@@ -208,6 +222,7 @@ impl<'a> Driver<'a> {
         ensures seated { (plans : List Plan) → AreSeated plans self.old → AreSeated plans self.new }
     {
         loop {
+            self.go_on(order);
             if !self.round(order, &mut ()) {
                 return;
             }

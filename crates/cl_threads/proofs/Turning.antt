@@ -1,5 +1,5 @@
 -- What a rank's turns so far are, and why it stops.
-use Rattle.std.specs.Prelude.{ℕ, ◌≡◌, ◌≤◌, ◌+◌, ◌%◌, ◌⊎◌, List, [], ◌∷◌, ◌++◌, length, map, slice_get, slice_index, Some}
+use Rattle.std.specs.Prelude.{ℕ, zero, suc, ◌≡◌, ◌≤◌, ◌+◌, ◌%◌, ◌⊎◌, List, [], ◌∷◌, ◌++◌, length, map, slice_get, slice_index, Some}
 use Rattle.std.specs.Prelude.{None, IsTrue, is_some}
 use Rattle.std.specs.List.{AllByRecursion}
 use Rattle.std.proofs.Common.{refl, sym, ap, ◌∙◌, subst, arith}
@@ -16,6 +16,7 @@ use Rattle.cl_state.specs.Rank.{Rank}
 use Rattle.cl_state.proofs.Moves.{told_at}
 use Rattle.cl_rank.specs.Deeds.{Deed, PartRun, RankMoves, answer_of, event_of}
 use Rattle.cl_rank.specs.Alone.{IsAlone}
+use Rattle.cl_rank.specs.Plains.{Repeats}
 use Rattle.cl_rank.specs.RankSides.{KeysMove, Sides}
 use Rattle.cl_rank.specs.Turns.{IsActive}
 use Rattle.cl_rank.specs.Turning.{DeskRule, IsCause, IsFault, RankView, stop_of}
@@ -24,7 +25,8 @@ use Rattle.cl_rank.specs.declared.stops.Stop.{Stop}
 use Rattle.cl_record.proofs.Elements.{last_or_before}
 use Rattle.cl_record.specs.Plans.{in_slot}
 use Rattle.cl_record.specs.Records.{AsksHub, FollowsPlan, HasTurn}
-use Rattle.cl_record.specs.Seats.{GoesOn, Station, Stops, TakesTurn, station}
+use Rattle.cl_record.proofs.Plains.{plain_turn}
+use Rattle.cl_record.specs.Seats.{GoesOn, Station, Stops, TakesPlainTurn, TakesTurn, station}
 use Rattle.cl_record.specs.declared.plans.Plan.{Plan}
 use Rattle.cl_record.specs.declared.seats.Seat.{Seat}
 use Rattle.cl_threads.specs.Alone.{StopsFor}
@@ -62,6 +64,13 @@ no_turns_yet plan seat none = record {
   in_budget = subst (λ (es : List Event). length es ≤ plan.budget) (sym none) (omega arith);
 }
 
+-- and so many turns later
+pub record WentOn (plan : Plan) (old : RankView) (now : Station) (n : ℕ) (new : Station) : Type 0 where
+  pub went : (deeds : List Deed) × WentSoFar plan old new deeds
+  pub next_is : new.next ≡ length new.events % length plan.order.items
+  pub runs : new.stop ≡ None
+  pub longer : length new.events ≡ length now.events + n
+
 -- one turn more, at the place in the plan that the rank's turns came to
 module _ {D : Type 0} (gives : DeskRule D) (plan : Plan) (old : RankView) (now new : Station) (desk left : D)
     (deeds : List Deed) (so : WentSoFar plan old now deeds) (place : now.next ≡ length now.events % length plan.order.items)
@@ -95,6 +104,28 @@ module _ {D : Type 0} (gives : DeskRule D) (plan : Plan) (old : RankView) (now n
     ];
     in_budget = omega (arith, turn.turns_left, budget_is, longer);
   }
+
+-- a desk that is told nothing
+nobody : DeskRule (Unit {0})
+nobody before rank hart clock request told after = Unit {0}
+
+-- several plain turns more
+pub plain_turns_more : (plan : Plan) (old : RankView) (n : ℕ) (now new : Station)
+    → ((deeds : List Deed) × WentSoFar plan old now deeds) → now.next ≡ length now.events % length plan.order.items
+    → now.budget ≡ plan.budget → now.stop ≡ None → Repeats (TakesPlainTurn plan) n now new
+    → WentOn plan old now n new
+plain_turns_more plan old zero now new so place budget runs same =
+    subst (λ (s : Station). WentOn plan old now 0 s) (sym same)
+    (record { went = so; next_is = place; runs = runs; longer = omega arith })
+plain_turns_more plan old (suc n) now new so place budget runs turns =
+    let turn = plain_turn nobody plan now turns.0 tt turns.1 in
+    let more = longer nobody plan old now turns.0 tt tt so.0 so.1 place turn in
+    let rest = plain_turns_more plan old n turns.0 new
+    (so.0 ++ turn.deed ∷ [], one_more_turn nobody plan old now turns.0 tt tt so.0 so.1 place turn budget)
+    (next_place nobody plan old now turns.0 tt tt so.0 so.1 place turn) (turns.1.budget_stays ∙ budget)
+    turns.1.goes_on turns.2 in
+    let far = rest.longer in
+    record { went = rest.went; next_is = rest.next_is; runs = rest.runs; longer = omega (arith, far, more) }
 
 -- no turn more, of the hart that the plan names
 module _ (plan : Plan) (rank : Rank) (events : List Event) (hart budget : ℕ)

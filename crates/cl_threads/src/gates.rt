@@ -23,6 +23,12 @@ pub trait Gate: Sync {
         self.pass(rank, Point::Turn);
     }
 
+    /// How many turns the rank may take, from the one of this number on, which it passed, before it passes again.
+    #[inline(always)]
+    fn free(&self, _rank: u8, _number: u64) -> u64 {
+        1
+    }
+
     /// Whether other ranks may be held until this one comes to its next turn.
     #[inline(always)]
     fn is_awaited(&self, _rank: u8) -> bool {
@@ -37,6 +43,11 @@ pub struct NoGate;
 impl Gate for NoGate {
     #[inline(always)]
     fn pass(&self, _rank: u8, _point: Point) {}
+
+    #[inline(always)]
+    fn free(&self, _rank: u8, _number: u64) -> u64 {
+        u64::MAX
+    }
 }
 
 // What a reference passes is what it points to.
@@ -49,6 +60,11 @@ impl<'g, G: Gate> Gate for &'g G {
     #[inline(always)]
     fn turn(&self, rank: u8, number: u64) {
         (**self).turn(rank, number);
+    }
+
+    #[inline(always)]
+    fn free(&self, rank: u8, number: u64) -> u64 {
+        (**self).free(rank, number)
     }
 
     #[inline(always)]
@@ -75,6 +91,11 @@ impl<G: Gate + Drop> Passage<G> {
     #[inline(always)]
     pub(crate) fn turn(&self, number: u64) {
         self.gate.turn(self.rank, number);
+    }
+
+    #[inline(always)]
+    pub(crate) fn free(&self, number: u64) -> u64 {
+        self.gate.free(self.rank, number)
     }
 
     #[inline(always)]

@@ -232,6 +232,20 @@ impl Gate for Pace {
         }
     }
 
+    /// As far as the turn at which it tells its count again, or has to look.
+    #[inline(always)]
+    fn free(&self, rank: u8, number: u64) -> u64 {
+        if rank >= self.ranks {
+            return u64::MAX;
+        }
+        let runner: &Runner = &self.runners[usize::from(rank)];
+        runner
+            .due
+            .load(Ordering::SeqCst)
+            .saturating_sub(number)
+            .max(1)
+    }
+
     /// One that waits for this rank's count set it due.
     #[inline(always)]
     fn is_awaited(&self, rank: u8) -> bool {

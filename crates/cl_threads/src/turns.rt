@@ -35,6 +35,12 @@ fn take_turns<R: Wait, G: Gate + Drop>(
             desk.rest(passage);
         }
         passage.turn(number);
+        let free = passage.free(number);
+        let done = seat.run_plain(free);
+        number = number.wrapping_add(done);
+        if done > 0 && done >= free {
+            continue;
+        }
         number = number.wrapping_add(1);
         let goes_on = seat.turn(rt, &mut desk, channels);
         if !goes_on {

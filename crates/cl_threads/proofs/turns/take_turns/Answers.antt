@@ -1,10 +1,12 @@
-use Rattle.std.proofs.Common.{◌∙◌, ◌%◌, arith, ◌++◌, ◌∷◌, List, [], length, refl, sym, ap}
+use Rattle.std.proofs.Common.{◌∙◌, ◌%◌, arith, ◌++◌, ◌∷◌, List, [], length, refl, sym, ap, subst}
 use Rattle.std.proofs.Math.Nat.{zero-mod}
 use Rattle.cl_trace.specs.declared.events.Event.{Event}
 use Rattle.cl_rank.specs.Views.{view_of}
-use Rattle.cl_record.specs.Seats.{station}
+use Rattle.cl_rank.specs.Plains.{Repeats}
+use Rattle.cl_record.specs.Seats.{TakesPlainTurn, station}
 use Rattle.cl_record.specs.declared.plans.Plan.{Plan}
-use Rattle.cl_threads.proofs.Turning.{longer, next_place, no_turns_yet, one_more_turn, stopped_by, turned_by, went_by}
+use Rattle.cl_threads.proofs.Turning.{longer, next_place, no_turns_yet, one_more_turn, plain_turns_more, stopped_by}
+use Rattle.cl_threads.proofs.Turning.{turned_by, went_by}
 use Rattle.cl_threads.proofs.turns.take_turns.Goals as goal
 
 pub loop-desk-init : goal.loop-desk-init
@@ -17,19 +19,47 @@ loop-desk-init g c = record {
       ∙ ap (λ (es : List Event). length es % length c.args.seat.now.plan.now.order.items) (sym c.requires.no_events);
 }
 
+pub loop-desk-preserved-then-done-gt-0 : goal.loop-desk-preserved-then-done-gt-0
+loop-desk-preserved-then-done-gt-0 c =
+    let l = c.loop-desk in
+    let kept = l.invariant in
+    let plan = c.args.seat.now.plan.now in
+    let old = view_of c.args.seat.now.rank in
+    let mid = c.run_plain-done.new.self in
+    let on = plain_turns_more plan old c.run_plain-done.result (station l.seat) (station mid) kept.went kept.next_is
+    (l.seat.budget_is ∙ ap (λ (p : Plan). p.budget) kept.plan_is) kept.runs
+    (subst (λ p. Repeats (TakesPlainTurn p) c.run_plain-done.result (station l.seat) (station mid)) kept.plan_is
+    c.run_plain-done.ensures.turns) in
+    let same = c.run_plain-done.ensures.plan ∙ kept.plan_is in
+    let budget = mid.budget_is ∙ ap (λ (p : Plan). p.budget) same in
+    record {
+      went = on.went;
+      plan_is = same;
+      runs = on.runs;
+      over = c.run_plain-done.ensures.channels c.args.channels.now kept.over;
+      next_is = on.next_is;
+    }
+
 pub returns-then-not-goes_on-clause-went : goal.returns-then-not-goes_on-clause-went
 returns-then-not-goes_on-clause-went g c =
     let l = c.loop-desk in
     let kept = l.invariant in
     let plan = c.args.seat.now.plan.now in
+    let old = view_of c.args.seat.now.rank in
+    let mid = c.run_plain-done.new.self in
+    let on = plain_turns_more plan old c.run_plain-done.result (station l.seat) (station mid) kept.went kept.next_is
+    (l.seat.budget_is ∙ ap (λ (p : Plan). p.budget) kept.plan_is) kept.runs
+    (subst (λ p. Repeats (TakesPlainTurn p) c.run_plain-done.result (station l.seat) (station mid)) kept.plan_is
+    c.run_plain-done.ensures.turns) in
+    let same = c.run_plain-done.ensures.plan ∙ kept.plan_is in
+    let budget = mid.budget_is ∙ ap (λ (p : Plan). p.budget) same in
     let new = c.turn-goes_on.new.self in
-    let h = stopped_by _ l.seat.plan.now plan (station l.seat) (station new) _ _ kept.plan_is
+    let h = stopped_by _ mid.plan.now plan (station mid) (station new) _ _ same
     c.turn-goes_on.ensures.goes (c.turn-goes_on.ensures.end c.if-not-goes_on.true) in (
-      kept.went.0,
+      on.went.0,
       h.stop,
       h.stops,
-      went_by _ plan (view_of c.args.seat.now.rank) (station l.seat) new _ _ kept.went.0 kept.went.1 kept.next_is
-          (l.seat.budget_is ∙ ap (λ (p : Plan). p.budget) kept.plan_is) h,
+      went_by _ plan old (station mid) new _ _ on.went.0 on.went.1 on.next_is budget h,
     )
 
 pub loop-desk-preserved : goal.loop-desk-preserved
@@ -38,20 +68,25 @@ loop-desk-preserved g c =
     let kept = l.invariant in
     let plan = c.args.seat.now.plan.now in
     let old = view_of c.args.seat.now.rank in
+    let mid = c.run_plain-done.new.self in
+    let on = plain_turns_more plan old c.run_plain-done.result (station l.seat) (station mid) kept.went kept.next_is
+    (l.seat.budget_is ∙ ap (λ (p : Plan). p.budget) kept.plan_is) kept.runs
+    (subst (λ p. Repeats (TakesPlainTurn p) c.run_plain-done.result (station l.seat) (station mid)) kept.plan_is
+    c.run_plain-done.ensures.turns) in
+    let same = c.run_plain-done.ensures.plan ∙ kept.plan_is in
+    let budget = mid.budget_is ∙ ap (λ (p : Plan). p.budget) same in
     let new = c.turn-goes_on.new.self in
-    let on = c.turn-goes_on.ensures.on c.if-not-goes_on.false in
-    let turn = turned_by _ l.seat.plan.now plan (station l.seat) (station new) _ _ kept.plan_is
-    c.turn-goes_on.ensures.goes on in
+    let goes_on = c.turn-goes_on.ensures.on c.if-not-goes_on.false in
+    let turn = turned_by _ mid.plan.now plan (station mid) (station new) _ _ same c.turn-goes_on.ensures.goes goes_on in
     record {
       went = (
-        kept.went.0 ++ turn.deed ∷ [],
-        one_more_turn _ plan old (station l.seat) (station new) _ _ kept.went.0 kept.went.1 kept.next_is turn
-            (l.seat.budget_is ∙ ap (λ (p : Plan). p.budget) kept.plan_is),
+        on.went.0 ++ turn.deed ∷ [],
+        one_more_turn _ plan old (station mid) (station new) _ _ on.went.0 on.went.1 on.next_is turn budget,
       );
-      plan_is = c.turn-goes_on.ensures.plan ∙ kept.plan_is;
-      runs = on;
+      plan_is = c.turn-goes_on.ensures.plan ∙ same;
+      runs = goes_on;
       over = c.turn-goes_on.ensures.channels;
-      next_is = next_place _ plan old (station l.seat) (station new) _ _ kept.went.0 kept.went.1 kept.next_is turn;
+      next_is = next_place _ plan old (station mid) (station new) _ _ on.went.0 on.went.1 on.next_is turn;
     }
 
 pub loop-desk-smaller : goal.loop-desk-smaller
@@ -60,9 +95,16 @@ loop-desk-smaller g c =
     let kept = l.invariant in
     let plan = c.args.seat.now.plan.now in
     let old = view_of c.args.seat.now.rank in
+    let mid = c.run_plain-done.new.self in
+    let on = plain_turns_more plan old c.run_plain-done.result (station l.seat) (station mid) kept.went kept.next_is
+    (l.seat.budget_is ∙ ap (λ (p : Plan). p.budget) kept.plan_is) kept.runs
+    (subst (λ p. Repeats (TakesPlainTurn p) c.run_plain-done.result (station l.seat) (station mid)) kept.plan_is
+    c.run_plain-done.ensures.turns) in
+    let same = c.run_plain-done.ensures.plan ∙ kept.plan_is in
+    let budget = mid.budget_is ∙ ap (λ (p : Plan). p.budget) same in
     let new = c.turn-goes_on.new.self in
-    let turn = turned_by _ l.seat.plan.now plan (station l.seat) (station new) _ _ kept.plan_is
+    let turn = turned_by _ mid.plan.now plan (station mid) (station new) _ _ same
     c.turn-goes_on.ensures.goes (c.turn-goes_on.ensures.on c.if-not-goes_on.false) in
-    let more = longer _ plan old (station l.seat) (station new) _ _ kept.went.0 kept.went.1 kept.next_is turn in
-    let budget = l.seat.budget_is ∙ ap (λ (p : Plan). p.budget) kept.plan_is in
-    omega (arith, turn.turns_left, more, budget)
+    let more = longer _ plan old (station mid) (station new) _ _ on.went.0 on.went.1 on.next_is turn in
+    let plain = on.longer in
+    omega (arith, turn.turns_left, more, plain, budget)
