@@ -5,7 +5,7 @@ use Rattle.std.specs.Str.{bytes_eq}
 use Rattle.clap.specs.Words.{App, Row, Rule, Text, all_of, new_app}
 use Rattle.rvmc_cli.specs.App.{flag, option, texts, top_app, with_commands, with_rules}
 use Rattle.rvmc_cli.specs.Options.{flag_in, list_option, number_option, optional_number}
-use Rattle.rvmc_line.specs.Debug.{debug_words_in}
+use Rattle.rvmc_words.specs.Debug.{debug_words_in}
 use Rattle.rvmc_line.specs.declared.line.CommandLine.{CommandLine}
 use Rattle.rvmc_line.specs.declared.line.CommandLine.TheVariants.{OfImage, OfRecord}
 use Rattle.rvmc_line.specs.declared.line.ImageCommand.{ImageCommand}

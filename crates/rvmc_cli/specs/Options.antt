@@ -3,7 +3,7 @@ use Rattle.std.specs.Prelude.{ℕ, Bool, false, List, Option, Some, None, codes,
 use Rattle.std.specs.Option.{option_map_or}
 use Rattle.std.specs.Str.{bytes_eq}
 use Rattle.clap.specs.Words.{Row, Text, first_of}
-use Rattle.rvmc_line.specs.Number.{number_in, numbers_in}
+use Rattle.rvmc_words.specs.Number.{number_in, numbers_in}
 
 -- whether a flag was given
 abbrev pub flag_in : Text → List Row → Bool

@@ -4,9 +4,9 @@ use Rattle.clap.specs.declared.error.kind.ErrorKind.TheVariants as kind
 use Rattle.clap.proofs.OnLiterals.{clap_on_literals}
 use Rattle.rvmc_cli.specs.Commands.{line_in}
 use Rattle.rvmc_cli.specs.Meaning.{command_in, faults_in, meaning_of, refusals_of}
-use Rattle.rvmc_line.specs.Debug.{bare_word, debug_word_in, spot_in, word_with}
-use Rattle.rvmc_line.specs.Number.{any_number_in}
-use Rattle.rvmc_line.specs.declared.debug.DebugWord.TheVariants.{Back, Go, Regs}
+use Rattle.rvmc_words.specs.Debug.{bare_word, debug_word_in, spot_in, word_with}
+use Rattle.rvmc_words.specs.Number.{any_number_in}
+use Rattle.rvmc_words.specs.declared.debug.DebugWord.TheVariants.{Back, Go, Regs}
 use Rattle.rvmc_line.specs.declared.line.CommandLine.TheVariants.{OfRecord}
 use Rattle.rvmc_line.specs.declared.line.RecordCommand.TheVariants.{Debug}
 

@@ -6,13 +6,14 @@ ghost use Rattle.clap.specs.Words.{found_of};
 ghost use Rattle.rvmc_cli.specs.Built.{StandsFor};
 ghost use Rattle.rvmc_cli.specs.Commands.{app_of, debug_row};
 ghost use Rattle.rvmc_cli.specs.Parsing.{Finds};
-ghost use Rattle.rvmc_line.specs.Debug.{debug_words_in};
+ghost use Rattle.rvmc_words.specs.Debug.{debug_words_in};
 
 use crate::parts::{command as new_command, texts};
 use crate::values;
 use crate::wrong::Wrong;
 use clap::{ArgMatches, Command};
-use rvmc_line::{CommandLine, DebugWords, RecordCommand, debug_word_in};
+use rvmc_line::{CommandLine, RecordCommand};
+use rvmc_words::{DebugWords, debug_word_in};
 use std::alloc::{AllocError, Global};
 
 /// What help says below its options.

@@ -12,7 +12,8 @@ use crate::runner::{budget, runner, written};
 use crate::values::{self, list};
 use crate::wrong::Wrong;
 use clap::{ArgMatches, Command};
-use rvmc_line::{CommandLine, ImageCommand, Numbers, Written};
+use rvmc_line::{CommandLine, ImageCommand, Written};
+use rvmc_words::Numbers;
 use std::alloc::{AllocError, Global};
 
 /// What help says below its options.

@@ -9,7 +9,7 @@ ghost use Rattle.rvmc_cli.specs.Parsing.{Finds, Reads};
 
 use crate::wrong::Wrong;
 use clap::ArgMatches;
-use rvmc_line::{Numbers, number_in, numbers_in};
+use rvmc_words::{Numbers, number_in, numbers_in};
 use std::alloc::Global;
 
 /// The text that was given for an option.

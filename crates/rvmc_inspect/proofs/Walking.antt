@@ -3,7 +3,7 @@ use Rattle.std.specs.Prelude.{ℕ, ◌≡◌, ◌+◌, ◌<◌, ◌++◌, List, 
 use Rattle.std.proofs.Common.{◌∙◌, ap, append-nil, append_assoc, get_or, refl, subst, sym}
 use Rattle.std.proofs.lemmas.List.{take_more}
 use Rattle.cl_debug.specs.Debugging.{Debugging}
-use Rattle.rvmc_line.specs.declared.debug.DebugWord.{DebugWord}
+use Rattle.rvmc_words.specs.declared.debug.DebugWord.{DebugWord}
 use Rattle.rvmc_inspect.specs.Words.{Does, Walks}
 
 -- one word more

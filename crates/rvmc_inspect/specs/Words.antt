@@ -8,10 +8,10 @@ use Rattle.cl_debug.specs.Moves.{MovedBack, MovedOn, RanOn}
 use Rattle.cl_debug.specs.Shown.{HasNoSymbol, IsOutside, IsSymbolOf, ShowsBytes, ShowsHart, ShowsRank}
 use Rattle.cl_debug.specs.declared.faults.DebugFault.{DebugFault}
 use Rattle.cl_debug.specs.declared.faults.DebugFault.TheVariants as faults
-use Rattle.rvmc_line.specs.declared.debug.DebugWord.{DebugWord}
-use Rattle.rvmc_line.specs.declared.debug.DebugWord.TheVariants.{Back, Break, Bytes, Frames, Go, Output, Place, Regs, Run, Step}
-use Rattle.rvmc_line.specs.declared.debug.Spot.{Spot}
-use Rattle.rvmc_line.specs.declared.debug.Spot.TheVariants as spot
+use Rattle.rvmc_words.specs.declared.debug.DebugWord.{DebugWord}
+use Rattle.rvmc_words.specs.declared.debug.DebugWord.TheVariants.{Back, Break, Bytes, Frames, Go, Output, Place, Regs, Run, Step}
+use Rattle.rvmc_words.specs.declared.debug.Spot.{Spot}
+use Rattle.rvmc_words.specs.declared.debug.Spot.TheVariants as spot
 use Rattle.cl_state.specs.Rank.{Rank}
 use Rattle.rvmc_report.specs.Report.{output_text}
 use Rattle.rvmc_inspect.specs.WordTexts.{bytes_text, frames_text, place_text, regs_text}

@@ -2,13 +2,13 @@
 
 ghost use Rattle.std.specs.Prelude.{◌≡◌, ◌<◌, ◌++◌, IfErr, IfOk, List, OnErr, OnOk, length, ℕ};
 ghost use Rattle.cl_debug.specs.declared.faults.DebugFault.TheVariants.{NoSymbol};
-ghost use Rattle.rvmc_line.specs.declared.debug.DebugWord.TheVariants as word;
+ghost use Rattle.rvmc_words.specs.declared.debug.DebugWord.TheVariants as word;
 ghost use Rattle.rvmc_inspect.specs.Words.{AddsBreak, Does, IsSpot, IsTextOfWords, IsUnknown, Refuses, TellsBytes, TellsPlace};
 ghost use Rattle.rvmc_inspect.specs.Words.{TellsFrames, TellsOutput, TellsRegs, WantsMemory};
 
 use crate::word_texts::{bytes_text, frames_text, output_text, place_text, regs_text};
 use cl_debug::{DebugFault, Debugger};
-use rvmc_line::{DebugWord, Spot};
+use rvmc_words::{DebugWord, Spot};
 use std::alloc::{AllocError, Global};
 
 /// What the words printed, and why one of them was refused, if one was: the text is then that of the words before it.

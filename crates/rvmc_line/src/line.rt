@@ -3,8 +3,7 @@
 ghost use Rattle.std.specs.Prelude.{◌≡◌};
 ghost use Rattle.rvmc_line.specs.declared.line.ParseFault.TheVariants.{Memory};
 
-use crate::debug::DebugWords;
-use crate::list::Numbers;
+use rvmc_words::{DebugWords, Numbers};
 use std::alloc::AllocError;
 
 /// What is written of a run.

@@ -16,7 +16,7 @@ use Rattle.rv_image.specs.Image.{IsImage}
 use Rattle.rv_image.specs.declared.images.ImageParts.{ImageParts}
 use Rattle.rvmc_inspect.specs.Why.{IsWhy}
 use Rattle.rvmc_inspect.specs.Words.{IsTextOfWords}
-use Rattle.rvmc_line.specs.declared.debug.DebugWord.{DebugWord}
+use Rattle.rvmc_words.specs.declared.debug.DebugWord.{DebugWord}
 use Rattle.rvmc_line.specs.declared.line.RecordCommand.{RecordCommand}
 use Rattle.rvmc_line.specs.declared.line.RecordCommand.TheVariants.{Check, Debug, List as ListSteps, Report, Stats}
 use Rattle.rvmc_line.specs.declared.line.RecordCommand.TheVariants.{Why}

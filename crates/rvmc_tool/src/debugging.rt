@@ -12,8 +12,8 @@ use cl_debug::{DebugFault, Debugger};
 use cl_machine::Step;
 use rv_image::Image;
 use rvmc_inspect::tell_all;
-use rvmc_line::DebugWords;
 use rvmc_report::faults::Fault;
+use rvmc_words::DebugWords;
 use std::alloc::Global;
 
 /// How words end: all of them are done, or one is refused.

@@ -12,10 +12,9 @@ use rvmc_hints::{
     Hint, Wanted, content_hint, form_of, is_file_name, is_near, magic_hint, plans_hint, short_hint,
     source_hint,
 };
-use rvmc_line::{
-    CommandLine, DebugWord, DebugWords, ImageCommand, Numbers, RecordCommand, Spot, debug_word_in,
-};
+use rvmc_line::{CommandLine, ImageCommand, RecordCommand};
 use rvmc_report::faults::Fault;
+use rvmc_words::{DebugWord, DebugWords, Numbers, Spot, debug_word_in};
 use std::alloc::Global;
 use std::io::Write;
 

@@ -6,7 +6,7 @@ ghost use Rattle.rvmc_tool.specs.Plans.{ArePlansOf, IsPlanOf, listed};
 
 use cl_record::Plan;
 use rv_image::Image;
-use rvmc_line::Numbers;
+use rvmc_words::Numbers;
 use std::alloc::{AllocError, Global};
 
 /// The numbers below the count, in order.

@@ -18,10 +18,11 @@ use crate::runs::{record_of, told};
 use cl_ending::{Stuck, run_one_until_stuck};
 use cl_record::{Plan, Record};
 use rv_image::Image;
-use rvmc_line::{Numbers, Written};
+use rvmc_line::Written;
 use rvmc_report::faults::Fault;
 use rvmc_report::report::status;
 use rvmc_report::stuck::stuck_report;
+use rvmc_words::Numbers;
 use std::alloc::{AllocError, Global};
 
 /// The report of a run that was ended at a deadlock, and behind it what its harts wait for. Each rank has so many turns by

@@ -10,10 +10,11 @@ ghost use Rattle.rvmc_tool.specs.Outputs.{output_bytes};
 ghost use Rattle.rvmc_report.specs.declared.faults.Fault.TheVariants as faults;
 
 use cl_run::Plan;
-use rvmc_line::{CommandLine, ImageCommand, Numbers, RecordCommand, Written};
+use rvmc_line::{CommandLine, ImageCommand, RecordCommand, Written};
 use rvmc_report::faults::Fault;
 use rvmc_tool::answers::{Answer, answer_to, answer_with_threads};
 use rvmc_tool::plans::{listed, plans};
+use rvmc_words::Numbers;
 use std::alloc::{AllocError, Global};
 use std::sync::Wait;
 use std::thread::Threads;

@@ -61,7 +61,7 @@ pub fn source_runs_a_source(alloc: Global) -> Result<CommandLine, ParseFault>
 }
 
 /// `--budget` bounds the turns, and nothing else.
-#[tactic(auto, unfolding(rvmc_cli::specs::Meaning::faults_in, rvmc_cli::specs::Meaning::command_in, rvmc_cli::specs::Commands::line_in, clap::proofs::OnLiterals::clap_on_literals, rvmc_line::specs::Number::number_in))]
+#[tactic(auto, unfolding(rvmc_cli::specs::Meaning::faults_in, rvmc_cli::specs::Meaning::command_in, rvmc_cli::specs::Commands::line_in, clap::proofs::OnLiterals::clap_on_literals, rvmc_words::specs::Number::number_in))]
 pub fn budget_is_heeded(alloc: Global) -> Result<CommandLine, ParseFault>
     ensures { IfOk result (λ line. line ≡ OfImage false (One 5 None None written.Report)) }
 {
@@ -69,7 +69,7 @@ pub fn budget_is_heeded(alloc: Global) -> Result<CommandLine, ParseFault>
 }
 
 /// A budget of 0 is refused.
-#[tactic(auto, unfolding(rvmc_cli::specs::Meaning::faults_in, rvmc_cli::specs::Meaning::command_in, rvmc_cli::specs::Commands::line_in, clap::proofs::OnLiterals::clap_on_literals, rvmc_line::specs::Number::number_in))]
+#[tactic(auto, unfolding(rvmc_cli::specs::Meaning::faults_in, rvmc_cli::specs::Meaning::command_in, rvmc_cli::specs::Commands::line_in, clap::proofs::OnLiterals::clap_on_literals, rvmc_words::specs::Number::number_in))]
 pub fn budget_of_0_is_refused(alloc: Global) -> Result<CommandLine, ParseFault>
     ensures { IsErr result }
 {
@@ -77,7 +77,7 @@ pub fn budget_of_0_is_refused(alloc: Global) -> Result<CommandLine, ParseFault>
 }
 
 /// The greatest budget is taken.
-#[tactic(auto, unfolding(rvmc_cli::specs::Meaning::faults_in, rvmc_cli::specs::Meaning::command_in, rvmc_cli::specs::Commands::line_in, clap::proofs::OnLiterals::clap_on_literals, rvmc_line::specs::Number::number_in))]
+#[tactic(auto, unfolding(rvmc_cli::specs::Meaning::faults_in, rvmc_cli::specs::Meaning::command_in, rvmc_cli::specs::Commands::line_in, clap::proofs::OnLiterals::clap_on_literals, rvmc_words::specs::Number::number_in))]
 pub fn budget_of_16777216_is_heeded(alloc: Global) -> Result<CommandLine, ParseFault>
     ensures { IfOk result (λ line. line ≡ OfImage false (One 16777216 None None written.Report)) }
 {
@@ -85,7 +85,7 @@ pub fn budget_of_16777216_is_heeded(alloc: Global) -> Result<CommandLine, ParseF
 }
 
 /// One more is refused.
-#[tactic(auto, unfolding(rvmc_cli::specs::Meaning::faults_in, rvmc_cli::specs::Meaning::command_in, rvmc_cli::specs::Commands::line_in, clap::proofs::OnLiterals::clap_on_literals, rvmc_line::specs::Number::number_in))]
+#[tactic(auto, unfolding(rvmc_cli::specs::Meaning::faults_in, rvmc_cli::specs::Meaning::command_in, rvmc_cli::specs::Commands::line_in, clap::proofs::OnLiterals::clap_on_literals, rvmc_words::specs::Number::number_in))]
 pub fn budget_of_16777217_is_refused(alloc: Global) -> Result<CommandLine, ParseFault>
     ensures { IsErr result }
 {
@@ -109,7 +109,7 @@ pub fn version_is_no_refusal(alloc: Global) -> Result<CommandLine, ParseFault>
 }
 
 /// `--plan` lists harts.
-#[tactic(auto, unfolding(rvmc_cli::specs::Meaning::faults_in, rvmc_cli::specs::Meaning::command_in, rvmc_cli::specs::Commands::line_in, clap::proofs::OnLiterals::clap_on_literals, rvmc_line::specs::Number::number_in, rvmc_line::specs::Number::numbers_in))]
+#[tactic(auto, unfolding(rvmc_cli::specs::Meaning::faults_in, rvmc_cli::specs::Meaning::command_in, rvmc_cli::specs::Commands::line_in, clap::proofs::OnLiterals::clap_on_literals, rvmc_words::specs::Number::number_in, rvmc_words::specs::Number::numbers_in))]
 pub fn plan_is_for_harts(alloc: Global) -> Result<CommandLine, ParseFault>
     ensures { IfOk result (λ line. line ≡ OfImage false (One 1000000 (Some (0 ∷ 1 ∷ [])) None written.Report)) }
 {
@@ -117,7 +117,7 @@ pub fn plan_is_for_harts(alloc: Global) -> Result<CommandLine, ParseFault>
 }
 
 /// `--order` lists ranks.
-#[tactic(auto, unfolding(rvmc_cli::specs::Meaning::faults_in, rvmc_cli::specs::Meaning::command_in, rvmc_cli::specs::Commands::line_in, clap::proofs::OnLiterals::clap_on_literals, rvmc_line::specs::Number::number_in, rvmc_line::specs::Number::numbers_in))]
+#[tactic(auto, unfolding(rvmc_cli::specs::Meaning::faults_in, rvmc_cli::specs::Meaning::command_in, rvmc_cli::specs::Commands::line_in, clap::proofs::OnLiterals::clap_on_literals, rvmc_words::specs::Number::number_in, rvmc_words::specs::Number::numbers_in))]
 pub fn order_is_for_ranks(alloc: Global) -> Result<CommandLine, ParseFault>
     ensures { IfOk result (λ line. line ≡ OfImage false (One 1000000 None (Some (1 ∷ 0 ∷ [])) written.Report)) }
 {
@@ -125,7 +125,7 @@ pub fn order_is_for_ranks(alloc: Global) -> Result<CommandLine, ParseFault>
 }
 
 /// A list that is none is refused, and not left out.
-#[tactic(auto, unfolding(rvmc_cli::specs::Meaning::faults_in, rvmc_cli::specs::Meaning::command_in, rvmc_cli::specs::Commands::line_in, clap::proofs::OnLiterals::clap_on_literals, rvmc_line::specs::Number::number_in, rvmc_line::specs::Number::numbers_in))]
+#[tactic(auto, unfolding(rvmc_cli::specs::Meaning::faults_in, rvmc_cli::specs::Meaning::command_in, rvmc_cli::specs::Commands::line_in, clap::proofs::OnLiterals::clap_on_literals, rvmc_words::specs::Number::number_in, rvmc_words::specs::Number::numbers_in))]
 pub fn wrong_order_is_refused(alloc: Global) -> Result<CommandLine, ParseFault>
     ensures { IsErr result }
 {
@@ -141,7 +141,7 @@ pub fn run_leads_by_64(alloc: Global) -> Result<CommandLine, ParseFault>
 }
 
 /// It takes a source, a budget and a plan as `one` does.
-#[tactic(auto, unfolding(rvmc_cli::specs::Meaning::faults_in, rvmc_cli::specs::Meaning::command_in, rvmc_cli::specs::Commands::line_in, clap::proofs::OnLiterals::clap_on_literals, rvmc_line::specs::Number::number_in, rvmc_line::specs::Number::numbers_in))]
+#[tactic(auto, unfolding(rvmc_cli::specs::Meaning::faults_in, rvmc_cli::specs::Meaning::command_in, rvmc_cli::specs::Commands::line_in, clap::proofs::OnLiterals::clap_on_literals, rvmc_words::specs::Number::number_in, rvmc_words::specs::Number::numbers_in))]
 pub fn run_takes_what_one_takes(alloc: Global) -> Result<CommandLine, ParseFault>
     ensures { IfOk result (λ line. line ≡ OfImage true (Run 5 (Some (0 ∷ 1 ∷ [])) 64 written.Report)) }
 {
@@ -152,7 +152,7 @@ pub fn run_takes_what_one_takes(alloc: Global) -> Result<CommandLine, ParseFault
 }
 
 /// `--lead` bounds the lead, and nothing else.
-#[tactic(auto, unfolding(rvmc_cli::specs::Meaning::faults_in, rvmc_cli::specs::Meaning::command_in, rvmc_cli::specs::Commands::line_in, clap::proofs::OnLiterals::clap_on_literals, rvmc_line::specs::Number::number_in))]
+#[tactic(auto, unfolding(rvmc_cli::specs::Meaning::faults_in, rvmc_cli::specs::Meaning::command_in, rvmc_cli::specs::Commands::line_in, clap::proofs::OnLiterals::clap_on_literals, rvmc_words::specs::Number::number_in))]
 pub fn lead_of_1_is_heeded(alloc: Global) -> Result<CommandLine, ParseFault>
     ensures { IfOk result (λ line. line ≡ OfImage false (Run 1000000 None 1 written.Report)) }
 {
@@ -160,7 +160,7 @@ pub fn lead_of_1_is_heeded(alloc: Global) -> Result<CommandLine, ParseFault>
 }
 
 /// It may stand behind an equals sign.
-#[tactic(auto, unfolding(rvmc_cli::specs::Meaning::faults_in, rvmc_cli::specs::Meaning::command_in, rvmc_cli::specs::Commands::line_in, clap::proofs::OnLiterals::clap_on_literals, rvmc_line::specs::Number::number_in))]
+#[tactic(auto, unfolding(rvmc_cli::specs::Meaning::faults_in, rvmc_cli::specs::Meaning::command_in, rvmc_cli::specs::Commands::line_in, clap::proofs::OnLiterals::clap_on_literals, rvmc_words::specs::Number::number_in))]
 pub fn lead_behind_an_equals_sign_is_heeded(alloc: Global) -> Result<CommandLine, ParseFault>
     ensures { IfOk result (λ line. line ≡ OfImage false (Run 1000000 None 5 written.Report)) }
 {
@@ -168,7 +168,7 @@ pub fn lead_behind_an_equals_sign_is_heeded(alloc: Global) -> Result<CommandLine
 }
 
 /// The greatest lead is taken.
-#[tactic(auto, unfolding(rvmc_cli::specs::Meaning::faults_in, rvmc_cli::specs::Meaning::command_in, rvmc_cli::specs::Commands::line_in, clap::proofs::OnLiterals::clap_on_literals, rvmc_line::specs::Number::number_in))]
+#[tactic(auto, unfolding(rvmc_cli::specs::Meaning::faults_in, rvmc_cli::specs::Meaning::command_in, rvmc_cli::specs::Commands::line_in, clap::proofs::OnLiterals::clap_on_literals, rvmc_words::specs::Number::number_in))]
 pub fn lead_of_65536_is_heeded(alloc: Global) -> Result<CommandLine, ParseFault>
     ensures { IfOk result (λ line. line ≡ OfImage false (Run 1000000 None 65536 written.Report)) }
 {
@@ -176,7 +176,7 @@ pub fn lead_of_65536_is_heeded(alloc: Global) -> Result<CommandLine, ParseFault>
 }
 
 /// One more is refused.
-#[tactic(auto, unfolding(rvmc_cli::specs::Meaning::faults_in, rvmc_cli::specs::Meaning::command_in, rvmc_cli::specs::Commands::line_in, clap::proofs::OnLiterals::clap_on_literals, rvmc_line::specs::Number::number_in))]
+#[tactic(auto, unfolding(rvmc_cli::specs::Meaning::faults_in, rvmc_cli::specs::Meaning::command_in, rvmc_cli::specs::Commands::line_in, clap::proofs::OnLiterals::clap_on_literals, rvmc_words::specs::Number::number_in))]
 pub fn lead_of_65537_is_refused(alloc: Global) -> Result<CommandLine, ParseFault>
     ensures { IsErr result }
 {
@@ -184,7 +184,7 @@ pub fn lead_of_65537_is_refused(alloc: Global) -> Result<CommandLine, ParseFault
 }
 
 /// A lead of 0 is refused.
-#[tactic(auto, unfolding(rvmc_cli::specs::Meaning::faults_in, rvmc_cli::specs::Meaning::command_in, rvmc_cli::specs::Commands::line_in, clap::proofs::OnLiterals::clap_on_literals, rvmc_line::specs::Number::number_in))]
+#[tactic(auto, unfolding(rvmc_cli::specs::Meaning::faults_in, rvmc_cli::specs::Meaning::command_in, rvmc_cli::specs::Commands::line_in, clap::proofs::OnLiterals::clap_on_literals, rvmc_words::specs::Number::number_in))]
 pub fn lead_of_0_is_refused(alloc: Global) -> Result<CommandLine, ParseFault>
     ensures { IsErr result }
 {
@@ -192,7 +192,7 @@ pub fn lead_of_0_is_refused(alloc: Global) -> Result<CommandLine, ParseFault>
 }
 
 /// A lead that is given twice is refused.
-#[tactic(auto, unfolding(rvmc_cli::specs::Meaning::faults_in, rvmc_cli::specs::Meaning::command_in, rvmc_cli::specs::Commands::line_in, clap::proofs::OnLiterals::clap_on_literals, rvmc_line::specs::Number::number_in))]
+#[tactic(auto, unfolding(rvmc_cli::specs::Meaning::faults_in, rvmc_cli::specs::Meaning::command_in, rvmc_cli::specs::Commands::line_in, clap::proofs::OnLiterals::clap_on_literals, rvmc_words::specs::Number::number_in))]
 pub fn lead_twice_is_refused(alloc: Global) -> Result<CommandLine, ParseFault>
     ensures { IsErr result }
 {
@@ -200,7 +200,7 @@ pub fn lead_twice_is_refused(alloc: Global) -> Result<CommandLine, ParseFault>
 }
 
 /// `one` has no lead.
-#[tactic(auto, unfolding(rvmc_cli::specs::Meaning::faults_in, rvmc_cli::specs::Meaning::command_in, rvmc_cli::specs::Commands::line_in, clap::proofs::OnLiterals::clap_on_literals, rvmc_line::specs::Number::number_in))]
+#[tactic(auto, unfolding(rvmc_cli::specs::Meaning::faults_in, rvmc_cli::specs::Meaning::command_in, rvmc_cli::specs::Commands::line_in, clap::proofs::OnLiterals::clap_on_literals, rvmc_words::specs::Number::number_in))]
 pub fn lead_of_one_is_refused(alloc: Global) -> Result<CommandLine, ParseFault>
     ensures { IsErr result }
 {
@@ -208,7 +208,7 @@ pub fn lead_of_one_is_refused(alloc: Global) -> Result<CommandLine, ParseFault>
 }
 
 /// `run` has no order.
-#[tactic(auto, unfolding(rvmc_cli::specs::Meaning::faults_in, rvmc_cli::specs::Meaning::command_in, rvmc_cli::specs::Commands::line_in, clap::proofs::OnLiterals::clap_on_literals, rvmc_line::specs::Number::number_in, rvmc_line::specs::Number::numbers_in))]
+#[tactic(auto, unfolding(rvmc_cli::specs::Meaning::faults_in, rvmc_cli::specs::Meaning::command_in, rvmc_cli::specs::Commands::line_in, clap::proofs::OnLiterals::clap_on_literals, rvmc_words::specs::Number::number_in, rvmc_words::specs::Number::numbers_in))]
 pub fn order_of_run_is_refused(alloc: Global) -> Result<CommandLine, ParseFault>
     ensures { IsErr result }
 {
@@ -312,7 +312,7 @@ pub fn why_tells_of_the_end(alloc: Global) -> Result<CommandLine, ParseFault>
 }
 
 /// With `--at` of the place with so many steps done, the start too.
-#[tactic(auto, unfolding(rvmc_cli::specs::Meaning::faults_in, rvmc_cli::specs::Meaning::command_in, rvmc_cli::specs::Commands::line_in, clap::proofs::OnLiterals::clap_on_literals, rvmc_line::specs::Number::number_in))]
+#[tactic(auto, unfolding(rvmc_cli::specs::Meaning::faults_in, rvmc_cli::specs::Meaning::command_in, rvmc_cli::specs::Commands::line_in, clap::proofs::OnLiterals::clap_on_literals, rvmc_words::specs::Number::number_in))]
 pub fn why_tells_of_the_start(alloc: Global) -> Result<CommandLine, ParseFault>
     ensures { IfOk result (λ line. line ≡ OfRecord (Why (Some 0) false)) }
 {
@@ -328,7 +328,7 @@ pub fn why_tells_of_calls(alloc: Global) -> Result<CommandLine, ParseFault>
 }
 
 /// No record has more steps than a `u64` counts.
-#[tactic(auto, unfolding(rvmc_cli::specs::Meaning::faults_in, rvmc_cli::specs::Meaning::command_in, rvmc_cli::specs::Commands::line_in, clap::proofs::OnLiterals::clap_on_literals, rvmc_line::specs::Number::number_in))]
+#[tactic(auto, unfolding(rvmc_cli::specs::Meaning::faults_in, rvmc_cli::specs::Meaning::command_in, rvmc_cli::specs::Commands::line_in, clap::proofs::OnLiterals::clap_on_literals, rvmc_words::specs::Number::number_in))]
 pub fn place_of_65_bits_is_refused(alloc: Global) -> Result<CommandLine, ParseFault>
     ensures { IsErr result }
 {

@@ -2,11 +2,11 @@
 
 ghost use Rattle.std.specs.Prelude.{◌≡◌, [], ◌∷◌, IfOk, None, Some, true};
 
-use rvmc_line::{Numbers, number_in, numbers_in};
+use rvmc_words::{Numbers, number_in, numbers_in};
 use std::alloc::{AllocError, Global};
 
 /// 0 is no budget.
-#[tactic(auto, unfolding(rvmc_line::specs::Number::number_in))]
+#[tactic(auto, unfolding(rvmc_words::specs::Number::number_in))]
 pub fn number_below_its_least() -> Option<u64>
     ensures { result ≡ None }
 {
@@ -14,7 +14,7 @@ pub fn number_below_its_least() -> Option<u64>
 }
 
 /// The greatest budget is a budget, with zeros before it too.
-#[tactic(auto, unfolding(rvmc_line::specs::Number::number_in))]
+#[tactic(auto, unfolding(rvmc_words::specs::Number::number_in))]
 pub fn number_at_its_most() -> Option<u64>
     ensures { result ≡ Some 16777216 }
 {
@@ -22,7 +22,7 @@ pub fn number_at_its_most() -> Option<u64>
 }
 
 /// One more is none.
-#[tactic(auto, unfolding(rvmc_line::specs::Number::number_in))]
+#[tactic(auto, unfolding(rvmc_words::specs::Number::number_in))]
 pub fn number_beyond_its_most() -> Option<u64>
     ensures { result ≡ None }
 {
@@ -30,7 +30,7 @@ pub fn number_beyond_its_most() -> Option<u64>
 }
 
 /// A plus before the digits is no digit.
-#[tactic(auto, unfolding(rvmc_line::specs::Number::number_in))]
+#[tactic(auto, unfolding(rvmc_words::specs::Number::number_in))]
 pub fn number_with_a_plus() -> Option<u64>
     ensures { result ≡ None }
 {
@@ -38,7 +38,7 @@ pub fn number_with_a_plus() -> Option<u64>
 }
 
 /// Hex digits are none.
-#[tactic(auto, unfolding(rvmc_line::specs::Number::number_in))]
+#[tactic(auto, unfolding(rvmc_words::specs::Number::number_in))]
 pub fn number_in_hex() -> Option<u64>
     ensures { result ≡ None }
 {
@@ -46,7 +46,7 @@ pub fn number_in_hex() -> Option<u64>
 }
 
 /// No digit is no number.
-#[tactic(auto, unfolding(rvmc_line::specs::Number::number_in))]
+#[tactic(auto, unfolding(rvmc_words::specs::Number::number_in))]
 pub fn number_of_nothing() -> Option<u64>
     ensures { result ≡ None }
 {
@@ -54,7 +54,7 @@ pub fn number_of_nothing() -> Option<u64>
 }
 
 /// A list has its numbers in order, with zeros before them too.
-#[tactic(auto, unfolding(rvmc_line::specs::Number::numbers_in, rvmc_line::specs::Number::number_in))]
+#[tactic(auto, unfolding(rvmc_words::specs::Number::numbers_in, rvmc_words::specs::Number::number_in))]
 pub fn list_in_its_order(alloc: Global) -> Result<Option<Numbers>, AllocError>
     ensures { IfOk result (λ found. found ≡ Some (255 ∷ 0 ∷ 17 ∷ [])) }
 {
@@ -62,7 +62,7 @@ pub fn list_in_its_order(alloc: Global) -> Result<Option<Numbers>, AllocError>
 }
 
 /// A blank parts no numbers.
-#[tactic(auto, unfolding(rvmc_line::specs::Number::numbers_in, rvmc_line::specs::Number::number_in))]
+#[tactic(auto, unfolding(rvmc_words::specs::Number::numbers_in, rvmc_words::specs::Number::number_in))]
 pub fn list_with_a_blank(alloc: Global) -> Result<Option<Numbers>, AllocError>
     ensures { IfOk result (λ found. found ≡ None) }
 {
@@ -70,7 +70,7 @@ pub fn list_with_a_blank(alloc: Global) -> Result<Option<Numbers>, AllocError>
 }
 
 /// Nothing between two commas is no number, and such a list is none.
-#[tactic(auto, unfolding(rvmc_line::specs::Number::numbers_in, rvmc_line::specs::Number::number_in))]
+#[tactic(auto, unfolding(rvmc_words::specs::Number::numbers_in, rvmc_words::specs::Number::number_in))]
 pub fn list_with_two_commas(alloc: Global) -> Result<Option<Numbers>, AllocError>
     ensures { IfOk result (λ found. found ≡ None) }
 {
@@ -78,7 +78,7 @@ pub fn list_with_two_commas(alloc: Global) -> Result<Option<Numbers>, AllocError
 }
 
 /// 256 is in no list.
-#[tactic(auto, unfolding(rvmc_line::specs::Number::numbers_in, rvmc_line::specs::Number::number_in))]
+#[tactic(auto, unfolding(rvmc_words::specs::Number::numbers_in, rvmc_words::specs::Number::number_in))]
 pub fn list_with_256(alloc: Global) -> Result<Option<Numbers>, AllocError>
     ensures { IfOk result (λ found. found ≡ None) }
 {

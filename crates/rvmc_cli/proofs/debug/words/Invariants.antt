@@ -1,6 +1,6 @@
 use Rattle.std.proofs.Common.{◌≡◌, ◌++◌, drop, map}
 use Rattle.std.specs.Prelude.{option_map}
-use Rattle.rvmc_line.specs.Debug.{debug_words_in}
+use Rattle.rvmc_words.specs.Debug.{debug_words_in}
 use Rattle.rvmc_cli.proofs.debug.words.Given as goal
 
 -- the words so far, and those of the texts that are left

@@ -1,7 +1,7 @@
 use Rattle.std.proofs.Common.{List, subst}
 use Rattle.cl_debug.specs.Debugging.{Debugging}
 use Rattle.rvmc_inspect.specs.Words.{IsTextOfWords}
-use Rattle.rvmc_line.specs.declared.debug.DebugWord.{DebugWord}
+use Rattle.rvmc_words.specs.declared.debug.DebugWord.{DebugWord}
 use Rattle.rvmc_tool.proofs.debugging.debugged.Goals as goal
 
 pub returns-clause-tells : goal.returns-clause-tells

@@ -1,10 +1,10 @@
 -- Worked words of `debug`: each form, and texts that are no word.
 use Rattle.std.specs.Prelude.{◌≡◌, List, ℕ, None, Option, Some, codes, refl}
-use Rattle.rvmc_line.specs.Debug.{bare_word, debug_word_in, spot_in, word_with}
-use Rattle.rvmc_line.specs.Number.{any_number_in}
-use Rattle.rvmc_line.specs.declared.debug.DebugWord.{DebugWord}
-use Rattle.rvmc_line.specs.declared.debug.DebugWord.TheVariants.{Back, Break, Bytes, Frames, Go, Output, Place, Regs, Run, Step}
-use Rattle.rvmc_line.specs.declared.debug.Spot.TheVariants.{Address, Name}
+use Rattle.rvmc_words.specs.Debug.{bare_word, debug_word_in, spot_in, word_with}
+use Rattle.rvmc_words.specs.Number.{any_number_in}
+use Rattle.rvmc_words.specs.declared.debug.DebugWord.{DebugWord}
+use Rattle.rvmc_words.specs.declared.debug.DebugWord.TheVariants.{Back, Break, Bytes, Frames, Go, Output, Place, Regs, Run, Step}
+use Rattle.rvmc_words.specs.declared.debug.Spot.TheVariants.{Address, Name}
 
 abbrev Reads : List ℕ → Option DebugWord → Type 0
 Reads text word = debug_word_in text ≡ word

@@ -4,7 +4,7 @@ use Rattle.std.proofs.lemmas.Bool.{le-leb, leb-true, lt-leb}
 use Rattle.std.specs.List.{list_all}
 use Rattle.std.specs.Char.{digit_value, is_digit}
 use Rattle.std.specs.Str.Parse.{AllDigits, IsNumeral, digits_value, without_leading_plus}
-use Rattle.rvmc_line.specs.Number.{is_numeral, number_in_base}
+use Rattle.rvmc_words.specs.Number.{is_numeral, number_in_base}
 
 digits_pass : (base : ℕ) (ds : List ℕ) → AllDigits base ds → list_all (λ d. is_digit d base) ds ≡ true
 digits_pass base [] h = refl

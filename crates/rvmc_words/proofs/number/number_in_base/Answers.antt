@@ -1,6 +1,6 @@
 use Rattle.std.proofs.Common.{rules, ◌≡◌, ◌∙◌, ◌==◌, false, slice_index}
-use Rattle.rvmc_line.proofs.Digits.{inside, large, not_empty, not_plus, read_number, read_none, small}
-use Rattle.rvmc_line.proofs.number.number_in_base.Goals as goal
+use Rattle.rvmc_words.proofs.Digits.{inside, large, not_empty, not_plus, read_number, read_none, small}
+use Rattle.rvmc_words.proofs.number.number_in_base.Goals as goal
 
 pub returns-then-is_empty-clause-value : goal.returns-then-is_empty-clause-value
 returns-then-is_empty-clause-value c = not_empty c.args.base c.args.least c.args.most c.args.text.now (search rules)

@@ -1,7 +1,7 @@
 use Rattle.std.proofs.Common.{◌≡◌, ◌++◌, drop, map}
 use Rattle.std.specs.Prelude.{option_map}
-use Rattle.rvmc_line.specs.Number.{each_number}
-use Rattle.rvmc_line.proofs.list.each_number.Given as goal
+use Rattle.rvmc_words.specs.Number.{each_number}
+use Rattle.rvmc_words.proofs.list.each_number.Given as goal
 
 -- the numbers so far, and those of the texts that are left
 abbrev pub invariant-loop-text : goal.invariant-loop-text

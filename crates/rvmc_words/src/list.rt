@@ -4,7 +4,7 @@ ghost use Rattle.std.specs.Prelude.{◌≡◌, ◌<◌, ◌==◌, IfOk, map, nat
 ghost use Rattle.std.specs.List.{slice_split};
 ghost use Rattle.std.specs.Cmp.{partial_equiv_from_equiv};
 ghost use Rattle.std.specs.Cmp.Lexicographic.{nat_list_eq_equiv, pointwise};
-ghost use Rattle.rvmc_line.specs.Number.{each_number, numbers_in};
+ghost use Rattle.rvmc_words.specs.Number.{each_number, numbers_in};
 
 use crate::number::number_in;
 use std::alloc::{AllocError, Global};

@@ -1,7 +1,7 @@
 //! Numbers in a range, in decimal or in hexadecimal digits.
 
 ghost use Rattle.std.specs.Prelude.{◌≡◌, ◌≤◌, IfSome};
-ghost use Rattle.rvmc_line.specs.Number.{any_number_in, number_in, number_in_base};
+ghost use Rattle.rvmc_words.specs.Number.{any_number_in, number_in, number_in_base};
 
 /// The number that a text writes in digits of the base (2 to 36), where it is from `least` to `most`.
 fn number_in_base(base: u32, least: u64, most: u64, text: &str) -> Option<u64>

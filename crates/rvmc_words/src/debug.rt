@@ -3,8 +3,8 @@
 ghost use Rattle.std.specs.Prelude.{◌≡◌, ◌++◌, ◌∷◌, [], IfOk, OnErr, OnOk, map};
 ghost use Rattle.std.specs.List.{list_all};
 ghost use Rattle.rv_image.specs.Names as names;
-ghost use Rattle.rvmc_line.specs.Debug.{bare_word, break_in, bytes_word_in, debug_word_in, frames_in, go_in, is_name};
-ghost use Rattle.rvmc_line.specs.Debug.{large_number_in, output_in, regs_in, small_number_in, spot_in, word_of, word_with};
+ghost use Rattle.rvmc_words.specs.Debug.{bare_word, break_in, bytes_word_in, debug_word_in, frames_in, go_in, is_name};
+ghost use Rattle.rvmc_words.specs.Debug.{large_number_in, output_in, regs_in, small_number_in, spot_in, word_of, word_with};
 
 use crate::list::parts;
 use crate::number::any_number_in;
@@ -75,7 +75,7 @@ pub struct DebugWords {
 
 impl Model for DebugWords {
     ghost use Rattle.std.specs.Prelude.{List};
-    ghost use Rattle.rvmc_line.specs.declared.debug.DebugWord.{DebugWord};
+    ghost use Rattle.rvmc_words.specs.declared.debug.DebugWord.{DebugWord};
 
     ghost Value = { List DebugWord };
 

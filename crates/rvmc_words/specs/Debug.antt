@@ -4,11 +4,11 @@ use Rattle.std.specs.Prelude.{codes, nat_lt, option_and_then, option_map}
 use Rattle.std.specs.List.{list_all, slice_split}
 use Rattle.std.specs.Str.{bytes_eq}
 use Rattle.rv_image.specs.Names.{begins_with_digit, is_name_byte}
-use Rattle.rvmc_line.specs.Number.{any_number_in}
-use Rattle.rvmc_line.specs.declared.debug.DebugWord.{DebugWord}
-use Rattle.rvmc_line.specs.declared.debug.DebugWord.TheVariants.{Back, Break, Bytes, Frames, Go, Output, Place, Regs, Run, Step}
-use Rattle.rvmc_line.specs.declared.debug.Spot.{Spot}
-use Rattle.rvmc_line.specs.declared.debug.Spot.TheVariants.{Address, Name}
+use Rattle.rvmc_words.specs.Number.{any_number_in}
+use Rattle.rvmc_words.specs.declared.debug.DebugWord.{DebugWord}
+use Rattle.rvmc_words.specs.declared.debug.DebugWord.TheVariants.{Back, Break, Bytes, Frames, Go, Output, Place, Regs, Run, Step}
+use Rattle.rvmc_words.specs.declared.debug.Spot.{Spot}
+use Rattle.rvmc_words.specs.declared.debug.Spot.TheVariants.{Address, Name}
 
 -- a name of the source language, however long: letters, digits, `_`, `.` and `$`, of which the first is no digit
 abbrev pub is_name : List ℕ → Bool

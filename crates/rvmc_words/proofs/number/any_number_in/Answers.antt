@@ -2,8 +2,8 @@ use Rattle.std.proofs.Common.{◌≡◌, ◌∙◌, ap, codes, drop, false, sym,
 use Rattle.std.specs.Prelude.{nat_eq}
 use Rattle.std.specs.List.{starts_with}
 use Rattle.std.proofs.lemmas.Str.Pattern.{starts_text}
-use Rattle.rvmc_line.specs.Number.{any_number_in, number_in_base}
-use Rattle.rvmc_line.proofs.number.any_number_in.Goals as goal
+use Rattle.rvmc_words.specs.Number.{any_number_in, number_in_base}
+use Rattle.rvmc_words.proofs.number.any_number_in.Goals as goal
 
 pub returns-in-Some-clause-value : goal.returns-in-Some-clause-value
 unfolding any_number_in
