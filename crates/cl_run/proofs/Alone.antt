@@ -1,8 +1,8 @@
 -- A rank that is alone takes plain turns.
 use Rattle.std.specs.Prelude.{ℕ, zero, suc, ◌≡◌, ◌≢◌, ◌<◌, ◌≤◌, ◌+◌, ◌*◌, ◌%◌, List, [], ◌∷◌, length, map, slice_get, slice_set}
-use Rattle.std.specs.Prelude.{Option, None, Some, All, cond, is_some, sum_by, slice_index, vec_len}
+use Rattle.std.specs.Prelude.{Option, None, Some, All, cond, is_some, sum_by, vec_len}
 use Rattle.std.specs.Global.{Vec}
-use Rattle.std.proofs.Common.{refl, sym, ap, ◌∙◌, subst, arith}
+use Rattle.std.proofs.Common.{sym, ap, ◌∙◌, subst, arith}
 use Rattle.std.proofs.Math.Nat.{mod-lt}
 use Rattle.std.proofs.lemmas.List.{length-set}
 use Rattle.std.proofs.lemmas.List.Elements.{All-contains, Contains-get_or}

@@ -48,3 +48,6 @@ loop-init c = record {
         subst (IsUnderWay image plans c.args.order.now (stations c.args.self.now) c.args.self.now.hub) none start,
       );
 }
+
+pub loop-smaller : goal.loop-smaller
+loop-smaller c = omega (arith, c.round.ensures.less c.if-not-round.false, c.go_on.ensures.no_more)
