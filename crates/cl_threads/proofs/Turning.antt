@@ -110,7 +110,7 @@ nobody : DeskRule (Unit {0})
 nobody before rank hart clock request told after = Unit {0}
 
 -- several plain turns more
-pub plain_turns_more : (plan : Plan) (old : RankView) (n : ℕ) (now new : Station)
+plain_turns_more : (plan : Plan) (old : RankView) (n : ℕ) (now new : Station)
     → ((deeds : List Deed) × WentSoFar plan old now deeds) → now.next ≡ length now.events % length plan.order.items
     → now.budget ≡ plan.budget → now.stop ≡ None → Repeats (TakesPlainTurn plan) n now new
     → WentOn plan old now n new
@@ -126,6 +126,17 @@ plain_turns_more plan old (suc n) now new so place budget runs turns =
     turns.1.goes_on turns.2 in
     let far = rest.longer in
     record { went = rest.went; next_is = rest.next_is; runs = rest.runs; longer = omega (arith, far, more) }
+
+-- the same of a seat that is at the plan of the one that it was at first
+pub seat_went : (first now new : Seat) (n : ℕ)
+    → ((deeds : List Deed) × WentSoFar first.plan.now (view_of first.rank) (station now) deeds)
+    → now.plan.now ≡ first.plan.now → now.next ≡ length now.rank.trace.events % length first.plan.now.order.items
+    → now.stop ≡ None → Repeats (TakesPlainTurn now.plan.now) n (station now) (station new)
+    → WentOn first.plan.now (view_of first.rank) (station now) n (station new)
+seat_went first now new n so same place runs turns =
+    plain_turns_more first.plan.now (view_of first.rank) n (station now) (station new) so place
+    (now.budget_is ∙ ap (λ (p : Plan). p.budget) same) runs
+    (subst (λ p. Repeats (TakesPlainTurn p) n (station now) (station new)) same turns)
 
 -- no turn more, of the hart that the plan names
 module _ (plan : Plan) (rank : Rank) (events : List Event) (hart budget : ℕ)

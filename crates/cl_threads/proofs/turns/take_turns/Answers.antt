@@ -1,11 +1,10 @@
-use Rattle.std.proofs.Common.{◌∙◌, ◌%◌, arith, ◌++◌, ◌∷◌, List, [], length, refl, sym, ap, subst}
+use Rattle.std.proofs.Common.{◌∙◌, ◌%◌, arith, ◌++◌, ◌∷◌, List, [], length, refl, sym, ap}
 use Rattle.std.proofs.Math.Nat.{zero-mod}
 use Rattle.cl_trace.specs.declared.events.Event.{Event}
 use Rattle.cl_rank.specs.Views.{view_of}
-use Rattle.cl_rank.specs.Plains.{Repeats}
-use Rattle.cl_record.specs.Seats.{TakesPlainTurn, station}
+use Rattle.cl_record.specs.Seats.{station}
 use Rattle.cl_record.specs.declared.plans.Plan.{Plan}
-use Rattle.cl_threads.proofs.Turning.{longer, next_place, no_turns_yet, one_more_turn, plain_turns_more, stopped_by}
+use Rattle.cl_threads.proofs.Turning.{longer, next_place, no_turns_yet, one_more_turn, seat_went, stopped_by}
 use Rattle.cl_threads.proofs.Turning.{turned_by, went_by}
 use Rattle.cl_threads.proofs.turns.take_turns.Goals as goal
 
@@ -19,17 +18,26 @@ loop-desk-init g c = record {
       ∙ ap (λ (es : List Event). length es % length c.args.seat.now.plan.now.order.items) (sym c.requires.no_events);
 }
 
-pub loop-desk-preserved-then-done-gt-0 : goal.loop-desk-preserved-then-done-gt-0
-loop-desk-preserved-then-done-gt-0 c =
+pub turn-goes_on-requires-clause-running : goal.turn-goes_on-requires-clause-running
+turn-goes_on-requires-clause-running g c =
+    let l = c.loop-desk in
+    let kept = l.invariant in
+    (seat_went c.args.seat.now l.seat c.run_plain-done.new.self c.run_plain-done.result kept.went kept.plan_is kept.next_is
+    kept.runs c.run_plain-done.ensures.turns).runs
+
+pub turn-goes_on-requires-clause-channels : goal.turn-goes_on-requires-clause-channels
+turn-goes_on-requires-clause-channels g c =
+    c.run_plain-done.ensures.channels c.args.channels.now c.loop-desk.invariant.over
+
+pub loop-desk-preserved-then-done-free : goal.loop-desk-preserved-then-done-free
+loop-desk-preserved-then-done-free g c =
     let l = c.loop-desk in
     let kept = l.invariant in
     let plan = c.args.seat.now.plan.now in
     let old = view_of c.args.seat.now.rank in
     let mid = c.run_plain-done.new.self in
-    let on = plain_turns_more plan old c.run_plain-done.result (station l.seat) (station mid) kept.went kept.next_is
-    (l.seat.budget_is ∙ ap (λ (p : Plan). p.budget) kept.plan_is) kept.runs
-    (subst (λ p. Repeats (TakesPlainTurn p) c.run_plain-done.result (station l.seat) (station mid)) kept.plan_is
-    c.run_plain-done.ensures.turns) in
+    let on = seat_went c.args.seat.now l.seat mid c.run_plain-done.result kept.went kept.plan_is kept.next_is kept.runs
+    c.run_plain-done.ensures.turns in
     let same = c.run_plain-done.ensures.plan ∙ kept.plan_is in
     let budget = mid.budget_is ∙ ap (λ (p : Plan). p.budget) same in
     record {
@@ -40,6 +48,18 @@ loop-desk-preserved-then-done-gt-0 c =
       next_is = on.next_is;
     }
 
+pub loop-desk-smaller-then-done-free : goal.loop-desk-smaller-then-done-free
+loop-desk-smaller-then-done-free g c =
+    let l = c.loop-desk in
+    let kept = l.invariant in
+    let plan = c.args.seat.now.plan.now in
+    let mid = c.run_plain-done.new.self in
+    let on = seat_went c.args.seat.now l.seat mid c.run_plain-done.result kept.went kept.plan_is kept.next_is kept.runs
+    c.run_plain-done.ensures.turns in
+    let plain = on.longer in
+    let within = on.went.1.in_budget in
+    omega (arith, c.if-done-gt0.true, plain, within)
+
 pub returns-then-not-goes_on-clause-went : goal.returns-then-not-goes_on-clause-went
 returns-then-not-goes_on-clause-went g c =
     let l = c.loop-desk in
@@ -47,10 +67,8 @@ returns-then-not-goes_on-clause-went g c =
     let plan = c.args.seat.now.plan.now in
     let old = view_of c.args.seat.now.rank in
     let mid = c.run_plain-done.new.self in
-    let on = plain_turns_more plan old c.run_plain-done.result (station l.seat) (station mid) kept.went kept.next_is
-    (l.seat.budget_is ∙ ap (λ (p : Plan). p.budget) kept.plan_is) kept.runs
-    (subst (λ p. Repeats (TakesPlainTurn p) c.run_plain-done.result (station l.seat) (station mid)) kept.plan_is
-    c.run_plain-done.ensures.turns) in
+    let on = seat_went c.args.seat.now l.seat mid c.run_plain-done.result kept.went kept.plan_is kept.next_is kept.runs
+    c.run_plain-done.ensures.turns in
     let same = c.run_plain-done.ensures.plan ∙ kept.plan_is in
     let budget = mid.budget_is ∙ ap (λ (p : Plan). p.budget) same in
     let new = c.turn-goes_on.new.self in
@@ -69,10 +87,8 @@ loop-desk-preserved g c =
     let plan = c.args.seat.now.plan.now in
     let old = view_of c.args.seat.now.rank in
     let mid = c.run_plain-done.new.self in
-    let on = plain_turns_more plan old c.run_plain-done.result (station l.seat) (station mid) kept.went kept.next_is
-    (l.seat.budget_is ∙ ap (λ (p : Plan). p.budget) kept.plan_is) kept.runs
-    (subst (λ p. Repeats (TakesPlainTurn p) c.run_plain-done.result (station l.seat) (station mid)) kept.plan_is
-    c.run_plain-done.ensures.turns) in
+    let on = seat_went c.args.seat.now l.seat mid c.run_plain-done.result kept.went kept.plan_is kept.next_is kept.runs
+    c.run_plain-done.ensures.turns in
     let same = c.run_plain-done.ensures.plan ∙ kept.plan_is in
     let budget = mid.budget_is ∙ ap (λ (p : Plan). p.budget) same in
     let new = c.turn-goes_on.new.self in
@@ -96,10 +112,8 @@ loop-desk-smaller g c =
     let plan = c.args.seat.now.plan.now in
     let old = view_of c.args.seat.now.rank in
     let mid = c.run_plain-done.new.self in
-    let on = plain_turns_more plan old c.run_plain-done.result (station l.seat) (station mid) kept.went kept.next_is
-    (l.seat.budget_is ∙ ap (λ (p : Plan). p.budget) kept.plan_is) kept.runs
-    (subst (λ p. Repeats (TakesPlainTurn p) c.run_plain-done.result (station l.seat) (station mid)) kept.plan_is
-    c.run_plain-done.ensures.turns) in
+    let on = seat_went c.args.seat.now l.seat mid c.run_plain-done.result kept.went kept.plan_is kept.next_is kept.runs
+    c.run_plain-done.ensures.turns in
     let same = c.run_plain-done.ensures.plan ∙ kept.plan_is in
     let budget = mid.budget_is ∙ ap (λ (p : Plan). p.budget) same in
     let new = c.turn-goes_on.new.self in

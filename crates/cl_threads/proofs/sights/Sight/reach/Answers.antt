@@ -1,5 +1,4 @@
-use Rattle.std.proofs.Common.{arith, subst, sym, length}
-use Rattle.std.specs.Prelude.{Some, None}
+use Rattle.std.proofs.Common.{arith, subst, sym}
 use Rattle.cl_threads.specs.Pacing.{IsSlowest}
 use Rattle.cl_threads.proofs.Paced.{none_in_the_way, by_slowest}
 use Rattle.cl_threads.proofs.sights.Sight.reach.Goals as goal
