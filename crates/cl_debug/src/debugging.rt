@@ -104,6 +104,22 @@ impl Debugger {
         &self.image
     }
 
+    /// The steps, from the first on.
+    #[inline(always)]
+    pub fn steps(&self) -> &[Step]
+        ensures { result.now ≡ self.now.steps }
+    {
+        self.steps.as_slice()
+    }
+
+    /// The cluster as it is at the place.
+    #[inline(always)]
+    pub fn state(&self) -> &ClusterState
+        ensures { IsReached self.now.image self.now.steps self.now.place result.now }
+    {
+        &self.state
+    }
+
     /// How far apart the kept states are, in steps.
     pub fn spacing(&self) -> u64
         ensures { IsSpacing (length self.now.steps) result }
