@@ -3,7 +3,7 @@
 ghost use Rattle.std.specs.Prelude.{◌≡◌, ◌++◌, IfOk, OnOk, string_bytes};
 ghost use Rattle.cl_state.specs.Room.{rank_of};
 ghost use Rattle.rvmc_inspect.specs.Texts.{call_text, ended_text, hart_head, hart_line, hart_waits_text, doing_text};
-ghost use Rattle.rvmc_inspect.specs.Texts.{standing_text, trapped_text, waiting_text};
+ghost use Rattle.rvmc_inspect.specs.Texts.{standing_text, trapped_text};
 
 use crate::awaited::{Wait, put_waits};
 use crate::callers::put_callers;
@@ -42,39 +42,36 @@ fn put_call(
     put_waits(alloc, text, found)
 }
 
-/// Adds where a hart is, and with `framed` the calls that led there.
+/// What the lines of a rank's harts are told by.
+#[derive(Clone, Copy, Drop)]
+struct Setting<'a> {
+    symbols: &'a [Symbol],
+    memory: &'a RankMemory,
+    /// Whether the calls that led to where a hart is are told too.
+    framed: bool,
+}
+
+/// Adds where a hart is, and where it is asked for the calls that led there.
 fn put_standing(
     alloc: Global,
     text: &mut Vec<u8>,
-    symbols: &[Symbol],
-    memory: &RankMemory,
+    setting: &Setting<'_>,
     hart: &Hart,
     at: u64,
-    framed: bool,
 ) -> Result<(), AllocError>
-    ensures { OnOk result
-        (text.new.items ≡ text.old.items ++ standing_text framed symbols.now memory.now hart.now at) }
+    ensures { OnOk result (text.new.items
+        ≡ text.old.items
+        ++ standing_text setting.now.framed setting.now.symbols.now setting.now.memory.now hart.now at) }
 {
-    put_place(alloc, text, symbols, at)?;
-    put_callers(alloc, text, symbols, memory, hart, framed)
-}
-
-/// Adds where a hart waits, in which call, and for what.
-fn put_waiting(
-    alloc: Global,
-    text: &mut Vec<u8>,
-    symbols: &[Symbol],
-    memory: &RankMemory,
-    hart: &Hart,
-    found: &[Wait],
-    framed: bool,
-) -> Result<(), AllocError>
-    ensures { OnOk result
-        (text.new.items ≡ text.old.items ++ waiting_text framed symbols.now memory.now hart.now found.now) }
-{
-    text.extend_from_slice(b"waits at ")?;
-    put_standing(alloc, text, symbols, memory, hart, hart.pc(), framed)?;
-    put_call(alloc, text, hart, found)
+    put_place(alloc, text, setting.symbols, at)?;
+    put_callers(
+        alloc,
+        text,
+        setting.symbols,
+        setting.memory,
+        hart,
+        setting.framed,
+    )
 }
 
 /// The code of a hart that ended.
@@ -92,26 +89,28 @@ fn trapped_text(alloc: Global, cause: Cause) -> Result<String, AllocError>
     format!(in alloc; "trapped {number} at ")
 }
 
-/// Adds how a hart stands.
+/// Adds how a hart stands, and of one that waits in which call, and for what.
 fn put_mode(
     alloc: Global,
     text: &mut Vec<u8>,
-    symbols: &[Symbol],
-    memory: &RankMemory,
+    setting: &Setting<'_>,
     hart: &Hart,
     found: &[Wait],
-    framed: bool,
 ) -> Result<(), AllocError>
-    ensures { OnOk result
-        (text.new.items
-        ≡ text.old.items ++ doing_text framed symbols.now memory.now hart.now found.now hart.now.mode) }
+    ensures { OnOk result (text.new.items
+        ≡ text.old.items
+        ++ doing_text setting.now.framed setting.now.symbols.now setting.now.memory.now hart.now found.now hart.now.mode) }
 {
     match hart.mode() {
         Mode::Running => {
             text.extend_from_slice(b"runs at ")?;
-            put_standing(alloc, text, symbols, memory, hart, hart.pc(), framed)
+            put_standing(alloc, text, setting, hart, hart.pc())
         }
-        Mode::Waiting(_) => put_waiting(alloc, text, symbols, memory, hart, found, framed),
+        Mode::Waiting(_) => {
+            text.extend_from_slice(b"waits at ")?;
+            put_standing(alloc, text, setting, hart, hart.pc())?;
+            put_call(alloc, text, hart, found)
+        }
         Mode::Ended(code) => {
             let ended = ended_text(alloc, code)?;
             text.extend_from_slice(ended.as_bytes())
@@ -119,7 +118,7 @@ fn put_mode(
         Mode::Trapped(cause, at) => {
             let trapped = trapped_text(alloc, cause)?;
             text.extend_from_slice(trapped.as_bytes())?;
-            put_standing(alloc, text, symbols, memory, hart, at, framed)
+            put_standing(alloc, text, setting, hart, at)
         }
     }
 }
@@ -129,21 +128,19 @@ fn put_mode(
 fn put_hart(
     alloc: Global,
     text: &mut Vec<u8>,
-    symbols: &[Symbol],
-    memory: &RankMemory,
+    setting: &Setting<'_>,
     rank: usize,
     number: usize,
     hart: &Hart,
     found: &[Wait],
-    framed: bool,
 ) -> Result<(), AllocError>
-    ensures { OnOk result
-        (text.new.items
-        ≡ text.old.items ++ hart_line framed symbols.now memory.now rank number hart.now found.now) }
+    ensures { OnOk result (text.new.items
+        ≡ text.old.items
+        ++ hart_line setting.now.framed setting.now.symbols.now setting.now.memory.now rank number hart.now found.now) }
 {
     let head = hart_head(alloc, rank, number)?;
     text.extend_from_slice(head.as_bytes())?;
-    put_mode(alloc, text, symbols, memory, hart, found, framed)?;
+    put_mode(alloc, text, setting, hart, found)?;
     text.push(b'\n')?;
     Ok(())
 }
@@ -164,19 +161,15 @@ pub fn put_harts(
         (text.new.items
         ≡ text.old.items ++ hart_waits_text framed symbols.now hub.now boxes.now rank (rank_of own.now)) }
 {
+    let setting = Setting {
+        symbols,
+        memory: &own.memory,
+        framed,
+    };
     for number in 0..own.harts.len() {
         let found = waits(alloc, hub, boxes, own, number)?;
-        put_hart(
-            alloc,
-            text,
-            symbols,
-            &own.memory,
-            rank,
-            number,
-            &own.harts[number],
-            found.as_slice(),
-            framed,
-        )?;
+        let hart = &own.harts[number];
+        put_hart(alloc, text, &setting, rank, number, hart, found.as_slice())?;
     }
     Ok(())
 }
