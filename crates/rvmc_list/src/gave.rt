@@ -19,7 +19,7 @@ use std::io;
 use std::io::Write;
 
 /// The number of a box: its link and its place there.
-pub(crate) type BoxNumber = (u8, u8);
+pub type BoxNumber = (u8, u8);
 
 /// Adds what is known of a message without its bytes.
 fn put_envelope(text: &mut Vec<u8>, envelope: &Envelope) -> io::Result<()>
@@ -199,7 +199,7 @@ pub(crate) fn put_end(text: &mut Vec<u8>, call: &Call, after: &Hart) -> io::Resu
 }
 
 /// Whether a call was refused: it returned with a code other than OK and TRUNCATED.
-pub(crate) fn is_refused(after: &Hart) -> bool
+pub fn is_refused(after: &Hart) -> bool
     ensures { result ≡ is_refused_of after.now after.now.mode }
 {
     match after.mode() {

@@ -17,6 +17,9 @@ mod tables;
 mod walk;
 
 pub use folding::Wanted;
+pub use gave::{BoxNumber, is_refused};
+pub use lines::{Seen, look, put_sight};
 pub use listing::list;
+pub use names::cause_name;
 pub use tables::stats;
 pub use walk::ListFault;

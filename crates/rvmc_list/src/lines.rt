@@ -28,10 +28,10 @@ use std::io::Write;
 
 /// What is seen of a step before it is done: its hart, the word at the hart's pc, and the box that it asks.
 #[derive(Clone, Copy, Drop)]
-pub(crate) struct Seen {
-    pub(crate) hart: Hart,
-    pub(crate) word: Option<u32>,
-    pub(crate) asks: Option<BoxNumber>,
+pub struct Seen {
+    pub hart: Hart,
+    pub word: Option<u32>,
+    pub asks: Option<BoxNumber>,
 }
 
 /// The box that is asked.
@@ -65,7 +65,7 @@ fn box_of(own: &RankState, step: &Step) -> Result<Option<BoxNumber>, AllocError>
 }
 
 /// What is seen of a step before it is done. None where its rank hasn't that hart.
-pub(crate) fn look(own: &RankState, step: &Step) -> Result<Option<Seen>, AllocError>
+pub fn look(own: &RankState, step: &Step) -> Result<Option<Seen>, AllocError>
     ensures { IfOk result (λ seen. IsSeenBefore step.now (rank_of own.now) seen) }
 {
     let Some(hart) = own.harts.get(usize::from(step.hart())) else {
@@ -167,7 +167,7 @@ fn put_deed(text: &mut Vec<u8>, step: &Step, before: &Seen, after: &Hart) -> io:
 
 /// Adds the line of a step, without a newline.
 #[tactic(auto, unfolding(crate::specs::Lines::sight_text))]
-pub(crate) fn put_sight(
+pub fn put_sight(
     text: &mut Vec<u8>,
     symbols: &[Symbol],
     place: u64,

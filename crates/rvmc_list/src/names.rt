@@ -6,7 +6,7 @@ ghost use Rattle.rvmc_list.specs.Names.{cause_name as cause_name_of};
 use rv_memory::Cause;
 
 /// The name of a trap's cause.
-pub(crate) fn cause_name(cause: Cause) -> &'static str
+pub fn cause_name(cause: Cause) -> &'static str
     ensures { result.now ≡ cause_name_of cause }
 {
     match cause {

@@ -1,0 +1,246 @@
+-- Steps that are added one after another.
+use Rattle.std.specs.Prelude.{ℕ, zero, suc, ◌+◌, ◌*◌, ◌<◌, ◌≤◌, ◌≡◌, nat_lt, if◌then◌else◌, Bool, true, false, List, [], ◌∷◌, ◌++◌}
+use Rattle.std.specs.Prelude.{length, map, slice_get, take, Option, Some, None, option_map}
+use Rattle.std.specs.List.{All, flat_map}
+use Rattle.std.proofs.Common.{refl, sym, ap, ◌∙◌, subst, arith}
+use Rattle.std.proofs.lemmas.List.{length-append, length-map}
+use Rattle.std.proofs.lemmas.List.Elements.{All-append, All-cons, All-nil}
+use Rattle.std.proofs.lemmas.Option.{slice_get-map, slice_get_within}
+use Rattle.rv_image.specs.declared.images.ImageParts.{ImageParts}
+use Rattle.mp_match.proofs.OrderKept.{posts_pairs}
+use Rattle.mp_match.specs.PostPairs.{pairs}
+use Rattle.mp_match.specs.declared.posts.Line.{Line}
+use Rattle.cl_machine.specs.Cluster.{IsRun, loaded_cluster}
+use Rattle.cl_machine.specs.declared.steps.Step.{Step}
+use Rattle.cl_replay.proofs.Runs.{breaks, reached_more}
+use Rattle.cl_replay.specs.InnerReplaying.{BreaksAt}
+use Rattle.cl_replay.specs.Replaying.{IsReached}
+use Rattle.cl_replay.specs.States.{ClusterStandsFor}
+use Rattle.cl_replay.specs.Steps.{Leads}
+use Rattle.cl_replay.specs.declared.states.ClusterState.{ClusterState}
+use Rattle.cl_state.specs.Asked.{asked}
+use Rattle.cl_state.specs.Rank.{Rank}
+use Rattle.cl_state.specs.Room.{rank_of}
+use Rattle.cl_state.specs.declared.state.RankState.{RankState}
+use Rattle.rvmc_draw.specs.Board.{lost, posts_made, spots_made}
+use Rattle.rvmc_draw.specs.Looks.{open_to}
+use Rattle.rvmc_draw.specs.Views.{arrow_in_view, bar_in_view}
+use Rattle.rvmc_draw.specs.Marks.{Sign, kept_by, sign_by, sign_if, sign_of, told_by}
+use Rattle.rvmc_draw.specs.Walks.{IsWalked, Scope, arrows_of, bars_of, is_marked_in, scope_of, tips_taken}
+use Rattle.rvmc_draw.specs.declared.deeds.Deed.{Deed}
+use Rattle.rvmc_draw.specs.declared.drawing.Drawing.{Drawing}
+use Rattle.rvmc_draw.specs.declared.drawing.Mark.{Mark}
+use Rattle.rvmc_draw.specs.declared.drawing.Shape.{Shape}
+use Rattle.rvmc_draw.specs.declared.views.View.{View}
+use Rattle.rvmc_draw.specs.declared.walks.Sizes.{Sizes}
+use Rattle.rvmc_draw.specs.declared.walks.Walk.{Walk}
+use Rattle.rvmc_list.proofs.Told.{IsSeen, each_more, seen_at}
+use Rattle.rvmc_list.specs.Lines.{hart_of, sight_of, sight_text}
+use Rattle.rvmc_list.specs.List.{IsSightAt}
+use Rattle.rvmc_picture.specs.Deeds.{IsDeedBy, ask_met}
+use Rattle.rvmc_picture.specs.Pictures.{AreDeeds, DrawFaultHolds, HasTooMany, IsDeedAt, IsDrawing, IsDrawn, IsTipOf, is_past, scope_in}
+use Rattle.rvmc_picture.specs.Walking.{ArePut, IsPutAt, Puts, StepBreaks, StepsBreak}
+use Rattle.rvmc_picture.specs.declared.pictures.DrawFault.{DrawFault}
+use Rattle.rvmc_picture.specs.declared.pictures.DrawFault.TheVariants as fault
+
+-- ---- what a step did
+
+rank_there : (ranks : List Rank) (states : List RankState) → ranks ≡ map rank_of states → (r : ℕ) (s : RankState)
+    → slice_get states r ≡ Some s → slice_get ranks r ≡ Some (rank_of s)
+rank_there ranks states are r s there =
+    ap (λ rs. slice_get rs r) are ∙ slice_get-map rank_of states r ∙ ap (option_map rank_of) there
+
+posts_count : (deeds : List Deed) (lines : List Line) → lines ≡ pairs (posts_made deeds)
+    → length lines ≡ length (posts_made deeds)
+posts_count deeds lines are =
+    ap length are ∙ sym (length-map (pairs (posts_made deeds)) (λ (l : Line). l.post))
+    ∙ ap length (posts_pairs (posts_made deeds))
+
+take_front : {A : Type 0} (xs ys : List A) (k : ℕ) → k ≤ length xs → take k (xs ++ ys) ≡ take k xs
+take_front xs ys zero within = refl
+take_front [] ys (suc k) within = absurd (let w = within in omega (arith, w))
+take_front (x ∷ xs) ys (suc k) within = ap (λ l. x ∷ l) (take_front xs ys k (let w = within in omega (arith, w)))
+
+take_whole : {A : Type 0} (xs ys : List A) → take (length xs) (xs ++ ys) ≡ xs
+take_whole [] ys = refl
+take_whole (x ∷ xs) ys = ap (λ l. x ∷ l) (take_whole xs ys)
+
+-- ---- what is told of a mark
+
+all_kept : (P : Sign × List ℕ → Type 0) (count : ℕ) (tip : List ℕ) (b : Bool) (d : Deed) (o : Option Shape)
+    → ((shape : Shape) → P (sign_by d shape, tip)) → All P (kept_by count tip (if b then sign_if d o else []))
+all_kept P count tip b d o each = go (nat_lt count 5000) b o
+  where
+    go : (few c : Bool) (shape : Option Shape)
+        → All P (if few then map {B = Sign × List ℕ} (λ (s : Sign). (s, tip)) (if c then sign_if d shape else []) else [])
+    go true true None = All-nil P
+    go true true (Some shape) = All-cons P (sign_by d shape, tip) [] (each shape) (All-nil P)
+    go true false shape = All-nil P
+    go false c shape = All-nil P
+
+none_told : (P : Sign × List ℕ → Type 0) (marks : List Mark) → map sign_of marks ≡ [] → All P (map told_by marks)
+none_told P [] none = All-nil P
+none_told P (m ∷ marks) none = absurd (cc)
+
+-- ---- one step more
+
+module _ (image : ImageParts) (steps : List Step) (scope : Scope) (n : ℕ) (state : ClusterState) (walk : Walk)
+    (put : ArePut image steps scope n state walk) (e : Step) (there : slice_get steps n ≡ Some e)
+    (new : ClusterState) (leads : Leads state e new) (after : Walk)
+    (puts : Puts image.symbols state n e new walk after) where
+  seen : IsSeen image steps n state e new
+  seen = seen_at image steps n state put.reached e there new leads
+
+  is_put : IsPutAt image.symbols n e (rank_of seen.s) (rank_of seen.t) walk after
+  is_put = puts seen.s seen.t seen.s_there seen.t_there seen.s_hart seen.t_hart
+
+  counted : IsDeedBy (length put.deeds) e (ask_met e.kind (asked (rank_of seen.s) e.hart)) (hart_of e (rank_of seen.s))
+      (hart_of e (rank_of seen.t)) (length (posts_made put.deeds) + 1) is_put.deed
+  counted =
+      subst (λ m. IsDeedBy m e (ask_met e.kind (asked (rank_of seen.s) e.hart)) (hart_of e (rank_of seen.s))
+      (hart_of e (rank_of seen.t)) (length (posts_made put.deeds) + 1) is_put.deed) (sym put.are.count)
+      (subst (λ k. IsDeedBy n e (ask_met e.kind (asked (rank_of seen.s) e.hart)) (hart_of e (rank_of seen.s))
+      (hart_of e (rank_of seen.t)) (k + 1) is_put.deed)
+      (posts_count put.deeds walk.board.lines.items put.walked.lines) is_put.is)
+
+  deed_at : IsDeedAt image steps put.deeds is_put.deed
+  deed_at =
+      let led = leads image put.reached.cluster put.reached.stands in
+      record {
+        old = put.reached.cluster;
+        run = subst (λ m. IsRun (loaded_cluster image) (take m steps) put.reached.cluster) (sym put.are.count)
+            put.reached.run;
+        step = e;
+        there = subst (λ m. slice_get steps m ≡ Some e) (sym put.are.count) there;
+        new = led.0;
+        leads = led.1;
+        own = rank_of seen.s;
+        after = rank_of seen.t;
+        own_there = rank_there put.reached.cluster.ranks state.ranks.items put.reached.stands.ranks_are e.rank seen.s
+            seen.s_there;
+        after_there = rank_there led.0.ranks new.ranks.items led.2.ranks_are e.rank seen.t seen.t_there;
+        is = counted;
+      }
+
+  deeds_more : AreDeeds image steps (n + 1) (put.deeds ++ is_put.deed ∷ [])
+  deeds_more = record {
+    count = (let count = put.are.count in omega (arith, count, length-append put.deeds (is_put.deed ∷ [])));
+    each = each_more (λ k d. IsDeedAt image steps (take k (put.deeds ++ is_put.deed ∷ [])) d) put.deeds is_put.deed
+        (λ k d at. subst (λ before. IsDeedAt image steps before d)
+        (sym (take_front put.deeds (is_put.deed ∷ []) k
+        (let below = slice_get_within put.deeds k d at in omega (arith, below))))
+        (put.are.each k d at))
+        (subst (λ before. IsDeedAt image steps before is_put.deed)
+        (sym (take_whole put.deeds (is_put.deed ∷ []))) deed_at);
+  }
+
+  told : (shape : Shape)
+      → IsTipOf image steps (
+        sign_by is_put.deed shape,
+        sight_text image.symbols (sight_of n e (rank_of seen.s) (rank_of seen.t)),
+      )
+  told shape = (
+    sight_of n e (rank_of seen.s) (rank_of seen.t),
+    subst (λ m. IsSightAt image steps m (sight_of n e (rank_of seen.s) (rank_of seen.t)))
+        (ap (λ spot. spot.place) (sym is_put.is.spot)) seen.sight,
+    refl,
+  )
+
+  tips_more : All (IsTipOf image steps) (map told_by after.marks.kept.items)
+  tips_more =
+      subst (All (IsTipOf image steps)) (sym is_put.tips)
+      (All-append (IsTipOf image steps) (map told_by walk.marks.kept.items)
+      (tips_taken walk is_put.deed (sight_text image.symbols (sight_of n e (rank_of seen.s) (rank_of seen.t))))
+      put.tips
+      (all_kept (IsTipOf image steps) walk.marks.count
+      (sight_text image.symbols (sight_of n e (rank_of seen.s) (rank_of seen.t)))
+      (is_marked_in walk is_put.deed) is_put.deed is_put.deed.shape told))
+
+  pub put_more : ArePut image steps scope (n + 1) new after
+  put_more = record {
+    reached = reached_more image steps n state put.reached e there new leads;
+    deeds = put.deeds ++ is_put.deed ∷ [];
+    are = deeds_more;
+    walked = is_put.walked scope put.deeds put.walked;
+    tips = tips_more;
+  }
+
+-- before the first step
+pub put_none : (image : ImageParts) (steps : List Step) (scope : Scope) (state : ClusterState) (walk : Walk)
+    → ClusterStandsFor image state (loaded_cluster image) → IsWalked scope [] walk
+    → ArePut image steps scope 0 state walk
+put_none image steps scope state walk stands walked = record {
+  reached = record { cluster = loaded_cluster image; run = refl; stands = stands };
+  deeds = [];
+  are = record { count = refl; each = λ k d at. absurd (cc) };
+  walked = walked;
+  tips = none_told (IsTipOf image steps) walk.marks.kept.items
+      (walked.kept (let count = walked.count in omega (arith, count)));
+}
+
+-- why a step wasn't added is why not all were
+pub step_breaks : (image : ImageParts) (steps : List Step) (n : ℕ) (state : ClusterState)
+    → IsReached image steps n state → (e : Step) → slice_get steps n ≡ Some e → (f : DrawFault)
+    → StepBreaks state n e f → StepsBreak image steps f
+step_breaks image steps n state reached e there (fault.NotARun k) h =
+    subst (λ m. BreaksAt image steps m) (sym h.0) (breaks image steps n state reached e there h.1)
+step_breaks image steps n state reached e there fault.Memory h = tt
+step_breaks image steps n state reached e there (fault.PastEnd len) h = absurd h
+step_breaks image steps n state reached e there (fault.TooMany count) h = absurd h
+
+-- ---- the drawing
+
+pub scope_same : (image : ImageParts) (sizes : Sizes) (view : View) → sizes.ranks ≡ image.ranks
+    → sizes.harts ≡ image.harts → sizes.links ≡ length image.links → scope_of sizes view ≡ scope_in image view
+scope_same image sizes view ranks harts links =
+    ap (λ r. record { ranks = r; harts = sizes.harts; boxes = 16 * sizes.links; view = view }) ranks
+    ∙ ap (λ h. record { ranks = image.ranks; harts = h; boxes = 16 * sizes.links; view = view }) harts
+    ∙ ap (λ l. record { ranks = image.ranks; harts = image.harts; boxes = 16 * l; view = view }) links
+
+module _ (image : ImageParts) (steps : List Step) (view : View) (state : ClusterState) (walk : Walk)
+    (put : ArePut image steps (scope_in image view) (length steps) state walk) where
+  pub is_drawing : walk.marks.count ≤ 5000 → (drawing : Drawing) → IsDrawn image view (length steps) walk state drawing
+      → IsDrawing image steps view drawing
+  is_drawing few drawing d = record {
+    deeds = put.deeds;
+    are = put.are;
+    ranks = d.ranks;
+    harts = d.harts;
+    from = d.from;
+    to = d.to;
+    marks = ap (map sign_of) d.marks ∙ put.walked.kept few;
+    tips = subst (λ l. All (IsTipOf image steps) (map told_by l)) (sym d.marks) put.tips;
+    arrows = d.arrows
+        ∙ ap (λ l. flat_map (arrow_in_view view) l
+        ++ lost view walk.board.lines.items walk.board.spots.items walk.board.got.items) put.walked.arrows
+        ∙ ap (λ l. flat_map (arrow_in_view view) (arrows_of (scope_in image view) put.deeds)
+        ++ lost view l walk.board.spots.items walk.board.got.items) put.walked.lines
+        ∙ ap (λ l. flat_map (arrow_in_view view) (arrows_of (scope_in image view) put.deeds)
+        ++ lost view (pairs (posts_made put.deeds)) l walk.board.got.items) put.walked.spots
+        ∙ ap (λ l. flat_map (arrow_in_view view) (arrows_of (scope_in image view) put.deeds)
+        ++ lost view (pairs (posts_made put.deeds)) (spots_made put.deeds) l) put.walked.got;
+    bars = record {
+      begun = walk.looks.begun.items;
+      known = put.walked.begun;
+      are = d.bars
+          ∙ ap (λ l. flat_map (bar_in_view view) (l ++ flat_map (open_to (length steps)) walk.looks.begun.items))
+          put.walked.bars
+          ∙ ap (λ n. flat_map (bar_in_view view)
+          (bars_of (scope_in image view) put.deeds ++ flat_map (open_to n) walk.looks.begun.items)) (sym put.are.count);
+    };
+    state = state;
+    reached = put.reached;
+    waits = d.waits;
+    told = d.told;
+  }
+
+  pub too_many : 5000 < walk.marks.count → HasTooMany image steps view walk.marks.count
+  too_many many = record { deeds = put.deeds; are = put.are; marks = put.walked.count; many = many }
+
+-- why not all steps were added is why there is no drawing
+pub fault_holds : (image : ImageParts) (steps : List Step) (view : View) → is_past view steps ≡ false → (f : DrawFault)
+    → StepsBreak image steps f → DrawFaultHolds image steps view f
+fault_holds image steps view past (fault.NotARun n) h = (past, h)
+fault_holds image steps view past fault.Memory h = past
+fault_holds image steps view past (fault.PastEnd len) h = absurd h
+fault_holds image steps view past (fault.TooMany count) h = absurd h

@@ -1,0 +1,4 @@
+pub mod Deeds
+pub mod Ends
+pub mod Pictures
+pub mod Walking

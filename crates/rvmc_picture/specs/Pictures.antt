@@ -1,0 +1,129 @@
+-- The drawing of a record.
+use Rattle.std.specs.Prelude.{ℕ, ◌≡◌, ◌<◌, ◌+◌, ◌*◌, ◌||◌, nat_lt, Bool, true, false, List, ◌++◌, length, map}
+use Rattle.std.specs.Prelude.{slice_get, take, Option, Some}
+use Rattle.std.specs.List.{All, flat_map}
+use Rattle.std.specs.Option.{unwrap_or}
+use Rattle.rv_image.specs.declared.images.ImageParts.{ImageParts}
+use Rattle.mp_match.specs.PostPairs.{pairs}
+use Rattle.cl_state.specs.Asked.{asked}
+use Rattle.cl_state.specs.Rank.{Rank}
+use Rattle.cl_machine.specs.Cluster.{Cluster, IsRun, IsStep, loaded_cluster}
+use Rattle.cl_machine.specs.declared.steps.Step.{Step}
+use Rattle.cl_replay.specs.InnerReplaying.{BreaksAt}
+use Rattle.cl_replay.specs.Replaying.{IsReached}
+use Rattle.cl_replay.specs.declared.states.ClusterState.{ClusterState}
+use Rattle.rvmc_draw.specs.Board.{lost, posts_made, spots_made}
+use Rattle.rvmc_draw.specs.Looks.{open_to}
+use Rattle.rvmc_draw.specs.Marks.{Sign, sign_of, told_by}
+use Rattle.rvmc_draw.specs.Views.{arrow_in_view, bar_in_view}
+use Rattle.rvmc_draw.specs.Walks.{IsTable, Scope, arrows_of, bars_of, begun_of, got_places, marks_of}
+use Rattle.rvmc_draw.specs.declared.deeds.Deed.{Deed}
+use Rattle.rvmc_draw.specs.declared.drawing.Bar.{Bar}
+use Rattle.rvmc_draw.specs.declared.drawing.Drawing.{Drawing}
+use Rattle.rvmc_draw.specs.declared.views.View.{View}
+use Rattle.rvmc_draw.specs.declared.walks.Walk.{Walk}
+use Rattle.rvmc_list.specs.Lines.{Sight, hart_of, sight_text}
+use Rattle.rvmc_list.specs.List.{IsSightAt}
+use Rattle.rvmc_picture.specs.Deeds.{IsDeedBy, ask_met}
+use Rattle.rvmc_picture.specs.Ends.{IsEnd}
+use Rattle.rvmc_picture.specs.declared.pictures.DrawFault.{DrawFault}
+use Rattle.rvmc_picture.specs.declared.pictures.DrawFault.TheVariants as fault
+
+-- ---- what each step did
+
+-- the step behind so many others did this: it leads from one cluster of the run to the next, and its hart asked and was
+-- left as its rank says before and after it; the hub had as many posts as the steps before it made
+pub record IsDeedAt (image : ImageParts) (steps : List Step) (before : List Deed) (d : Deed) : Type 0 where
+  pub old : Cluster
+  pub run : IsRun (loaded_cluster image) (take (length before) steps) old
+  pub step : Step
+  pub there : slice_get steps (length before) ≡ Some step
+  pub new : Cluster
+  pub leads : IsStep old step new
+  pub own : Rank
+  pub after : Rank
+  pub own_there : slice_get old.ranks step.rank ≡ Some own
+  pub after_there : slice_get new.ranks step.rank ≡ Some after
+  pub is : IsDeedBy (length before) step (ask_met step.kind (asked own step.hart)) (hart_of step own) (hart_of step after)
+      (length (posts_made before) + 1) d
+
+-- the first n steps did these, in order
+pub record AreDeeds (image : ImageParts) (steps : List Step) (n : ℕ) (deeds : List Deed) : Type 0 where
+  pub count : length deeds ≡ n
+  pub each : (k : ℕ) (d : Deed) → slice_get deeds k ≡ Some d → IsDeedAt image steps (take k deeds) d
+
+-- what is told of a mark is the line of its step, as `list` has it
+abbrev pub IsTipOf : ImageParts → List Step → Sign × List ℕ → Type 0
+IsTipOf image steps told =
+    (sight : Sight) × IsSightAt image steps told.0.spot.place sight × (told.1 ≡ sight_text image.symbols sight)
+
+-- ---- the drawing
+
+abbrev pub scope_in : ImageParts → View → Scope
+scope_in image view =
+    record { ranks = image.ranks; harts = image.harts; boxes = 16 * length image.links; view = view }
+
+-- the bars that a step ended, and those that none did
+pub record AreBars (scope : Scope) (deeds : List Deed) (view : View) (bars : List Bar) : Type 0 where
+  pub begun : List (Option Bar)
+  pub known : IsTable (scope.ranks * scope.harts) (begun_of scope.harts deeds) begun
+  pub are : bars ≡ flat_map (bar_in_view view) (bars_of scope deeds ++ flat_map (open_to (length deeds)) begun)
+
+-- of the steps of a run, of which those in the view are shown
+pub record IsDrawing (image : ImageParts) (steps : List Step) (view : View) (drawing : Drawing) : Type 0 where
+  pub deeds : List Deed
+  pub are : AreDeeds image steps (length steps) deeds
+  pub ranks : drawing.ranks ≡ image.ranks
+  pub harts : drawing.harts ≡ image.harts
+  pub from : drawing.from ≡ view.from
+  pub to : drawing.to ≡ view.to
+  pub marks : map sign_of drawing.marks.items ≡ marks_of (scope_in image view) deeds
+  pub tips : All (IsTipOf image steps) (map told_by drawing.marks.items)
+  pub arrows : drawing.arrows.items
+      ≡ flat_map (arrow_in_view view) (arrows_of (scope_in image view) deeds)
+      ++ lost view (pairs (posts_made deeds)) (spots_made deeds) (got_places deeds)
+  pub bars : AreBars (scope_in image view) deeds view drawing.bars.items
+  pub state : ClusterState
+  pub reached : IsReached image steps (length steps) state
+  pub waits : Bool
+  pub told : IsEnd waits image state drawing.told.items
+
+-- what is shown of a walk through all steps that ends in this state
+pub record IsDrawn (image : ImageParts) (view : View) (end : ℕ) (walk : Walk) (state : ClusterState) (drawing : Drawing)
+    : Type 0 where
+  pub ranks : drawing.ranks ≡ image.ranks
+  pub harts : drawing.harts ≡ image.harts
+  pub from : drawing.from ≡ view.from
+  pub to : drawing.to ≡ view.to
+  pub marks : drawing.marks.items ≡ walk.marks.kept.items
+  pub arrows : drawing.arrows.items
+      ≡ flat_map (arrow_in_view view) walk.arrows.items
+      ++ lost view walk.board.lines.items walk.board.spots.items walk.board.got.items
+  pub bars : drawing.bars.items
+      ≡ flat_map (bar_in_view view) (walk.bars.items ++ flat_map (open_to end) walk.looks.begun.items)
+  pub waits : Bool
+  pub told : IsEnd waits image state drawing.told.items
+
+-- ---- why there is none
+
+abbrev pub view_of : ℕ → Option ℕ → List Step → View
+view_of from to steps = record { from = from; to = unwrap_or to (length steps) }
+
+-- a place is behind the last step
+abbrev pub is_past : View → List Step → Bool
+is_past view steps = nat_lt (length steps) view.from || nat_lt (length steps) view.to
+
+-- more steps have a mark than are drawn
+pub record HasTooMany (image : ImageParts) (steps : List Step) (view : View) (count : ℕ) : Type 0 where
+  pub deeds : List Deed
+  pub are : AreDeeds image steps (length steps) deeds
+  pub marks : count ≡ length (marks_of (scope_in image view) deeds)
+  pub many : 5000 < count
+
+-- places behind the end; a step that the machine doesn't have where those before it lead; too many marks; or memory
+abbrev pub DrawFaultHolds : ImageParts → List Step → View → DrawFault → Type 0
+DrawFaultHolds image steps view (fault.PastEnd len) = (is_past view steps ≡ true) × (len ≡ length steps)
+DrawFaultHolds image steps view (fault.NotARun n) = (is_past view steps ≡ false) × BreaksAt image steps n
+DrawFaultHolds image steps view (fault.TooMany count) =
+    (is_past view steps ≡ false) × HasTooMany image steps view count
+DrawFaultHolds image steps view fault.Memory = is_past view steps ≡ false

@@ -1,0 +1,71 @@
+-- How the steps of a record are walked through, one after another.
+use Rattle.std.specs.Prelude.{ℕ, ◌≡◌, ◌<◌, ◌≤◌, ◌+◌, List, [], ◌∷◌, ◌++◌, length, map, slice_get, Option, Some, None}
+use Rattle.std.specs.List.{All}
+use Rattle.rv_image.specs.declared.images.ImageParts.{ImageParts}
+use Rattle.rv_image.specs.declared.images.Symbol.{Symbol}
+use Rattle.cl_machine.specs.declared.steps.Step.{Step}
+use Rattle.cl_replay.specs.InnerReplaying.{BreaksAt}
+use Rattle.cl_replay.specs.Replaying.{IsReached}
+use Rattle.cl_replay.specs.Steps.{LeadsNowhere}
+use Rattle.cl_replay.specs.declared.states.ClusterState.{ClusterState}
+use Rattle.cl_state.specs.Asked.{asked}
+use Rattle.cl_state.specs.Rank.{Rank}
+use Rattle.cl_state.specs.Room.{rank_of}
+use Rattle.cl_state.specs.declared.state.RankState.{RankState}
+use Rattle.rvmc_draw.specs.Marks.{told_by}
+use Rattle.rvmc_draw.specs.Walks.{IsWalked, Scope, tips_taken}
+use Rattle.rvmc_draw.specs.declared.deeds.Deed.{Deed}
+use Rattle.rvmc_draw.specs.declared.walks.Walk.{Walk}
+use Rattle.rvmc_list.specs.Lines.{hart_of, sight_of, sight_text}
+use Rattle.rvmc_list.specs.Seen.{IsSeenBefore}
+use Rattle.rvmc_picture.specs.Deeds.{IsDeedBy, ask_met}
+use Rattle.rvmc_picture.specs.Pictures.{AreDeeds, IsTipOf}
+use Rattle.rvmc_picture.specs.declared.pictures.DrawFault.{DrawFault}
+use Rattle.rvmc_picture.specs.declared.pictures.DrawFault.TheVariants as fault
+use Rattle.rvmc_picture.specs.declared.walking.Before.{Before}
+
+-- what is known of a step before it is done; nothing is only where the rank hasn't the step's hart
+abbrev pub IsBefore : Step → Rank → Option Before → Type 0
+IsBefore e rank None = length rank.harts ≤ e.hart
+IsBefore e rank (Some b) = IsSeenBefore e rank (Some b.seen) × (b.ask ≡ ask_met e.kind (asked rank e.hart))
+
+abbrev pub IsLookedAt : ClusterState → Step → Option Before → Type 0
+IsLookedAt state e before =
+    (s : RankState) → slice_get state.ranks.items e.rank ≡ Some s → IsBefore e (rank_of s) before
+
+-- a step was added whose rank was so before it and so after it
+pub record IsPutAt (symbols : List Symbol) (place : ℕ) (e : Step) (before after : Rank) (old new : Walk) : Type 0 where
+  pub deed : Deed
+  pub is : IsDeedBy place e (ask_met e.kind (asked before e.hart)) (hart_of e before) (hart_of e after)
+      (length old.board.lines.items + 1) deed
+  pub walked : (scope : Scope) (deeds : List Deed) → IsWalked scope deeds old → IsWalked scope (deeds ++ deed ∷ []) new
+  pub tips : map told_by new.marks.kept.items
+      ≡ map told_by old.marks.kept.items ++ tips_taken old deed (sight_text symbols (sight_of place e before after))
+
+-- whatever its rank was before and after it
+abbrev pub Puts : List Symbol → ClusterState → ℕ → Step → ClusterState → Walk → Walk → Type 0
+Puts symbols old place e new walk after =
+    (s t : RankState) → slice_get old.ranks.items e.rank ≡ Some s → slice_get new.ranks.items e.rank ≡ Some t
+    → e.hart < length s.harts.items → e.hart < length t.harts.items
+    → IsPutAt symbols place e (rank_of s) (rank_of t) walk after
+
+-- why a step wasn't added
+abbrev pub StepBreaks : ClusterState → ℕ → Step → DrawFault → Type 0
+StepBreaks old place e (fault.NotARun n) = (n ≡ place) × LeadsNowhere old e
+StepBreaks old place e fault.Memory = Unit {0}
+StepBreaks old place e _ = ⊥
+
+-- why not all were
+abbrev pub StepsBreak : ImageParts → List Step → DrawFault → Type 0
+StepsBreak image steps (fault.NotARun n) = BreaksAt image steps n
+StepsBreak image steps fault.Memory = Unit {0}
+StepsBreak image steps _ = ⊥
+
+-- the first n steps were added, and the state is the cluster to which they lead
+pub record ArePut (image : ImageParts) (steps : List Step) (scope : Scope) (n : ℕ) (state : ClusterState) (walk : Walk)
+    : Type 0 where
+  pub reached : IsReached image steps n state
+  pub deeds : List Deed
+  pub are : AreDeeds image steps n deeds
+  pub walked : IsWalked scope deeds walk
+  pub tips : All (IsTipOf image steps) (map told_by walk.marks.kept.items)

@@ -1,0 +1,13 @@
+//! A record as a drawing: what each of its steps did, and the picture of them as data.
+//!
+//! The meaning stands in specs/: what a step did (`Deeds`), the drawing of a record's steps and why there is none
+//! (`Pictures`), and what is told of its end (`Ends`).
+#![tactic(auto)]
+
+mod deeds;
+mod ends;
+mod notes;
+mod pictures;
+mod walking;
+
+pub use pictures::{DrawFault, drawing};

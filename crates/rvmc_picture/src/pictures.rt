@@ -1,0 +1,174 @@
+//! The drawing of a record.
+
+ghost use Rattle.std.specs.Prelude.{◌≡◌, ◌||◌, [], IfErr, IfOk, length, nat_lt};
+ghost use Rattle.rvmc_picture.specs.Pictures.{DrawFaultHolds, IsDrawing, is_past as is_past_of};
+ghost use Rattle.rvmc_picture.specs.declared.pictures.DrawFault.TheVariants as faults;
+ghost use Rattle.rvmc_picture.specs.Pictures.{IsDrawn, scope_in, view_of as view_in};
+ghost use Rattle.rvmc_picture.specs.Walking.{ArePut, StepsBreak};
+ghost use Rattle.rvmc_draw.specs.Walks.{IsWalked};
+
+use crate::ends::{rows_of, told_of};
+use crate::walking::put_steps;
+use cl_machine::Step;
+use cl_replay::ClusterState;
+use rv_image::Image;
+use rvmc_draw::{Drawing, MARKS_MAX, Sizes, View, Walk, arrows_seen, bars_seen};
+use std::alloc::{AllocError, Global};
+use std::io;
+
+/// Why a record isn't drawn.
+#[derive(Clone, Copy, PartialEq, Eq, Drop, Debug)]
+pub enum DrawFault {
+    /// 1: a place is behind the end. Carries the number of steps.
+    PastEnd(u64),
+    /// 2: the machine has no such step where the steps before it lead. Carries its number, from 0.
+    NotARun(u64),
+    /// 3: more than 5,000 steps have a mark. Carries how many have.
+    TooMany(u64),
+    /// 4: memory was refused.
+    Memory,
+}
+
+impl From<AllocError> for DrawFault {
+    ghost from_gives = { λ _ e. e ≡ faults.Memory };
+
+    fn from(_e: AllocError) -> DrawFault {
+        DrawFault::Memory
+    }
+}
+
+impl From<io::Error> for DrawFault {
+    ghost from_gives = { λ _ e. e ≡ faults.Memory };
+
+    fn from(_e: io::Error) -> DrawFault {
+        DrawFault::Memory
+    }
+}
+
+/// The steps that are shown: to the end where no other place is given.
+fn view_of(from: u64, to: Option<u64>, steps: &[Step]) -> View
+    ensures { result ≡ view_in from to steps.now }
+{
+    View {
+        from,
+        to: to.unwrap_or(steps.len() as u64),
+    }
+}
+
+/// Whether a place of the view is behind the last step.
+fn is_past(view: View, steps: &[Step]) -> bool
+    ensures { result ≡ is_past_of view steps.now }
+{
+    let len = steps.len() as u64;
+    view.from > len || view.to > len
+}
+
+/// The sizes of an image's cluster.
+fn sizes_of(image: &Image) -> Sizes
+    ensures ranks { result.ranks ≡ image.now.ranks }
+    ensures harts { result.harts ≡ image.now.harts }
+    ensures links { result.links ≡ length image.now.links }
+{
+    let parts = image.parts();
+    Sizes {
+        ranks: parts.ranks,
+        harts: parts.harts,
+        links: parts.links.as_slice().len() as u8,
+    }
+}
+
+/// Before the first step.
+fn first_walk(alloc: Global, image: &Image, view: View) -> Result<Walk, AllocError>
+    ensures walked { IfOk result (IsWalked (scope_in image.now view) []) }
+{
+    let sizes = sizes_of(image);
+    let walk = Walk::new(alloc, sizes, view)?;
+    Ok(walk)
+}
+
+/// Walks through all steps.
+#[tactic(auto, using(crate::proofs::Told::put_none))]
+fn walk_all(
+    alloc: Global,
+    image: &Image,
+    steps: &[Step],
+    view: View,
+) -> Result<(ClusterState, Walk), DrawFault>
+    ensures put { IfOk result (λ end.
+        ArePut image.now steps.now (scope_in image.now view) (length steps.now) end.0 end.1) }
+    ensures fault { IfErr result (StepsBreak image.now steps.now) }
+{
+    let mut state = ClusterState::load(alloc, image)?;
+    let mut walk = first_walk(alloc, image, view)?;
+    put_steps(alloc, &mut state, &mut walk, image, steps, view)?;
+    Ok((state, walk))
+}
+
+/// What is shown of the steps that were walked through.
+fn drawn(
+    alloc: Global,
+    image: &Image,
+    view: View,
+    steps: u64,
+    walk: Walk,
+    state: &ClusterState,
+) -> Result<Drawing, AllocError>
+    ensures { IfOk result (IsDrawn image.now view steps walk state.now) }
+{
+    let parts = image.parts();
+    let Walk {
+        board,
+        looks,
+        marks,
+        arrows,
+        bars,
+        ..
+    } = walk;
+    let mut bars = bars;
+    looks.put_open(&mut bars, steps)?;
+    let mut arrows = arrows_seen(alloc, view, arrows.as_slice())?;
+    board.put_lost(&mut arrows, view)?;
+    let bars = bars_seen(alloc, view, bars.as_slice())?;
+    let rows = rows_of(alloc, state, parts)?;
+    let waits = !rows.is_empty();
+    let told = told_of(alloc, image, state, waits)?;
+    Ok(Drawing {
+        ranks: parts.ranks,
+        harts: parts.harts,
+        from: view.from,
+        to: view.to,
+        marks: marks.kept,
+        arrows,
+        bars,
+        rows,
+        told,
+    })
+}
+
+/// A record as a drawing: the steps from one place to another, or else to the end, of which at most 5,000 have a mark.
+///
+/// Refusals, in this order: PastEnd where a place is behind the last step; NotARun where a step is none of the machine,
+/// TooMany where more have a mark; Memory.
+#[tactic(auto, using(crate::proofs::Told::is_drawing, crate::proofs::Told::too_many, crate::proofs::Told::fault_holds))]
+pub fn drawing(
+    alloc: Global,
+    image: &Image,
+    steps: &[Step],
+    from: u64,
+    to: Option<u64>,
+) -> Result<Drawing, DrawFault>
+    ensures drawing { IfOk result (IsDrawing image.now steps.now (view_in from to steps.now)) }
+    ensures fault { IfErr result (DrawFaultHolds image.now steps.now (view_in from to steps.now)) }
+{
+    let view = view_of(from, to, steps);
+    if is_past(view, steps) {
+        return Err(DrawFault::PastEnd(steps.len() as u64));
+    }
+    let (state, walk) = walk_all(alloc, image, steps, view)?;
+    let count = walk.marks.count;
+    if count > MARKS_MAX {
+        return Err(DrawFault::TooMany(count));
+    }
+    let drawing = drawn(alloc, image, view, steps.len() as u64, walk, &state)?;
+    Ok(drawing)
+}
