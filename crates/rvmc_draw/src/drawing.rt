@@ -60,7 +60,7 @@ pub struct Mark {
     pub tip: Vec<u8>,
     /// How many steps of its kind that follow at once it stands for, itself among them.
     pub times: u64,
-    /// How many steps its hart took since the last that is shown.
+    /// How many steps its hart took since the last that is shown, or since it last looked in vain.
     pub quiet: u64,
 }
 

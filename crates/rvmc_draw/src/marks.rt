@@ -29,7 +29,7 @@ pub struct Marks {
     pub shapes: Vec<Option<Shape>>,
     /// Where the last mark of each hart is kept.
     rows: Vec<Option<usize>>,
-    /// How many steps each hart took since its last mark.
+    /// How many steps each hart took since its last mark, or since it last looked in vain.
     quiet: Vec<u64>,
 }
 
@@ -189,7 +189,7 @@ impl Marks {
         }
     }
 
-    /// Counts a step of a hart, from its last mark on.
+    /// Counts a step of a hart, from its last mark or its last look in vain on.
     fn count_quiet(&mut self, deed: &Deed, marked: bool)
         ensures shapes { self.new.shapes.items ≡ self.old.shapes.items }
         ensures kept { self.new.kept.items ≡ self.old.kept.items }
@@ -199,7 +199,7 @@ impl Marks {
     {
         let place = lane(self.harts, deed.spot);
         if place < self.quiet.len() {
-            self.quiet[place] = if marked {
+            self.quiet[place] = if marked || deed.vain {
                 0
             } else {
                 self.quiet[place].saturating_add(1)

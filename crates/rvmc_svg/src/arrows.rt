@@ -1,6 +1,6 @@
 //! Arrows: messages, claims, what a wildcard receive could have taken, and partitions.
 
-use crate::labels::{Places, wide};
+use crate::labels::Places;
 use crate::layout::{Layout, TOP, rank_at};
 use crate::marks::put_across;
 use rvmc_draw::{Arrow, Carried, Drawing, Spot};
@@ -72,7 +72,7 @@ fn class_of(arrow: &Arrow) -> &'static str {
     match arrow.carried {
         Carried::Could { .. } => "a thin far",
         Carried::Claim { .. } => "a thin claim",
-        Carried::Partition { .. } => "a thin",
+        Carried::Partition { .. } => "a part",
         Carried::Message { .. } => { if arrow.to.is_none() { "a lost" } else { "a" } }
     }
 }
@@ -156,7 +156,7 @@ fn line_of(layout: &Layout<'_>, arrow: &Arrow) -> Line {
             Line {
                 from,
                 from_row,
-                to: part_way(from, dest, 30),
+                to: part_way(from, dest, 25),
                 to_row: from_row.saturating_add(12),
             }
         }
@@ -252,7 +252,7 @@ fn put_label(
     kind: (u16, u16),
 ) -> io::Result<()> {
     let (tag, count) = kind;
-    let width = wide(9);
+    let width = places.letters(9);
     for way in &TRIED {
         let at = part_way(line.from, line.to, *way);
         let row = part_way(line.from_row, line.to_row, *way).saturating_sub(2);
@@ -273,12 +273,13 @@ fn put_lost(text: &mut Vec<u8>, places: &mut Places, line: &Line, arrow: &Arrow)
     let rank = arrow.from.rank;
     let dest = arrow.dest;
     let row = line.to_row.saturating_add(4);
+    let width = places.pixels(78);
     let (anchor, dx, left) = if line.to >= line.from {
         ("start", "4", line.to)
     } else {
-        ("end", "-4", line.to.saturating_sub(800))
+        ("end", "-4", line.to.saturating_sub(width))
     };
-    if !places.take(left, 800, row)? {
+    if !places.take(left, width, row)? {
         return Ok(());
     }
     write!(

@@ -1,6 +1,6 @@
 //! The end: whom each hart that waits there waits for, and what is told of it.
 
-use crate::layout::rank_at;
+use crate::layout::{lane_at, rank_at};
 use crate::marks::put_across;
 use crate::safe::put_text;
 use rvmc_draw::{Drawing, Row};
@@ -12,6 +12,31 @@ const ROW: u64 = 18;
 
 const LINE: u64 = 14;
 
+/// How a row is drawn: its line, its begin, and its heads.
+#[derive(Clone, Copy, Drop)]
+struct Colours {
+    line: &'static str,
+    begin: &'static str,
+    head: &'static str,
+}
+
+/// The row of a hart that waits, of a rank in a deadlock or of another.
+fn colours(stuck: bool) -> Colours {
+    if stuck {
+        Colours {
+            line: "rule",
+            begin: "ever",
+            head: "red",
+        }
+    } else {
+        Colours {
+            line: "lane",
+            begin: "wait",
+            head: "dim",
+        }
+    }
+}
+
 /// Adds the head at a rank that is waited for.
 fn put_head(
     text: &mut Vec<u8>,
@@ -19,10 +44,11 @@ fn put_head(
     own: u64,
     rank: u8,
     down: u64,
+    class: &'static str,
 ) -> io::Result<()> {
     let at = rank_at(drawing, rank);
     let name = if at < own { "to-left" } else { "to-right" };
-    write!(text, "<use href=\"#{name}\" x=\"")?;
+    write!(text, "<use href=\"#{name}\" class=\"{class}\" x=\"")?;
     put_across(text, at)?;
     write!(text, "\" y=\"{down}\"/>")
 }
@@ -39,24 +65,51 @@ fn reach(drawing: &Drawing, own: u64, awaited: &[u8]) -> (u64, u64) {
     (least, most)
 }
 
-/// Adds a row: from the hart's rank to each rank that it waits for.
-fn put_row(text: &mut Vec<u8>, drawing: &Drawing, row: &Row, down: u64) -> io::Result<()> {
-    let own = rank_at(drawing, row.rank);
-    let (least, most) = reach(drawing, own, row.awaited.as_slice());
+/// What is told of a row: the ranks that are waited for.
+fn put_title(text: &mut Vec<u8>, row: &Row) -> io::Result<()> {
     let Row { rank, hart, .. } = row;
-    write!(
-        text,
-        "<g><title>rank {rank} hart {hart} waits for these</title><line class=\"rule\" x1=\""
-    )?;
+    write!(text, "<title>rank {rank} hart {hart} waits for")?;
+    if row.awaited.is_empty() {
+        text.extend_from_slice(b" its own rank")?;
+    }
+    for rank in row.awaited.as_slice() {
+        write!(text, " rank {rank}")?;
+    }
+    if row.stuck {
+        text.extend_from_slice(b": in a deadlock")?;
+    }
+    text.extend_from_slice(b"</title>")?;
+    Ok(())
+}
+
+/// Adds that a hart waits for its own rank.
+fn put_itself(text: &mut Vec<u8>, own: u64, down: u64) -> io::Result<()> {
+    text.extend_from_slice(b"<text class=\"dim\" font-size=\"10\" dx=\"9\" x=\"")?;
+    put_across(text, own)?;
+    let down = down.saturating_add(4);
+    write!(text, "\" y=\"{down}\">for its own rank</text>")
+}
+
+/// Adds a row: from the hart's lane to each rank that it waits for.
+fn put_row(text: &mut Vec<u8>, drawing: &Drawing, row: &Row, down: u64) -> io::Result<()> {
+    let own = lane_at(drawing, row.rank, row.hart);
+    let (least, most) = reach(drawing, own, row.awaited.as_slice());
+    let Colours { line, begin, head } = colours(row.stuck);
+    text.extend_from_slice(b"<g>")?;
+    put_title(text, row)?;
+    write!(text, "<line class=\"{line}\" x1=\"")?;
     put_across(text, least)?;
     write!(text, "\" x2=\"")?;
     put_across(text, most)?;
     write!(text, "\" y1=\"{down}\" y2=\"{down}\"/>")?;
-    text.extend_from_slice(b"<circle class=\"ever\" r=\"4\" cx=\"")?;
+    write!(text, "<circle class=\"{begin}\" r=\"4\" cx=\"")?;
     put_across(text, own)?;
     write!(text, "\" cy=\"{down}\"/>")?;
     for rank in row.awaited.as_slice() {
-        put_head(text, drawing, own, *rank, down)?;
+        put_head(text, drawing, own, *rank, down, head)?;
+    }
+    if row.awaited.is_empty() {
+        put_itself(text, own, down)?;
     }
     text.extend_from_slice(b"</g>\n")?;
     Ok(())
@@ -65,6 +118,13 @@ fn put_row(text: &mut Vec<u8>, drawing: &Drawing, row: &Row, down: u64) -> io::R
 /// Adds the rows, from this one on, and tells where they end.
 pub(crate) fn put_rows(text: &mut Vec<u8>, drawing: &Drawing, from: u64) -> io::Result<u64> {
     let mut down = from;
+    if !drawing.rows.is_empty() {
+        let beside = down.saturating_add(3);
+        writeln!(
+            text,
+            "<text class=\"dim\" font-size=\"9\" x=\"3\" y=\"{beside}\">waits for</text>"
+        )?;
+    }
     for row in drawing.rows.as_slice() {
         put_row(text, drawing, row, down)?;
         down = down.saturating_add(ROW);

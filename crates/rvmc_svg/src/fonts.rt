@@ -9,7 +9,7 @@ svg{max-width:100%;background:#fff}
 .mark{stroke:#1c1c1c;stroke-width:1.2}.open{fill:#fff}.full{fill:#1c1c1c}.none{fill:none}
 .wait{fill:#ded7c0}.ever{fill:#f3b8ac;stroke:#c62f1b}.red{fill:#a52312}.rule{stroke:#c62f1b;stroke-width:1.5}
 .a{fill:none;stroke-width:1.4}.thin{stroke-width:.9}.far{stroke-dasharray:1.5 3.5}.lost{stroke-dasharray:4 2}
-.claim{stroke-dasharray:1 3}.ribbon{opacity:.16;stroke:none}
+.claim{stroke-dasharray:1 3}.part{stroke-width:.7}.ribbon{opacity:.13}
 g:hover>.a{stroke-width:3}.bold{font-weight:600}
 .s0{stroke:#0072b2}.s1{stroke:#d55e00}.s2{stroke:#009e73}.s3{stroke:#a6518a}
 .s4{stroke:#8a6d00}.s5{stroke:#3b8fc4}.s6{stroke:#7a4a00}.s7{stroke:#555}
@@ -19,7 +19,7 @@ g:hover>.a{stroke-width:3}.bold{font-weight:600}
 svg{background:#16181b}
 .ink{fill:#e8e8e8}.dim{fill:#a6a6a6}.lane{stroke:#555}.band{fill:#fff;opacity:.04}.halo{stroke:#16181b}
 .mark{stroke:#e8e8e8}.open{fill:#16181b}.full{fill:#e8e8e8}.wait{fill:#4c4733}.ever{fill:#6b2a20;stroke:#ff7d66}
-.red{fill:#ff9c8a}.rule{stroke:#ff7d66}.ribbon{opacity:.24}
+.red{fill:#ff9c8a}.rule{stroke:#ff7d66}.ribbon{opacity:.2}
 .s0{stroke:#56b4e9}.s1{stroke:#ff8a3d}.s2{stroke:#2fd6a3}.s3{stroke:#e59ccb}
 .s4{stroke:#f0e442}.s5{stroke:#9fd3ff}.s6{stroke:#d9a066}.s7{stroke:#bbb}
 .f0{fill:#56b4e9}.f1{fill:#ff8a3d}.f2{fill:#2fd6a3}.f3{fill:#e59ccb}
@@ -47,8 +47,8 @@ pub(crate) const SHAPES: &str = "\
 <g id=\"refused\"><circle class=\"mark open\" r=\"4\"/><path class=\"rule\" d=\"M-2.8,-2.8l5.6,5.6\"/></g>
 <g id=\"look\"><path class=\"mark\" stroke-width=\"1\" d=\"M-4,0h8\"/></g>
 <g id=\"other\"><circle class=\"mark open\" r=\"2.4\"/></g>
-<g id=\"ring\"><circle class=\"mark none\" stroke-dasharray=\"2 1.5\" r=\"9\"/></g>
-<g id=\"to-left\"><path class=\"red\" d=\"M0,0l10,-4v8z\"/></g>
-<g id=\"to-right\"><path class=\"red\" d=\"M0,0l-10,-4v8z\"/></g>
+<g id=\"ring\"><circle class=\"mark none\" stroke-dasharray=\"2 1.5\" r=\"7.5\"/></g>
+<g id=\"to-left\"><path d=\"M0,0l10,-4v8z\"/></g>
+<g id=\"to-right\"><path d=\"M0,0l-10,-4v8z\"/></g>
 </defs>
 ";

@@ -5,6 +5,12 @@ use std::alloc::{AllocError, Global};
 /// How high a line of writing is.
 const HIGH: u64 = 12;
 
+/// How wide a letter is, about.
+const LETTER: u64 = 6;
+
+/// The width of the page, in hundredths of a per cent.
+const WHOLE: u64 = 10_000;
+
 /// Where something is written already: from here to there across, and the row.
 #[derive(Clone, Copy, Drop)]
 struct Place {
@@ -13,15 +19,11 @@ struct Place {
     row: u64,
 }
 
-/// All places where something is written.
+/// All places where something is written, on a page of so many pixels.
 #[derive(Drop)]
 pub(crate) struct Places {
+    page: u64,
     taken: Vec<Place>,
-}
-
-/// How wide so many letters are, of a page of 1,200 pixels.
-pub(crate) fn wide(letters: usize) -> u64 {
-    (letters as u64).saturating_mul(50)
 }
 
 fn touches(a: &Place, b: &Place) -> bool {
@@ -31,10 +33,21 @@ fn touches(a: &Place, b: &Place) -> bool {
 
 impl Places {
     /// Nothing is written yet.
-    pub(crate) fn new(alloc: Global) -> Places {
+    pub(crate) fn new(alloc: Global, page: u64) -> Places {
         Places {
+            page,
             taken: Vec::new(alloc),
         }
+    }
+
+    /// So many pixels, as a length across.
+    pub(crate) fn pixels(&self, count: u64) -> u64 {
+        count.saturating_mul(WHOLE) / self.page.max(1)
+    }
+
+    /// How wide so many letters are.
+    pub(crate) fn letters(&self, count: usize) -> u64 {
+        self.pixels((count as u64).saturating_mul(LETTER))
     }
 
     /// Takes the place, if nothing is written there.

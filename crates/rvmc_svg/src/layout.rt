@@ -14,7 +14,7 @@ const LANE_ROW: u64 = 17;
 const SLOPE: u64 = 13;
 
 /// The least number of steps without a mark that is told, and how much room that takes.
-pub(crate) const LONG: u64 = 40;
+const LONG: u64 = 40;
 
 const LONG_ROW: u64 = 26;
 
@@ -22,6 +22,32 @@ const LONG_ROW: u64 = 26;
 const LEFT: u64 = 700;
 
 const SHARED: u64 = 9000;
+
+/// How many pixels a rank has, a hart has at least, and the page has at most; and those at its margins.
+const RANK_PIXELS: u64 = 220;
+
+const HART_PIXELS: u64 = 80;
+
+const MARGINS: u64 = 120;
+
+const PAGE: u64 = 1200;
+
+/// How many pixels wide the page is.
+pub(crate) fn page_wide(drawing: &Drawing) -> u64 {
+    u64::from(drawing.harts)
+        .saturating_mul(HART_PIXELS)
+        .max(RANK_PIXELS)
+        .saturating_mul(u64::from(drawing.ranks))
+        .saturating_add(MARGINS)
+        .min(PAGE)
+}
+
+/// How many steps of a hart without a mark are told in a picture of so many steps.
+pub(crate) fn long(drawing: &Drawing) -> u64 {
+    let lanes = u64::from(drawing.ranks).saturating_mul(u64::from(drawing.harts));
+    let steps = drawing.to.saturating_sub(drawing.from);
+    LONG.max(steps / lanes.saturating_mul(50).max(1))
+}
 
 /// How wide a rank's share is.
 pub(crate) fn share(drawing: &Drawing) -> u64 {
@@ -40,7 +66,7 @@ pub(crate) fn rank_at(drawing: &Drawing, rank: u8) -> u64 {
 /// Where a hart's lane stands.
 pub(crate) fn lane_at(drawing: &Drawing, rank: u8, hart: u8) -> u64 {
     let harts = u64::from(drawing.harts);
-    let between = (share(drawing) / harts.saturating_add(1)).min(300);
+    let between = share(drawing) / harts.saturating_add(1);
     let half = between.saturating_mul(harts.saturating_sub(1)) / 2;
     rank_at(drawing, rank)
         .saturating_add(between.saturating_mul(u64::from(hart)))
@@ -82,6 +108,19 @@ impl<'a> Layout<'a> {
     /// The lane of a step's hart.
     pub(crate) fn lane_of(&self, spot: Spot) -> u64 {
         spot_at(self.drawing, spot)
+    }
+
+    /// Whether an arrow comes to a step from the right.
+    pub(crate) fn comes_from_right(&self, spot: Spot) -> bool {
+        let at = self.lane_of(spot);
+        for arrow in self.drawing.arrows.as_slice() {
+            if let Some(to) = arrow.to {
+                if to.place == spot.place && self.lane_of(arrow.from) > at {
+                    return true;
+                }
+            }
+        }
+        false
     }
 }
 
@@ -135,10 +174,11 @@ pub(crate) fn rows(alloc: Global, drawing: &Drawing) -> Result<Vec<u64>, AllocEr
     };
     let mut rows: Vec<u64> = Vec::new(alloc);
     let mut row = TOP;
+    let long = long(drawing);
     let marks = drawing.marks.as_slice();
     for mark in marks {
         let last = lanes.last(mark.spot).unwrap_or(TOP);
-        let apart = if mark.quiet >= LONG && last > TOP {
+        let apart = if mark.quiet >= long && last > TOP {
             LONG_ROW
         } else {
             LANE_ROW

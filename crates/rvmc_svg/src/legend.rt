@@ -11,6 +11,9 @@ const ROW: u64 = 17;
 
 const SIGNS: u64 = 3;
 
+/// How far apart two lines are.
+const LINE: u64 = 14;
+
 /// What each shape means, in the legend's order.
 static SIGNS_OF: [(Shape, &str); 15] = [
     (Shape::Send, "sends"),
@@ -139,26 +142,49 @@ fn put_could(text: &mut Vec<u8>, pen: &mut Pen) -> io::Result<()> {
     put_meaning(text, pen, "could have been got")
 }
 
-/// Adds what all messages share, or how one is told.
-fn put_kind(text: &mut Vec<u8>, drawing: &Drawing, down: u64) -> io::Result<()> {
+/// Whether there is a message.
+fn has_message(drawing: &Drawing) -> bool {
+    for arrow in drawing.arrows.as_slice() {
+        if matches!(arrow.carried, Carried::Message { .. }) {
+            return true;
+        }
+    }
+    false
+}
+
+/// Adds what the numbers at the left are.
+fn put_numbers(text: &mut Vec<u8>, down: u64) -> io::Result<()> {
+    writeln!(
+        text,
+        "<text class=\"dim\" font-size=\"10\" x=\"12\" y=\"{down}\">numbers at the left: steps, as in `rvmc debug go=N`</text>"
+    )
+}
+
+/// Adds what all messages share, or how one is told, and where the next line stands.
+fn put_kind(text: &mut Vec<u8>, drawing: &Drawing, down: u64) -> io::Result<u64> {
+    if !has_message(drawing) {
+        return Ok(down);
+    }
     match shared_kind(drawing.arrows.as_slice()) {
         None => writeln!(
             text,
-            "<text class=\"dim wide\" font-size=\"10\" x=\"12\" y=\"{down}\">t7 8B: a message with tag 7 and 8 bytes; numbers at the left: steps, as `rvmc debug go=N` counts</text>"
-        ),
+            "<text class=\"dim wide\" font-size=\"10\" x=\"12\" y=\"{down}\">t7 8B: a message with tag 7 and 8 bytes</text>"
+        )?,
         Some((tag, count)) => writeln!(
             text,
             "<text class=\"dim\" font-size=\"10\" x=\"12\" y=\"{down}\">each message: tag {tag}, {count} bytes</text>"
-        ),
+        )?,
     }
+    Ok(down.saturating_add(LINE))
 }
 
 /// Adds the legend, from this row on, and tells where it ends.
 pub(crate) fn put_legend(text: &mut Vec<u8>, drawing: &Drawing, from: u64) -> io::Result<u64> {
-    put_kind(text, drawing, from)?;
+    let down = put_kind(text, drawing, from)?;
+    put_numbers(text, down)?;
     let mut pen = Pen {
         number: 0,
-        from: from.saturating_add(18),
+        from: down.saturating_add(18),
     };
     put_shapes(text, drawing, &mut pen)?;
     if has_bar(drawing, true) {

@@ -14,6 +14,7 @@ mod layout;
 mod legend;
 mod marks;
 mod page;
+mod ribbons;
 mod safe;
 
 pub use page::svg;

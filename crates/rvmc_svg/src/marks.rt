@@ -1,7 +1,7 @@
 //! Marks: a shape for each step that is shown, and what stands beside it.
 
-use crate::labels::{Places, wide};
-use crate::layout::{LONG, Layout, TOP};
+use crate::labels::Places;
+use crate::layout::{Layout, TOP, long};
 use crate::safe::put_text;
 use rvmc_draw::{Mark, Shape};
 use std::io;
@@ -43,10 +43,41 @@ fn put_use(text: &mut Vec<u8>, name: &'static str, rank: u8, at: u64, row: u64) 
     writeln!(text, "\" y=\"{row}\"/>")
 }
 
-/// What is written beside a mark: to its right.
+/// How far from its mark a note begins.
+const BESIDE: u64 = 12;
+
+/// How many letters of a note are tried.
+static TRIED: [usize; 2] = [26, 14];
+
+/// How many letters of a note there is room for, at the left or the right of its mark.
+fn room(
+    places: &mut Places,
+    left: bool,
+    at: u64,
+    row: u64,
+    length: usize,
+) -> io::Result<Option<usize>> {
+    for most in &TRIED {
+        let letters = length.min(*most);
+        let wide = places.letters(letters);
+        let beside = places.pixels(BESIDE);
+        let from = if left {
+            at.saturating_sub(beside.saturating_add(wide))
+        } else {
+            at.saturating_add(beside)
+        };
+        if places.take(from, wide, row)? {
+            return Ok(Some(letters));
+        }
+    }
+    Ok(None)
+}
+
+/// What is written beside a mark: to its right, or to its left where an arrow comes from the right.
 fn put_note(
     text: &mut Vec<u8>,
     places: &mut Places,
+    layout: &Layout<'_>,
     mark: &Mark,
     at: u64,
     row: u64,
@@ -55,17 +86,19 @@ fn put_note(
         return Ok(());
     }
     let shown = mark.note.as_slice();
-    let letters = shown.len().min(18);
-    if !places.take(at.saturating_add(100), wide(letters), row)? {
+    let left = layout.comes_from_right(mark.spot);
+    let Some(letters) = room(places, left, at, row, shown.len())? else {
         return Ok(());
-    }
+    };
+    let letters = letters.min(shown.len());
     let class = match mark.shape {
         Shape::Refused | Shape::Trap => "red",
         _ => "dim",
     };
+    let (anchor, sign) = if left { ("end", "-") } else { ("start", "") };
     write!(
         text,
-        "<text class=\"{class} halo wide\" font-size=\"10\" dx=\"12\" dy=\"3.5\" x=\""
+        "<text class=\"{class} halo wide\" font-size=\"10\" text-anchor=\"{anchor}\" dx=\"{sign}{BESIDE}\" dy=\"3.5\" x=\""
     )?;
     put_across(text, at)?;
     write!(text, "\" y=\"{row}\">")?;
@@ -86,7 +119,9 @@ pub(crate) fn put_count(
     count: u64,
     these: &'static str,
 ) -> io::Result<()> {
-    if !places.take(at.saturating_sub(580), 520, row)? {
+    let wide = places.pixels(50);
+    let beside = places.pixels(7);
+    if !places.take(at.saturating_sub(wide.saturating_add(beside)), wide, row)? {
         return Ok(());
     }
     write!(
@@ -118,11 +153,11 @@ fn put_mark(
         put_use(text, "ring", mark.spot.rank, at, row)?;
     }
     put_use(text, shape_name(mark.shape), mark.spot.rank, at, row)?;
-    put_note(text, places, mark, at, row)?;
+    put_note(text, places, layout, mark, at, row)?;
     text.extend_from_slice(b"</g>\n")?;
     // how many steps the hart took without a mark
     let above = row.saturating_sub(11);
-    if mark.quiet < LONG || above < TOP {
+    if mark.quiet < long(layout.drawing) || above < TOP {
         return Ok(());
     }
     put_count(text, places, at, above, mark.quiet, "steps")
@@ -143,21 +178,34 @@ pub(crate) fn put_marks(
     Ok(())
 }
 
-/// Adds the places of marks at the left, as many as there is room for.
+/// How far apart two places that stand in one column are.
+const PLACES_APART: u64 = 11;
+
+/// Adds the place of a mark at the left. Where there is no room in the first column it stands in the second, which a
+/// narrow page hasn't.
+fn put_place(text: &mut Vec<u8>, place: u64, row: u64, first: bool) -> io::Result<()> {
+    let down = row.saturating_add(3);
+    let (class, across) = if first { ("dim", 3) } else { ("dim wide", 36) };
+    writeln!(
+        text,
+        "<text class=\"{class}\" font-size=\"9\" x=\"{across}\" y=\"{down}\">{place}</text>"
+    )
+}
+
+/// Adds the places of all marks, in two columns.
 pub(crate) fn put_places(text: &mut Vec<u8>, layout: &Layout<'_>) -> io::Result<()> {
     let mut number: usize = 0;
-    let mut last: u64 = 0;
+    let mut first: u64 = 0;
+    let mut second: u64 = 0;
     for mark in layout.drawing.marks.as_slice() {
         let row = layout.rows.get(number).copied().unwrap_or(0);
         number = number.saturating_add(1);
-        if row >= last.saturating_add(11) {
-            last = row;
-            let place = mark.spot.place;
-            let down = row.saturating_add(3);
-            writeln!(
-                text,
-                "<text class=\"dim\" font-size=\"9\" x=\"3\" y=\"{down}\">{place}</text>"
-            )?;
+        if row >= first.saturating_add(PLACES_APART) {
+            first = row;
+            put_place(text, mark.spot.place, row, true)?;
+        } else if row >= second.saturating_add(PLACES_APART) {
+            second = row;
+            put_place(text, mark.spot.place, row, false)?;
         }
     }
     Ok(())

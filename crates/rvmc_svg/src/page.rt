@@ -9,9 +9,10 @@ use crate::bars::put_bars;
 use crate::ends::{put_rows, put_told};
 use crate::fonts::{SHAPES, STYLE};
 use crate::labels::Places;
-use crate::layout::{Layout, TOP, lane_at, rank_at, rows, share};
+use crate::layout::{Layout, TOP, lane_at, page_wide, rank_at, rows, share};
 use crate::legend::put_legend;
 use crate::marks::{put_across, put_marks, put_places};
+use crate::ribbons::put_ribbons;
 use crate::safe::put_safe;
 use rvmc_draw::Drawing;
 use std::alloc::Global;
@@ -77,7 +78,7 @@ fn body(alloc: Global, drawing: &Drawing, text: &mut Vec<u8>) -> io::Result<u64>
     let rows = rows(alloc, drawing)?;
     let last = rows.as_slice().last().copied().unwrap_or(TOP);
     let foot = last.saturating_add(34);
-    let mut places = Places::new(alloc);
+    let mut places = Places::new(alloc, page_wide(drawing));
     put_heads(text, drawing.ranks)?;
     put_ranks(text, drawing, foot)?;
     let layout = Layout {
@@ -86,6 +87,7 @@ fn body(alloc: Global, drawing: &Drawing, text: &mut Vec<u8>) -> io::Result<u64>
         foot,
     };
     put_bars(text, &mut places, &layout)?;
+    put_ribbons(text, &layout)?;
     put_arrows(text, &layout)?;
     put_places(text, &layout)?;
     put_marks(text, &mut places, &layout)?;
@@ -100,10 +102,7 @@ fn body(alloc: Global, drawing: &Drawing, text: &mut Vec<u8>) -> io::Result<u64>
 fn page(alloc: Global, drawing: &Drawing) -> io::Result<Vec<u8>> {
     let mut inner = Vec::new(alloc);
     let high = body(alloc, drawing, &mut inner)?;
-    let wide = u64::from(drawing.ranks)
-        .saturating_mul(220)
-        .saturating_add(120)
-        .min(1200);
+    let wide = page_wide(drawing);
     let mut text = Vec::new(alloc);
     writeln!(
         &mut text,
