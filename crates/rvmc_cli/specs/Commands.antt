@@ -4,13 +4,14 @@ use Rattle.std.specs.Prelude.{option_and_then}
 use Rattle.std.specs.Str.{bytes_eq}
 use Rattle.clap.specs.Words.{App, Row, Rule, Text, all_of, new_app}
 use Rattle.rvmc_cli.specs.App.{flag, option, texts, top_app, with_commands, with_rules}
+use Rattle.rvmc_cli.specs.declared.places.Places.{Places}
 use Rattle.rvmc_cli.specs.Options.{flag_in, list_option, number_option, optional_number}
 use Rattle.rvmc_words.specs.Debug.{debug_words_in}
 use Rattle.rvmc_line.specs.declared.line.CommandLine.{CommandLine}
 use Rattle.rvmc_line.specs.declared.line.CommandLine.TheVariants.{OfImage, OfRecord}
 use Rattle.rvmc_line.specs.declared.line.ImageCommand.{ImageCommand}
 use Rattle.rvmc_line.specs.declared.line.ImageCommand.TheVariants.{Asm, Dis, One, OneUntilStuck, Run}
-use Rattle.rvmc_line.specs.declared.line.RecordCommand.TheVariants.{Check, Debug, List as ListSteps, Report, Stats}
+use Rattle.rvmc_line.specs.declared.line.RecordCommand.TheVariants.{Check, Debug, Draw, List as ListSteps, Report, Stats}
 use Rattle.rvmc_line.specs.declared.line.RecordCommand.TheVariants.{Why}
 use Rattle.rvmc_line.specs.declared.line.RecordCommand.{RecordCommand}
 use Rattle.rvmc_line.specs.declared.line.Written.{Written}
@@ -112,28 +113,44 @@ report_row =
       meaning = λ rows. Some (OfRecord Report);
     }
 
--- lines, or with `--stats` tables in place of them; `--calls` is about lines, and doesn't go with it
-abbrev pub listing_in : ℕ → Option ℕ → Option ℕ → List Row → Option RecordCommand
-listing_in from to rank rows =
-    if flag_in (codes "stats") rows
-    then (if flag_in (codes "calls") rows then None else Some (Stats from to rank))
-    else Some (ListSteps from to rank (flag_in (codes "calls") rows))
+-- what `list` and `draw` share: `[--from N] [--to N]`
+abbrev pub place_rules : List Rule
+place_rules = option (codes "from") ∷ option (codes "to") ∷ []
 
--- `list [--from N] [--to N] [--rank R] [--calls] [--stats]`, places below 2^64, of which the second isn't before the
--- first, and R from 0 to 255
+-- two places below 2^64, of which the second isn't before the first; without them the start and the end
+abbrev pub places_in : List Row → Option Places
+places_in rows =
+    option_and_then (λ from. option_map (λ to. record { from = from; to = to })
+    (optional_number (codes "to") from 18446744073709551615 rows))
+    (number_option (codes "from") 0 18446744073709551615 0 rows)
+
+-- lines, or with `--stats` tables in place of them; `--calls` is about lines, and doesn't go with it
+abbrev pub listing_in : Places → Option ℕ → List Row → Option RecordCommand
+listing_in places rank rows =
+    if flag_in (codes "stats") rows
+    then (if flag_in (codes "calls") rows then None else Some (Stats places.from places.to rank))
+    else Some (ListSteps places.from places.to rank (flag_in (codes "calls") rows))
+
+-- `list [--from N] [--to N] [--rank R] [--calls] [--stats]`, R from 0 to 255
 abbrev pub list_row : CommandRow
 list_row =
     record {
       name = codes "list";
-      rules =
-          option (codes "from") ∷ option (codes "to") ∷ option (codes "rank") ∷ flag (codes "calls")
-          ∷ flag (codes "stats") ∷ [];
+      rules = place_rules ++ option (codes "rank") ∷ flag (codes "calls") ∷ flag (codes "stats") ∷ [];
       meaning = λ rows.
-          option_and_then (λ from. option_and_then (λ to. option_and_then (λ rank.
-          option_map (λ command. OfRecord command) (listing_in from to rank rows))
-          (optional_number (codes "rank") 0 255 rows))
-          (optional_number (codes "to") from 18446744073709551615 rows))
-          (number_option (codes "from") 0 18446744073709551615 0 rows);
+          option_and_then (λ places. option_and_then (λ rank.
+          option_map (λ command. OfRecord command) (listing_in places rank rows))
+          (optional_number (codes "rank") 0 255 rows)) (places_in rows);
+    }
+
+-- `draw [--from N] [--to N]`
+abbrev pub draw_row : CommandRow
+draw_row =
+    record {
+      name = codes "draw";
+      rules = place_rules;
+      meaning = λ rows.
+          option_map (λ (places : Places). OfRecord (Draw places.from places.to)) (places_in rows);
     }
 
 -- `debug CMD..`
@@ -162,7 +179,8 @@ why_row =
 
 -- in the order in which help lists them
 abbrev pub commands : List CommandRow
-commands = asm_row ∷ dis_row ∷ run_row ∷ one_row ∷ check_row ∷ report_row ∷ list_row ∷ debug_row ∷ why_row ∷ []
+commands = asm_row ∷ dis_row ∷ run_row ∷ one_row ∷ check_row ∷ report_row ∷ list_row ∷ draw_row ∷ debug_row ∷ why_row
+    ∷ []
 
 -- what clap reads of a command
 abbrev pub app_of : CommandRow → App

@@ -7,8 +7,9 @@ ghost use Rattle.rvmc_cli.specs.Built.{StandsFor};
 ghost use Rattle.rvmc_cli.specs.Commands.{app_of, list_row, listing_in};
 ghost use Rattle.rvmc_cli.specs.Parsing.{Finds, Reads};
 
-use crate::parts::{command as new_command, flag, option};
-use crate::values::{self, number, optional_number};
+use crate::parts::{flag, option};
+use crate::places::{Places, placed, places_of};
+use crate::values::{self, optional_number};
 use crate::wrong::Wrong;
 use clap::{ArgMatches, Command};
 use rvmc_line::{CommandLine, RecordCommand};
@@ -53,24 +54,12 @@ Examples:
 pub fn command<'a>(alloc: Global) -> Result<Command<'a>, AllocError>
     ensures { IfOk result (StandsFor (app_of list_row)) }
 {
-    new_command(
+    placed(
         alloc,
         "list",
         "Prints the record on standard input in words, one line a step",
         EXAMPLES,
-    )
-    .arg(option(
-        alloc,
-        "from",
-        "N",
-        "Begins at the place with N steps done [default: 0]",
-    ))?
-    .arg(option(
-        alloc,
-        "to",
-        "N",
-        "Ends at the place with N steps done [default: all steps]",
-    ))?
+    )?
     .arg(option(alloc, "rank", "R", "Lists the steps of this rank alone"))?
     .arg(flag(
         alloc,
@@ -87,12 +76,12 @@ pub fn command<'a>(alloc: Global) -> Result<Command<'a>, AllocError>
 /// Lines or tables.
 fn listing<'a>(
     matches: &ArgMatches<'a>,
-    from: u64,
-    to: Option<u64>,
+    places: Places,
     rank: Option<u64>,
 ) -> Result<RecordCommand, Wrong<'a>>
-    ensures { Reads (listing_in from to rank (rows_of (found_of matches.now))) result }
+    ensures { Reads (listing_in places rank (rows_of (found_of matches.now))) result }
 {
+    let Places { from, to } = places;
     let calls = values::flag(matches, "calls");
     if !values::flag(matches, "stats") {
         return Ok(RecordCommand::List {
@@ -115,9 +104,8 @@ fn listing<'a>(
 pub fn line<'a>(_alloc: Global, matches: &ArgMatches<'a>) -> Result<CommandLine, Wrong<'a>>
     ensures { Finds (list_row.meaning (rows_of (found_of matches.now))) result }
 {
-    let from = number(matches, "from", 0, u64::MAX, 0)?;
-    let to = optional_number(matches, "to", from, u64::MAX)?;
+    let places = places_of(matches)?;
     let rank = optional_number(matches, "rank", 0, 255)?;
-    let command = listing(matches, from, to, rank)?;
+    let command = listing(matches, places, rank)?;
     Ok(CommandLine::OfRecord(command))
 }

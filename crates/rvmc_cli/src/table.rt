@@ -11,7 +11,7 @@ ghost use Rattle.rvmc_cli.specs.Parsing.{Finds};
 
 use crate::parts::command as new_command;
 use crate::wrong::Wrong;
-use crate::{asm, check, debug, dis, list, one, report, run, why};
+use crate::{asm, check, debug, dis, draw, list, one, report, run, why};
 use clap::{ArgMatches, Command};
 use rvmc_line::CommandLine;
 use std::alloc::{AllocError, Global};
@@ -20,7 +20,7 @@ use std::alloc::{AllocError, Global};
 /// module that builds and reads it too.
 macro_rules! commands {
     ($made:ident($($given:tt)*)) => {
-        $made!($($given)*; asm, dis, run, one, check, report, list, debug, why)
+        $made!($($given)*; asm, dis, run, one, check, report, list, draw, debug, why)
     };
 }
 
@@ -64,6 +64,8 @@ Examples:
                               checks each step that the threads took
   rvmc report <hi.record      tells what a recorded run put out
   rvmc list <hi.record        lists its steps in words
+  rvmc draw <hi.record >hi.svg
+                              draws its steps as a picture
   rvmc debug go=2 regs=0,0 <hi.record
                               shows the registers after two steps
   rvmc one --source --why <hi.s

@@ -93,6 +93,12 @@ pub enum RecordCommand {
         to: Option<u64>,
         rank: Option<u64>,
     },
+    /// A picture of the steps is written: of those from place `from` on, up to place `to` or else to the end. Whether there
+    /// are such places is not known here.
+    Draw {
+        from: u64,
+        to: Option<u64>,
+    },
     /// It is written how each hart is after the first `at` steps, or else after all, what it waits for,
     /// and which ranks are in a deadlock; with `frames` also which calls led there. Whether there are so
     /// many steps is not known here.

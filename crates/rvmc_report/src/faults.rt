@@ -41,6 +41,20 @@ pub enum ListRefusal {
     NotARun(u64),
 }
 
+/// Why a record isn't drawn.
+#[derive(Clone, Copy, Debug, Drop, Error)]
+pub enum DrawRefusal {
+    /// A place is behind the end. Carries the number of steps.
+    #[error("PastEnd {0}")]
+    PastEnd(u64),
+    /// The machine has no such step where the steps before it lead. Carries its number, from 0.
+    #[error("NotARun {0}")]
+    NotARun(u64),
+    /// More steps have a mark than a picture may have. Carries how many.
+    #[error("TooMany {0}")]
+    TooMany(u64),
+}
+
 /// Why there is no answer. It prints as the fault's line on standard error, behind `rvmc: `.
 #[derive(Clone, Copy, Debug, Drop, Error)]
 pub enum Fault {
@@ -72,6 +86,9 @@ pub enum Fault {
     /// Why there is no list of a record.
     #[error("list: {0}")]
     List(ListRefusal),
+    /// Why there is no picture of a record.
+    #[error("draw: {0}")]
+    Draw(DrawRefusal),
     /// Memory was refused.
     #[error("memory")]
     Memory,
@@ -101,7 +118,8 @@ impl Fault {
             | Fault::Debug(_)
             | Fault::Why(_)
             | Fault::Report(_)
-            | Fault::List(_) => 1,
+            | Fault::List(_)
+            | Fault::Draw(_) => 1,
             Fault::Memory | Fault::Spawn => 5,
             Fault::Read | Fault::Write => 6,
         }

@@ -1,6 +1,7 @@
 -- What a command says of the image and the steps of a record, and for which fault it says nothing: one definition of each
 -- a command.
 use Rattle.std.specs.Prelude.{◌≡◌, ◌≤◌, ◌⊎◌, ℕ, Bool, false, List, [], length, MatchResult, Option, None, Some}
+use Rattle.std.specs.List.{All}
 use Rattle.cl_debug.specs.declared.faults.DebugFault.{DebugFault}
 use Rattle.cl_debug.specs.declared.faults.DebugFault.TheVariants as debug
 use Rattle.cl_machine.specs.declared.steps.Step.{Step}
@@ -14,23 +15,29 @@ use Rattle.cl_replay.specs.declared.states.ClusterState.{ClusterState}
 use Rattle.cl_text.specs.Reading.{reading_record}
 use Rattle.rv_image.specs.Image.{IsImage}
 use Rattle.rv_image.specs.declared.images.ImageParts.{ImageParts}
+use Rattle.rvmc_draw.specs.declared.drawing.Drawing.{Drawing}
 use Rattle.rvmc_inspect.specs.Why.{IsWhy}
 use Rattle.rvmc_inspect.specs.Words.{IsTextOfWords}
 use Rattle.rvmc_words.specs.declared.debug.DebugWord.{DebugWord}
 use Rattle.rvmc_line.specs.declared.line.RecordCommand.{RecordCommand}
-use Rattle.rvmc_line.specs.declared.line.RecordCommand.TheVariants.{Check, Debug, List as ListSteps, Report, Stats}
+use Rattle.rvmc_line.specs.declared.line.RecordCommand.TheVariants.{Check, Debug, Draw, List as ListSteps, Report, Stats}
 use Rattle.rvmc_line.specs.declared.line.RecordCommand.TheVariants.{Why}
 use Rattle.rvmc_list.specs.List.{IsList, ListFaultHolds}
 use Rattle.rvmc_list.specs.Stats.{IsStats}
 use Rattle.rvmc_list.specs.declared.folding.Wanted.{Wanted}
 use Rattle.rvmc_list.specs.declared.walk.ListFault.TheVariants as list
+use Rattle.rvmc_picture.specs.Pictures.{DrawFaultHolds, IsDrawing, view_of}
+use Rattle.rvmc_picture.specs.declared.pictures.DrawFault.{DrawFault}
+use Rattle.rvmc_picture.specs.declared.pictures.DrawFault.TheVariants as draw
 use Rattle.rvmc_report.specs.Faults.{fault_of_debug, fault_status}
 use Rattle.rvmc_report.specs.Recorded.{IsReportOf}
 use Rattle.rvmc_report.specs.Verdicts.{verdict_status, verdict_text}
+use Rattle.rvmc_report.specs.declared.faults.DrawRefusal.TheVariants as drawn
 use Rattle.rvmc_report.specs.declared.faults.Fault.{Fault}
 use Rattle.rvmc_report.specs.declared.faults.Fault.TheVariants as faults
 use Rattle.rvmc_report.specs.declared.faults.ListRefusal.TheVariants as refusal
 use Rattle.rvmc_report.specs.declared.faults.PlaceFault.TheVariants as place
+use Rattle.rvmc_svg.specs.Safe.{IsAllowed}
 use Rattle.rvmc_tool.specs.Ends.{IsFaulty, end_status}
 use Rattle.rvmc_tool.specs.declared.answers.End.{End}
 use Rattle.rvmc_tool.specs.declared.answers.End.TheVariants.{Cut, Status}
@@ -73,6 +80,32 @@ IsNoList image steps wanted (faults.List refusal.NoRank) = ListFaultHolds image 
 IsNoList image steps wanted (faults.List (refusal.PastEnd n)) = ListFaultHolds image steps wanted (list.PastEnd n)
 IsNoList image steps wanted (faults.List (refusal.NotARun n)) = ListFaultHolds image steps wanted (list.NotARun n)
 IsNoList image steps wanted other = ⊥
+
+-- ---- `draw`
+
+-- a picture of the steps from one place to another, or to the end: a drawing of them, and a text of which each byte is one
+-- that XML allows
+pub record IsPicture (image : ImageParts) (steps : List Step) (from : ℕ) (to : Option ℕ) (text : List ℕ) : Type 0 where
+  pub drawing : Drawing
+  pub is : IsDrawing image steps (view_of from to steps) drawing
+  pub allowed : All IsAllowed text
+
+-- want of memory is no fault of the input
+abbrev pub fault_of_draw : DrawFault → Fault
+fault_of_draw (draw.PastEnd n) = faults.Draw (drawn.PastEnd n)
+fault_of_draw (draw.NotARun n) = faults.Draw (drawn.NotARun n)
+fault_of_draw (draw.TooMany n) = faults.Draw (drawn.TooMany n)
+fault_of_draw draw.Memory = faults.Memory
+
+-- a place that isn't there, a step that is none of the machine's, and more marks than a picture may have are faults
+abbrev pub IsNoPicture : ImageParts → List Step → ℕ → Option ℕ → Fault → Type 0
+IsNoPicture image steps from to (faults.Draw (drawn.PastEnd n)) =
+    DrawFaultHolds image steps (view_of from to steps) (draw.PastEnd n)
+IsNoPicture image steps from to (faults.Draw (drawn.NotARun n)) =
+    DrawFaultHolds image steps (view_of from to steps) (draw.NotARun n)
+IsNoPicture image steps from to (faults.Draw (drawn.TooMany n)) =
+    DrawFaultHolds image steps (view_of from to steps) (draw.TooMany n)
+IsNoPicture image steps from to other = ⊥
 
 -- ---- `debug`
 
@@ -127,6 +160,7 @@ TellsOfSteps (ListSteps from to rank calls) image steps text end =
     IsList image steps (wanted_of from to rank calls) text × (end ≡ Status 0)
 TellsOfSteps (Stats from to rank) image steps text end =
     IsStats image steps (counted_of from to rank) text × (end ≡ Status 0)
+TellsOfSteps (Draw from to) image steps text end = IsPicture image steps from to text × (end ≡ Status 0)
 TellsOfSteps (Debug words) image steps text end = IsDebugged image steps words text end
 TellsOfSteps (Why at frames) image steps text end =
     IsWhyAt frames image steps (place_asked at steps) text × (end ≡ Status 0)
@@ -138,6 +172,7 @@ RefusesSteps Report image steps fault = IsNoReport image steps fault
 RefusesSteps (ListSteps from to rank calls) image steps fault =
     IsNoList image steps (wanted_of from to rank calls) fault
 RefusesSteps (Stats from to rank) image steps fault = IsNoList image steps (counted_of from to rank) fault
+RefusesSteps (Draw from to) image steps fault = IsNoPicture image steps from to fault
 RefusesSteps (Debug words) image steps fault = IsNoRun image steps fault
 RefusesSteps (Why at frames) image steps fault = IsNoPlace image steps (place_asked at steps) fault
 

@@ -13,7 +13,7 @@ use rvmc_hints::{
     source_hint,
 };
 use rvmc_line::{CommandLine, ImageCommand, RecordCommand};
-use rvmc_report::faults::Fault;
+use rvmc_report::faults::{DrawRefusal, Fault};
 use rvmc_words::{DebugWord, DebugWords, Numbers, Spot, debug_word_in};
 use std::alloc::Global;
 use std::io::Write;
@@ -99,6 +99,9 @@ fn of_bytes<'a>(bytes: &'a [u8], fault: &Fault) -> Option<Hint<'a>> {
     }
 }
 
+/// How a record with more marks than a picture may have is drawn.
+const FEWER: &str = "a picture has at most 5000 marks: --from and --to draw a part of the record";
+
 /// What can be told of a fault, of what stands in the input.
 fn hint_of<'a>(
     alloc: Global,
@@ -112,6 +115,7 @@ fn hint_of<'a>(
             None => of_bytes(bytes, fault),
         },
         Fault::Plans => plans(alloc, line, bytes),
+        Fault::Draw(DrawRefusal::TooMany(_)) => Some(Hint::Most(FEWER)),
         _ => None,
     }
 }

@@ -4,6 +4,7 @@
 pub mod answers;
 mod checks;
 mod debugging;
+mod drawing;
 mod explaining;
 mod hints;
 mod images;

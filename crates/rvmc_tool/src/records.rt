@@ -10,6 +10,7 @@ ghost use Rattle.rvmc_tool.specs.Records.{SaysOfRecord, TellsOfSteps};
 use crate::answers::Answer;
 use crate::checks::checked;
 use crate::debugging::debugged;
+use crate::drawing::pictured;
 use crate::explaining::explained;
 use crate::listing::{counted_steps, listed_steps};
 use crate::reporting::reported;
@@ -63,6 +64,7 @@ fn told(
         RecordCommand::Stats { from, to, rank } => {
             counted_steps(alloc, *from, *to, *rank, image, steps)
         }
+        RecordCommand::Draw { from, to } => pictured(alloc, *from, *to, image, steps),
         RecordCommand::Debug { words } => debugged(alloc, words, image, steps),
         RecordCommand::Why { at, frames } => explained(alloc, *at, *frames, image, steps),
     }

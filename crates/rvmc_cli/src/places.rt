@@ -1,0 +1,56 @@
+//! Two places of a record, from which and to which a command tells of its steps: `--from N` and `--to N`.
+
+ghost use Rattle.std.specs.Prelude.{IfOk};
+ghost use Rattle.clap.specs.Walk.{rows_of};
+ghost use Rattle.clap.specs.Words.{found_of, new_app};
+ghost use Rattle.rvmc_cli.specs.App.{with_rules};
+ghost use Rattle.rvmc_cli.specs.Built.{StandsFor};
+ghost use Rattle.rvmc_cli.specs.Commands.{place_rules, places_in};
+ghost use Rattle.rvmc_cli.specs.Parsing.{Reads};
+
+use crate::parts::{command as new_command, option};
+use crate::values::{number, optional_number};
+use crate::wrong::Wrong;
+use clap::{ArgMatches, Command};
+use std::alloc::{AllocError, Global};
+
+/// Two places of a record, the second not before the first.
+#[derive(Clone, Copy, Drop)]
+pub struct Places {
+    pub from: u64,
+    /// None is the end of the record.
+    pub to: Option<u64>,
+}
+
+/// A command that reads a record, with its two options.
+pub fn placed<'a>(
+    alloc: Global,
+    name: &'a str,
+    about: &'a str,
+    examples: &'a str,
+) -> Result<Command<'a>, AllocError>
+    ensures { IfOk result (StandsFor (with_rules (new_app name.entry.now) place_rules)) }
+{
+    new_command(alloc, name, about, examples)
+        .arg(option(
+            alloc,
+            "from",
+            "N",
+            "Begins at the place with N steps done [default: 0]",
+        ))?
+        .arg(option(
+            alloc,
+            "to",
+            "N",
+            "Ends at the place with N steps done [default: all steps]",
+        ))
+}
+
+/// The places that were given.
+pub fn places_of<'a>(matches: &ArgMatches<'a>) -> Result<Places, Wrong<'a>>
+    ensures { Reads (places_in (rows_of (found_of matches.now))) result }
+{
+    let from = number(matches, "from", 0, u64::MAX, 0)?;
+    let to = optional_number(matches, "to", from, u64::MAX)?;
+    Ok(Places { from, to })
+}

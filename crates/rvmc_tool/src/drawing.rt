@@ -1,0 +1,55 @@
+//! Pictures of records.
+
+ghost use Rattle.std.specs.Prelude.{◌≡◌, IfErr, IfOk};
+ghost use Rattle.rvmc_line.specs.declared.line.RecordCommand.TheVariants as command;
+ghost use Rattle.rvmc_tool.specs.Making.{IsStepsFault};
+ghost use Rattle.rvmc_tool.specs.Outputs.{output_bytes};
+ghost use Rattle.rvmc_tool.specs.Records.{IsPicture, fault_of_draw};
+ghost use Rattle.rvmc_tool.specs.declared.answers.End.TheVariants.{Status};
+
+use crate::answers::{Answer, End};
+use crate::outputs::Output;
+use cl_machine::Step;
+use rv_image::Image;
+use rvmc_picture::{DrawFault, drawing};
+use rvmc_report::faults::{DrawRefusal, Fault};
+use rvmc_svg::svg;
+use std::alloc::Global;
+
+/// Why a record isn't drawn, as the program tells it.
+fn refused(fault: DrawFault) -> Fault
+    ensures { result ≡ fault_of_draw fault }
+{
+    match fault {
+        DrawFault::PastEnd(count) => Fault::Draw(DrawRefusal::PastEnd(count)),
+        DrawFault::NotARun(number) => Fault::Draw(DrawRefusal::NotARun(number)),
+        DrawFault::TooMany(count) => Fault::Draw(DrawRefusal::TooMany(count)),
+        DrawFault::Memory => Fault::Memory,
+    }
+}
+
+/// `draw`: the steps from one place to another as a picture. A place that isn't there, a wrong step, and more marks than a
+/// picture may have are faults of the input.
+pub(crate) fn pictured(
+    alloc: Global,
+    from: u64,
+    to: Option<u64>,
+    image: Image,
+    steps: Vec<Step>,
+) -> Result<Answer, Fault>
+    ensures tells { IfOk result (λ answer.
+        IsPicture image steps.items from to (output_bytes answer.output) × (answer.end ≡ Status 0)) }
+    ensures fault { IfErr result (IsStepsFault (command.Draw from to) image steps.items) }
+{
+    let drawing = match drawing(alloc, &image, &steps, from, to) {
+        Ok(drawing) => drawing,
+        Err(fault) => return Err(refused(fault)),
+    };
+    match svg(alloc, &drawing) {
+        Ok(text) => Ok(Answer {
+            output: Output::Text(text),
+            end: End::Status(0),
+        }),
+        Err(_) => Err(Fault::Memory),
+    }
+}
