@@ -68,15 +68,13 @@ fn reach(layout: &Layout<'_>, arrows: &[Arrow], phase: (u8, u64)) -> (Reach, u64
 }
 
 /// Adds a ribbon from the one lane to the other.
-fn put_ribbon(
-    text: &mut Vec<u8>,
-    rank: u8,
-    from: u64,
-    to: u64,
-    reach: Reach,
-) -> io::Result<()> {
+fn put_ribbon(text: &mut Vec<u8>, rank: u8, from: u64, to: u64, reach: Reach) -> io::Result<()> {
     let top = reach.from_top.min(reach.to_top);
-    let high = reach.from_foot.max(reach.to_foot).saturating_sub(top).max(1);
+    let high = reach
+        .from_foot
+        .max(reach.to_foot)
+        .saturating_sub(top)
+        .max(1);
     let (begin, end) = if from < to { (0, 100) } else { (100, 0) };
     text.extend_from_slice(b"<svg x=\"")?;
     put_across(text, from.min(to))?;
