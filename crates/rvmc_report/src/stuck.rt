@@ -1,8 +1,8 @@
-//! The report of a run that was ended at a deadlock.
+//! The report of a run whose ranks were told to stop.
 
 ghost use Rattle.std.specs.Prelude.{◌≡◌, ◌++◌, IfOk, OnOk, Some, string_bytes};
 ghost use Rattle.rvmc_report.specs.Report.{rank_end, rank_ends};
-ghost use Rattle.rvmc_report.specs.Stuck.{end_line, told_rank, is_told, stuck_report};
+ghost use Rattle.rvmc_report.specs.Stuck.{end_line, told_rank, is_told, told_report};
 ghost use Rattle.rvmc_report.specs.WholeRecord.{HasEachRank};
 
 use crate::report::{put_harts, put_output, stop_text};
@@ -17,18 +17,19 @@ fn is_told(budget: u64, stop: Stop, turns: u64) -> bool
     matches!(stop, Stop::Budget) && turns < budget
 }
 
-/// The line of a rank's stop: it is stuck where it was told to stop.
+/// The line of a rank's stop: this word where it was told to stop.
 fn end_line(
     alloc: Global,
+    word: &str,
     budget: u64,
     rank: usize,
     stop: Stop,
     turns: u64,
 ) -> Result<String, AllocError>
-    ensures { IfOk result (λ text. string_bytes text ≡ end_line budget rank (Some stop) turns) }
+    ensures { IfOk result (λ text. string_bytes text ≡ end_line word.now budget rank (Some stop) turns) }
 {
     if is_told(budget, stop, turns) {
-        format!(in alloc; "rank {rank} stop stuck turns {turns}\n")
+        format!(in alloc; "rank {rank} stop {word} turns {turns}\n")
     } else {
         stop_text(alloc, rank, Some(stop), turns)
     }
@@ -39,6 +40,7 @@ fn end_line(
 fn put_told(
     alloc: Global,
     report: &mut Vec<u8>,
+    word: &str,
     budget: u64,
     rank: usize,
     state: &RankState,
@@ -46,19 +48,24 @@ fn put_told(
     stop: Stop,
 ) -> Result<(), AllocError>
     ensures { OnOk result (report.new.items
-        ≡ report.old.items ++ told_rank budget rank (rank_end state.now turns (Some stop))) }
+        ≡ report.old.items ++ told_rank word.now budget rank (rank_end state.now turns (Some stop))) }
 {
     put_output(alloc, report, rank, state.out.as_slice())?;
     put_harts(alloc, report, rank, state.harts.as_slice())?;
-    let line = end_line(alloc, budget, rank, stop, turns)?;
+    let line = end_line(alloc, word, budget, rank, stop, turns)?;
     report.extend_from_slice(line.as_bytes())
 }
 
-/// The report of a run that was ended at a deadlock: that of any run, but that of a rank it says `stuck` which was told to
-/// stop before its turns were used up. Each rank has so many turns by its plan.
-pub fn stuck_report(alloc: Global, left: &Record, budget: u64) -> Result<Vec<u8>, AllocError>
+/// The report of a run whose ranks were told to stop: that of any run, but that of a rank it says this word which was told
+/// to before its turns were used up. Each rank has so many turns by its plan.
+pub fn told_report(
+    alloc: Global,
+    left: &Record,
+    word: &str,
+    budget: u64,
+) -> Result<Vec<u8>, AllocError>
     requires { HasEachRank left.now }
-    ensures { IfOk result (λ text. text.items ≡ stuck_report budget (rank_ends left.now)) }
+    ensures { IfOk result (λ text. text.items ≡ told_report word.now budget (rank_ends left.now)) }
 {
     let mut text = Vec::new(alloc);
     for rank in 0..left.ranks.len() {
@@ -66,6 +73,7 @@ pub fn stuck_report(alloc: Global, left: &Record, budget: u64) -> Result<Vec<u8>
         put_told(
             alloc,
             &mut text,
+            word,
             budget,
             rank,
             &left.ranks[rank],
