@@ -1,11 +1,15 @@
 -- What an arrow says of the steps.
-use Rattle.std.specs.Prelude.{ℕ, ◌≡◌, List, [], ◌∷◌, ◌++◌, length, Some}
+use Rattle.std.specs.Prelude.{ℕ, ◌≡◌, ◌≢◌, ◌<◌, ◌↔◌, Bool, true, false, List, [], ◌∷◌, ◌++◌, length, option_to_list, Some}
+use Rattle.std.specs.List.{list_any, slice_get}
+use Rattle.mp_match.specs.Pairs.{partner_for}
 use Rattle.mp_match.specs.PostPairs.{pairs}
 use Rattle.mp_match.specs.declared.posts.Line.{Line}
 use Rattle.mp_match.specs.declared.posts.Post.{Post}
-use Rattle.mp_match.specs.declared.posts.Post.TheVariants.{Send}
+use Rattle.mp_match.specs.declared.posts.Post.TheVariants.{Receive, Send}
+use Rattle.mp_match.specs.declared.posts.Selection.{Selection}
 use Rattle.mp_match.specs.declared.posts.Sent.{Sent}
-use Rattle.rvmc_draw.specs.Board.{arrow_to, carried_by, lines_with, partner_numbered, posts_made, spot_if, spots_made}
+use Rattle.rvmc_draw.specs.Board.{arrow_to, carried_by, is_got_in, is_open_to, lines_with, other_first, partner_numbered, posts_made, spot_if, spots_made}
+use Rattle.rvmc_draw.specs.Walks.{got_places}
 use Rattle.rvmc_draw.specs.declared.board.Manner.{Manner}
 use Rattle.rvmc_draw.specs.declared.deeds.Deed.{Deed}
 use Rattle.rvmc_draw.specs.declared.drawing.Arrow.{Arrow}
@@ -46,3 +50,36 @@ pub record JoinsSend (deeds : List Deed) (m : Manner) (number : ℕ) (to : Spot)
 abbrev pub ArrowLaw : Type 0
 ArrowLaw = (deeds : List Deed) (lines : List Line) (spots : List Spot) (m : Manner) (to : Spot) (number : ℕ) (a : Arrow)
     → IsBoardOf deeds lines spots → arrow_to lines spots m to number ≡ Some a → JoinsSend deeds m number to a
+
+-- a step behind these got the message of the send at this place: that is the partner of one of the posts that it got
+abbrev pub gets_from : List Deed → ℕ → Deed → Bool
+gets_from before place d =
+    list_any (λ number. is_got_in (option_to_list (partner_numbered (pairs (posts_made (before ++ d ∷ []))) number)) place)
+    d.got.items
+
+-- some step among these did
+pub record IsGotAmong (deeds : List Deed) (place : ℕ) : Type 0 where
+  pub before : List Deed
+  pub getter : Deed
+  pub after : List Deed
+  pub all : deeds ≡ before ++ getter ∷ after
+  pub gets : gets_from before place getter ≡ true
+
+-- a send is known to be got exactly where some step got its message; so one that ends in an open head was got by nobody
+abbrev pub GotLaw : Type 0
+GotLaw = (deeds : List Deed) (place : ℕ) → (is_got_in (got_places deeds) place ≡ true) ↔ IsGotAmong deeds place
+
+-- of the posts before a receive, here stands the first message of a source that the receive accepts and that nobody had;
+-- and the receive got another
+pub record IsFirstOfOthers (lines : List Line) (a : Selection) (source place : ℕ) : Type 0 where
+  pub line : Line
+  pub there : slice_get lines place ≡ Some line
+  pub is_open : is_open_to a source line ≡ true
+  pub first : (k : ℕ) (earlier : Line) → k < place → slice_get lines k ≡ Some earlier
+      → is_open_to a source earlier ≡ false
+  pub not_got : partner_for lines (Receive a) ≢ Some place
+
+-- a dotted line comes from there, and from nowhere else: so there is one at most of each source
+abbrev pub CouldLaw : Type 0
+CouldLaw = (lines : List Line) (a : Selection) (source place : ℕ)
+    → (other_first lines a source ≡ Some place) ↔ IsFirstOfOthers lines a source place

@@ -1,5 +1,5 @@
 -- What of a picture is shown.
-use Rattle.std.specs.Prelude.{ℕ, ◌&&◌, ◌||◌, nat_le, nat_lt, if◌then◌else◌, Bool, false, List, [], ◌∷◌, Option, Some, None}
+use Rattle.std.specs.Prelude.{◌&&◌, ◌||◌, nat_le, nat_lt, if◌then◌else◌, Bool, false, List, [], ◌∷◌, Option, Some, None}
 use Rattle.rvmc_draw.specs.declared.drawing.Arrow.{Arrow}
 use Rattle.rvmc_draw.specs.declared.drawing.Bar.{Bar}
 use Rattle.rvmc_draw.specs.declared.drawing.Carried.{Carried}

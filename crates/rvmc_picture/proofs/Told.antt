@@ -30,6 +30,7 @@ use Rattle.rvmc_draw.specs.Walks.{IsWalked, Scope, arrows_of, bars_of, is_marked
 use Rattle.rvmc_draw.specs.declared.deeds.Deed.{Deed}
 use Rattle.rvmc_draw.specs.declared.drawing.Drawing.{Drawing}
 use Rattle.rvmc_draw.specs.declared.drawing.Mark.{Mark}
+use Rattle.rvmc_draw.specs.declared.drawing.Row.{Row}
 use Rattle.rvmc_draw.specs.declared.drawing.Shape.{Shape}
 use Rattle.rvmc_draw.specs.declared.views.View.{View}
 use Rattle.rvmc_draw.specs.declared.walks.Sizes.{Sizes}
@@ -38,8 +39,8 @@ use Rattle.rvmc_list.proofs.Told.{IsSeen, each_more, seen_at}
 use Rattle.rvmc_list.specs.Lines.{hart_of, sight_of, sight_text}
 use Rattle.rvmc_list.specs.List.{IsSightAt}
 use Rattle.rvmc_picture.specs.Deeds.{IsDeedBy, ask_met}
-use Rattle.rvmc_picture.specs.Pictures.{AreDeeds, DrawFaultHolds, HasTooMany, IsDeedAt, IsDrawing, IsDrawn, IsTipOf, is_past, scope_in}
-use Rattle.rvmc_picture.specs.Walking.{ArePut, IsPutAt, Puts, StepBreaks, StepsBreak}
+use Rattle.rvmc_picture.specs.Pictures.{AreDeeds, DrawFaultHolds, HasTooMany, IsDeedAt, IsDrawing, IsDrawn, IsEndAt, IsTipOf, is_past, scope_in}
+use Rattle.rvmc_picture.specs.Walking.{ArePut, IsPutAt, IsWalkedTo, Puts, StepBreaks, StepsBreak}
 use Rattle.rvmc_picture.specs.declared.pictures.DrawFault.{DrawFault}
 use Rattle.rvmc_picture.specs.declared.pictures.DrawFault.TheVariants as fault
 
@@ -199,9 +200,10 @@ scope_same image sizes view ranks harts links =
 
 module _ (image : ImageParts) (steps : List Step) (view : View) (state : ClusterState) (walk : Walk)
     (put : ArePut image steps (scope_in image view) (length steps) state walk) where
-  pub is_drawing : walk.marks.count ≤ 5000 → (drawing : Drawing) → IsDrawn image view (length steps) walk state drawing
+  pub is_drawing : walk.marks.count ≤ 5000 → (rows : List Row) (told : List ℕ) → IsEndAt image steps view.to rows told
+      → (drawing : Drawing) → IsDrawn image view (length steps) walk rows told drawing
       → IsDrawing image steps view drawing
-  is_drawing few drawing d = record {
+  is_drawing few rows told end drawing d = record {
     deeds = put.deeds;
     are = put.are;
     ranks = d.ranks;
@@ -228,14 +230,19 @@ module _ (image : ImageParts) (steps : List Step) (view : View) (state : Cluster
           ∙ ap (λ n. flat_map (bar_in_view view)
           (bars_of (scope_in image view) put.deeds ++ flat_map (open_to n) walk.looks.begun.items)) (sym put.are.count);
     };
-    state = state;
-    reached = put.reached;
-    waits = d.waits;
-    told = d.told;
+    ending = subst (IsEndAt image steps view.to drawing.rows.items) (sym d.told_is)
+        (subst (λ (r : List Row). IsEndAt image steps view.to r told) (sym d.rows_are) end);
   }
 
   pub too_many : 5000 < walk.marks.count → HasTooMany image steps view walk.marks.count
   too_many many = record { deeds = put.deeds; are = put.are; marks = put.walked.count; many = many }
+
+-- the drawing of a walk through all steps
+pub walked_drawing : (image : ImageParts) (steps : List Step) (view : View) (walk : Walk) (rows : List Row)
+    (told : List ℕ) → IsWalkedTo image steps view walk rows told → walk.marks.count ≤ 5000 → (drawing : Drawing)
+    → IsDrawn image view (length steps) walk rows told drawing → IsDrawing image steps view drawing
+walked_drawing image steps view walk rows told walked few drawing d =
+    is_drawing image steps view walked.last walk walked.all few rows told walked.ending drawing d
 
 -- why not all steps were added is why there is no drawing
 pub fault_holds : (image : ImageParts) (steps : List Step) (view : View) → is_past view steps ≡ false → (f : DrawFault)

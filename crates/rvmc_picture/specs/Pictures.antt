@@ -20,6 +20,7 @@ use Rattle.rvmc_draw.specs.Walks.{IsTable, Scope, arrows_of, bars_of, begun_of, 
 use Rattle.rvmc_draw.specs.declared.deeds.Deed.{Deed}
 use Rattle.rvmc_draw.specs.declared.drawing.Bar.{Bar}
 use Rattle.rvmc_draw.specs.declared.drawing.Drawing.{Drawing}
+use Rattle.rvmc_draw.specs.declared.drawing.Row.{Row}
 use Rattle.rvmc_draw.specs.declared.views.View.{View}
 use Rattle.rvmc_draw.specs.declared.walks.Walk.{Walk}
 use Rattle.rvmc_list.specs.Lines.{Sight, hart_of, sight_text}
@@ -63,6 +64,12 @@ abbrev pub scope_in : ImageParts → View → Scope
 scope_in image view =
     record { ranks = image.ranks; harts = image.harts; boxes = 16 * length image.links; view = view }
 
+-- this is told of the state to which so many steps lead: of the place where the picture ends
+pub record IsEndAt (image : ImageParts) (steps : List Step) (to : ℕ) (rows : List Row) (told : List ℕ) : Type 0 where
+  pub state : ClusterState
+  pub reached : IsReached image steps to state
+  pub end : IsEnd image state rows told
+
 -- the bars that a step ended, and those that none did
 pub record AreBars (scope : Scope) (deeds : List Deed) (view : View) (bars : List Bar) : Type 0 where
   pub begun : List (Option Bar)
@@ -83,14 +90,11 @@ pub record IsDrawing (image : ImageParts) (steps : List Step) (view : View) (dra
       ≡ flat_map (arrow_in_view view) (arrows_of (scope_in image view) deeds)
       ++ lost view (pairs (posts_made deeds)) (spots_made deeds) (got_places deeds)
   pub bars : AreBars (scope_in image view) deeds view drawing.bars.items
-  pub state : ClusterState
-  pub reached : IsReached image steps (length steps) state
-  pub waits : Bool
-  pub told : IsEnd waits image state drawing.told.items
+  pub ending : IsEndAt image steps view.to drawing.rows.items drawing.told.items
 
--- what is shown of a walk through all steps that ends in this state
-pub record IsDrawn (image : ImageParts) (view : View) (end : ℕ) (walk : Walk) (state : ClusterState) (drawing : Drawing)
-    : Type 0 where
+-- what is shown of a walk through all steps, of whose end this is told
+pub record IsDrawn (image : ImageParts) (view : View) (end : ℕ) (walk : Walk) (rows : List Row) (told : List ℕ)
+    (drawing : Drawing) : Type 0 where
   pub ranks : drawing.ranks ≡ image.ranks
   pub harts : drawing.harts ≡ image.harts
   pub from : drawing.from ≡ view.from
@@ -101,8 +105,8 @@ pub record IsDrawn (image : ImageParts) (view : View) (end : ℕ) (walk : Walk) 
       ++ lost view walk.board.lines.items walk.board.spots.items walk.board.got.items
   pub bars : drawing.bars.items
       ≡ flat_map (bar_in_view view) (walk.bars.items ++ flat_map (open_to end) walk.looks.begun.items)
-  pub waits : Bool
-  pub told : IsEnd waits image state drawing.told.items
+  pub rows_are : drawing.rows.items ≡ rows
+  pub told_is : drawing.told.items ≡ told
 
 -- ---- why there is none
 

@@ -15,11 +15,13 @@ use Rattle.cl_state.specs.declared.state.RankState.{RankState}
 use Rattle.rvmc_draw.specs.Marks.{told_by}
 use Rattle.rvmc_draw.specs.Walks.{IsWalked, Scope, tips_taken}
 use Rattle.rvmc_draw.specs.declared.deeds.Deed.{Deed}
+use Rattle.rvmc_draw.specs.declared.drawing.Row.{Row}
+use Rattle.rvmc_draw.specs.declared.views.View.{View}
 use Rattle.rvmc_draw.specs.declared.walks.Walk.{Walk}
 use Rattle.rvmc_list.specs.Lines.{hart_of, sight_of, sight_text}
 use Rattle.rvmc_list.specs.Seen.{IsSeenBefore}
 use Rattle.rvmc_picture.specs.Deeds.{IsDeedBy, ask_met}
-use Rattle.rvmc_picture.specs.Pictures.{AreDeeds, IsTipOf}
+use Rattle.rvmc_picture.specs.Pictures.{AreDeeds, IsEndAt, IsTipOf, scope_in}
 use Rattle.rvmc_picture.specs.declared.pictures.DrawFault.{DrawFault}
 use Rattle.rvmc_picture.specs.declared.pictures.DrawFault.TheVariants as fault
 use Rattle.rvmc_picture.specs.declared.walking.Before.{Before}
@@ -69,3 +71,10 @@ pub record ArePut (image : ImageParts) (steps : List Step) (scope : Scope) (n : 
   pub are : AreDeeds image steps n deeds
   pub walked : IsWalked scope deeds walk
   pub tips : All (IsTipOf image steps) (map told_by walk.marks.kept.items)
+
+-- all steps were added, and this is told of the state to which those before the view's end lead
+pub record IsWalkedTo (image : ImageParts) (steps : List Step) (view : View) (walk : Walk) (rows : List Row)
+    (told : List ℕ) : Type 0 where
+  pub last : ClusterState
+  pub all : ArePut image steps (scope_in image view) (length steps) last walk
+  pub ending : IsEndAt image steps view.to rows told

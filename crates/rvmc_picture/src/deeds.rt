@@ -110,7 +110,7 @@ fn taken(step: &Step, ask: &Ask) -> Option<BoxNumber>
 }
 
 /// Whether a hart waits.
-fn is_waiting(mode: Mode) -> bool
+pub(crate) fn is_waiting(mode: Mode) -> bool
     ensures { result ≡ is_waiting_of mode }
 {
     matches!(mode, Mode::Waiting(_))

@@ -1,13 +1,13 @@
 //! The drawing of a record.
 
-ghost use Rattle.std.specs.Prelude.{◌≡◌, ◌||◌, [], IfErr, IfOk, length, nat_lt};
+ghost use Rattle.std.specs.Prelude.{◌≡◌, ◌≤◌, ◌||◌, [], IfErr, IfOk, length, nat_lt};
 ghost use Rattle.rvmc_picture.specs.Pictures.{DrawFaultHolds, IsDrawing, is_past as is_past_of};
 ghost use Rattle.rvmc_picture.specs.declared.pictures.DrawFault.TheVariants as faults;
 ghost use Rattle.rvmc_picture.specs.Pictures.{IsDrawn, scope_in, view_of as view_in};
-ghost use Rattle.rvmc_picture.specs.Walking.{ArePut, StepsBreak};
+ghost use Rattle.rvmc_picture.specs.Walking.{ArePut, IsWalkedTo, StepsBreak};
 ghost use Rattle.rvmc_draw.specs.Walks.{IsWalked};
 
-use crate::ends::{rows_of, told_of};
+use crate::ends::{End, end_of};
 use crate::walking::put_steps;
 use cl_machine::Step;
 use cl_replay::ClusterState;
@@ -86,22 +86,50 @@ fn first_walk(alloc: Global, image: &Image, view: View) -> Result<Walk, AllocErr
     Ok(walk)
 }
 
-/// Walks through all steps.
+/// Walks to where the picture ends.
 #[tactic(auto, using(crate::proofs::Told::put_none))]
+fn walk_to(
+    alloc: Global,
+    image: &Image,
+    steps: &[Step],
+    view: View,
+    to: usize,
+) -> Result<(ClusterState, Walk), DrawFault>
+    requires { to ≤ length steps.now }
+    ensures put { IfOk result (λ there. ArePut image.now steps.now (scope_in image.now view) to there.0 there.1) }
+    ensures fault { IfErr result (StepsBreak image.now steps.now) }
+{
+    let mut state = ClusterState::load(alloc, image)?;
+    let mut walk = first_walk(alloc, image, view)?;
+    put_steps(alloc, &mut state, &mut walk, image, steps, view, 0, to)?;
+    Ok((state, walk))
+}
+
+/// Walks through all steps, and tells of where the picture ends.
 fn walk_all(
     alloc: Global,
     image: &Image,
     steps: &[Step],
     view: View,
-) -> Result<(ClusterState, Walk), DrawFault>
-    ensures put { IfOk result (λ end.
-        ArePut image.now steps.now (scope_in image.now view) (length steps.now) end.0 end.1) }
+) -> Result<(Walk, End), DrawFault>
+    requires { view.to ≤ length steps.now }
+    ensures put { IfOk result (λ all. IsWalkedTo image.now steps.now view all.0 all.1.rows.items all.1.told.items) }
     ensures fault { IfErr result (StepsBreak image.now steps.now) }
 {
-    let mut state = ClusterState::load(alloc, image)?;
-    let mut walk = first_walk(alloc, image, view)?;
-    put_steps(alloc, &mut state, &mut walk, image, steps, view)?;
-    Ok((state, walk))
+    let to = view.to as usize;
+    let (mut state, mut walk) = walk_to(alloc, image, steps, view, to)?;
+    let end = end_of(alloc, image, &state)?;
+    put_steps(
+        alloc,
+        &mut state,
+        &mut walk,
+        image,
+        steps,
+        view,
+        to,
+        steps.len(),
+    )?;
+    Ok((walk, end))
 }
 
 /// What is shown of the steps that were walked through.
@@ -111,9 +139,9 @@ fn drawn(
     view: View,
     steps: u64,
     walk: Walk,
-    state: &ClusterState,
+    end: End,
 ) -> Result<Drawing, AllocError>
-    ensures { IfOk result (IsDrawn image.now view steps walk state.now) }
+    ensures { IfOk result (IsDrawn image.now view steps walk end.rows.items end.told.items) }
 {
     let parts = image.parts();
     let Walk {
@@ -129,9 +157,7 @@ fn drawn(
     let mut arrows = arrows_seen(alloc, view, arrows.as_slice())?;
     board.put_lost(&mut arrows, view)?;
     let bars = bars_seen(alloc, view, bars.as_slice())?;
-    let rows = rows_of(alloc, state, parts)?;
-    let waits = !rows.is_empty();
-    let told = told_of(alloc, image, state, waits)?;
+    let End { rows, told } = end;
     Ok(Drawing {
         ranks: parts.ranks,
         harts: parts.harts,
@@ -149,7 +175,7 @@ fn drawn(
 ///
 /// Refusals, in this order: PastEnd where a place is behind the last step; NotARun where a step is none of the machine,
 /// TooMany where more have a mark; Memory.
-#[tactic(auto, using(crate::proofs::Told::is_drawing, crate::proofs::Told::too_many, crate::proofs::Told::fault_holds))]
+#[tactic(auto, using(crate::proofs::Told::walked_drawing, crate::proofs::Told::too_many, crate::proofs::Told::fault_holds))]
 pub fn drawing(
     alloc: Global,
     image: &Image,
@@ -164,11 +190,11 @@ pub fn drawing(
     if is_past(view, steps) {
         return Err(DrawFault::PastEnd(steps.len() as u64));
     }
-    let (state, walk) = walk_all(alloc, image, steps, view)?;
+    let (walk, end) = walk_all(alloc, image, steps, view)?;
     let count = walk.marks.count;
     if count > MARKS_MAX {
         return Err(DrawFault::TooMany(count));
     }
-    let drawing = drawn(alloc, image, view, steps.len() as u64, walk, &state)?;
+    let drawing = drawn(alloc, image, view, steps.len() as u64, walk, end)?;
     Ok(drawing)
 }

@@ -194,7 +194,7 @@ fn put_step(
     Ok(())
 }
 
-/// Does all steps, and adds what they did. After a refusal state and walk may be anything.
+/// Does the steps from one place to another, and adds what they did. After a refusal state and walk may be anything.
 pub(crate) fn put_steps(
     alloc: Global,
     state: &mut ClusterState,
@@ -202,15 +202,18 @@ pub(crate) fn put_steps(
     image: &Image,
     steps: &[Step],
     view: View,
+    from: usize,
+    to: usize,
 ) -> Result<(), DrawFault>
-    requires { ArePut image.now steps.now (scope_in image.now view) 0 state.old walk.old }
-    ensures put { OnOk result (ArePut image.now steps.now (scope_in image.now view) (length steps.now) state.new
-        walk.new) }
+    requires put { ArePut image.now steps.now (scope_in image.now view) from state.old walk.old }
+    requires order { from ≤ to }
+    requires within { to ≤ length steps.now }
+    ensures put { OnOk result (ArePut image.now steps.now (scope_in image.now view) to state.new walk.new) }
     ensures fault { IfErr result (StepsBreak image.now steps.now) }
 {
     let _shown = view;
     let symbols = image.parts().symbols.as_slice();
-    for n in 0..steps.len() {
+    for n in from..to {
         put_step(alloc, state, walk, symbols, n as u64, &steps[n])?;
     }
     Ok(())

@@ -18,10 +18,10 @@ const LONG: u64 = 40;
 
 const LONG_ROW: u64 = 26;
 
-/// The left margin and the part of the page that the ranks share.
-const LEFT: u64 = 700;
+/// The left margin in pixels, and where the part of the page ends that the ranks share.
+const LEFT: u64 = 70;
 
-const SHARED: u64 = 9000;
+const RIGHT: u64 = 9800;
 
 /// How many pixels a rank has, a hart has at least, and the page has at most; and those at its margins.
 const RANK_PIXELS: u64 = 220;
@@ -49,9 +49,14 @@ pub(crate) fn long(drawing: &Drawing) -> u64 {
     LONG.max(steps / lanes.saturating_mul(50).max(1))
 }
 
+/// Where the part of the page begins that the ranks share.
+fn left(drawing: &Drawing) -> u64 {
+    LEFT.saturating_mul(10_000) / page_wide(drawing).max(1)
+}
+
 /// How wide a rank's share is.
 pub(crate) fn share(drawing: &Drawing) -> u64 {
-    SHARED / u64::from(drawing.ranks).max(1)
+    RIGHT.saturating_sub(left(drawing)) / u64::from(drawing.ranks).max(1)
 }
 
 /// The middle of a rank's share.
@@ -60,7 +65,7 @@ pub(crate) fn rank_at(drawing: &Drawing, rank: u8) -> u64 {
     share
         .saturating_mul(u64::from(rank))
         .saturating_add(share / 2)
-        .saturating_add(LEFT)
+        .saturating_add(left(drawing))
 }
 
 /// Where a hart's lane stands.

@@ -131,6 +131,27 @@ fn put_bar(
     put_meaning(text, pen, meaning)
 }
 
+/// Whether there is a receive of any source.
+fn has_wild(drawing: &Drawing) -> bool {
+    for mark in drawing.marks.as_slice() {
+        if mark.wild {
+            return true;
+        }
+    }
+    false
+}
+
+/// Adds the sign of a receive of any source.
+fn put_wild(text: &mut Vec<u8>, pen: &mut Pen) -> io::Result<()> {
+    let across = pen.across();
+    let down = pen.down();
+    write!(
+        text,
+        "<use href=\"#ring\" transform=\"translate(14 0)\" x=\"{across}%\" y=\"{down}\"/>"
+    )?;
+    put_meaning(text, pen, "from any rank")
+}
+
 /// Adds the sign of what could have been taken.
 fn put_could(text: &mut Vec<u8>, pen: &mut Pen) -> io::Result<()> {
     let across = pen.across();
@@ -192,6 +213,9 @@ pub(crate) fn put_legend(text: &mut Vec<u8>, drawing: &Drawing, from: u64) -> io
     }
     if has_bar(drawing, false) {
         put_bar(text, &mut pen, "ever", "waits at the end")?;
+    }
+    if has_wild(drawing) {
+        put_wild(text, &mut pen)?;
     }
     if has_could(drawing) {
         put_could(text, &mut pen)?;

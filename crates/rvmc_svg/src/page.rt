@@ -58,7 +58,12 @@ fn put_rank(text: &mut Vec<u8>, drawing: &Drawing, rank: u8, foot: u64) -> io::R
         "<text class=\"f{rank} bold\" font-size=\"12\" text-anchor=\"middle\" x=\""
     )?;
     put_across(text, at)?;
-    writeln!(text, "\" y=\"24\">rank {rank}</text>")?;
+    // a narrow page has no room for many names
+    let class = if drawing.ranks > 5 { "wide" } else { "" };
+    writeln!(
+        text,
+        "\" y=\"24\"><tspan class=\"{class}\">rank </tspan>{rank}</text>"
+    )?;
     for hart in 0..drawing.harts {
         put_lane(text, drawing, rank, hart, foot)?;
     }

@@ -42,7 +42,7 @@ struct Reach {
 }
 
 /// The reach of the arrows of a phase, and how many there are.
-fn reach(layout: &Layout<'_>, arrows: &[Arrow], phase: (u8, u64)) -> (Reach, u64) {
+fn reach_of(layout: &Layout<'_>, arrows: &[Arrow], phase: (u8, u64)) -> (Reach, u64) {
     let mut reach = Reach {
         from_top: u64::MAX,
         from_foot: 0,
@@ -98,7 +98,7 @@ pub(crate) fn put_ribbons(text: &mut Vec<u8>, layout: &Layout<'_>) -> io::Result
         if let Some(phase) = phase_of(arrow) {
             if let Some(to) = arrow.to {
                 if is_first(&arrows[..number], phase) {
-                    let (reach, count) = reach(layout, arrows, phase);
+                    let (reach, count) = reach_of(layout, arrows, phase);
                     if count > 1 {
                         let from = layout.lane_of(arrow.from);
                         put_ribbon(text, arrow.from.rank, from, layout.lane_of(to), reach)?;

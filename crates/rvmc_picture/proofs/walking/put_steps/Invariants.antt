@@ -7,5 +7,5 @@ use Rattle.rvmc_picture.proofs.walking.put_steps.Given as goal
 abbrev pub invariant-loop-n : goal.invariant-loop-n
 invariant-loop-n l = record {
   put : ArePut l.image l.steps (scope_in l.image l.fn.view) l.n l.state l.walk;
-  most : l.n ≤ length l.steps;
+  most : l.n ≤ l.to;
 }
