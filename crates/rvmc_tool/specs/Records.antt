@@ -27,7 +27,6 @@ use Rattle.rvmc_list.specs.Stats.{IsStats}
 use Rattle.rvmc_list.specs.declared.folding.Wanted.{Wanted}
 use Rattle.rvmc_list.specs.declared.walk.ListFault.TheVariants as list
 use Rattle.rvmc_picture.specs.Pictures.{DrawFaultHolds, IsDrawing, view_of}
-use Rattle.rvmc_picture.specs.declared.pictures.DrawFault.{DrawFault}
 use Rattle.rvmc_picture.specs.declared.pictures.DrawFault.TheVariants as draw
 use Rattle.rvmc_report.specs.Faults.{fault_of_debug, fault_status}
 use Rattle.rvmc_report.specs.Recorded.{IsReportOf}
@@ -89,13 +88,6 @@ pub record IsPicture (image : ImageParts) (steps : List Step) (from : ℕ) (to :
   pub drawing : Drawing
   pub is : IsDrawing image steps (view_of from to steps) drawing
   pub allowed : All IsAllowed text
-
--- want of memory is no fault of the input
-abbrev pub fault_of_draw : DrawFault → Fault
-fault_of_draw (draw.PastEnd n) = faults.Draw (drawn.PastEnd n)
-fault_of_draw (draw.NotARun n) = faults.Draw (drawn.NotARun n)
-fault_of_draw (draw.TooMany n) = faults.Draw (drawn.TooMany n)
-fault_of_draw draw.Memory = faults.Memory
 
 -- a place that isn't there, a step that is none of the machine's, and more marks than a picture may have are faults
 abbrev pub IsNoPicture : ImageParts → List Step → ℕ → Option ℕ → Fault → Type 0

@@ -4,7 +4,7 @@ ghost use Rattle.std.specs.Prelude.{◌≡◌, IfErr, IfOk};
 ghost use Rattle.rvmc_line.specs.declared.line.RecordCommand.TheVariants as command;
 ghost use Rattle.rvmc_tool.specs.Making.{IsStepsFault};
 ghost use Rattle.rvmc_tool.specs.Outputs.{output_bytes};
-ghost use Rattle.rvmc_tool.specs.Records.{IsPicture, fault_of_draw};
+ghost use Rattle.rvmc_tool.specs.Records.{IsPicture};
 ghost use Rattle.rvmc_tool.specs.declared.answers.End.TheVariants.{Status};
 
 use crate::answers::{Answer, End};
@@ -15,18 +15,6 @@ use rvmc_picture::{DrawFault, drawing};
 use rvmc_report::faults::{DrawRefusal, Fault};
 use rvmc_svg::svg;
 use std::alloc::Global;
-
-/// Why a record isn't drawn, as the program tells it.
-fn refused(fault: DrawFault) -> Fault
-    ensures { result ≡ fault_of_draw fault }
-{
-    match fault {
-        DrawFault::PastEnd(count) => Fault::Draw(DrawRefusal::PastEnd(count)),
-        DrawFault::NotARun(number) => Fault::Draw(DrawRefusal::NotARun(number)),
-        DrawFault::TooMany(count) => Fault::Draw(DrawRefusal::TooMany(count)),
-        DrawFault::Memory => Fault::Memory,
-    }
-}
 
 /// `draw`: the steps from one place to another as a picture. A place that isn't there, a wrong step, and more marks than a
 /// picture may have are faults of the input.
@@ -41,15 +29,17 @@ pub(crate) fn pictured(
         IsPicture image steps.items from to (output_bytes answer.output) × (answer.end ≡ Status 0)) }
     ensures fault { IfErr result (IsStepsFault (command.Draw from to) image steps.items) }
 {
-    let drawing = match drawing(alloc, &image, &steps, from, to) {
-        Ok(drawing) => drawing,
-        Err(fault) => return Err(refused(fault)),
-    };
-    match svg(alloc, &drawing) {
-        Ok(text) => Ok(Answer {
-            output: Output::Text(text),
-            end: End::Status(0),
-        }),
-        Err(_) => Err(Fault::Memory),
+    match drawing(alloc, &image, &steps, from, to) {
+        Ok(picture) => match svg(alloc, &picture) {
+            Ok(text) => Ok(Answer {
+                output: Output::Text(text),
+                end: End::Status(0),
+            }),
+            Err(_) => Err(Fault::Memory),
+        },
+        Err(DrawFault::PastEnd(count)) => Err(Fault::Draw(DrawRefusal::PastEnd(count))),
+        Err(DrawFault::NotARun(number)) => Err(Fault::Draw(DrawRefusal::NotARun(number))),
+        Err(DrawFault::TooMany(count)) => Err(Fault::Draw(DrawRefusal::TooMany(count))),
+        Err(DrawFault::Memory) => Err(Fault::Memory),
     }
 }
