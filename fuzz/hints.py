@@ -131,6 +131,8 @@ def meant(words, given, first):
     """Returns the hint's text, "" where there is none, or None where it is one of the many of a source's fault."""
     if first == b"rvmc: debug: NoSymbol\n":
         return of_symbols(words, given)
+    if first.startswith(b"rvmc: draw: TooMany "):
+        return "a picture has at most 5000 marks: --from and --to draw a part of the record"
     if first == b"rvmc: plans\n":
         return of_plans(words, given)
     if first.startswith((b"rvmc: image: ", b"rvmc: record: ", b"rvmc: line ")):
