@@ -118,8 +118,8 @@ abbrev pub place_rules : List Rule
 place_rules = option (codes "from") ∷ option (codes "to") ∷ []
 
 -- two places below 2^64, of which the second isn't before the first; without them the start and the end
-abbrev pub places_in : List Row → Option Places
-places_in rows =
+abbrev pub places_given : List Row → Option Places
+places_given rows =
     option_and_then (λ from. option_map (λ to. record { from = from; to = to })
     (optional_number (codes "to") from 18446744073709551615 rows))
     (number_option (codes "from") 0 18446744073709551615 0 rows)
@@ -140,7 +140,7 @@ list_row =
       meaning = λ rows.
           option_and_then (λ places. option_and_then (λ rank.
           option_map (λ command. OfRecord command) (listing_in places rank rows))
-          (optional_number (codes "rank") 0 255 rows)) (places_in rows);
+          (optional_number (codes "rank") 0 255 rows)) (places_given rows);
     }
 
 -- `draw [--from N] [--to N]`
@@ -150,7 +150,7 @@ draw_row =
       name = codes "draw";
       rules = place_rules;
       meaning = λ rows.
-          option_map (λ (places : Places). OfRecord (Draw places.from places.to)) (places_in rows);
+          option_map (λ (places : Places). OfRecord (Draw places.from places.to)) (places_given rows);
     }
 
 -- `debug CMD..`

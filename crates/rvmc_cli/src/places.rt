@@ -5,7 +5,7 @@ ghost use Rattle.clap.specs.Walk.{rows_of};
 ghost use Rattle.clap.specs.Words.{found_of, new_app};
 ghost use Rattle.rvmc_cli.specs.App.{with_rules};
 ghost use Rattle.rvmc_cli.specs.Built.{StandsFor};
-ghost use Rattle.rvmc_cli.specs.Commands.{place_rules, places_in};
+ghost use Rattle.rvmc_cli.specs.Commands.{place_rules, places_given};
 ghost use Rattle.rvmc_cli.specs.Parsing.{Reads};
 
 use crate::parts::{command as new_command, option};
@@ -48,7 +48,7 @@ pub fn placed<'a>(
 
 /// The places that were given.
 pub fn places_of<'a>(matches: &ArgMatches<'a>) -> Result<Places, Wrong<'a>>
-    ensures { Reads (places_in (rows_of (found_of matches.now))) result }
+    ensures { Reads (places_given (rows_of (found_of matches.now))) result }
 {
     let from = number(matches, "from", 0, u64::MAX, 0)?;
     let to = optional_number(matches, "to", from, u64::MAX)?;

@@ -8,10 +8,13 @@ use Rattle.std.proofs.lemmas.Bool.{eq-eqb, eqb-true, ltb-false, ltb-true}
 use Rattle.std.proofs.lemmas.List.{flat_map_more, length-append}
 use Rattle.std.proofs.lemmas.List.Elements.{filter-append}
 use Rattle.std.proofs.lemmas.Option.{same_Some}
-use Rattle.rvmc_draw.specs.Looks.{begun_at, begun_by, begun_in, lane_of}
-use Rattle.rvmc_draw.specs.Marks.{shape_behind, shapes_set, shapes_with}
-use Rattle.rvmc_draw.specs.Parts.{box_place, cell_of, cell_set, cells_if, cells_with, made_ready, readies, spot_at}
-use Rattle.rvmc_draw.specs.Walks.{IsTable, begun_after, begun_of, each_after, of_lane, shape_after, shape_of, within}
+use Rattle.rvmc_draw.specs.Looks.{begun_at, begun_by, lane_of}
+use Rattle.rvmc_draw.specs.Held.{begun_in}
+use Rattle.rvmc_draw.specs.Marks.{shape_behind}
+use Rattle.rvmc_draw.specs.Held.{shapes_set, shapes_with}
+use Rattle.rvmc_draw.specs.Parts.{box_place, cell_of, readies, spot_at}
+use Rattle.rvmc_draw.specs.Held.{cell_set, cells_if, cells_with, made_ready}
+use Rattle.rvmc_draw.specs.Walks.{IsTable, begun_after, begun_of, each_after, of_lane, shape_after, last_shape_of, within}
 use Rattle.rvmc_draw.specs.declared.deeds.Deed.{Deed}
 use Rattle.rvmc_draw.specs.declared.drawing.Bar.{Bar}
 use Rattle.rvmc_draw.specs.declared.drawing.Shape.{Shape}
@@ -255,23 +258,23 @@ shape_append view last [] d = refl
 shape_append view last (e ∷ deeds) d = shape_append view (shape_behind view last e) deeds d
 
 shape_next : (view : View) (harts : ℕ) (deeds : List Deed) (d : Deed) (lane : ℕ)
-    → shape_of view harts (deeds ++ d ∷ []) lane
-    ≡ (if (lane_of harts d.spot == lane) then shape_behind view (shape_of view harts deeds lane) d
-    else shape_of view harts deeds lane)
+    → last_shape_of view harts (deeds ++ d ∷ []) lane
+    ≡ (if (lane_of harts d.spot == lane) then shape_behind view (last_shape_of view harts deeds lane) d
+    else last_shape_of view harts deeds lane)
 shape_next view harts deeds d lane =
     ap (shape_after view None) (lane_more harts lane deeds d) ∙ go (lane_of harts d.spot == lane)
   where
     go : (b : Bool)
         → shape_after view None (if b then of_lane harts lane deeds ++ d ∷ [] else of_lane harts lane deeds)
-        ≡ (if b then shape_behind view (shape_of view harts deeds lane) d else shape_of view harts deeds lane)
+        ≡ (if b then shape_behind view (last_shape_of view harts deeds lane) d else last_shape_of view harts deeds lane)
     go true = shape_append view None (of_lane harts lane deeds) d
     go false = refl
 
 pub shapes_more : (count : ℕ) (view : View) (harts : ℕ) (deeds : List Deed) (d : Deed) (shapes : List (Option Shape))
-    → IsTable count (shape_of view harts deeds) shapes
-    → IsTable count (shape_of view harts (deeds ++ d ∷ [])) (shapes_with view harts shapes d)
+    → IsTable count (last_shape_of view harts deeds) shapes
+    → IsTable count (last_shape_of view harts (deeds ++ d ∷ [])) (shapes_with view harts shapes d)
 shapes_more count view harts deeds d shapes table =
-    table_next count (lane_of harts d.spot) (shape_of view harts deeds) (shape_of view harts (deeds ++ d ∷ []))
+    table_next count (lane_of harts d.spot) (last_shape_of view harts deeds) (last_shape_of view harts (deeds ++ d ∷ []))
     (λ last. shape_behind view last d) shapes (shapes_with view harts shapes d) table
     (λ x e. ap (λ o. shapes_set view shapes (lane_of harts d.spot) o d) e)
     (λ e. ap (λ o. shapes_set view shapes (lane_of harts d.spot) o d) e)

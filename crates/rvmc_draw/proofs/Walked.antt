@@ -9,11 +9,16 @@ use Rattle.std.proofs.lemmas.List.{length-append, map-append}
 use Rattle.mp_match.specs.PostPairs.{pairs}
 use Rattle.rvmc_draw.specs.Board.{arrows_to, lines_with, partners_of, posts_made, spot_if, spots_made}
 use Rattle.rvmc_draw.specs.Laws.{IsBoardOf}
-use Rattle.rvmc_draw.specs.Looks.{begun_at, begun_by, begun_in, ended_by, lane_of}
-use Rattle.rvmc_draw.specs.Marks.{Sign, is_marked, kept_by, marks_by, shape_there, shapes_with, sign_if, sign_of, told_by}
-use Rattle.rvmc_draw.specs.Parts.{arrow_if_there, arrow_to_taker, arrows_taken, box_place, cell_of, cells_with, no_cell}
-use Rattle.rvmc_draw.specs.Walks.{IsTable, IsWalked, Scope, Takes, arrows_by, arrows_of, bars_by, bars_of, begun_before}
-use Rattle.rvmc_draw.specs.Walks.{begun_of, got_after, got_places, mark_by, marks_of, shape_before, shape_of, signs_taken, tips_taken, within}
+use Rattle.rvmc_draw.specs.Looks.{begun_at, begun_by, ended_by, lane_of}
+use Rattle.rvmc_draw.specs.Held.{begun_in}
+use Rattle.rvmc_draw.specs.Marks.{Sign, is_marked, marks_by, shape_there, sign_if, sign_of, told_by}
+use Rattle.rvmc_draw.specs.Held.{kept_by, shapes_with}
+use Rattle.rvmc_draw.specs.Parts.{arrow_if_there, arrow_to_taker, arrows_taken, box_place, cell_of}
+use Rattle.rvmc_draw.specs.Held.{cells_with, no_cell}
+use Rattle.rvmc_draw.specs.Walks.{IsTable, Scope, arrows_by, arrows_of, bars_by, bars_of, begun_before}
+use Rattle.rvmc_draw.specs.Held.{IsWalked, Takes}
+use Rattle.rvmc_draw.specs.Walks.{begun_of, got_after, got_places, mark_by, marks_of, shape_before, last_shape_of, within}
+use Rattle.rvmc_draw.specs.Held.{signs_taken, tips_taken}
 use Rattle.rvmc_draw.specs.declared.deeds.Deed.{Deed}
 use Rattle.rvmc_draw.specs.declared.drawing.Bar.{Bar}
 use Rattle.rvmc_draw.specs.declared.drawing.Mark.{Mark}
@@ -156,10 +161,10 @@ module _ (scope : Scope) (deeds : List Deed) (old : Walk) (d : Deed) (tip : List
       looks_lane))
       (begun_more (scope.ranks * scope.harts) scope.harts deeds d old.looks.begun.items w.begun)
 
-  shapes_table : IsTable (scope.ranks * scope.harts) (shape_of scope.view scope.harts (deeds ++ d ∷ []))
+  shapes_table : IsTable (scope.ranks * scope.harts) (last_shape_of scope.view scope.harts (deeds ++ d ∷ []))
       new.marks.shapes.items
   shapes_table =
-      subst (λ l. IsTable (scope.ranks * scope.harts) (shape_of scope.view scope.harts (deeds ++ d ∷ [])) l)
+      subst (λ l. IsTable (scope.ranks * scope.harts) (last_shape_of scope.view scope.harts (deeds ++ d ∷ [])) l)
       (sym (t.shapes ∙ ap (λ v. shapes_with v old.marks.harts old.marks.shapes.items d) w.view
       ∙ ap (λ h. shapes_with scope.view h old.marks.shapes.items d) w.marks_harts))
       (shapes_more (scope.ranks * scope.harts) scope.view scope.harts deeds d old.marks.shapes.items w.shapes)
@@ -208,8 +213,8 @@ walked_none scope walk ranks lines spots got cells looks_harts begun marks_harts
       (table_none (scope.ranks * scope.harts) None (begun_of scope.harts []) (λ place. refl));
   marks_harts = marks_harts;
   view = view;
-  shapes = subst (λ l. IsTable (scope.ranks * scope.harts) (shape_of scope.view scope.harts []) l) (sym shapes)
-      (table_none (scope.ranks * scope.harts) None (shape_of scope.view scope.harts []) (λ place. refl));
+  shapes = subst (λ l. IsTable (scope.ranks * scope.harts) (last_shape_of scope.view scope.harts []) l) (sym shapes)
+      (table_none (scope.ranks * scope.harts) None (last_shape_of scope.view scope.harts []) (λ place. refl));
   arrows = arrows;
   bars = bars;
   count = count;

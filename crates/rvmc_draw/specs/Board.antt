@@ -85,9 +85,9 @@ abbrev pub messages : List Line → List Spot → Spot → List ℕ → List Arr
 messages lines spots to numbers = flat_map (message lines spots to) numbers
 
 -- one for a message that it claimed: the claim is the last post
-abbrev pub claims : List Line → List Spot → Spot → Option Post → List Arrow
-claims lines spots to (Some (Claim a)) = option_to_list (arrow_to lines spots manner.Claimed to (length lines))
-claims lines spots to _ = []
+abbrev pub claim_arrows : List Line → List Spot → Spot → Option Post → List Arrow
+claim_arrows lines spots to (Some (Claim a)) = option_to_list (arrow_to lines spots manner.Claimed to (length lines))
+claim_arrows lines spots to _ = []
 
 -- ---- what a wildcard receive could have taken
 
@@ -166,5 +166,5 @@ lost view lines spots got = flat_map (lost_from view lines spots got) (range_wit
 abbrev pub arrows_to : ℕ → List Line → List Spot → Deed → List Arrow
 arrows_to ranks lines spots d =
     could ranks lines spots d.spot (wildcard_in d.made)
-    ++ (claims (lines_with lines d.made) (spots ++ spot_if d.made d.spot) d.spot d.made
+    ++ (claim_arrows (lines_with lines d.made) (spots ++ spot_if d.made d.spot) d.spot d.made
     ++ messages (lines_with lines d.made) (spots ++ spot_if d.made d.spot) d.spot d.got.items)

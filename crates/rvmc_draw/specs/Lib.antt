@@ -1,5 +1,6 @@
 pub mod Asked
 pub mod Board
+pub mod Held
 pub mod Laws
 pub mod Looks
 pub mod Marks

@@ -13,8 +13,8 @@ longer (Some bar) spot =
     record { first = bar.first; last = bar.last; went_on = bar.went_on; looks = min (bar.looks + 1) (2 ^ 64 - 1) }
 
 -- the bar that a step ended
-abbrev pub ended : Bar → Spot → Bar
-ended bar spot = record { first = bar.first; last = spot.place; went_on = true; looks = bar.looks }
+abbrev pub bar_ended : Bar → Spot → Bar
+bar_ended bar spot = record { first = bar.first; last = spot.place; went_on = true; looks = bar.looks }
 
 -- the hart's bar behind a step. An instruction leaves it, a look in vain makes it longer, any other call ends it
 abbrev pub begun_by : Option Bar → Deed → Option Bar
@@ -22,7 +22,7 @@ begun_by begun d = if is_some d.shape then (if d.vain then Some (longer begun d.
 
 abbrev pub ended_if : Option Bar → Spot → List Bar
 ended_if None spot = []
-ended_if (Some bar) spot = ended bar spot ∷ []
+ended_if (Some bar) spot = bar_ended bar spot ∷ []
 
 -- the bar that the step ends, if it ends one
 abbrev pub ended_by : Option Bar → Deed → List Bar
@@ -43,6 +43,3 @@ lane_of harts spot = spot.rank * harts + spot.hart
 abbrev pub begun_at : Option (Option Bar) → Option Bar
 begun_at None = None
 begun_at (Some begun) = begun
-
-abbrev pub begun_in : List (Option Bar) → ℕ → Option Bar
-begun_in all lane = begun_at (slice_get all lane)

@@ -44,15 +44,6 @@ abbrev pub shape_there : Option (Option Shape) → Option Shape
 shape_there None = None
 shape_there (Some shape) = shape
 
-abbrev pub shapes_set : View → List (Option Shape) → ℕ → Option (Option Shape) → Deed → List (Option Shape)
-shapes_set view shapes place None d = shapes
-shapes_set view shapes place (Some last) d = slice_set shapes place (shape_behind view last d)
-
--- those of all harts behind a step
-abbrev pub shapes_with : View → ℕ → List (Option Shape) → Deed → List (Option Shape)
-shapes_with view harts shapes d =
-    shapes_set view shapes (lane_of harts d.spot) (slice_get shapes (lane_of harts d.spot)) d
-
 -- ---- which steps have a mark
 
 -- a step that is shown and has a shape; but one look in vain more of a hart that looked in vain before has none, and no
@@ -67,7 +58,3 @@ sign_if d (Some shape) = sign_by d shape ∷ []
 
 abbrev pub marks_by : View → Bool → Option (Option Shape) → Deed → List Sign
 marks_by view begun last d = if is_marked view begun (shape_there last) d then sign_if d d.shape else []
-
--- of so many before it: the first 5,000 are kept
-abbrev pub kept_by : ℕ → List ℕ → List Sign → List (Sign × List ℕ)
-kept_by count tip signs = if nat_lt count 5000 then map (λ (s : Sign). (s, tip)) signs else []

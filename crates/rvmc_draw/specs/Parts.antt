@@ -21,9 +21,6 @@ spot_at place (Some box) spot = if (box_place box == place) then spot ∷ [] els
 abbrev pub readies : ℕ → List Deed → List Spot
 readies place deeds = flat_map (λ (d : Deed). spot_at place d.ready d.spot) deeds
 
-abbrev pub no_cell : Cell
-no_cell = record { phase = 0; last = None }
-
 -- the box behind these steps: they began so many phases of it, and this one was the last
 abbrev pub cell_of : List Deed → ℕ → Cell
 cell_of deeds place = record {
@@ -32,23 +29,6 @@ cell_of deeds place = record {
 }
 
 -- ---- one step
-
--- the box, made ready once more
-abbrev pub made_ready : Cell → Spot → Cell
-made_ready cell spot = record { phase = min (cell.phase + 1) (2 ^ 64 - 1); last = Some spot }
-
--- with another thing in its place, if it is one of them
-abbrev pub cell_set : List Cell → ℕ → Option Cell → Spot → List Cell
-cell_set cells place None spot = cells
-cell_set cells place (Some cell) spot = slice_set cells place (made_ready cell spot)
-
-abbrev pub cells_if : List Cell → Option (ℕ × ℕ) → Spot → List Cell
-cells_if cells None spot = cells
-cells_if cells (Some box) spot = cell_set cells (box_place box) (slice_get cells (box_place box)) spot
-
--- all boxes behind a step
-abbrev pub cells_with : List Cell → Deed → List Cell
-cells_with cells d = cells_if cells d.ready d.spot
 
 -- from the step that made the box ready last to this one, in the phase that it began
 abbrev pub arrow_from : ℕ × ℕ → Spot → Cell → List Arrow

@@ -5,9 +5,12 @@ use Rattle.std.specs.List.{slice_get, slice_set}
 use Rattle.std.specs.Option.{is_some}
 use Rattle.mp_match.specs.PostPairs.{pairs}
 use Rattle.rvmc_draw.specs.Board.{arrows_to, lines_with, partners_of, posts_made, spot_if, spots_made}
-use Rattle.rvmc_draw.specs.Looks.{begun_at, begun_by, begun_in, ended_by, lane_of}
-use Rattle.rvmc_draw.specs.Marks.{Sign, is_marked, kept_by, marks_by, shape_behind, shape_there, shapes_with, sign_of, told_by}
-use Rattle.rvmc_draw.specs.Parts.{arrows_taken, cell_of, cells_with}
+use Rattle.rvmc_draw.specs.Looks.{begun_at, begun_by, ended_by, lane_of}
+use Rattle.rvmc_draw.specs.Held.{begun_in}
+use Rattle.rvmc_draw.specs.Marks.{Sign, is_marked, marks_by, shape_behind, shape_there, sign_of, told_by}
+use Rattle.rvmc_draw.specs.Held.{kept_by, shapes_with}
+use Rattle.rvmc_draw.specs.Parts.{arrows_taken, cell_of}
+use Rattle.rvmc_draw.specs.Held.{cells_with}
 use Rattle.rvmc_draw.specs.declared.deeds.Deed.{Deed}
 use Rattle.rvmc_draw.specs.declared.drawing.Arrow.{Arrow}
 use Rattle.rvmc_draw.specs.declared.drawing.Bar.{Bar}
@@ -23,10 +26,6 @@ pub record Scope : Type 0 where
   pub harts : ℕ
   pub boxes : ℕ
   pub view : View
-
-abbrev pub scope_of : Sizes → View → Scope
-scope_of sizes view =
-    record { ranks = sizes.ranks; harts = sizes.harts; boxes = 16 * sizes.links; view = view }
 
 -- what each step adds, after the steps before it; all of it in order
 abbrev pub each_after : {A : Type 0} → (List Deed → Deed → List A) → List Deed → List Deed → List A
@@ -60,12 +59,12 @@ abbrev pub shape_after : View → Option Shape → List Deed → Option Shape
 shape_after view last [] = last
 shape_after view last (d ∷ deeds) = shape_after view (shape_behind view last d) deeds
 
-abbrev pub shape_of : View → ℕ → List Deed → ℕ → Option Shape
-shape_of view harts deeds lane = shape_after view None (of_lane harts lane deeds)
+abbrev pub last_shape_of : View → ℕ → List Deed → ℕ → Option Shape
+last_shape_of view harts deeds lane = shape_after view None (of_lane harts lane deeds)
 
 abbrev pub shape_before : Scope → List Deed → Spot → Option (Option Shape)
 shape_before scope before spot =
-    within (scope.ranks * scope.harts) (shape_of scope.view scope.harts before) (lane_of scope.harts spot)
+    within (scope.ranks * scope.harts) (last_shape_of scope.view scope.harts before) (lane_of scope.harts spot)
 
 -- ---- all of them
 
@@ -105,60 +104,3 @@ got_places deeds = each_after got_after [] deeds
 -- what stands at each place of a table
 abbrev pub IsTable : {A : Type 0} → ℕ → (ℕ → A) → List A → Type 0
 IsTable count at xs = (place : ℕ) → slice_get xs place ≡ within count at place
-
-pub record IsWalked (scope : Scope) (deeds : List Deed) (walk : Walk) : Type 0 where
-  pub ranks : walk.board.ranks ≡ scope.ranks
-  pub lines : walk.board.lines.items ≡ pairs (posts_made deeds)
-  pub spots : walk.board.spots.items ≡ spots_made deeds
-  pub got : walk.board.got.items ≡ got_places deeds
-  pub cells : IsTable scope.boxes (cell_of deeds) walk.parts.cells.items
-  pub looks_harts : walk.looks.harts ≡ scope.harts
-  pub begun : IsTable (scope.ranks * scope.harts) (begun_of scope.harts deeds) walk.looks.begun.items
-  pub marks_harts : walk.marks.harts ≡ scope.harts
-  pub view : walk.marks.view ≡ scope.view
-  pub shapes : IsTable (scope.ranks * scope.harts) (shape_of scope.view scope.harts deeds) walk.marks.shapes.items
-  pub arrows : walk.arrows.items ≡ arrows_of scope deeds
-  pub bars : walk.bars.items ≡ bars_of scope deeds
-  pub count : walk.marks.count ≡ length (marks_of scope deeds)
-  pub few : walk.marks.count ≤ length deeds
-  pub kept : walk.marks.count ≤ 5000 → map sign_of walk.marks.kept.items ≡ marks_of scope deeds
-
--- ---- one step more
-
--- its mark, if it has one
-abbrev pub signs_taken : Walk → Deed → List Sign
-signs_taken walk d =
-    marks_by walk.marks.view (is_some (begun_in walk.looks.begun.items (lane_of walk.looks.harts d.spot)))
-    (slice_get walk.marks.shapes.items (lane_of walk.marks.harts d.spot)) d
-
--- that of it which is kept, with this tip
-abbrev pub tips_taken : Walk → Deed → List ℕ → List (Sign × List ℕ)
-tips_taken walk d tip = kept_by walk.marks.count tip (signs_taken walk d)
-
--- a step was taken: each part of the walk by its own rule
-pub record Takes (old : Walk) (d : Deed) (tip : List ℕ) (new : Walk) : Type 0 where
-  pub ranks : new.board.ranks ≡ old.board.ranks
-  pub lines : new.board.lines.items ≡ lines_with old.board.lines.items d.made
-  pub spots : new.board.spots.items ≡ old.board.spots.items ++ spot_if d.made d.spot
-  pub got : new.board.got.items
-      ≡ old.board.got.items ++ partners_of (lines_with old.board.lines.items d.made) d.got.items
-  pub cells : new.parts.cells.items ≡ cells_with old.parts.cells.items d
-  pub arrows : new.arrows.items
-      ≡ (old.arrows.items ++ arrows_to old.board.ranks old.board.lines.items old.board.spots.items d)
-      ++ arrows_taken (slice_get old.parts.cells.items) d
-  pub looks_harts : new.looks.harts ≡ old.looks.harts
-  pub begun : new.looks.begun.items
-      ≡ slice_set old.looks.begun.items (lane_of old.looks.harts d.spot)
-      (begun_by (begun_in old.looks.begun.items (lane_of old.looks.harts d.spot)) d)
-  pub bars : new.bars.items
-      ≡ old.bars.items ++ ended_by (begun_in old.looks.begun.items (lane_of old.looks.harts d.spot)) d
-  pub marks_harts : new.marks.harts ≡ old.marks.harts
-  pub view : new.marks.view ≡ old.marks.view
-  pub shapes : new.marks.shapes.items ≡ shapes_with old.marks.view old.marks.harts old.marks.shapes.items d
-  pub count : new.marks.count ≡ old.marks.count + length (signs_taken old d)
-  pub kept : map told_by new.marks.kept.items ≡ map told_by old.marks.kept.items ++ tips_taken old d tip
-
-abbrev pub is_marked_in : Walk → Deed → Bool
-is_marked_in walk d =
-    is_marked walk.marks.view (is_some (begun_in walk.looks.begun.items (lane_of walk.looks.harts d.spot)))
-    (shape_there (slice_get walk.marks.shapes.items (lane_of walk.marks.harts d.spot))) d

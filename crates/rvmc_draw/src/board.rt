@@ -5,7 +5,7 @@ ghost use Rattle.std.specs.List.{flat_map, position_from};
 ghost use Rattle.mp_match.specs.Pairs.{accepts as accepts_of, add, admits, fits as fits_of, may_pair as may_pair_of};
 ghost use Rattle.mp_match.specs.Pairs.{partner_for as partner_for_of, partner_set};
 ghost use Rattle.mp_match.specs.declared.posts.Post.TheVariants as post;
-ghost use Rattle.rvmc_draw.specs.Board.{arrow_at, arrow_if, arrow_in, arrow_to, arrows_to, carried_by, claims, could, could_from, message};
+ghost use Rattle.rvmc_draw.specs.Board.{arrow_at, arrow_if, arrow_in, arrow_to, arrows_to, carried_by, claim_arrows, could, could_from, message};
 ghost use Rattle.rvmc_draw.specs.Board.{could_of_all, first_of, is_open_to as is_open_to_of, is_sent_by as is_sent_by_of};
 ghost use Rattle.rvmc_draw.specs.Board.{is_got_in, lines_with, lost, lost_from, lost_here, messages, other_first};
 ghost use Rattle.rvmc_draw.specs.Board.{partner_numbered, partners_of, spot_if};
@@ -427,7 +427,7 @@ impl Board {
         to: Spot,
     ) -> Result<(), AllocError>
         ensures { OnOk result
-            (arrows.new.items ≡ arrows.old.items ++ claims self.now.lines.items self.now.spots.items to made) }
+            (arrows.new.items ≡ arrows.old.items ++ claim_arrows self.now.lines.items self.now.spots.items to made) }
     {
         match made {
             Some(Post::Claim(_)) => {

@@ -2,7 +2,8 @@
 
 ghost use Rattle.std.specs.Prelude.{◌≡◌, ◌++◌, ◌*◌, IfOk, None, OnOk, replicate};
 ghost use Rattle.std.specs.List.{flat_map, slice_get, slice_set};
-ghost use Rattle.rvmc_draw.specs.Looks.{begun_by as begun_by_of, begun_in, lane_of, ended as ended_of, ended_by as ended_by_of};
+ghost use Rattle.rvmc_draw.specs.Looks.{begun_by as begun_by_of, lane_of, bar_ended as ended_of, ended_by as ended_by_of};
+ghost use Rattle.rvmc_draw.specs.Held.{begun_in};
 ghost use Rattle.rvmc_draw.specs.Looks.{ended_if as ended_if_of, longer as longer_of, open_to};
 
 use crate::deeds::Deed;

@@ -3,8 +3,10 @@
 ghost use Rattle.std.specs.Prelude.{◌≡◌, ◌++◌, ◌+◌, ◌-◌, ◌<◌, ◌^◌, ◌∷◌, ◌*◌, [], IfOk, None, OnOk, length, map, replicate};
 ghost use Rattle.std.specs.List.{slice_get, slice_set};
 ghost use Rattle.rvmc_draw.specs.Looks.{lane_of};
-ghost use Rattle.rvmc_draw.specs.Marks.{is_marked as is_marked_of, is_row as is_row_of, kept_by, marks_by};
-ghost use Rattle.rvmc_draw.specs.Marks.{shape_behind as shape_behind_of, shape_there, shapes_with, sign_by, told_by};
+ghost use Rattle.rvmc_draw.specs.Marks.{is_marked as is_marked_of, is_row as is_row_of, marks_by};
+ghost use Rattle.rvmc_draw.specs.Held.{kept_by};
+ghost use Rattle.rvmc_draw.specs.Marks.{shape_behind as shape_behind_of, shape_there, sign_by, told_by};
+ghost use Rattle.rvmc_draw.specs.Held.{shapes_with};
 
 use crate::board::wildcard_in;
 use crate::deeds::Deed;

@@ -2,7 +2,8 @@
 
 ghost use Rattle.std.specs.Prelude.{◌≡◌, ◌++◌, ◌*◌, IfOk, OnOk, replicate};
 ghost use Rattle.std.specs.List.{slice_get, slice_set};
-ghost use Rattle.rvmc_draw.specs.Parts.{arrow_from, arrow_if_there, arrows_taken, box_place, cells_with, made_ready, no_cell};
+ghost use Rattle.rvmc_draw.specs.Parts.{arrow_from, arrow_if_there, arrows_taken, box_place};
+ghost use Rattle.rvmc_draw.specs.Held.{cells_with, made_ready, no_cell};
 
 use crate::deeds::Deed;
 use crate::drawing::{Arrow, Carried, Spot};

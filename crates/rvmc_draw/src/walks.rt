@@ -2,7 +2,8 @@
 
 ghost use Rattle.std.specs.Prelude.{◌≡◌, ◌++◌, ◌-◌, ◌<◌, ◌^◌, ◌∷◌, [], IfOk, List, OnOk, map};
 ghost use Rattle.rvmc_draw.specs.Marks.{told_by};
-ghost use Rattle.rvmc_draw.specs.Walks.{IsWalked, Scope, is_marked_in, Takes, scope_of, tips_taken};
+ghost use Rattle.rvmc_draw.specs.Walks.{Scope};
+ghost use Rattle.rvmc_draw.specs.Held.{IsWalked, is_marked_in, Takes, scope_of, tips_taken};
 ghost use Rattle.rvmc_draw.specs.declared.deeds.Deed.{Deed as DeedView};
 
 use crate::board::Board;

@@ -6,8 +6,10 @@ use Rattle.rv_image.specs.declared.images.Symbol.{Symbol}
 use Rattle.cl_machine.specs.declared.steps.Step.{Step}
 use Rattle.cl_state.specs.Rank.{Rank}
 use Rattle.cl_state.specs.declared.asking.Ask.{Ask}
-use Rattle.rvmc_draw.specs.Marks.{Sign, kept_by, sign_if, told_by}
-use Rattle.rvmc_draw.specs.Walks.{IsWalked, Scope, is_marked_in, tips_taken}
+use Rattle.rvmc_draw.specs.Marks.{Sign, sign_if, told_by}
+use Rattle.rvmc_draw.specs.Held.{kept_by}
+use Rattle.rvmc_draw.specs.Walks.{Scope}
+use Rattle.rvmc_draw.specs.Held.{IsWalked, is_marked_in, tips_taken}
 use Rattle.rvmc_draw.specs.declared.deeds.Deed.{Deed}
 use Rattle.rvmc_draw.specs.declared.walks.Walk.{Walk}
 use Rattle.rvmc_list.specs.Lines.{hart_of, sight_of, sight_text}

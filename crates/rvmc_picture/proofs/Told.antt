@@ -25,8 +25,10 @@ use Rattle.cl_state.specs.declared.state.RankState.{RankState}
 use Rattle.rvmc_draw.specs.Board.{lost, posts_made, spots_made}
 use Rattle.rvmc_draw.specs.Looks.{open_to}
 use Rattle.rvmc_draw.specs.Views.{arrow_in_view, bar_in_view}
-use Rattle.rvmc_draw.specs.Marks.{Sign, kept_by, sign_by, sign_if, sign_of, told_by}
-use Rattle.rvmc_draw.specs.Walks.{IsWalked, Scope, arrows_of, bars_of, is_marked_in, scope_of, tips_taken}
+use Rattle.rvmc_draw.specs.Marks.{Sign, sign_by, sign_if, sign_of, told_by}
+use Rattle.rvmc_draw.specs.Held.{kept_by}
+use Rattle.rvmc_draw.specs.Walks.{Scope, arrows_of, bars_of}
+use Rattle.rvmc_draw.specs.Held.{IsWalked, is_marked_in, scope_of, tips_taken}
 use Rattle.rvmc_draw.specs.declared.deeds.Deed.{Deed}
 use Rattle.rvmc_draw.specs.declared.drawing.Drawing.{Drawing}
 use Rattle.rvmc_draw.specs.declared.drawing.Mark.{Mark}
@@ -39,7 +41,8 @@ use Rattle.rvmc_list.proofs.Told.{IsSeen, each_more, seen_at}
 use Rattle.rvmc_list.specs.Lines.{hart_of, sight_of, sight_text}
 use Rattle.rvmc_list.specs.List.{IsSightAt}
 use Rattle.rvmc_picture.specs.Deeds.{IsDeedBy, ask_met}
-use Rattle.rvmc_picture.specs.Pictures.{AreDeeds, DrawFaultHolds, HasTooMany, IsDeedAt, IsDrawing, IsDrawn, IsEndAt, IsTipOf, is_past, scope_in}
+use Rattle.rvmc_picture.specs.Pictures.{AreDeeds, DrawFaultHolds, HasTooMany, IsDeedAt, IsDrawing, IsEndAt, IsTipOf, is_past_end, scope_in}
+use Rattle.rvmc_picture.specs.Walking.{IsDrawn}
 use Rattle.rvmc_picture.specs.Walking.{ArePut, IsPutAt, IsWalkedTo, Puts, StepBreaks, StepsBreak}
 use Rattle.rvmc_picture.specs.declared.pictures.DrawFault.{DrawFault}
 use Rattle.rvmc_picture.specs.declared.pictures.DrawFault.TheVariants as fault
@@ -245,7 +248,7 @@ walked_drawing image steps view walk rows told walked few drawing d =
     is_drawing image steps view walked.last walk walked.all few rows told walked.ending drawing d
 
 -- why not all steps were added is why there is no drawing
-pub fault_holds : (image : ImageParts) (steps : List Step) (view : View) → is_past view steps ≡ false → (f : DrawFault)
+pub fault_holds : (image : ImageParts) (steps : List Step) (view : View) → is_past_end view steps ≡ false → (f : DrawFault)
     → StepsBreak image steps f → DrawFaultHolds image steps view f
 fault_holds image steps view past (fault.NotARun n) h = (past, h)
 fault_holds image steps view past fault.Memory h = past

@@ -55,20 +55,20 @@ abbrev pub ready_in : Kind → Ask → Option (ℕ × ℕ)
 ready_in Kind.Ready a = box_in a
 ready_in kind a = None
 
-abbrev pub taken_in : Kind → Ask → Option (ℕ × ℕ)
-taken_in Kind.Take a = box_in a
-taken_in kind a = None
+abbrev pub took_in : Kind → Ask → Option (ℕ × ℕ)
+took_in Kind.Take a = box_in a
+took_in kind a = None
 
 -- ---- looks in vain
 
 -- a call that was posted waits where its hart does
-abbrev pub is_waiting : Mode → Bool
-is_waiting (Waiting w) = true
-is_waiting mode = false
+abbrev pub is_in_wait : Mode → Bool
+is_in_wait (Waiting w) = true
+is_in_wait mode = false
 
 abbrev pub is_vain_reply : Reply → Mode → Bool
 is_vain_reply reply.NotYet mode = true
-is_vain_reply (reply.Posted post done) mode = is_waiting mode
+is_vain_reply (reply.Posted post done) mode = is_in_wait mode
 is_vain_reply r mode = false
 
 -- what was asked for isn't there yet
@@ -86,17 +86,17 @@ trap_shape (Trapped cause at) = Some Shape.Trap
 trap_shape mode = None
 
 -- calls that neither talk nor end anything
-abbrev pub is_quiet : Call → Bool
-is_quiet (call.Rank comm) = true
-is_quiet (call.Size comm) = true
-is_quiet call.Hart = true
-is_quiet (call.SendInit s) = true
-is_quiet (call.RecvInit r) = true
-is_quiet (call.Start handle) = true
-is_quiet (call.RequestFree handle) = true
-is_quiet (call.PsendInit t) = true
-is_quiet (call.PrecvInit t) = true
-is_quiet c = false
+abbrev pub is_silent : Call → Bool
+is_silent (call.Rank comm) = true
+is_silent (call.Size comm) = true
+is_silent call.Hart = true
+is_silent (call.SendInit s) = true
+is_silent (call.RecvInit r) = true
+is_silent (call.Start handle) = true
+is_silent (call.RequestFree handle) = true
+is_silent (call.PsendInit t) = true
+is_silent (call.PrecvInit t) = true
+is_silent c = false
 
 abbrev pub is_put : Call → Bool
 is_put (call.Put buffer count) = true
@@ -104,7 +104,7 @@ is_put c = false
 
 -- a call that needs only its rank, and wasn't refused
 abbrev pub done_shape : Call → Option Shape
-done_shape c = if is_put c then Some Shape.Put else (if is_quiet c then None else Some Shape.Other)
+done_shape c = if is_put c then Some Shape.Put else (if is_silent c then None else Some Shape.Other)
 
 abbrev pub local_shape : Call → State → Mode → Option Shape
 local_shape c after (Ended code) = Some Shape.Exit
@@ -165,4 +165,4 @@ pub record IsDeedBy (place : ℕ) (e : Step) (a : Ask) (before after : State) (n
   pub made : option_to_list d.made ≡ made_in e.rank e.kind a
   pub got : d.got.items ≡ got_in next e.kind a
   pub ready : d.ready ≡ ready_in e.kind a
-  pub taken : d.taken ≡ taken_in e.kind a
+  pub taken : d.taken ≡ took_in e.kind a

@@ -14,7 +14,7 @@ use Rattle.rvmc_inspect.specs.Waits.{waits}
 use Rattle.rvmc_inspect.specs.Why.{IsWhy}
 use Rattle.rvmc_inspect.specs.declared.awaited.Wait.{Wait}
 use Rattle.rvmc_inspect.specs.declared.awaited.Wait.TheVariants as wait
-use Rattle.rvmc_picture.specs.Deeds.{is_waiting}
+use Rattle.rvmc_picture.specs.Deeds.{is_in_wait}
 
 -- ---- whom a hart waits for
 
@@ -71,7 +71,7 @@ row_if ranks found rank hart (w ∷ ws) =
 abbrev pub waits_if : ClusterState → RankState → ℕ → Option State → List Wait
 waits_if state own hart None = []
 waits_if state own hart (Some is) =
-    if is_waiting is.mode then waits state.hub state.boxes.items (rank_of own) hart else []
+    if is_in_wait is.mode then waits state.hub state.boxes.items (rank_of own) hart else []
 
 abbrev pub waits_at : ClusterState → ℕ → Option RankState → List Wait
 waits_at state hart None = []

@@ -92,30 +92,14 @@ pub record IsDrawing (image : ImageParts) (steps : List Step) (view : View) (dra
   pub bars : AreBars (scope_in image view) deeds view drawing.bars.items
   pub ending : IsEndAt image steps view.to drawing.rows.items drawing.told.items
 
--- what is shown of a walk through all steps, of whose end this is told
-pub record IsDrawn (image : ImageParts) (view : View) (end : ℕ) (walk : Walk) (rows : List Row) (told : List ℕ)
-    (drawing : Drawing) : Type 0 where
-  pub ranks : drawing.ranks ≡ image.ranks
-  pub harts : drawing.harts ≡ image.harts
-  pub from : drawing.from ≡ view.from
-  pub to : drawing.to ≡ view.to
-  pub marks : drawing.marks.items ≡ walk.marks.kept.items
-  pub arrows : drawing.arrows.items
-      ≡ flat_map (arrow_in_view view) walk.arrows.items
-      ++ lost view walk.board.lines.items walk.board.spots.items walk.board.got.items
-  pub bars : drawing.bars.items
-      ≡ flat_map (bar_in_view view) (walk.bars.items ++ flat_map (open_to end) walk.looks.begun.items)
-  pub rows_are : drawing.rows.items ≡ rows
-  pub told_is : drawing.told.items ≡ told
-
 -- ---- why there is none
 
 abbrev pub view_of : ℕ → Option ℕ → List Step → View
 view_of from to steps = record { from = from; to = unwrap_or to (length steps) }
 
 -- a place is behind the last step
-abbrev pub is_past : View → List Step → Bool
-is_past view steps = nat_lt (length steps) view.from || nat_lt (length steps) view.to
+abbrev pub is_past_end : View → List Step → Bool
+is_past_end view steps = nat_lt (length steps) view.from || nat_lt (length steps) view.to
 
 -- more steps have a mark than are drawn
 pub record HasTooMany (image : ImageParts) (steps : List Step) (view : View) (count : ℕ) : Type 0 where
@@ -126,8 +110,8 @@ pub record HasTooMany (image : ImageParts) (steps : List Step) (view : View) (co
 
 -- places behind the end; a step that the machine doesn't have where those before it lead; too many marks; or memory
 abbrev pub DrawFaultHolds : ImageParts → List Step → View → DrawFault → Type 0
-DrawFaultHolds image steps view (fault.PastEnd len) = (is_past view steps ≡ true) × (len ≡ length steps)
-DrawFaultHolds image steps view (fault.NotARun n) = (is_past view steps ≡ false) × BreaksAt image steps n
+DrawFaultHolds image steps view (fault.PastEnd len) = (is_past_end view steps ≡ true) × (len ≡ length steps)
+DrawFaultHolds image steps view (fault.NotARun n) = (is_past_end view steps ≡ false) × BreaksAt image steps n
 DrawFaultHolds image steps view (fault.TooMany count) =
-    (is_past view steps ≡ false) × HasTooMany image steps view count
-DrawFaultHolds image steps view fault.Memory = is_past view steps ≡ false
+    (is_past_end view steps ≡ false) × HasTooMany image steps view count
+DrawFaultHolds image steps view fault.Memory = is_past_end view steps ≡ false

@@ -13,7 +13,8 @@ use Rattle.cl_state.specs.Rank.{Rank}
 use Rattle.cl_state.specs.Room.{rank_of}
 use Rattle.cl_state.specs.declared.state.RankState.{RankState}
 use Rattle.rvmc_draw.specs.Marks.{told_by}
-use Rattle.rvmc_draw.specs.Walks.{IsWalked, Scope, tips_taken}
+use Rattle.rvmc_draw.specs.Walks.{Scope}
+use Rattle.rvmc_draw.specs.Held.{IsWalked, tips_taken}
 use Rattle.rvmc_draw.specs.declared.deeds.Deed.{Deed}
 use Rattle.rvmc_draw.specs.declared.drawing.Row.{Row}
 use Rattle.rvmc_draw.specs.declared.views.View.{View}
@@ -25,6 +26,22 @@ use Rattle.rvmc_picture.specs.Pictures.{AreDeeds, IsEndAt, IsTipOf, scope_in}
 use Rattle.rvmc_picture.specs.declared.pictures.DrawFault.{DrawFault}
 use Rattle.rvmc_picture.specs.declared.pictures.DrawFault.TheVariants as fault
 use Rattle.rvmc_picture.specs.declared.walking.Before.{Before}
+use Rattle.std.specs.Prelude.{ℕ, ◌≡◌, ◌<◌, ◌+◌, ◌*◌, ◌||◌, nat_lt, Bool, true, false, List, ◌++◌, length, map}
+use Rattle.std.specs.Prelude.{slice_get, take, Option, Some}
+use Rattle.std.specs.List.{All, flat_map}
+use Rattle.std.specs.Option.{unwrap_or}
+use Rattle.mp_match.specs.PostPairs.{pairs}
+use Rattle.cl_machine.specs.Cluster.{Cluster, IsRun, IsStep, loaded_cluster}
+use Rattle.rvmc_draw.specs.Board.{lost, posts_made, spots_made}
+use Rattle.rvmc_draw.specs.Looks.{open_to}
+use Rattle.rvmc_draw.specs.Marks.{Sign, sign_of, told_by}
+use Rattle.rvmc_draw.specs.Views.{arrow_in_view, bar_in_view}
+use Rattle.rvmc_draw.specs.Walks.{IsTable, Scope, arrows_of, bars_of, begun_of, got_places, marks_of}
+use Rattle.rvmc_draw.specs.declared.drawing.Bar.{Bar}
+use Rattle.rvmc_draw.specs.declared.drawing.Drawing.{Drawing}
+use Rattle.rvmc_list.specs.Lines.{Sight, hart_of, sight_text}
+use Rattle.rvmc_list.specs.List.{IsSightAt}
+use Rattle.rvmc_picture.specs.Ends.{IsEnd}
 
 -- what is known of a step before it is done; nothing is only where the rank hasn't the step's hart
 abbrev pub IsBefore : Step → Rank → Option Before → Type 0
@@ -78,3 +95,19 @@ pub record IsWalkedTo (image : ImageParts) (steps : List Step) (view : View) (wa
   pub last : ClusterState
   pub all : ArePut image steps (scope_in image view) (length steps) last walk
   pub ending : IsEndAt image steps view.to rows told
+
+-- what is shown of a walk through all steps, of whose end this is told
+pub record IsDrawn (image : ImageParts) (view : View) (end : ℕ) (walk : Walk) (rows : List Row) (told : List ℕ)
+    (drawing : Drawing) : Type 0 where
+  pub ranks : drawing.ranks ≡ image.ranks
+  pub harts : drawing.harts ≡ image.harts
+  pub from : drawing.from ≡ view.from
+  pub to : drawing.to ≡ view.to
+  pub marks : drawing.marks.items ≡ walk.marks.kept.items
+  pub arrows : drawing.arrows.items
+      ≡ flat_map (arrow_in_view view) walk.arrows.items
+      ++ lost view walk.board.lines.items walk.board.spots.items walk.board.got.items
+  pub bars : drawing.bars.items
+      ≡ flat_map (bar_in_view view) (walk.bars.items ++ flat_map (open_to end) walk.looks.begun.items)
+  pub rows_are : drawing.rows.items ≡ rows
+  pub told_is : drawing.told.items ≡ told

@@ -5,9 +5,9 @@ ghost use Rattle.cl_calls.specs.Calls.{call_named};
 ghost use Rattle.cl_machine.specs.SameSteps.{kind_seen};
 ghost use Rattle.rvmc_list.specs.Lines.{box_in as box_in_ask};
 ghost use Rattle.rvmc_picture.specs.Deeds.{IsDeedBy, all_shape, done_shape, got_in, hub_shape, is_put as is_put_of};
-ghost use Rattle.rvmc_picture.specs.Deeds.{is_quiet as is_quiet_of, is_vain as is_vain_of, is_waiting as is_waiting_of};
+ghost use Rattle.rvmc_picture.specs.Deeds.{is_silent as is_quiet_of, is_vain as is_vain_of, is_in_wait as is_waiting_of};
 ghost use Rattle.rvmc_picture.specs.Deeds.{local_shape, made_in, numbers_by, posted_shape, posts_by, ready_in, request_in};
-ghost use Rattle.rvmc_picture.specs.Deeds.{is_vain_reply as is_vain_reply_of, shape_in, spot_of as spot_at, taken_in, trap_shape as trap_shape_of};
+ghost use Rattle.rvmc_picture.specs.Deeds.{is_vain_reply as is_vain_reply_of, shape_in, spot_of as spot_at, took_in, trap_shape as trap_shape_of};
 ghost use Rattle.std.specs.List.{list_any};
 ghost use Rattle.std.specs.Option.{is_some, option_map};
 
@@ -101,7 +101,7 @@ fn ready(step: &Step, ask: &Ask) -> Option<BoxNumber>
 
 /// The partition that a step took.
 fn taken(step: &Step, ask: &Ask) -> Option<BoxNumber>
-    ensures { result ≡ taken_in step.now.kind ask.now }
+    ensures { result ≡ took_in step.now.kind ask.now }
 {
     match step.kind() {
         KindRef::Bare(Bare::Take) => box_of(ask),

@@ -1,11 +1,12 @@
 //! The drawing of a record.
 
 ghost use Rattle.std.specs.Prelude.{◌≡◌, ◌≤◌, ◌||◌, [], IfErr, IfOk, length, nat_lt};
-ghost use Rattle.rvmc_picture.specs.Pictures.{DrawFaultHolds, IsDrawing, is_past as is_past_of};
+ghost use Rattle.rvmc_picture.specs.Pictures.{DrawFaultHolds, IsDrawing, is_past_end as is_past_of};
 ghost use Rattle.rvmc_picture.specs.declared.pictures.DrawFault.TheVariants as faults;
-ghost use Rattle.rvmc_picture.specs.Pictures.{IsDrawn, scope_in, view_of as view_in};
+ghost use Rattle.rvmc_picture.specs.Pictures.{scope_in, view_of as view_in};
+ghost use Rattle.rvmc_picture.specs.Walking.{IsDrawn};
 ghost use Rattle.rvmc_picture.specs.Walking.{ArePut, IsWalkedTo, StepsBreak};
-ghost use Rattle.rvmc_draw.specs.Walks.{IsWalked};
+ghost use Rattle.rvmc_draw.specs.Held.{IsWalked};
 
 use crate::ends::{End, end_of};
 use crate::walking::put_steps;

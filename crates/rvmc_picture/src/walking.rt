@@ -5,7 +5,7 @@ ghost use Rattle.cl_replay.specs.Steps.{Leads};
 ghost use Rattle.cl_state.specs.Asked.{asked};
 ghost use Rattle.cl_state.specs.Rank.{Rank};
 ghost use Rattle.cl_state.specs.Room.{rank_of};
-ghost use Rattle.rvmc_draw.specs.Walks.{is_marked_in};
+ghost use Rattle.rvmc_draw.specs.Held.{is_marked_in};
 ghost use Rattle.rvmc_picture.specs.Pictures.{scope_in};
 ghost use Rattle.rvmc_list.specs.Lines.{hart_of, sight_text};
 ghost use Rattle.rvmc_list.specs.Putting.{IsHartAfter};

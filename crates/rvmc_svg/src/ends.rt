@@ -21,7 +21,7 @@ struct Colours {
 }
 
 /// The row of a hart that waits, of a rank in a deadlock or of another.
-fn colours(stuck: bool) -> Colours {
+fn colours_of(stuck: bool) -> Colours {
     if stuck {
         Colours {
             line: "rule",
@@ -94,7 +94,7 @@ fn put_itself(text: &mut Vec<u8>, own: u64, down: u64) -> io::Result<()> {
 fn put_row(text: &mut Vec<u8>, drawing: &Drawing, row: &Row, down: u64) -> io::Result<()> {
     let own = lane_at(drawing, row.rank, row.hart);
     let (least, most) = reach(drawing, own, row.awaited.as_slice());
-    let Colours { line, begin, head } = colours(row.stuck);
+    let Colours { line, begin, head } = colours_of(row.stuck);
     text.extend_from_slice(b"<g>")?;
     put_title(text, row)?;
     write!(text, "<line class=\"{line}\" x1=\"")?;

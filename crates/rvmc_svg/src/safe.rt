@@ -2,7 +2,7 @@
 
 ghost use Rattle.std.specs.Prelude.{◌≡◌, ◌++◌, OnOk};
 ghost use Rattle.std.specs.List.{flat_map};
-ghost use Rattle.rvmc_svg.specs.Safe.{escaped, safe_byte as safe_byte_of, safe_one};
+ghost use Rattle.rvmc_svg.specs.Escaped.{escaped, safe_byte as safe_byte_of, safe_one};
 
 use std::io;
 
@@ -20,7 +20,7 @@ fn safe_byte(byte: u8) -> u8
 }
 
 /// Adds the safe byte.
-#[tactic(auto, unfolding(crate::specs::Safe::safe_one))]
+#[tactic(auto, unfolding(crate::specs::Escaped::safe_one))]
 fn put_one(text: &mut Vec<u8>, byte: u8) -> io::Result<()>
     ensures { OnOk result (text.new.items ≡ text.old.items ++ safe_one byte) }
 {
@@ -29,7 +29,7 @@ fn put_one(text: &mut Vec<u8>, byte: u8) -> io::Result<()>
 }
 
 /// Adds a byte, escaped where it would be markup (XML 1.0, 2.4).
-#[tactic(auto, unfolding(crate::specs::Safe::escaped))]
+#[tactic(auto, unfolding(crate::specs::Escaped::escaped))]
 fn put_byte(text: &mut Vec<u8>, byte: u8) -> io::Result<()>
     ensures { OnOk result (text.new.items ≡ text.old.items ++ escaped byte) }
 {

@@ -1,5 +1,6 @@
 use Rattle.std.proofs.Common.{[], subst}
-use Rattle.rvmc_draw.specs.Walks.{IsWalked, Scope}
+use Rattle.rvmc_draw.specs.Walks.{Scope}
+use Rattle.rvmc_draw.specs.Held.{IsWalked}
 use Rattle.rvmc_picture.proofs.Told.{scope_same}
 use Rattle.rvmc_picture.proofs.pictures.first_walk.Goals as goal
 

@@ -1,6 +1,6 @@
 use Rattle.std.proofs.Common.{◌≡◌, ◌++◌, take}
 use Rattle.std.specs.List.{flat_map}
-use Rattle.rvmc_svg.specs.Safe.{escaped}
+use Rattle.rvmc_svg.specs.Escaped.{escaped}
 use Rattle.rvmc_svg.proofs.safe.put_text.Given as goal
 
 -- those so far

@@ -1,4 +1,4 @@
-use Rattle.rvmc_draw.specs.Walks.{scope_of}
+use Rattle.rvmc_draw.specs.Held.{scope_of}
 use Rattle.rvmc_draw.proofs.Walked.{walked_none}
 use Rattle.rvmc_draw.proofs.walks.Walk.new.Goals as goal
 
