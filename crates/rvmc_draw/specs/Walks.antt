@@ -6,11 +6,8 @@ use Rattle.std.specs.Option.{is_some}
 use Rattle.mp_match.specs.PostPairs.{pairs}
 use Rattle.rvmc_draw.specs.Board.{arrows_to, lines_with, partners_of, posts_made, spot_if, spots_made}
 use Rattle.rvmc_draw.specs.Looks.{begun_at, begun_by, ended_by, lane_of}
-use Rattle.rvmc_draw.specs.Held.{begun_in}
 use Rattle.rvmc_draw.specs.Marks.{Sign, is_marked, marks_by, shape_behind, shape_there, sign_of, told_by}
-use Rattle.rvmc_draw.specs.Held.{kept_by, shapes_with}
 use Rattle.rvmc_draw.specs.Parts.{arrows_taken, cell_of}
-use Rattle.rvmc_draw.specs.Held.{cells_with}
 use Rattle.rvmc_draw.specs.declared.deeds.Deed.{Deed}
 use Rattle.rvmc_draw.specs.declared.drawing.Arrow.{Arrow}
 use Rattle.rvmc_draw.specs.declared.drawing.Bar.{Bar}
