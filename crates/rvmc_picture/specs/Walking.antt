@@ -1,6 +1,6 @@
 -- How the steps of a record are walked through, one after another.
 use Rattle.std.specs.Prelude.{ℕ, ◌≡◌, ◌<◌, ◌≤◌, ◌+◌, List, [], ◌∷◌, ◌++◌, length, map, slice_get, Option, Some, None}
-use Rattle.std.specs.List.{All}
+use Rattle.std.specs.List.{All, flat_map}
 use Rattle.rv_image.specs.declared.images.ImageParts.{ImageParts}
 use Rattle.rv_image.specs.declared.images.Symbol.{Symbol}
 use Rattle.cl_machine.specs.declared.steps.Step.{Step}
@@ -12,10 +12,14 @@ use Rattle.cl_state.specs.Asked.{asked}
 use Rattle.cl_state.specs.Rank.{Rank}
 use Rattle.cl_state.specs.Room.{rank_of}
 use Rattle.cl_state.specs.declared.state.RankState.{RankState}
-use Rattle.rvmc_draw.specs.Marks.{told_by}
-use Rattle.rvmc_draw.specs.Walks.{Scope}
+use Rattle.rvmc_draw.specs.Board.{lost}
 use Rattle.rvmc_draw.specs.Held.{IsWalked, tips_taken}
+use Rattle.rvmc_draw.specs.Looks.{open_to}
+use Rattle.rvmc_draw.specs.Marks.{told_by}
+use Rattle.rvmc_draw.specs.Views.{arrow_in_view, bar_in_view}
+use Rattle.rvmc_draw.specs.Walks.{Scope}
 use Rattle.rvmc_draw.specs.declared.deeds.Deed.{Deed}
+use Rattle.rvmc_draw.specs.declared.drawing.Drawing.{Drawing}
 use Rattle.rvmc_draw.specs.declared.drawing.Row.{Row}
 use Rattle.rvmc_draw.specs.declared.views.View.{View}
 use Rattle.rvmc_draw.specs.declared.walks.Walk.{Walk}
@@ -26,22 +30,6 @@ use Rattle.rvmc_picture.specs.Pictures.{AreDeeds, IsEndAt, IsTipOf, scope_in}
 use Rattle.rvmc_picture.specs.declared.pictures.DrawFault.{DrawFault}
 use Rattle.rvmc_picture.specs.declared.pictures.DrawFault.TheVariants as fault
 use Rattle.rvmc_picture.specs.declared.walking.Before.{Before}
-use Rattle.std.specs.Prelude.{ℕ, ◌≡◌, ◌<◌, ◌+◌, ◌*◌, ◌||◌, nat_lt, Bool, true, false, List, ◌++◌, length, map}
-use Rattle.std.specs.Prelude.{slice_get, take, Option, Some}
-use Rattle.std.specs.List.{All, flat_map}
-use Rattle.std.specs.Option.{unwrap_or}
-use Rattle.mp_match.specs.PostPairs.{pairs}
-use Rattle.cl_machine.specs.Cluster.{Cluster, IsRun, IsStep, loaded_cluster}
-use Rattle.rvmc_draw.specs.Board.{lost, posts_made, spots_made}
-use Rattle.rvmc_draw.specs.Looks.{open_to}
-use Rattle.rvmc_draw.specs.Marks.{Sign, sign_of, told_by}
-use Rattle.rvmc_draw.specs.Views.{arrow_in_view, bar_in_view}
-use Rattle.rvmc_draw.specs.Walks.{IsTable, Scope, arrows_of, bars_of, begun_of, got_places, marks_of}
-use Rattle.rvmc_draw.specs.declared.drawing.Bar.{Bar}
-use Rattle.rvmc_draw.specs.declared.drawing.Drawing.{Drawing}
-use Rattle.rvmc_list.specs.Lines.{Sight, hart_of, sight_text}
-use Rattle.rvmc_list.specs.List.{IsSightAt}
-use Rattle.rvmc_picture.specs.Ends.{IsEnd}
 
 -- what is known of a step before it is done; nothing is only where the rank hasn't the step's hart
 abbrev pub IsBefore : Step → Rank → Option Before → Type 0
