@@ -1,4 +1,5 @@
 pub mod Digits
+pub mod Features
 pub mod Laws
 pub mod Parts
 pub mod Stops

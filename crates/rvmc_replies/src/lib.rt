@@ -3,12 +3,14 @@
 #![tactic(auto)]
 
 mod digits;
+mod features;
 pub mod laws;
 mod parts;
 mod stops;
 mod threads;
 
 pub use digits::{put_bytes, put_register};
+pub use features::description;
 pub use parts::put_part;
 pub use stops::{Stop, put_stop};
 pub use threads::{put_current, put_supported, put_threads};
