@@ -1,0 +1,4 @@
+pub mod Histories
+pub mod Places
+pub mod Steps
+pub mod Ways

@@ -1,0 +1,121 @@
+-- What is told of one step of a motion, and of the places on the way.
+use Rattle.std.specs.Prelude.{ℕ, ◌≡◌, ◌<◌, ◌≤◌, ◌⊎◌, ◌+◌, ◌-◌, List, slice_get, Option, Some, None}
+use Rattle.std.specs.Option.{option_or}
+use Rattle.std.proofs.Common.{refl, sym, subst, ap, ◌∙◌, arith, inl, inr}
+use Rattle.std.proofs.lemmas.Bool.{cases_order}
+use Rattle.cl_state.specs.Rank.{Rank}
+use Rattle.cl_machine.specs.declared.steps.Step.{Step}
+use Rattle.rvmc_motions.specs.declared.marks.Halt.{Halt}
+use Rattle.rvmc_motions.specs.declared.marks.Mark.{Mark}
+use Rattle.rvmc_motions.specs.declared.marks.Mover.{Mover}
+use Rattle.rvmc_replies.specs.declared.stops.Stop.TheVariants as ends
+use Rattle.rvmc_motions.specs.Motions.{IsFirstBehind, IsLastBefore, halt_at}
+use Rattle.rvmc_motions.specs.Turns.{at_hart, backward_stop, forward_stop, next_at, own_hart, place_stop, seen_at, step_stop}
+use Rattle.rvmc_motions.specs.Turns.{turn_at, turn_stop}
+use Rattle.rvmc_motions.specs.Walking.{IsLastIn, later}
+use Rattle.rvmc_motions.specs.Watching.{watched}
+
+module _ (mover : Mover) (marks : List Mark) (steps : List Step) (history : ℕ → Rank) (place : ℕ) where
+  -- a step of the rank
+  pub own_told : (hart : ℕ) (before behind : Rank) (told : Option Halt)
+      → own_hart mover.rank (slice_get steps place) ≡ Some hart → before ≡ history place → behind ≡ history (place + 1)
+      → told ≡ option_or (at_hart hart (watched behind.memory (seen_at mover.rank marks (slice_get before.harts hart) before.memory)))
+      (step_stop mover.motion mover hart behind)
+      → told ≡ turn_at mover marks steps history place
+  own_told hart before behind told own b c is =
+      subst (λ o. told ≡ turn_stop mover marks o (history place) (history (place + 1))) (sym own)
+      (subst (λ x. told ≡ turn_stop mover marks (Some hart) x (history (place + 1))) b
+      (subst (λ y. told ≡ turn_stop mover marks (Some hart) before y) c is))
+
+  -- and of any other
+  pub other_told : own_hart mover.rank (slice_get steps place) ≡ None → None ≡ turn_at mover marks steps history place
+  other_told other =
+      sym (ap (λ o. turn_stop mover marks o (history place) (history (place + 1))) other)
+
+  pub next_told : (owner : Rank) (hart : Option ℕ) → hart ≡ own_hart mover.rank (slice_get steps place) → owner ≡ history place
+      → place_stop mover.motion mover marks hart owner ≡ next_at mover marks steps history place
+  next_told owner hart own here =
+      ap (λ o. place_stop mover.motion mover marks o owner) own
+      ∙ ap (λ x. place_stop mover.motion mover marks (own_hart mover.rank (slice_get steps place)) x) here
+
+  -- behind the step
+  pub forward_is : (turn next : Option Halt) → turn ≡ turn_at mover marks steps history place
+      → next ≡ next_at mover marks steps history (place + 1)
+      → option_or turn next ≡ forward_stop mover marks steps history (place + 1)
+  forward_is turn next here there =
+      let same : place ≡ place + 1 - 1 = omega arith in
+      ap (λ x. option_or x next) (here ∙ ap (turn_at mover marks steps history) same)
+      ∙ ap (option_or (turn_at mover marks steps history (place + 1 - 1))) there
+
+  -- before it
+  pub backward_is : (turn next : Option Halt) → turn ≡ turn_at mover marks steps history place
+      → next ≡ next_at mover marks steps history place
+      → option_or turn next ≡ backward_stop mover marks steps history place
+  backward_is turn next here there =
+      ap (λ x. option_or x next) here ∙ ap (option_or (turn_at mover marks steps history place)) there
+
+module _ (stops : ℕ → Option Halt) where
+  -- none on the way, and none at the next place
+  pub none_more : (from n : ℕ) → ((m : ℕ) → from < m → m ≤ n → stops m ≡ None) → stops (n + 1) ≡ None
+      → (m : ℕ) → from < m → m ≤ n + 1 → stops m ≡ None
+  none_more from n before here m above below = decided (cases_order m (n + 1))
+    where
+      decided : (m ≡ n + 1) ⊎ ((m < n + 1) ⊎ (n + 1 < m)) → stops m ≡ None
+      decided (inl same) = ap stops same ∙ here
+      decided (inr (inl low)) = before m above (omega (arith, low))
+      decided (inr (inr high)) = absurd (omega (arith, high, below))
+
+  pub first_here : (from length hart n : ℕ) (halt : Halt) → from ≤ n → n < length
+      → ((m : ℕ) → from < m → m ≤ n → stops m ≡ None) → stops (n + 1) ≡ Some halt
+      → IsFirstBehind stops from length hart (n + 1) halt
+  first_here from length hart n halt above below none here =
+      inl (omega (arith, above), omega (arith, below), here, λ m over under. none m over (omega (arith, under)))
+
+  pub first_end : (from length hart : ℕ) → ((m : ℕ) → from < m → m ≤ length → stops m ≡ None)
+      → IsFirstBehind stops from length hart length (halt_at ends.End hart)
+  first_end from length hart none = inr (refl, refl, none)
+
+  -- one place more on the way back
+  pub later_in : (low n : ℕ) (found : Option (ℕ × Halt)) (here : Option Halt) → low ≤ n → IsLastIn stops low n found
+      → stops n ≡ here → IsLastIn stops low (n + 1) (later found n here)
+  later_in low n found (Some halt) above before here =
+      (above, omega arith, here, λ m over under. absurd (omega (arith, over, under)))
+  later_in low n None None above before here = λ m over under. decided m over under (cases_order m n)
+    where
+      decided : (m : ℕ) → low ≤ m → m < n + 1 → (m ≡ n) ⊎ ((m < n) ⊎ (n < m)) → stops m ≡ None
+      decided m over under (inl same) = ap stops same ∙ here
+      decided m over under (inr (inl below)) = before m over below
+      decided m over under (inr (inr high)) = absurd (omega (arith, high, under))
+  later_in low n (Some found) None above before here =
+      let under_n = before.1 in
+      (before.0, omega (arith, under_n), before.2, λ m over under. decided m over under (cases_order m n))
+    where
+      decided : (m : ℕ) → found.0 < m → m < n + 1 → (m ≡ n) ⊎ ((m < n) ⊎ (n < m)) → stops m ≡ None
+      decided m over under (inl same) = ap stops same ∙ here
+      decided m over under (inr (inl below)) = before.3 m over below
+      decided m over under (inr (inr high)) = absurd (omega (arith, high, under))
+
+  pub none_in : (low : ℕ) → IsLastIn stops low low None
+  none_in low = λ m over under. absurd (omega (arith, over, under))
+
+  -- what was found last before a place is the last one of all, if none is from there on
+  pub last_here : (from hart low to : ℕ) (place : ℕ) (halt : Halt) → to ≤ from
+      → IsLastIn stops low to (Some (place, halt)) → ((m : ℕ) → to ≤ m → m < from → stops m ≡ None)
+      → IsLastBefore stops from hart place halt
+  last_here from hart low to place halt within found none =
+      let below = found.1 in
+      inl (omega (arith, below, within), found.2, λ m over under. decided m over under (cases_order m to))
+    where
+      decided : (m : ℕ) → place < m → m < from → (m ≡ to) ⊎ ((m < to) ⊎ (to < m)) → stops m ≡ None
+      decided m over under (inl same) = none m (omega (arith, same)) under
+      decided m over under (inr (inl before)) = found.3 m over before
+      decided m over under (inr (inr behind)) = none m (omega (arith, behind)) under
+
+  pub none_before : (from low to : ℕ) → IsLastIn stops low to None → ((m : ℕ) → to ≤ m → m < from → stops m ≡ None)
+      → (m : ℕ) → low ≤ m → m < from → stops m ≡ None
+  none_before from low to found none m over under = decided (cases_order m to)
+    where
+      decided : (m ≡ to) ⊎ ((m < to) ⊎ (to < m)) → stops m ≡ None
+      decided (inl same) = none m (omega (arith, same)) under
+      decided (inr (inl before)) = found m over before
+      decided (inr (inr behind)) = none m (omega (arith, behind)) under
