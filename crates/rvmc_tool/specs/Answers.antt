@@ -1,5 +1,5 @@
 -- What each command answers: the text on standard output, and the status.
-use Rattle.std.specs.Prelude.{◌≡◌, ◌⊎◌, ◌++◌, ℕ, Bool, true, false, List, length, MatchResult, Option}
+use Rattle.std.specs.Prelude.{◌≡◌, ◌⊎◌, ◌++◌, ℕ, Bool, true, false, List, codes, length, MatchResult, Option}
 use Rattle.cl_ending.specs.DeadEnds.{IsStuckAt}
 use Rattle.cl_machine.specs.Merge.{IsMerge}
 use Rattle.cl_machine.specs.declared.steps.Step.{Step}
@@ -23,7 +23,7 @@ use Rattle.rvmc_line.specs.declared.line.Written.{Written}
 use Rattle.rvmc_line.specs.declared.line.Written.TheVariants as written
 use Rattle.rvmc_report.specs.Listing.{listing}
 use Rattle.rvmc_report.specs.Report.{rank_ends, report, status_of}
-use Rattle.rvmc_report.specs.Stuck.{stuck_report}
+use Rattle.rvmc_report.specs.Stuck.{told_report}
 use Rattle.rvmc_tool.specs.Ends.{IsDone, IsFaulty}
 use Rattle.rvmc_tool.specs.Images.{image_in}
 use Rattle.rvmc_tool.specs.Plans.{ArePlansOf, listed}
@@ -113,7 +113,7 @@ pub record IsLeftStuck (image : ImageParts) (plans : List Plan) (order : List �
 pub record IsStuckReport (image : ImageParts) (budget : ℕ) (left : Record) (text : List ℕ) : Type 0 where
   pub why : List ℕ
   pub told : IsWhyOf image left why
-  pub spelled : text ≡ stuck_report budget (rank_ends left) ++ why
+  pub spelled : text ≡ told_report (codes "stuck") budget (rank_ends left) ++ why
 
 -- or with `--record` the text of the record, as of any run
 abbrev pub IsStuckTextOf : Written → ImageParts → ℕ → Record → List ℕ → Type 0

@@ -2,6 +2,7 @@
 
 ghost use Rattle.std.specs.Prelude.{◌≡◌, IfErr, IfOk};
 ghost use Rattle.rvmc_line.specs.declared.line.RecordCommand.TheVariants as command;
+ghost use Rattle.rvmc_picture.specs.Pictures.{IsDrawing, view_of};
 ghost use Rattle.rvmc_tool.specs.Making.{IsStepsFault};
 ghost use Rattle.rvmc_tool.specs.Outputs.{output_bytes};
 ghost use Rattle.rvmc_tool.specs.Records.{IsPicture};
@@ -11,10 +12,31 @@ use crate::answers::{Answer, End};
 use crate::outputs::Output;
 use cl_machine::Step;
 use rv_image::Image;
+use rvmc_draw::Drawing;
 use rvmc_picture::{DrawFault, drawing};
 use rvmc_report::faults::{DrawRefusal, Fault};
 use rvmc_svg::svg;
 use std::alloc::Global;
+
+/// What is drawn of the steps from one place to another, or why nothing is.
+fn drawn(
+    alloc: Global,
+    from: u64,
+    to: Option<u64>,
+    image: &Image,
+    steps: &[Step],
+) -> Result<Drawing, Fault>
+    ensures is { IfOk result (λ picture. IsDrawing image.now steps.now (view_of from to steps.now) picture) }
+    ensures fault { IfErr result (IsStepsFault (command.Draw from to) image.now steps.now) }
+{
+    match drawing(alloc, image, steps, from, to) {
+        Ok(picture) => Ok(picture),
+        Err(DrawFault::PastEnd(count)) => Err(Fault::Draw(DrawRefusal::PastEnd(count))),
+        Err(DrawFault::NotARun(number)) => Err(Fault::Draw(DrawRefusal::NotARun(number))),
+        Err(DrawFault::TooMany(count)) => Err(Fault::Draw(DrawRefusal::TooMany(count))),
+        Err(DrawFault::Memory) => Err(Fault::Memory),
+    }
+}
 
 /// `draw`: the steps from one place to another as a picture. A place that isn't there, a wrong step, and more marks than a
 /// picture may have are faults of the input.
@@ -29,17 +51,13 @@ pub(crate) fn pictured(
         IsPicture image steps.items from to (output_bytes answer.output) × (answer.end ≡ Status 0)) }
     ensures fault { IfErr result (IsStepsFault (command.Draw from to) image steps.items) }
 {
-    match drawing(alloc, &image, &steps, from, to) {
-        Ok(picture) => match svg(alloc, &picture) {
-            Ok(text) => Ok(Answer {
-                output: Output::Text(text),
-                end: End::Status(0),
-            }),
-            Err(_) => Err(Fault::Memory),
-        },
-        Err(DrawFault::PastEnd(count)) => Err(Fault::Draw(DrawRefusal::PastEnd(count))),
-        Err(DrawFault::NotARun(number)) => Err(Fault::Draw(DrawRefusal::NotARun(number))),
-        Err(DrawFault::TooMany(count)) => Err(Fault::Draw(DrawRefusal::TooMany(count))),
-        Err(DrawFault::Memory) => Err(Fault::Memory),
-    }
+    let picture = drawn(alloc, from, to, &image, &steps)?;
+    // nothing but memory is refused where a text is put together
+    let Ok(text) = svg(alloc, &picture) else {
+        return Err(Fault::Memory);
+    };
+    Ok(Answer {
+        output: Output::Text(text),
+        end: End::Status(0),
+    })
 }

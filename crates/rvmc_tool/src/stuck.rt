@@ -21,7 +21,7 @@ use rv_image::Image;
 use rvmc_line::Written;
 use rvmc_report::faults::Fault;
 use rvmc_report::report::status;
-use rvmc_report::stuck::stuck_report;
+use rvmc_report::stuck::told_report;
 use rvmc_words::Numbers;
 use std::alloc::{AllocError, Global};
 
@@ -36,7 +36,7 @@ fn stuck_with_why(
     requires { IsLeft image.now left }
     ensures { IfOk result (λ text. IsStuckReport image.now budget left text.items) }
 {
-    let mut text = stuck_report(alloc, &left, budget)?;
+    let mut text = told_report(alloc, &left, "stuck", budget)?;
     let why = why_of(alloc, image, left)?;
     text.extend_from_slice(&why)?;
     Ok(text)
