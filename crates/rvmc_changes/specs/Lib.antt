@@ -1,0 +1,4 @@
+pub mod Changes
+pub mod Edits
+pub mod Laws
+pub mod Seen
