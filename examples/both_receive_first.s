@@ -1,6 +1,7 @@
 # Two ranks give each other a line, and both receive first: a deadlock.
 #
 # run: one --source --until-stuck; status 4
+# run: one --source --budget 1000 --why; status 4
 #
 # Each rank's RECV waits for a message that the other sends behind its own RECV. Neither comes so far: both wait, and
 # the run ends once that is seen. Look behind the report: each hart waits for a message from the other rank, and the

@@ -1,6 +1,7 @@
 # Two ranks give each other a line by synchronous sends, and both send first: a deadlock.
 #
 # run: one --source --until-stuck; status 4
+# run: one --source --budget 1000 --why; status 4
 #
 # An SSEND waits until its message has a receive, and each rank posts its receive behind its SSEND. Both messages are
 # sent, and held: look for them behind the harts, one at each rank that nobody receives. By SEND, which never waits, the

@@ -1,6 +1,7 @@
 # Four ranks in a ring each wait for the rank before them: a deadlock of four.
 #
 # run: one --source --until-stuck; status 4
+# run: one --source --budget 1000 --why; status 4
 #
 # Each rank posts a receive from the rank before it and WAITs for that before it sends on. Nobody began: a ring like
 # examples/ring.s needs one rank that sends first. A WAIT tells by its handle alone what it is for; what each waits for

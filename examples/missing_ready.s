@@ -1,6 +1,7 @@
 # A sender makes three of its four partitions ready, and waits: a deadlock by one missing PREADY.
 #
 # run: one --source --until-stuck; status 4
+# run: one --source --budget 1000 --why; status 4
 #
 # Rank 0 makes partitions 0, 1 and 3 ready, and forgets 2. Its WAIT is held by its own partition: it ends once all were
 # taken. Rank 1 has taken 0 and 1, and waits for 2. Partition 3 lies in its box, but a WAIT takes the boxes in turn, so

@@ -1,6 +1,7 @@
 # Rank 0 receives three numbers from whoever sends, and two are sent: a receive whose senders have ended.
 #
 # run: one --source --until-stuck; status 4
+# run: one --source --budget 1000 --why; status 4
 #
 # Ranks 1 and 2 send one number each and end. Rank 0's third receive would take a message from any rank, itself too; but
 # it waits, and the others have ended, so none will come. A rank that has ended is in the verdict's list: it is one of
