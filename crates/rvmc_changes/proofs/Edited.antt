@@ -6,7 +6,8 @@ use Rattle.std.proofs.lemmas.List.{length-append}
 use Rattle.std.proofs.lemmas.Option.{same_Some}
 use Rattle.std.proofs.lemmas.Bool.{eqb-true}
 use Rattle.std.proofs.Math.Seq.{set-append_seam}
-use Rattle.rvmc_changes.specs.Edits.{at_place, edits_from, with_new, with_old}
+use Rattle.rvmc_changes.specs.Doing.{at_place, with_new, with_old}
+use Rattle.rvmc_changes.specs.Edits.{edits_from}
 
 -- two lists behind a beginning that they share
 longer : (p : List ℕ) (x : ℕ) → length (p ++ x ∷ []) ≡ length p + 1

@@ -1,3 +1,6 @@
+pub mod Compared
 pub mod Edited
 pub mod Kept
 pub mod Places
+pub mod Stored
+pub mod Walked

@@ -16,13 +16,13 @@ use Rattle.cl_state.specs.Rank.{Rank}
 use Rattle.cl_state.specs.Told.{told, told_in}
 use Rattle.cl_state.specs.declared.asking.Answer.{Answer}
 use Rattle.cl_trace.specs.declared.events.Kind.{Kind}
+use Rattle.rvmc_changes.specs.Doing.{all_done, done, done_to_hart, done_to_rank, undone, undone_to_hart, undone_to_rank, at_place}
 use Rattle.rvmc_changes.proofs.Edited.{new_there, old_there, seen_reset, seen_set}
 use Rattle.rvmc_changes.proofs.Kept.{Keeps, told_keeps}
-use Rattle.rvmc_changes.specs.Changes.{AreChanges, Difference, IsChange, all_done, difference, done}
-use Rattle.rvmc_changes.specs.Changes.{done_to_hart, done_to_rank, hart_in, stretch, undone, undone_to_hart, undone_to_rank}
-use Rattle.rvmc_changes.specs.Edits.{at_place}
+use Rattle.rvmc_changes.specs.Changes.{AreChanges, Difference, IsChange, difference}
+use Rattle.rvmc_changes.specs.Changes.{hart_in, stretch}
 use Rattle.rvmc_changes.specs.Laws.{PlacesLaw, ShownLaw}
-use Rattle.rvmc_changes.specs.Seen.{SeenHart, SeenRank, registers_of, seen, seen_hart, seen_rank}
+use Rattle.rvmc_changes.specs.Seen.{SeenHart, SeenRank, registers_of, seen_cluster, seen_hart, seen_rank}
 
 -- ---- a rank that was told something
 
@@ -138,16 +138,16 @@ module _ (old : Cluster) (e : Step) (new : Cluster) (t : Tells old e new) where
         let after : c.after ≡ told_rank = same_Some c.after told_rank (sym c.after_there ∙ told_there) in
         c.is ∙ ap (λ r. difference e r c.after) before ∙ ap (difference e t.rank) after
 
-    pub step_done : done d (seen old) ≡ seen new
+    pub step_done : done d (seen_cluster old) ≡ seen_cluster new
     step_done =
-        ap (λ x. done x (seen old)) is_told
+        ap (λ x. done x (seen_cluster old)) is_told
         ∙ seen_set seen_rank (done_to_rank (difference e t.rank told_rank)) old.ranks e.rank t.rank told_rank t.there
         (done_rank e t.rank t.answer t.below)
         ∙ ap (map seen_rank) (sym t.ranks_are)
 
-    pub step_undone : undone d (seen new) ≡ seen old
+    pub step_undone : undone d (seen_cluster new) ≡ seen_cluster old
     step_undone =
-        ap (λ x. undone x (seen new)) is_told
+        ap (λ x. undone x (seen_cluster new)) is_told
         ∙ ap (λ rs. undone (difference e t.rank told_rank) (map seen_rank rs)) t.ranks_are
         ∙ seen_reset seen_rank (undone_to_rank (difference e t.rank told_rank)) old.ranks e.rank t.rank told_rank t.there
         (undone_rank e t.rank t.answer t.below)

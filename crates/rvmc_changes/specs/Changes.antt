@@ -1,5 +1,5 @@
 -- The change of a step, and of one step after another.
-use Rattle.std.specs.Prelude.{ℕ, ◌≡◌, ◌-◌, List, [], ◌∷◌, ◌++◌, drop, get_or, length, slice_get, take, Some}
+use Rattle.std.specs.Prelude.{ℕ, ◌≡◌, ◌-◌, List, [], ◌∷◌, drop, get_or, length, slice_get, take, Some}
 use Rattle.rv_hart.specs.State.{State}
 use Rattle.cl_state.specs.Asked.{no_hart}
 use Rattle.cl_state.specs.Rank.{Rank}
@@ -8,8 +8,8 @@ use Rattle.cl_machine.specs.declared.steps.Step.{Step}
 use Rattle.rvmc_changes.specs.declared.edits.Edit.{Edit}
 use Rattle.rvmc_changes.specs.declared.steps.Change.{Change}
 use Rattle.rvmc_changes.specs.declared.steps.Stand.{Stand}
-use Rattle.rvmc_changes.specs.Edits.{at_place, edits_from, with_new, with_old}
-use Rattle.rvmc_changes.specs.Seen.{SeenHart, SeenRank, registers_of}
+use Rattle.rvmc_changes.specs.Edits.{edits_from}
+use Rattle.rvmc_changes.specs.Seen.{registers_of}
 
 -- ---- the change of a step
 
@@ -69,45 +69,6 @@ AreChanges old [] (d ∷ ds) new = ⊥
 AreChanges old (e ∷ es) [] new = ⊥
 AreChanges old (e ∷ es) (d ∷ ds) new =
     (mid : Cluster) × IsStep old e mid × IsChange old e mid d × AreChanges mid es ds new
-
--- ---- changes, done and undone
-
-abbrev pub done_to_hart : Difference → SeenHart → SeenHart
-done_to_hart d hart =
-    record { registers = with_new d.registers hart.registers; pc = d.new.pc; mode = d.new.mode }
-
-abbrev pub done_to_rank : Difference → SeenRank → SeenRank
-done_to_rank d rank = record {
-  harts = at_place d.hart (done_to_hart d) rank.harts;
-  bytes = with_new d.bytes rank.bytes;
-  out = rank.out ++ d.put;
-}
-
-abbrev pub done : Difference → List SeenRank → List SeenRank
-done d ranks = at_place d.rank (done_to_rank d) ranks
-
-abbrev pub undone_to_hart : Difference → SeenHart → SeenHart
-undone_to_hart d hart =
-    record { registers = with_old d.registers hart.registers; pc = d.old.pc; mode = d.old.mode }
-
-abbrev pub undone_to_rank : Difference → SeenRank → SeenRank
-undone_to_rank d rank = record {
-  harts = at_place d.hart (undone_to_hart d) rank.harts;
-  bytes = with_old d.bytes rank.bytes;
-  out = take (length rank.out - length d.put) rank.out;
-}
-
-abbrev pub undone : Difference → List SeenRank → List SeenRank
-undone d ranks = at_place d.rank (undone_to_rank d) ranks
-
-abbrev pub all_done : List Difference → List SeenRank → List SeenRank
-all_done [] ranks = ranks
-all_done (d ∷ ds) ranks = all_done ds (done d ranks)
-
--- the last first
-abbrev pub all_undone : List Difference → List SeenRank → List SeenRank
-all_undone [] ranks = ranks
-all_undone (d ∷ ds) ranks = undone d (all_undone ds ranks)
 
 -- ---- between two places
 

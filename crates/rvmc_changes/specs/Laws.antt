@@ -1,20 +1,23 @@
 -- What changes come to.
-use Rattle.std.specs.Prelude.{ℕ, ◌≡◌, ◌≤◌, ◌-◌, List, length, slice_get, take, Some}
+use Rattle.std.specs.Prelude.{ℕ, ◌≡◌, ◌≤◌, ◌-◌, List, length, map, slice_get, take, Some}
 use Rattle.cl_debug.specs.Debugging.{Debugging}
 use Rattle.cl_debug.specs.Places.{IsAt}
 use Rattle.cl_debug.specs.Shown.{ShowsRank}
 use Rattle.cl_machine.specs.Cluster.{Cluster, IsRun}
 use Rattle.cl_machine.specs.declared.steps.Step.{Step}
 use Rattle.cl_state.specs.Rank.{Rank}
-use Rattle.rvmc_changes.specs.Changes.{AreChanges, Difference, all_done, all_undone, stretch}
-use Rattle.rvmc_changes.specs.Seen.{SeenRank, seen, seen_rank}
+use Rattle.rvmc_changes.specs.Doing.{all_done, all_undone}
+use Rattle.rvmc_changes.specs.Changes.{AreChanges, Difference, difference_in, stretch}
+use Rattle.rvmc_changes.specs.Seen.{SeenRank, seen_cluster, seen_rank}
+use Rattle.rvmc_changes.specs.Walks.{IsWalk, start_of}
+use Rattle.rvmc_changes.specs.declared.walks.Walk.{Walk}
 
 -- the first n of a run's changes lead from what is seen at its start to what is seen behind its first n steps, and back
 pub record LeadsThere (old : Cluster) (es : List Step) (ds : List Difference) (n : ℕ) : Type 0 where
   pub here : Cluster
   pub run : IsRun old (take n es) here
-  pub forwards : all_done (take n ds) (seen old) ≡ seen here
-  pub back : all_undone (take n ds) (seen here) ≡ seen old
+  pub forwards : all_done (take n ds) (seen_cluster old) ≡ seen_cluster here
+  pub back : all_undone (take n ds) (seen_cluster here) ≡ seen_cluster old
 
 abbrev pub PlacesLaw : Type 0
 PlacesLaw =
@@ -25,7 +28,7 @@ PlacesLaw =
 pub record ShowsSeen (debugging : Debugging) (ranks : List SeenRank) : Type 0 where
   pub cluster : Cluster
   pub at : IsAt debugging.image debugging.steps debugging.place cluster
-  pub ranks_are : ranks ≡ seen cluster
+  pub ranks_are : ranks ≡ seen_cluster cluster
   pub ranks_shown : (rank : ℕ) (owner : Rank) → ShowsRank debugging rank owner
       → slice_get ranks rank ≡ Some (seen_rank owner)
 
@@ -35,4 +38,18 @@ ShownLaw =
     (debugging : Debugging) (from to : ℕ) (old new : Cluster) (ds : List Difference) → from ≤ debugging.place
     → debugging.place ≤ to → to ≤ length debugging.steps → IsAt debugging.image debugging.steps from old
     → AreChanges old (stretch from to debugging.steps) ds new
-    → ShowsSeen debugging (all_done (take (debugging.place - from) ds) (seen old))
+    → ShowsSeen debugging (all_done (take (debugging.place - from) ds) (seen_cluster old))
+
+-- the first n changes of a walk
+abbrev pub first_changes : ℕ → Walk → List Difference
+first_changes n walk = take n (map difference_in walk.changes.items)
+
+-- they lead from the walk's start to what a debugger shows n steps behind it, and back
+pub record WalksThere (debugging : Debugging) (walk : Walk) (n : ℕ) : Type 0 where
+  pub forwards : ShowsSeen debugging (all_done (first_changes n walk) (start_of walk))
+  pub back : all_undone (first_changes n walk) (all_done (first_changes n walk) (start_of walk)) ≡ start_of walk
+
+abbrev pub WalkLaw : Type 0
+WalkLaw =
+    (debugging : Debugging) (from to : ℕ) (walk : Walk) → IsWalk debugging.image debugging.steps from to walk
+    → from ≤ debugging.place → debugging.place ≤ to → WalksThere debugging walk (debugging.place - from)

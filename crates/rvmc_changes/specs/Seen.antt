@@ -27,5 +27,5 @@ seen_hart hart = record { registers = registers_of hart; pc = hart.pc; mode = ha
 abbrev pub seen_rank : Rank → SeenRank
 seen_rank rank = record { harts = map seen_hart rank.harts; bytes = rank.memory.bytes; out = rank.out }
 
-abbrev pub seen : Cluster → List SeenRank
-seen cluster = map seen_rank cluster.ranks
+abbrev pub seen_cluster : Cluster → List SeenRank
+seen_cluster cluster = map seen_rank cluster.ranks

@@ -1,6 +1,6 @@
 //! Laws of changes. The functions do nothing; their contracts are the laws.
 
-ghost use Rattle.rvmc_changes.specs.Laws.{PlacesLaw, ShownLaw};
+ghost use Rattle.rvmc_changes.specs.Laws.{PlacesLaw, ShownLaw, WalkLaw};
 
 /// The first n changes of a run, done to what is seen at its start, give what is seen behind its first n steps; and
 /// undone from there, the last first, they give what is seen at the start.
@@ -12,4 +12,9 @@ pub fn places_law()
 /// bytes of its memory and its output.
 pub fn shown_law()
     ensures { ShownLaw }
+{}
+
+/// Those of a walk lead from its start to what the debugger shows at each place of the walk, and back.
+pub fn walk_law()
+    ensures { WalkLaw }
 {}

@@ -1,0 +1,5 @@
+use Rattle.rvmc_page.proofs.Plain.{plain_data}
+use Rattle.rvmc_page.proofs.laws.plain_law.Goals as goal
+
+pub returns : goal.returns
+returns c = λ image page part. (plain_data image page part).all

@@ -1,0 +1,7 @@
+pub mod Escaped
+pub mod Pages
+pub mod Plain
+pub mod Records
+pub mod Starts
+pub mod Steps
+pub mod Told

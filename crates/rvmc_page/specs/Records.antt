@@ -1,0 +1,53 @@
+-- The page of a record, and why there is none.
+use Rattle.std.specs.Prelude.{ℕ, ◌≡◌, ◌<◌, ◌≤◌, ◌-◌, true, false, List, length, Option, Some, None}
+use Rattle.std.specs.List.{All}
+use Rattle.rv_image.specs.declared.images.ImageParts.{ImageParts}
+use Rattle.cl_machine.specs.declared.steps.Step.{Step}
+use Rattle.cl_replay.specs.InnerReplaying.{BreaksAt}
+use Rattle.rvmc_changes.specs.Walks.{IsWalk}
+use Rattle.rvmc_draw.specs.declared.views.View.{View}
+use Rattle.rvmc_picture.specs.Pictures.{HasTooMany, IsDrawing, is_past_end}
+use Rattle.rvmc_svg.specs.Safe.{IsAllowed}
+use Rattle.rvmc_svg.specs.Shown.{IsShown}
+use Rattle.rvmc_page.specs.Pages.{page_of}
+use Rattle.rvmc_page.specs.declared.pages.Page.{Page}
+use Rattle.rvmc_page.specs.declared.pages.Shown.{Shown}
+use Rattle.rvmc_page.specs.declared.records.PageFault.{PageFault}
+use Rattle.rvmc_page.specs.declared.records.PageFault.TheVariants as fault
+
+-- the drawing of the steps in view, and its picture as `draw` gives it; none where they have more marks than are drawn
+abbrev pub IsShownOf : ImageParts → List Step → View → Option Shown → Type 0
+IsShownOf image steps view None = (count : ℕ) × HasTooMany image steps view count
+IsShownOf image steps view (Some shown) =
+    IsDrawing image steps view shown.drawing × All IsAllowed shown.picture.items
+    × IsShown shown.drawing shown.picture.items
+
+-- what a page of the steps in view shows
+pub record IsPageOf (image : ImageParts) (steps : List Step) (view : View) (page : Page) : Type 0 where
+  pub from : page.from ≡ view.from
+  pub walk : IsWalk image steps view.from view.to page.walk
+  pub shown : IsShownOf image steps view page.shown
+
+-- the text of such a page
+pub record IsPage (image : ImageParts) (steps : List Step) (view : View) (text : List ℕ) : Type 0 where
+  pub page : Page
+  pub is : IsPageOf image steps view page
+  pub text_is : text ≡ page_of image page
+
+-- ---- why there is none
+
+abbrev pub steps_max : ℕ
+steps_max = 200000
+
+abbrev pub count_in : View → ℕ
+count_in view = view.to - view.from
+
+-- places behind the end; too many steps in view; a step that the machine doesn't have where those before it lead; or
+-- memory
+abbrev pub PageFaultHolds : ImageParts → List Step → View → PageFault → Type 0
+PageFaultHolds image steps view (fault.PastEnd len) = (is_past_end view steps ≡ true) × (len ≡ length steps)
+PageFaultHolds image steps view (fault.TooMany count) =
+    (is_past_end view steps ≡ false) × (count ≡ count_in view) × (steps_max < count)
+PageFaultHolds image steps view (fault.NotARun n) =
+    (is_past_end view steps ≡ false) × (count_in view ≤ steps_max) × BreaksAt image steps n
+PageFaultHolds image steps view fault.Memory = is_past_end view steps ≡ false

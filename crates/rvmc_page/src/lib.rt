@@ -1,0 +1,23 @@
+//! A page that walks a record: one HTML file, which any browser opens from the disk, with nothing from outside.
+//!
+//! The page computes nothing: it holds what each step changed, old and new, and its script only assigns. Proved is what the
+//! data are and how they are written, and that no byte of a guest ends the script or the markup. The script itself, which
+//! page.js has too, and the browser are tried.
+//!
+//! The meaning stands in specs/: how bytes are written (`Escaped`), the machine at the first place (`Starts`), what each step
+//! changed (`Steps`), what is told beside it (`Told`), the page's text (`Pages`), the law of its bytes (`Plain`), and the page of a record
+//! (`Records`).
+#![tactic(auto)]
+
+mod frame;
+pub mod laws;
+mod pages;
+mod records;
+mod safe;
+mod script;
+mod starts;
+mod steps;
+mod told;
+
+pub use pages::{Page, Part, Shown, page_text};
+pub use records::{PageFault, STEPS_MAX, page};
