@@ -1,8 +1,0 @@
-//! Where a record ends, in a stream that goes on behind it: its own fields say so.
-#![tactic(auto)]
-
-mod ends;
-pub mod laws;
-mod numbers;
-
-pub use ends::{End, record_end};

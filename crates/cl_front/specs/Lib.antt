@@ -1,0 +1,4 @@
+pub mod End
+pub mod Answers
+pub mod Input
+pub mod Laws

@@ -1,0 +1,6 @@
+//! Tests of where it is decided what a stream's first bytes are as a record. They stand in a crate of their own, since a
+//! crate with tests is proved twice.
+#![tactic(auto)]
+
+#[cfg(test)]
+mod fronts;
