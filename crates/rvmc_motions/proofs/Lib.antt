@@ -1,4 +1,5 @@
 pub mod Histories
+pub mod Passed
 pub mod Places
 pub mod Steps
 pub mod Ways

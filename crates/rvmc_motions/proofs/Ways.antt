@@ -1,5 +1,6 @@
 -- What holds of a debugger on the way of a motion.
 use Rattle.std.specs.Prelude.{ℕ, ◌≡◌, ◌<◌, ◌≤◌, ◌+◌, ◌-◌, ◌*◌, ◌/◌, List, length, Option, Some, None}
+use Rattle.std.specs.Option.{option_or}
 use Rattle.std.proofs.Common.{refl, sym, subst, ap, ◌∙◌, arith, inr}
 use Rattle.std.proofs.Math.Nat.{div-mul-le_self}
 use Rattle.cl_state.specs.Rank.{Rank}
@@ -14,12 +15,27 @@ use Rattle.rvmc_motions.specs.declared.marks.Mark.{Mark}
 use Rattle.rvmc_motions.specs.declared.marks.Mover.{Mover}
 use Rattle.rvmc_motions.specs.Motions.{GoesBackwards, GoesForwards, IsFirstBehind, IsLastBefore, halt_at}
 use Rattle.rvmc_motions.specs.Turns.{IsHistory, backward_stop, forward_stop}
-use Rattle.rvmc_motions.specs.Walking.{IsBelow, IsLastIn, TellsBackward, TellsForward, later, one_on}
-use Rattle.rvmc_motions.proofs.Steps.{first_end, first_here, last_here, later_in, none_before, none_more}
+use Rattle.rvmc_motions.specs.Walking.{IsBelow, IsLastIn, TellsBackward, TellsForward, TellsNext, TellsTurn, later, one_on}
+use Rattle.rvmc_motions.proofs.Steps.{backward_is, first_end, first_here, forward_is, last_here, later_in, none_before, none_more}
 
 -- a debugger that is at a place of the same record
 at_same : (old now : Debugging) (n : ℕ) → now ≡ at_place old n → now ≡ at_place old now.place
 at_same old now n is = is ∙ ap (at_place old) (sym (ap (λ (d : Debugging). d.place) is))
+
+-- ---- one step: what is told of it, and of the step that comes next behind it or before it
+
+pub forward_told : (now next : Debugging) (marks : List Mark) (mover : Mover) (turned told : Option Halt) → next ≡ one_on now
+    → TellsTurn now marks mover turned → TellsNext next marks mover told
+    → TellsForward now marks mover (option_or turned told)
+forward_told now next marks mover turned told on turn ahead = λ history of.
+    forward_is mover marks now.steps history now.place turned told (turn history of)
+    (subst (λ (d : Debugging). TellsNext d marks mover told) on ahead history of)
+
+pub backward_told : (now : Debugging) (marks : List Mark) (mover : Mover) (turned told : Option Halt)
+    → TellsTurn now marks mover turned → TellsNext now marks mover told
+    → TellsBackward now marks mover (option_or turned told)
+backward_told now marks mover turned told turn ahead = λ history of.
+    backward_is mover marks now.steps history now.place turned told (turn history of) (ahead history of)
 
 -- ---- forwards: none of the places so far ends the motion
 

@@ -1,6 +1,6 @@
 //! Laws of the motions, with no code: each function's contract is the law.
 
-ghost use Rattle.rvmc_motions.specs.Laws.{OnePlaceLaw, HistoryLaw, StaysLaw};
+ghost use Rattle.rvmc_motions.specs.Laws.{HistoryLaw, OnePlaceLaw, PassesNoneLaw, StaysLaw};
 
 /// A motion leads to one place alone, and ends there for one cause.
 pub fn one_place_law()
@@ -17,4 +17,10 @@ pub fn history_law()
 /// start.
 pub fn stays_law()
     ensures { StaysLaw }
+{}
+
+/// Of what `forwards` and `backwards` promise alone: a motion doesn't end at the place where it stands; none steps over a
+/// breakpoint, or another place that ends it; and backwards it ends at the last such place, and not at the first.
+pub fn passes_none_law()
+    ensures { PassesNoneLaw }
 {}

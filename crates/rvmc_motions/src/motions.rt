@@ -1,55 +1,18 @@
 //! Motions of a debugger, forwards and backwards.
 
-ghost use Rattle.std.specs.Prelude.{◌≡◌, ◌<◌, ◌≤◌, IfErr, IfOk, OnOk, length, ℕ};
+ghost use Rattle.std.specs.Prelude.{◌≡◌, ◌≤◌, IfErr, IfOk, OnOk, length, ℕ};
 ghost use Rattle.cl_debug.specs.Debugging.{at_place};
 ghost use Rattle.cl_debug.specs.declared.faults.DebugFault.TheVariants as faults;
 ghost use Rattle.cl_state.specs.Rank.{Rank};
 ghost use Rattle.rvmc_motions.specs.Motions.{GoesBackwards, GoesForwards};
 ghost use Rattle.rvmc_motions.specs.Turns.{IsHistory, backward_stop};
-ghost use Rattle.rvmc_motions.specs.Walking.{IsBelow, IsLastIn, TellsBackward, TellsForward, later, one_on};
+ghost use Rattle.rvmc_motions.specs.Walking.{IsBelow, IsLastIn, later};
 
 use crate::marks::{Halt, Mark, Mover};
 use crate::turns::{next_stop, turn};
 use cl_debug::{DebugFault, Debugger};
 use rvmc_replies::Stop;
 use std::alloc::Global;
-
-/// Does the step at the place, and tells why a motion forwards ends behind it.
-fn look_on(
-    alloc: Global,
-    debugger: &mut Debugger,
-    marks: &[Mark],
-    mover: Mover,
-) -> Result<Option<Halt>, DebugFault>
-    requires { debugger.old.place < length debugger.old.steps }
-    ensures there { OnOk result (debugger.new ≡ one_on debugger.old) }
-    ensures told { IfOk result (TellsForward debugger.old marks.now mover) }
-    ensures fault { IfErr result (λ fault. fault ≡ faults.Memory) }
-{
-    match turn(alloc, debugger, marks, mover)? {
-        Some(halt) => Ok(Some(halt)),
-        None => Ok(next_stop(debugger, marks, mover)),
-    }
-}
-
-/// Does the step at the place, and tells why a motion backwards ends before it.
-fn look_back(
-    alloc: Global,
-    debugger: &mut Debugger,
-    marks: &[Mark],
-    mover: Mover,
-) -> Result<Option<Halt>, DebugFault>
-    requires { debugger.old.place < length debugger.old.steps }
-    ensures there { OnOk result (debugger.new ≡ one_on debugger.old) }
-    ensures told { IfOk result (TellsBackward debugger.old marks.now mover) }
-    ensures fault { IfErr result (λ fault. fault ≡ faults.Memory) }
-{
-    let next = next_stop(debugger, marks, mover);
-    match turn(alloc, debugger, marks, mover)? {
-        Some(halt) => Ok(Some(halt)),
-        None => Ok(next),
-    }
-}
 
 /// Goes forwards to the first place at which the motion ends, and tells why it ends there.
 ///
@@ -68,7 +31,9 @@ pub fn forwards(
 {
     let (from, end) = debugger.place();
     for _n in from..end {
-        if let Some(halt) = look_on(alloc, debugger, marks, mover)? {
+        let turned = turn(alloc, debugger, marks, mover)?;
+        let next = next_stop(debugger, marks, mover);
+        if let Some(halt) = turned.or(next) {
             return Ok(halt);
         }
     }
@@ -110,8 +75,9 @@ fn last_between(
     debugger.go(from)?;
     let mut found = None;
     for n in from..to {
-        let halt = look_back(alloc, debugger, marks, mover)?;
-        found = later(found, n, halt);
+        let next = next_stop(debugger, marks, mover);
+        let turned = turn(alloc, debugger, marks, mover)?;
+        found = later(found, n, turned.or(next));
     }
     Ok(found)
 }

@@ -1,0 +1,107 @@
+-- What methods of a session come to: what is printed, also where something isn't there, and which points are set.
+use Rattle.std.specs.Prelude.{ℕ, ◌≡◌, ◌≢◌, ◌↔◌, ◌<◌, ◌≤◌, true, false, List, [], ◌∷◌, ◌++◌, Result, Err, Option, Some, None}
+use Rattle.std.proofs.Common.{refl, sym, ap, subst, ◌∙◌}
+use Rattle.rv_image.specs.declared.images.ImageParts.{ImageParts}
+use Rattle.rv_image.specs.declared.images.Symbol.{Symbol}
+use Rattle.cl_state.specs.Rank.{Rank}
+use Rattle.cl_replay.specs.Replaying.{IsReached}
+use Rattle.cl_replay.specs.declared.states.ClusterState.{ClusterState}
+use Rattle.cl_debug.specs.Debugging.{Debugging}
+use Rattle.cl_debug.specs.Faults.{GoFaultHolds, IsNameFault}
+use Rattle.cl_debug.specs.declared.faults.DebugFault.{DebugFault}
+use Rattle.cl_debug.specs.declared.faults.DebugFault.TheVariants as faults
+use Rattle.rvmc_words.specs.declared.debug.DebugWord.{DebugWord}
+use Rattle.rvmc_words.specs.declared.debug.DebugWord.TheVariants as word
+use Rattle.rvmc_inspect.specs.Words.{Does, Refuses}
+use Rattle.rvmc_inspect.specs.Why.{IsWhy}
+use Rattle.rvmc_motions.specs.declared.marks.Mark.{Mark}
+use Rattle.rvmc_gdb.specs.Points.{Inserts, IsOwner, Sets, can_add, has_mark, marks_with, with_marks}
+use Rattle.rvmc_gdb.specs.Serving.{Serving, done, refused}
+use Rattle.rvmc_gdb.specs.Shown.{IsLine, line_at}
+use Rattle.rvmc_gdb.specs.Typing.{PrintsGo, PrintsWhy, PrintsWord, fault_text, with_debugging}
+
+-- ---- words of `debug`
+
+pub go_refused : (old : Debugging) (n : ℕ) (fault : DebugFault) → GoFaultHolds old.steps n fault → fault ≢ faults.Memory
+    → Refuses old fault (word.Go n)
+go_refused old n (faults.PastEnd len) holds other = holds
+go_refused old n faults.NoRank holds other = absurd holds
+go_refused old n faults.NoHart holds other = absurd holds
+go_refused old n faults.Range holds other = absurd holds
+go_refused old n faults.Memory holds other = absurd (other refl)
+go_refused old n (faults.NotARun k) holds other = absurd holds
+go_refused old n faults.NoSymbol holds other = absurd holds
+
+pub regs_refused : {A : Type 0} (old : Debugging) (rank hart : ℕ) (result : Result A DebugFault) (fault : DebugFault)
+    → result ≡ Err fault → ((result ≡ Err faults.NoRank) ↔ (old.image.ranks ≤ rank))
+    → ((result ≡ Err faults.NoHart) ↔ ((rank < old.image.ranks) × (old.image.harts ≤ hart))) → IsNameFault fault
+    → Refuses old fault (word.Regs rank hart)
+regs_refused old rank hart result faults.NoRank is no_rank missing named = no_rank.0 is
+regs_refused old rank hart result faults.NoHart is no_rank missing named = missing.0 is
+regs_refused old rank hart result (faults.PastEnd n) is no_rank missing named = absurd named
+regs_refused old rank hart result faults.Range is no_rank missing named = absurd named
+regs_refused old rank hart result faults.Memory is no_rank missing named = absurd named
+regs_refused old rank hart result (faults.NotARun n) is no_rank missing named = absurd named
+regs_refused old rank hart result faults.NoSymbol is no_rank missing named = absurd named
+
+-- ---- what is printed
+
+-- for a word that was done, or refused
+pub word_done : (old seen : Serving) (asked : DebugWord) (text : List ℕ) → seen ≡ old
+    → Does seen.debugging asked seen.debugging text → PrintsWord old asked old text
+word_done old seen asked text is does =
+    subst (λ (s : Serving). PrintsWord s asked s text) is (record { fault = None; debugs = does; stands = refl })
+
+pub word_refused : (old seen : Serving) (asked : DebugWord) (fault : DebugFault) (text : List ℕ) → seen ≡ old
+    → Refuses seen.debugging fault asked → fault ≢ faults.Memory → text ≡ fault_text fault → PrintsWord old asked old text
+word_refused old seen asked fault text is refuses other told =
+    subst (λ (s : Serving). PrintsWord s asked s text) is
+    (record { fault = Some fault; debugs = (refuses, other, refl, told); stands = refl })
+
+-- for a place that isn't there
+pub go_stays : (old seen new : Serving) (n : ℕ) (fault : DebugFault) (text : List ℕ) → seen ≡ old
+    → new ≡ with_debugging seen new.debugging → new.debugging ≡ seen.debugging → GoFaultHolds seen.debugging.steps n fault
+    → fault ≢ faults.Memory → text ≡ fault_text fault → PrintsGo old n new text
+go_stays old seen new n fault text is stands same holds other told =
+    subst (λ (s : Serving). PrintsGo s n new text) is (record {
+      fault = Some fault;
+      printed = text;
+      debugs = (go_refused seen.debugging n fault holds other, other, same, told);
+      stands = stands;
+      is = refl;
+    })
+
+-- ---- the state at the place
+
+pub why_printed : (old seen : Serving) (image : ImageParts) (state : ClusterState) (text : List ℕ) → seen ≡ old
+    → IsReached seen.debugging.image seen.debugging.steps seen.debugging.place state → image ≡ seen.debugging.image
+    → IsWhy false image state text → PrintsWhy old text
+why_printed old seen image state text is reached same why =
+    subst (λ (s : Serving). PrintsWhy s text) is
+    (state, reached, subst (λ (i : ImageParts). IsWhy false i state text) same why)
+
+pub line_found : (old seen : Serving) (hart : ℕ) (symbols : List Symbol) (state : ClusterState) (line : Option (List ℕ))
+    → seen ≡ old → IsReached seen.debugging.image seen.debugging.steps seen.debugging.place state
+    → symbols ≡ seen.debugging.image.symbols → line ≡ line_at symbols state seen.rank hart → IsLine old hart line
+line_found old seen hart symbols state line is reached same found =
+    subst (λ (s : Serving). IsLine s hart line) is
+    (state, reached, found ∙ ap (λ names. line_at names state seen.rank hart) same)
+
+-- ---- points
+
+module _ (old new : Serving) (mark : Mark) (owner : Option Rank) (text : List ℕ) (shown : IsOwner old owner) where
+  sets_as : (marks : Option (List Mark)) → marks_with owner old.marks mark ≡ marks → Sets old marks new text
+      → Inserts old mark new text
+  sets_as marks is sets =
+      record { owner = owner; shown = shown; sets = subst (λ m. Sets old m new text) (sym is) sets }
+
+  pub set_already : has_mark old.marks mark ≡ true → new ≡ old → text ≡ done → Inserts old mark new text
+  set_already there same told = sets_as (Some old.marks) (rw there refl) (same, told)
+
+  pub set_none : has_mark old.marks mark ≡ false → can_add owner old.marks mark ≡ false → new ≡ old → text ≡ refused
+      → Inserts old mark new text
+  set_none there can same told = sets_as None (rw (there, can) refl) (same, told)
+
+  pub set_more : has_mark old.marks mark ≡ false → can_add owner old.marks mark ≡ true
+      → new ≡ with_marks old (old.marks ++ mark ∷ []) → text ≡ done → Inserts old mark new text
+  set_more there can same told = sets_as (Some (old.marks ++ mark ∷ [])) (rw (there, can) refl) (same, told)

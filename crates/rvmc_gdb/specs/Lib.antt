@@ -1,0 +1,9 @@
+pub mod Serving
+pub mod Shown
+pub mod Moving
+pub mod Points
+pub mod Typing
+pub mod Answers
+pub mod Following
+pub mod Talks
+pub mod Laws

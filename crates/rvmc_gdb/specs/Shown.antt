@@ -1,0 +1,95 @@
+-- What is answered to questions: registers, bytes and threads are those of the machine at the place.
+use Rattle.std.specs.Prelude.{ℕ, ◌≡◌, ◌≤◌, ◌⊎◌, ◌==◌, false, List, ◌∷◌, ◌++◌, slice_get, if◌then◌else◌}
+use Rattle.std.specs.Prelude.{nat_lt, Option, Some, None, option_and_then, option_map}
+use Rattle.std.specs.List.{flat_map, range_with_len, slice_split}
+use Rattle.std.specs.Option.{unwrap_or}
+use Rattle.hex.specs.Hex.{encode_lower}
+use Rattle.rv_hart.specs.State.{State, read}
+use Rattle.rv_image.specs.declared.images.Symbol.{Symbol}
+use Rattle.cl_state.specs.declared.state.RankState.{RankState}
+use Rattle.cl_state.specs.Room.{rank_of}
+use Rattle.cl_replay.specs.Replaying.{IsReached}
+use Rattle.cl_replay.specs.declared.states.ClusterState.{ClusterState}
+use Rattle.cl_debug.specs.Shown.{IsOutside, ShowsBytes, ShowsHart}
+use Rattle.rvmc_inspect.specs.Texts.{hart_waits_text}
+use Rattle.rvmc_replies.specs.Digits.{register_text}
+use Rattle.rvmc_gdb.specs.Serving.{Serving, done, hart_of, refused}
+
+-- ---- registers
+
+-- the hart that is meant, as it is at the place, if the image has one of these numbers
+abbrev pub IsOwn : Serving → Option State → Type 0
+IsOwn serving None = (serving.debugging.image.ranks ≤ serving.rank) ⊎ (serving.debugging.image.harts ≤ serving.hart)
+IsOwn serving (Some state) = ShowsHart serving.debugging serving.rank serving.hart state
+
+-- what is told of it, or a refusal where there is nothing to tell
+abbrev pub TellsOwn : (State → Option (List ℕ)) → Serving → List ℕ → Type 0
+TellsOwn tells serving text =
+    (own : Option State) × IsOwn serving own × (text ≡ unwrap_or (option_and_then tells own) refused)
+
+-- the registers of these numbers
+abbrev pub registers_of : State → List ℕ → List ℕ
+registers_of hart numbers = flat_map (λ number. register_text (read hart number)) numbers
+
+-- x0 to x31, and the pc behind them
+abbrev pub registers_text : State → List ℕ
+registers_text hart = registers_of hart (range_with_len 0 32) ++ register_text hart.pc
+
+-- the register of a number, of which 32 is the pc
+abbrev pub register_value : ℕ → State → Option ℕ
+register_value number hart =
+    if nat_lt number 32 then Some (read hart number) else if number == 32 then Some hart.pc else None
+
+abbrev pub TellsRegisters : Serving → List ℕ → Type 0
+TellsRegisters serving text = TellsOwn (λ hart. Some (registers_text hart)) serving text
+
+abbrev pub TellsRegister : Serving → ℕ → List ℕ → Type 0
+TellsRegister serving number text =
+    TellsOwn (λ hart. option_map register_text (register_value number hart)) serving text
+
+-- ---- bytes
+
+-- these bytes of the rank as they are at the place, or none where the rank isn't there or some of them are outside
+abbrev pub IsRead : Serving → ℕ → ℕ → Option (List ℕ) → Type 0
+IsRead serving address count None =
+    (serving.debugging.image.ranks ≤ serving.rank) ⊎ IsOutside serving.debugging serving.rank address count
+IsRead serving address count (Some bytes) = ShowsBytes serving.debugging serving.rank address count bytes
+
+abbrev pub TellsBytes : (List ℕ → List ℕ) → Serving → ℕ → ℕ → List ℕ → Type 0
+TellsBytes tells serving address count text =
+    (found : Option (List ℕ)) × IsRead serving address count found × (text ≡ unwrap_or (option_map tells found) refused)
+
+-- behind a letter, as they are
+abbrev pub raw_text : List ℕ → List ℕ
+raw_text bytes = 98 ∷ bytes
+
+-- ---- threads
+
+abbrev pub alive_text : Option ℕ → List ℕ
+alive_text None = refused
+alive_text (Some hart) = done
+
+-- the lines that `why` has of the harts of a rank, cut at their ends
+abbrev pub wait_lines : List Symbol → ClusterState → ℕ → RankState → List (List ℕ)
+wait_lines symbols state rank owner =
+    slice_split (λ byte. byte == 10) (hart_waits_text false symbols state.hub state.boxes.items rank (rank_of owner))
+
+-- the line of a hart among them, in digits
+abbrev pub line_at : List Symbol → ClusterState → ℕ → ℕ → Option (List ℕ)
+line_at symbols state rank hart =
+    option_and_then (λ owner. option_map encode_lower (slice_get (wait_lines symbols state rank owner) hart))
+    (slice_get state.ranks.items rank)
+
+-- of the rank that is shown, at the place
+abbrev pub IsLine : Serving → ℕ → Option (List ℕ) → Type 0
+IsLine serving hart line =
+    (state : ClusterState) × IsReached serving.debugging.image serving.debugging.steps serving.debugging.place state
+    × (line ≡ line_at serving.debugging.image.symbols state serving.rank hart)
+
+abbrev pub TellsHart : Serving → Option ℕ → List ℕ → Type 0
+TellsHart serving None text = text ≡ refused
+TellsHart serving (Some hart) text =
+    (line : Option (List ℕ)) × IsLine serving hart line × (text ≡ unwrap_or line refused)
+
+abbrev pub TellsThread : Serving → ℕ → List ℕ → Type 0
+TellsThread serving thread text = TellsHart serving (hart_of serving.debugging.image.harts thread) text

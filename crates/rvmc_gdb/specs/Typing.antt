@@ -1,0 +1,120 @@
+-- What a person types behind `monitor`, and what is printed: the texts are those of the words of `debug`, and of `why`.
+use Rattle.std.specs.Prelude.{ℕ, ◌≡◌, ◌≢◌, false, List, [], ◌∷◌, ◌++◌, codes, nat_lt, Option, Some, None, if◌then◌else◌}
+use Rattle.std.specs.Fmt.{decimal}
+use Rattle.hex.specs.Hex.{encode_lower}
+use Rattle.cl_replay.specs.Replaying.{IsReached}
+use Rattle.cl_replay.specs.declared.states.ClusterState.{ClusterState}
+use Rattle.cl_debug.specs.Debugging.{Debugging}
+use Rattle.cl_debug.specs.declared.faults.DebugFault.{DebugFault}
+use Rattle.cl_debug.specs.declared.faults.DebugFault.TheVariants as faults
+use Rattle.rvmc_words.specs.declared.debug.DebugWord.{DebugWord}
+use Rattle.rvmc_words.specs.declared.debug.DebugWord.TheVariants as word
+use Rattle.rvmc_monitor.specs.Typed.{typed_word}
+use Rattle.rvmc_monitor.specs.declared.typed.Typed.{Typed}
+use Rattle.rvmc_monitor.specs.declared.typed.Typed.TheVariants.{Help, Why, Rank, Go, Place, Regs, Bytes, Unknown}
+use Rattle.rvmc_report.specs.Report.{newline}
+use Rattle.rvmc_inspect.specs.Why.{IsWhy}
+use Rattle.rvmc_inspect.specs.Words.{Does, Refuses}
+use Rattle.rvmc_gdb.specs.Serving.{Serving, done}
+
+-- ---- texts
+
+abbrev pub help_text : List ℕ
+help_text =
+    codes "place         tells how many of the record's steps are done" ++ newline
+    ++ codes "go N          goes to the place with N steps done" ++ newline
+    ++ codes "why           tells what each hart waits for there" ++ newline
+    ++ codes "rank R        shows rank R from now on" ++ newline
+    ++ codes "regs R H      shows the registers of hart H of rank R" ++ newline
+    ++ codes "bytes R A N   shows N bytes of rank R from address A, or a symbol, on" ++ newline
+    ++ codes "help          tells this" ++ newline
+
+abbrev pub unknown_text : List ℕ
+unknown_text = codes "no such word: monitor help tells which there are" ++ newline
+
+-- gdb keeps registers, and asks again after this command
+abbrev pub flush_text : List ℕ
+flush_text = codes "maintenance flush register-cache shows it" ++ newline
+
+-- a fault's name and its numbers
+abbrev pub fault_name : DebugFault → List ℕ
+fault_name (faults.PastEnd len) = codes "PastEnd " ++ decimal len
+fault_name faults.NoRank = codes "NoRank"
+fault_name faults.NoHart = codes "NoHart"
+fault_name faults.Range = codes "Range"
+fault_name faults.Memory = codes "Memory"
+fault_name (faults.NotARun n) = codes "NotARun " ++ decimal n
+fault_name faults.NoSymbol = codes "NoSymbol"
+
+-- as the command line tells it
+abbrev pub fault_text : DebugFault → List ℕ
+fault_text fault = codes "rvmc: debug: " ++ (fault_name fault ++ newline)
+
+-- ---- words of `debug`
+
+-- the session at another place
+abbrev pub with_debugging : Serving → Debugging → Serving
+with_debugging serving debugging = record serving { debugging = debugging }
+
+-- a word of `debug` does what it does there, and prints that; or it is refused, and its fault is printed. Want of memory
+-- is no answer
+abbrev pub Debugs : Serving → DebugWord → Option DebugFault → Debugging → List ℕ → Type 0
+Debugs old word None new text = Does old.debugging word new text
+Debugs old word (Some fault) new text =
+    Refuses old.debugging fault word × (fault ≢ faults.Memory) × (new ≡ old.debugging) × (text ≡ fault_text fault)
+
+-- what gdb shows is another place from then on
+abbrev pub flushed : Option DebugFault → List ℕ → List ℕ
+flushed None text = text ++ flush_text
+flushed (Some fault) text = text
+
+pub record PrintsWord (old : Serving) (word : DebugWord) (new : Serving) (text : List ℕ) : Type 0 where
+  pub fault : Option DebugFault
+  pub debugs : Debugs old word fault new.debugging text
+  pub stands : new ≡ with_debugging old new.debugging
+
+pub record PrintsGo (old : Serving) (n : ℕ) (new : Serving) (text : List ℕ) : Type 0 where
+  pub fault : Option DebugFault
+  pub printed : List ℕ
+  pub debugs : Debugs old (word.Go n) fault new.debugging printed
+  pub stands : new ≡ with_debugging old new.debugging
+  pub is : text ≡ flushed fault printed
+
+-- ---- the others
+
+-- the first hart of another rank
+abbrev pub with_rank : Serving → ℕ → Serving
+with_rank serving rank = record serving { rank = rank; hart = 0; moved = None }
+
+abbrev pub PrintsRank : Serving → ℕ → Serving → List ℕ → Type 0
+PrintsRank old rank new text =
+    (new ≡ (if nat_lt rank old.debugging.image.ranks then with_rank old rank else old))
+    × (text ≡ (if nat_lt rank old.debugging.image.ranks then flush_text else fault_text faults.NoRank))
+
+abbrev pub PrintsWhy : Serving → List ℕ → Type 0
+PrintsWhy serving text =
+    (state : ClusterState) × IsReached serving.debugging.image serving.debugging.steps serving.debugging.place state
+    × IsWhy false serving.debugging.image state text
+
+-- what is printed for a word, and how the session stands then
+abbrev pub Prints : Serving → Typed → Serving → List ℕ → Type 0
+Prints old Help new text = (new ≡ old) × (text ≡ help_text)
+Prints old Why new text = (new ≡ old) × PrintsWhy old text
+Prints old (Rank rank) new text = PrintsRank old rank new text
+Prints old (Go n) new text = PrintsGo old n new text
+Prints old Place new text = PrintsWord old word.Place new text
+Prints old (Regs rank hart) new text = PrintsWord old (word.Regs rank hart) new text
+Prints old (Bytes rank at count) new text = PrintsWord old (word.Bytes rank at count) new text
+Prints old Unknown new text = (new ≡ old) × (text ≡ unknown_text)
+
+-- ---- the answer: what is printed, in digits, or that it is done where nothing is
+
+abbrev pub printed_text : List ℕ → List ℕ
+printed_text [] = done
+printed_text (byte ∷ bytes) = encode_lower (byte ∷ bytes)
+
+-- what was typed is done, and what it prints is answered
+pub record Monitors (old : Serving) (typed : List ℕ) (new : Serving) (text : List ℕ) : Type 0 where
+  pub printed : List ℕ
+  pub prints : Prints old (typed_word typed) new printed
+  pub is : text ≡ printed_text printed

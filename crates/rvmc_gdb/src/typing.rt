@@ -1,0 +1,197 @@
+//! What a person types behind `monitor`.
+
+ghost use Rattle.std.specs.Prelude.{◌≡◌, ◌≢◌, ◌<◌, IfErr, IfOk, OnOk, length};
+ghost use Rattle.cl_debug.specs.declared.faults.DebugFault.TheVariants as faults;
+ghost use Rattle.rvmc_words.specs.declared.debug.DebugWord.TheVariants as word;
+ghost use Rattle.rvmc_inspect.specs.Words.{IsSpot, IsUnknown, Refuses, TellsBytes, WantsMemory};
+ghost use Rattle.rvmc_gdb.specs.Typing.{fault_text, flush_text, help_text, printed_text, unknown_text};
+
+use crate::session::{Session, text_of};
+use crate::shown::digits_of;
+use cl_debug::{DebugFault, Debugger};
+use rvmc_inspect::{bytes_text, place_text, regs_text, why};
+use rvmc_monitor::{Typed, typed_word};
+use rvmc_words::Spot;
+use std::alloc::{AllocError, Global};
+
+const HELP: &[u8] = b"place         tells how many of the record's steps are done
+go N          goes to the place with N steps done
+why           tells what each hart waits for there
+rank R        shows rank R from now on
+regs R H      shows the registers of hart H of rank R
+bytes R A N   shows N bytes of rank R from address A, or a symbol, on
+help          tells this
+";
+
+const UNKNOWN: &[u8] = b"no such word: monitor help tells which there are\n";
+
+/// What is told where gdb shows what it kept.
+const FLUSH: &[u8] = b"maintenance flush register-cache shows it\n";
+
+/// A fault, as the command line tells it.
+fn fault_text(alloc: Global, fault: DebugFault) -> Result<Vec<u8>, AllocError>
+    ensures { IfOk result (λ text. text.items ≡ fault_text fault) }
+{
+    let text = match fault {
+        DebugFault::PastEnd(len) => format!(in alloc; "rvmc: debug: PastEnd {len}\n")?,
+        DebugFault::NoRank => format!(in alloc; "rvmc: debug: NoRank\n")?,
+        DebugFault::NoHart => format!(in alloc; "rvmc: debug: NoHart\n")?,
+        DebugFault::Range => format!(in alloc; "rvmc: debug: Range\n")?,
+        DebugFault::Memory => format!(in alloc; "rvmc: debug: Memory\n")?,
+        DebugFault::NotARun(n) => format!(in alloc; "rvmc: debug: NotARun {n}\n")?,
+        DebugFault::NoSymbol => format!(in alloc; "rvmc: debug: NoSymbol\n")?,
+    };
+    Ok(text.into_bytes())
+}
+
+/// The answer that prints this: in digits, or that it is done where nothing is printed.
+fn printed_text(alloc: Global, printed: &[u8]) -> Result<Vec<u8>, AllocError>
+    ensures { IfOk result (λ text. text.items ≡ printed_text printed.now) }
+{
+    if printed.is_empty() {
+        return text_of(alloc, b"OK");
+    }
+    digits_of(alloc, printed)
+}
+
+/// What is printed for a word that was refused, unless memory was.
+fn refusal(alloc: Global, fault: DebugFault) -> Result<Vec<u8>, AllocError>
+    ensures told { IfOk result (λ text. text.items ≡ fault_text fault) }
+    ensures memory { OnOk result (fault ≢ faults.Memory) }
+{
+    match fault {
+        DebugFault::Memory => Err(AllocError),
+        _ => fault_text(alloc, fault),
+    }
+}
+
+/// The address that a word names.
+fn address_of(debugger: &Debugger, at: &Spot) -> Result<u64, DebugFault>
+    ensures found { IfOk result (IsSpot debugger.now.image at.now) }
+    ensures unknown { IfErr result (λ fault. (fault ≡ faults.NoSymbol) × IsUnknown debugger.now.image at.now) }
+{
+    match at {
+        Spot::Address(address) => Ok(*address),
+        Spot::Name(name) => match debugger.symbol(name.as_str()) {
+            Some(address) => Ok(address),
+            None => Err(DebugFault::NoSymbol),
+        },
+    }
+}
+
+/// Bytes of a rank's memory, as `debug` prints them.
+fn bytes_of(
+    alloc: Global,
+    debugger: &Debugger,
+    rank: u8,
+    count: u64,
+    at: &Spot,
+) -> Result<Vec<u8>, DebugFault>
+    ensures does { IfOk result (λ text. TellsBytes debugger.now rank at.now count debugger.now text.items) }
+    ensures fault { IfErr result (λ fault. Refuses debugger.now fault (word.Bytes rank at.now count)) }
+    ensures wanted { IfOk result
+        (λ text. 0 < length text.items → WantsMemory debugger.now (word.Bytes rank at.now count)) }
+{
+    let address = address_of(debugger, at)?;
+    let shown = debugger.bytes(rank, address, count)?;
+    if count == 0 {
+        return Ok(Vec::new(alloc));
+    }
+    Ok(bytes_text(alloc, shown.as_slice())?)
+}
+
+impl Session {
+    ghost use Rattle.rvmc_gdb.specs.Typing.{Monitors, Prints, PrintsGo, PrintsRank, PrintsWhy, PrintsWord};
+
+    /// The text of the place.
+    fn place(&self) -> Result<Vec<u8>, AllocError>
+        ensures { IfOk result (λ text. PrintsWord self.now word.Place self.now text.items) }
+    {
+        let (n, len) = self.debugger.place();
+        Ok(place_text(self.alloc, n, len)?.into_bytes())
+    }
+
+    /// Goes to a place, and tells it, and how gdb shows it.
+    fn go_to(&mut self, n: u64) -> Result<Vec<u8>, AllocError>
+        ensures { IfOk result (λ text. PrintsGo self.old n self.new text.items) }
+    {
+        match self.debugger.go(n) {
+            Ok(()) => {
+                let mut text = self.place()?;
+                text.extend_from_slice(FLUSH)?;
+                Ok(text)
+            }
+            Err(fault) => Ok(refusal(self.alloc, fault)?),
+        }
+    }
+
+    /// The registers of a hart of any rank.
+    fn regs(&self, rank: u8, hart: u8) -> Result<Vec<u8>, AllocError>
+        ensures { IfOk result (λ text. PrintsWord self.now (word.Regs rank hart) self.now text.items) }
+    {
+        match self.debugger.regs(rank, hart) {
+            Ok(shown) => regs_text(self.alloc, rank, hart, shown),
+            Err(fault) => Ok(refusal(self.alloc, fault)?),
+        }
+    }
+
+    /// Bytes of any rank's memory.
+    fn bytes_of(&self, rank: u8, at: &Spot, count: u64) -> Result<Vec<u8>, AllocError>
+        ensures { IfOk result (λ text. PrintsWord self.now (word.Bytes rank at.now count) self.now text.items) }
+    {
+        match bytes_of(self.alloc, &self.debugger, rank, count, at) {
+            Ok(text) => Ok(text),
+            Err(fault) => Ok(refusal(self.alloc, fault)?),
+        }
+    }
+
+    /// Shows another rank from now on, if it is there, and its first hart.
+    fn show_rank(&mut self, rank: u8) -> Result<Vec<u8>, AllocError>
+        ensures { IfOk result (λ text. PrintsRank self.old rank self.new text.items) }
+    {
+        if rank >= self.debugger.image().parts().ranks {
+            return fault_text(self.alloc, DebugFault::NoRank);
+        }
+        self.rank = rank;
+        self.hart = 0;
+        self.moved = None;
+        text_of(self.alloc, FLUSH)
+    }
+
+    /// What each hart waits for.
+    fn why(&self) -> Result<Vec<u8>, AllocError>
+        ensures { IfOk result (λ text. PrintsWhy self.now text.items) }
+    {
+        Ok(why(
+            self.alloc,
+            self.debugger.image(),
+            self.debugger.state(),
+            false,
+        )?)
+    }
+
+    /// Does a word, and tells what it prints.
+    fn prints(&mut self, word: &Typed) -> Result<Vec<u8>, AllocError>
+        ensures { IfOk result (λ text. Prints self.old word.now self.new text.items) }
+    {
+        match word {
+            Typed::Help => text_of(self.alloc, HELP),
+            Typed::Why => self.why(),
+            Typed::Rank(rank) => self.show_rank(*rank),
+            Typed::Go(n) => self.go_to(*n),
+            Typed::Place => self.place(),
+            Typed::Regs { rank, hart } => self.regs(*rank, *hart),
+            Typed::Bytes { rank, at, count } => self.bytes_of(*rank, at, *count),
+            Typed::Unknown => text_of(self.alloc, UNKNOWN),
+        }
+    }
+
+    /// Does what was typed, and answers what it prints.
+    pub(crate) fn monitor(&mut self, typed: &[u8]) -> Result<Vec<u8>, AllocError>
+        ensures { IfOk result (λ text. Monitors self.old typed.now self.new text.items) }
+    {
+        let word = typed_word(self.alloc, typed)?;
+        let printed = self.prints(&word)?;
+        printed_text(self.alloc, printed.as_slice())
+    }
+}

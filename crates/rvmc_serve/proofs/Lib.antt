@@ -1,0 +1,5 @@
+pub mod Hearing
+pub mod Opening
+pub mod Streams
+pub mod Answered
+pub mod Ends
