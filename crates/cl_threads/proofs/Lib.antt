@@ -15,3 +15,4 @@ pub mod Readied
 pub mod Settled
 pub mod Gathered
 pub mod Paced
+pub mod CutPlans

@@ -17,34 +17,36 @@ use Rattle.cl_record.specs.Plans.{HasPlans}
 use Rattle.cl_record.specs.declared.plans.Plan.{Plan}
 use Rattle.cl_record.specs.declared.seats.Seat.{Seat}
 use Rattle.cl_threads.proofs.KeyRuns.{receiver_goes, sender_goes}
-use Rattle.cl_threads.proofs.RanksJoined.{AllWent, all_went}
+use Rattle.cl_threads.proofs.RanksJoined.{AllWent, all_went, cuts_of}
 use Rattle.cl_threads.specs.OnThreads.{AreDone}
 use Rattle.cl_record.specs.Leaving.{ends_of}
 use Rattle.cl_threads.specs.Loading.{IsCluster}
 use Rattle.cl_threads.specs.declared.loading.Cluster.{Cluster}
+use Rattle.cl_threads.specs.declared.until.Until.{Until}
 use Rattle.cl_record.specs.declared.done.Done.{Done}
 
 -- the sides that a thread left are over the channels
-over_at : (channels : List ChannelView) (seats : List Seat) (all : List Done) → AreDone channels seats all → (r : ℕ)
+over_at : (until : Until) (channels : List ChannelView) (seats : List Seat) (all : List Done)
+    → AreDone until channels seats all → (r : ℕ)
     (done : Done) → slice_get all r ≡ Some done
     → AreChannelsOf (view_of done.rank).rank.site.version channels (view_of done.rank).sides
-over_at channels [] [] are r done at = absurd (cc)
-over_at channels (seat ∷ seats) (d ∷ all) are zero done at =
+over_at until channels [] [] are r done at = absurd (cc)
+over_at until channels (seat ∷ seats) (d ∷ all) are zero done at =
     subst (λ (x : Done). AreChannelsOf (view_of x.rank).rank.site.version channels (view_of x.rank).sides)
     (same_Some d done at) are.0.over
-over_at channels (seat ∷ seats) (d ∷ all) are (suc r) done at = over_at channels seats all are.1 r done at
-over_at channels [] (d ∷ all) are r done at = absurd are
-over_at channels (seat ∷ seats) [] are r done at = absurd are
+over_at until channels (seat ∷ seats) (d ∷ all) are (suc r) done at = over_at until channels seats all are.1 r done at
+over_at until channels [] (d ∷ all) are r done at = absurd are
+over_at until channels (seat ∷ seats) [] are r done at = absurd are
 
-module _ (image : ImageParts) (plans : List Plan) (cluster : Cluster) (all : List Done)
+module _ (until : Until) (image : ImageParts) (plans : List Plan) (cluster : Cluster) (all : List Done)
     (has : HasPlans image plans) (is : IsCluster image plans cluster)
-    (are : AreDone cluster.channels.items cluster.seats.items all) where
+    (are : AreDone until cluster.channels.items cluster.seats.items all) where
   channels : List ChannelView
   channels = cluster.channels.items
 
-  ran : AllWent image channels plans all
+  ran : AllWent image channels (cuts_of until cluster.channels.items cluster.seats.items all are) all
   unfolding channels
-  ran = all_went cluster.channels.items image plans cluster.seats.items all are is.count has is.plans_are is.loaded
+  ran = all_went until cluster.channels.items image plans cluster.seats.items all are is.count has is.plans_are is.loaded
 
   -- the side that a link's sender left, and the receiver's
   record SenderHas (link : ℕ) (l : Link) (channel : ChannelView) : Type 0 where
@@ -73,7 +75,7 @@ module _ (image : ImageParts) (plans : List Plan) (cluster : Cluster) (all : Lis
       let later = sender_goes image.version link 0 (ran.deeds l.from) went.first (view_of from.0.rank).sides key.0
       went.keys key.1 in
       let side = some_sends (side_of link from.0.rank.sends.items) 0 later.0 later.1 in
-      let over = over_at cluster.channels.items cluster.seats.items all are l.from from.0 from.1 in
+      let over = over_at until cluster.channels.items cluster.seats.items all are l.from from.0 from.1 in
       record {
         from = from.0;
         from_there = from.1;
@@ -94,7 +96,7 @@ module _ (image : ImageParts) (plans : List Plan) (cluster : Cluster) (all : Lis
       let later = receiver_goes image.version link 0 (ran.deeds l.to) went.first (view_of to.0.rank).sides key.0
       went.keys key.1 in
       let side = some_recvs (side_of link to.0.rank.recvs.items) 0 later.0 later.1 in
-      let over = over_at cluster.channels.items cluster.seats.items all are l.to to.0 to.1 in
+      let over = over_at until cluster.channels.items cluster.seats.items all are l.to to.0 to.1 in
       record {
         to = to.0;
         to_there = to.1;

@@ -38,16 +38,18 @@ use Rattle.cl_record.proofs.Leaves.{shows}
 use Rattle.cl_threads.specs.OnThreads.{AreDone}
 use Rattle.cl_record.specs.Leaving.{IsRecordOf}
 use Rattle.cl_threads.specs.Callers.{AreOf}
+use Rattle.cl_threads.specs.Cuts.{AreBy, IsRunUntil}
 use Rattle.cl_threads.specs.Loading.{IsCluster}
 use Rattle.cl_threads.specs.Runs.{IsBoxOf, IsTracedRank, IsThreadRun}
 use Rattle.cl_threads.specs.Ties.{AreTied}
 use Rattle.cl_threads.specs.declared.loading.Cluster.{Cluster}
+use Rattle.cl_threads.specs.declared.until.Until.{Until}
 use Rattle.cl_record.specs.declared.done.Done.{Done}
 use Rattle.cl_threads.proofs.BoxesJoined.{box_joined}
 use Rattle.cl_threads.proofs.BoxesLeft.{BoxLeft, box_left}
 use Rattle.cl_threads.proofs.CallsJoined.{calls_joined, none_entered, replays_enters}
 use Rattle.cl_threads.proofs.Numbers.{Chosen, choose, none_replicated, replicated_at}
-use Rattle.cl_threads.proofs.RanksJoined.{AllWent, all_went, on_its_side}
+use Rattle.cl_threads.proofs.RanksJoined.{AllWent, all_went, are_by, cuts_of, has_cuts, on_its_side}
 
 module _ (image : ImageParts) (channels : List ChannelView) (plans : List Plan) (all : List Done)
     (ran : AllWent image channels plans all) where
@@ -271,14 +273,24 @@ module _ (image : ImageParts) (channels : List ChannelView) (plans : List Plan) 
       boxes = box_by_keys;
     }
 
-pub thread_run : (image : ImageParts) (plans : List Plan) (cluster : Cluster) (all : List Done) (hub : HubHistory)
+pub thread_run : (until : Until) (image : ImageParts) (plans : List Plan) (cluster : Cluster) (all : List Done) (hub : HubHistory)
     (left : Record) → HasPlans image plans → IsCluster image plans cluster
-    → AreDone cluster.channels.items cluster.seats.items all
+    → AreDone until cluster.channels.items cluster.seats.items all
     → hub.links ≡ image.links → Replays hub
     → IsRecordOf image.links cluster.channels.items hub.entries all left
     → AreTied left.journal.items left.traces.items → AreOf image.ranks left.journal.items
-    → IsThreadRun image plans left
-thread_run image plans cluster all hub left planned is done links replays record_is tied of =
-    together image cluster.channels.items plans all
-    (all_went cluster.channels.items image plans cluster.seats.items all done is.count planned is.plans_are is.loaded)
-    left hub.entries record_is is.one_each is.joined planned (subst (λ ls. Follows ls [] 0 hub.entries) links replays) tied of
+    → IsRunUntil until image plans left
+thread_run until image plans cluster all hub left planned is done links replays record_is tied of =
+    let channels = cluster.channels.items in
+    let seats = cluster.seats.items in
+    let cuts = cuts_of until channels seats all done in
+    record {
+      cuts = cuts;
+      are_by = subst (AreBy until plans cuts) (sym record_is.stops_are)
+          (are_by until channels image plans seats all done is.count planned is.plans_are is.loaded);
+      run = together image channels cuts all
+          (all_went until channels image plans seats all done is.count planned is.plans_are is.loaded)
+          left hub.entries record_is is.one_each is.joined
+          (has_cuts until channels image plans seats all done is.count planned is.plans_are is.loaded)
+          (subst (λ ls. Follows ls [] 0 hub.entries) links replays) tied of;
+    }

@@ -1,5 +1,5 @@
 -- What a rank's turns so far are, and why it stops.
-use Rattle.std.specs.Prelude.{ℕ, zero, suc, ◌≡◌, ◌≤◌, ◌+◌, ◌%◌, ◌⊎◌, List, [], ◌∷◌, ◌++◌, length, map, slice_get, slice_index, Some}
+use Rattle.std.specs.Prelude.{ℕ, zero, suc, ◌≡◌, ◌<◌, ◌≤◌, ◌+◌, ◌%◌, ◌⊎◌, List, [], ◌∷◌, ◌++◌, length, map, slice_get, slice_index, Some}
 use Rattle.std.specs.Prelude.{None, IsTrue, is_some}
 use Rattle.std.specs.List.{AllByRecursion}
 use Rattle.std.proofs.Common.{refl, sym, ap, ◌∙◌, subst, arith}
@@ -18,7 +18,7 @@ use Rattle.cl_rank.specs.Deeds.{Deed, PartRun, RankMoves, answer_of, event_of}
 use Rattle.cl_rank.specs.Alone.{IsAlone}
 use Rattle.cl_rank.specs.Plains.{Repeats}
 use Rattle.cl_rank.specs.RankSides.{KeysMove, Sides}
-use Rattle.cl_rank.specs.Turns.{IsActive}
+use Rattle.cl_rank.specs.Turns.{AllStopped, IsActive}
 use Rattle.cl_rank.specs.Turning.{DeskRule, IsCause, IsFault, RankView, stop_of}
 use Rattle.cl_rank.specs.Views.{view_of}
 use Rattle.cl_rank.specs.declared.stops.Stop.{Stop}
@@ -30,6 +30,8 @@ use Rattle.cl_record.specs.Seats.{GoesOn, Station, Stops, TakesPlainTurn, TakesT
 use Rattle.cl_record.specs.declared.plans.Plan.{Plan}
 use Rattle.cl_record.specs.declared.seats.Seat.{Seat}
 use Rattle.cl_threads.specs.Alone.{StopsFor}
+use Rattle.cl_threads.specs.Cuts.{IsBy, IsCutPlan}
+use Rattle.cl_threads.specs.declared.until.Until.{Until}
 use Rattle.cl_threads.specs.OnThreads.{KeysGo, WentBy}
 
 -- a run, and one step more
@@ -207,3 +209,78 @@ module _ {D : Type 0} (gives : DeskRule D) (plan kept : Plan) (now new : Station
     | inl turn ↦ (let none = ap is_some turn.goes_on in absurd (cc))
     | inr stops ↦ stops
   ])
+
+-- a seat that took a turn more, of whatever kind
+pub turn_went : {D : Type 0} (gives : DeskRule D) (first now new : Seat) (desk left : D)
+    → ((deeds : List Deed) × WentSoFar first.plan.now (view_of first.rank) (station now) deeds)
+    → now.plan.now ≡ first.plan.now → now.next ≡ length now.rank.trace.events % length first.plan.now.order.items
+    → new.stop ≡ None → GoesOn gives now.plan.now (station now) desk (station new) left
+    → WentOn first.plan.now (view_of first.rank) (station now) 1 (station new)
+turn_went gives first now new desk left so same place on goes =
+    let plan = first.plan.now in
+    let old = view_of first.rank in
+    let turn = turned_by gives now.plan.now plan (station now) (station new) desk left same goes on in
+    let budget = now.budget_is ∙ ap (λ (p : Plan). p.budget) same in
+    let more = longer gives plan old (station now) (station new) desk left so.0 so.1 place turn in
+    record {
+      went = (
+        so.0 ++ turn.deed ∷ [],
+        one_more_turn gives plan old (station now) (station new) desk left so.0 so.1 place turn budget,
+      );
+      next_is = next_place gives plan old (station now) (station new) desk left so.0 so.1 place turn;
+      runs = on;
+      longer = more;
+    }
+
+-- and one that stopped in place of it
+pub seat_stopped : {D : Type 0} (gives : DeskRule D) (first now new : Seat) (desk left : D)
+    → ((deeds : List Deed) × WentSoFar first.plan.now (view_of first.rank) (station now) deeds)
+    → now.plan.now ≡ first.plan.now → now.next ≡ length now.rank.trace.events % length first.plan.now.order.items
+    → IsTrue (is_some new.stop) → GoesOn gives now.plan.now (station now) desk (station new) left
+    → (deeds : List Deed) × (stop : Stop) × (new.stop ≡ Some stop)
+    × WentBy first.plan.now (view_of first.rank) (view_of new.rank) stop deeds
+seat_stopped gives first now new desk left so same place end goes =
+    let plan = first.plan.now in
+    let h = stopped_by gives now.plan.now plan (station now) (station new) desk left same goes end in
+    let budget = now.budget_is ∙ ap (λ (p : Plan). p.budget) same in (
+      so.0,
+      h.stop,
+      h.stops,
+      went_by gives plan (view_of first.rank) (station now) new desk left so.0 so.1 place budget h,
+    )
+
+-- the plan of a rank that is told to stop after these events
+pub cut_of : Plan → List Event → Plan
+cut_of plan events = record plan { budget = length events }
+
+-- a rank that is told to stop as it is went by that plan
+pub told_by : (plan : Plan) (old : RankView) (seat : Seat) (deeds : List Deed) → WentSoFar plan old (station seat) deeds
+    → ¬ (AllStopped (station seat).rank)
+    → WentBy (cut_of plan (station seat).events) old (view_of seat.rank) Stop.Budget deeds
+unfolding cut_of
+told_by plan old seat deeds so runs = record {
+  own = so.own;
+  alone = so.alone;
+  traced = so.traced;
+  keys = so.keys;
+  follows_plan = so.follows_plan;
+  in_budget = omega arith;
+  stops = (runs, refl);
+}
+
+-- which is shorter than its own
+pub is_cut : (plan : Plan) (events : List Event) → 1 ≤ length events → length events < plan.budget
+    → IsCutPlan plan (cut_of plan events) Stop.Budget
+unfolding cut_of
+is_cut plan events some fewer = record { order_stays = refl; some = some; fewer = fewer; told = refl }
+
+-- a rank that isn't told to stop goes by its own plan
+pub by_own : (until : Until) (plan : Plan) (stop : Stop) → IsBy until plan plan stop
+by_own Until.Planned plan stop = refl
+by_own Until.Told plan stop = inl refl
+
+-- and one that is, by that one, where ranks are told to
+pub by_cut : (until : Until) (plan : Plan) (events : List Event) → until ≡ Until.Told → 1 ≤ length events
+    → length events < plan.budget → IsBy until plan (cut_of plan events) Stop.Budget
+by_cut Until.Planned plan events told some fewer = absurd (cc)
+by_cut Until.Told plan events told some fewer = inr (is_cut plan events some fewer)

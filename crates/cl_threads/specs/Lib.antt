@@ -5,6 +5,9 @@ pub mod Pacing
 pub mod PacingRows
 pub mod Ties
 pub mod Callers
+pub mod Cuts
+pub mod Telling
 pub mod Worked
 pub mod Runs
 pub mod Refusals
+pub mod CutRefusals

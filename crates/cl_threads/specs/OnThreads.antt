@@ -1,5 +1,5 @@
 -- What a rank's thread is handed, and what it makes of it.
-use Rattle.std.specs.Prelude.{◌≡◌, ◌≤◌, ⊤, List, [], ◌∷◌, None, length, map}
+use Rattle.std.specs.Prelude.{ℕ, ◌≡◌, ◌≤◌, ⊤, List, [], ◌∷◌, None, length, map}
 use Rattle.std.specs.List.{AllByRecursion}
 use Rattle.rv_image.specs.declared.images.ImageVersion.{ImageVersion}
 use Rattle.part_channel.specs.Channels.{ChannelView}
@@ -14,6 +14,8 @@ use Rattle.cl_record.specs.declared.plans.Plan.{Plan}
 use Rattle.cl_record.specs.declared.seats.Seat.{Seat}
 use Rattle.cl_record.specs.declared.done.Done.{Done}
 use Rattle.cl_threads.specs.Alone.{StopsFor}
+use Rattle.cl_threads.specs.Cuts.{IsBy}
+use Rattle.cl_threads.specs.declared.until.Until.{Until}
 
 -- what a rank's deeds, one after another, make of its sides' keys
 abbrev pub KeysGo : ImageVersion → Sides → List Deed → Sides → Type 0
@@ -39,9 +41,11 @@ pub record IsReady (channels : List ChannelView) (seat : Seat) : Type 0 where
   pub over : AreChannelsOf (view_of seat.rank).rank.site.version channels (view_of seat.rank).sides
 
 -- what its thread makes of it
-pub record IsDone (channels : List ChannelView) (seat : Seat) (done : Done) : Type 0 where
+pub record IsDone (until : Until) (channels : List ChannelView) (seat : Seat) (done : Done) : Type 0 where
+  pub by : Plan
+  pub is_by : IsBy until seat.plan.now by done.stop
   pub deeds : List Deed
-  pub went : WentBy seat.plan.now (view_of seat.rank) (view_of done.rank) done.stop deeds
+  pub went : WentBy by (view_of seat.rank) (view_of done.rank) done.stop deeds
   pub over : AreChannelsOf (view_of done.rank).rank.site.version channels (view_of done.rank).sides
 
 -- one after another
@@ -49,8 +53,14 @@ abbrev pub AreReady : List ChannelView → List Seat → Type 0
 AreReady channels [] = ⊤
 AreReady channels (seat ∷ seats) = IsReady channels seat × AreReady channels seats
 
+-- seats whose threads can be started: they took no turn, there is a way past the gate for each, and what comes of them finds
+-- room among nothing else
+abbrev pub AreSeated : List ChannelView → List Seat → ℕ → List Done → ℕ → Type 0
+AreSeated channels seats passages done room =
+    AreReady channels seats × (passages ≡ length seats) × (done ≡ []) × (length seats ≤ room)
+
 -- one for each
-abbrev pub AreDone : List ChannelView → List Seat → List Done → Type 0
-AreDone channels [] [] = ⊤
-AreDone channels (seat ∷ seats) (done ∷ runs) = IsDone channels seat done × AreDone channels seats runs
-AreDone channels _ _ = ⊥
+abbrev pub AreDone : Until → List ChannelView → List Seat → List Done → Type 0
+AreDone until channels [] [] = ⊤
+AreDone until channels (seat ∷ seats) (done ∷ runs) = IsDone until channels seat done × AreDone until channels seats runs
+AreDone until channels _ _ = ⊥

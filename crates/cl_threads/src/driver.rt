@@ -1,11 +1,12 @@
 //! A thread for each rank.
 
-ghost use Rattle.std.specs.Prelude.{◌≡◌, ◌≤◌, [], IfOk, length};
+ghost use Rattle.std.specs.Prelude.{◌≡◌, IfOk, length};
 ghost use Rattle.std.specs.VecDeque.{deque_capacity};
-ghost use Rattle.cl_threads.specs.OnThreads.{AreDone, AreReady, IsDone, IsReady};
+ghost use Rattle.cl_threads.specs.OnThreads.{AreDone, AreSeated, IsDone, IsReady};
 
 use crate::gates::{Gate, Passage};
 use crate::turns::run_rank;
+use crate::until::Until;
 use cl_journal::Hub;
 use cl_record::{Done, Seat};
 use part_channel::Channel;
@@ -23,6 +24,7 @@ pub(crate) struct NoThread;
 /// What the thread of a rank promises: the rank comes back as it went by itself.
 #[derive(Drop)]
 struct GoesAlone<'a, 'p> {
+    until: Until,
     channels: &'a [Channel],
     seat: Snapshot<Seat<'p>>,
 }
@@ -30,7 +32,7 @@ struct GoesAlone<'a, 'p> {
 impl<'a, 'p> Promise<Done> for GoesAlone<'a, 'p> {
     ghost use Rattle.cl_threads.specs.OnThreads.{IsDone};
 
-    ghost kept_by = { λ p done. IsDone p.channels.now p.seat.value done };
+    ghost kept_by = { λ p done. IsDone p.until p.channels.now p.seat.value done };
 }
 
 /// The ranks' ways past the gate, by their numbers. Whoever drops one passes `End` for its rank.
@@ -56,20 +58,19 @@ fn run_from<'s, 'p: 's, E, R: Threads + Wait + Sync, G: Gate + Send + Drop + 's>
     hub: &'s Mutex<Hub>,
     channels: &'s [Channel],
     mut passages: VecDeque<Passage<G>>,
+    until: Until,
     mut seats: VecDeque<Seat<'p>>,
     done: VecDeque<Done>,
 ) -> Result<VecDeque<Done>, NoThread>
-    requires ready { AreReady channels.now seats.items }
-    requires passages { length passages.items ≡ length seats.items }
-    requires empty { done.items ≡ [] }
-    requires room { length seats.items ≤ deque_capacity done }
-    ensures done { IfOk result (λ all. AreDone channels.now seats.entry.items all.items) }
+    requires seated { AreSeated channels.now seats.items (length passages.items) done.items (deque_capacity done) }
+    ensures done { IfOk result (λ all. AreDone until channels.now seats.entry.items all.items) }
     ensures room { IfOk result (λ all. deque_capacity all ≡ deque_capacity done) }
 {
     let (Some(passage), Some(seat)) = (passages.pop_front(), seats.pop_front()) else {
         return Ok(done);
     };
     let promise = GoesAlone {
+        until,
         channels,
         seat: Snapshot::of(&seat),
     };
@@ -77,13 +78,13 @@ fn run_from<'s, 'p: 's, E, R: Threads + Wait + Sync, G: Gate + Send + Drop + 's>
         promise,
         move || -> Done
             requires { IsReady channels.now seat }
-            ensures { IsDone channels.entry.now seat.entry result }
-        { run_rank(rt, hub, channels, passage, seat) },
+            ensures { IsDone until channels.entry.now seat.entry result }
+        { run_rank(rt, hub, channels, passage, until, seat) },
     );
     match started {
         Err(_refused) => Err(NoThread),
         Ok(thread) => {
-            let others = run_from(scope, rt, hub, channels, passages, seats, done);
+            let others = run_from(scope, rt, hub, channels, passages, until, seats, done);
             let first = thread.join(rt);
             let mut all = others?;
             all.push_front_reserved(first);
@@ -98,22 +99,19 @@ pub(crate) fn run_all<'e, 'p: 'e, R: Threads + Wait + Sync, G: Gate + Send + Dro
     hub: &'e Mutex<Hub>,
     channels: &'e [Channel],
     passages: VecDeque<Passage<G>>,
+    until: Until,
     seats: VecDeque<Seat<'p>>,
     done: VecDeque<Done>,
 ) -> Result<VecDeque<Done>, NoThread>
-    requires ready { AreReady channels.now seats.items }
-    requires passages { length passages.items ≡ length seats.items }
-    requires empty { done.items ≡ [] }
-    requires room { length seats.items ≤ deque_capacity done }
-    ensures done { IfOk result (λ all. AreDone channels.now seats.entry.items all.items) }
+    requires seated { AreSeated channels.now seats.items (length passages.items) done.items (deque_capacity done) }
+    ensures done { IfOk result (λ all. AreDone until channels.now seats.entry.items all.items) }
 {
     thread::scope(
         thread::scope_env::<'e>(),
         rt,
         move |scope| -> Result<VecDeque<Done>, NoThread>
-            requires { AreReady channels.now seats.items × (length passages.items ≡ length seats.items)
-                × (done.items ≡ []) × (length seats.items ≤ deque_capacity done) }
-            ensures { IfOk result (λ all. AreDone channels.entry.now seats.entry.items all.items) }
-        { run_from(scope, rt, hub, channels, passages, seats, done) },
+            requires { AreSeated channels.now seats.items (length passages.items) done.items (deque_capacity done) }
+            ensures { IfOk result (λ all. AreDone until channels.entry.now seats.entry.items all.items) }
+        { run_from(scope, rt, hub, channels, passages, until, seats, done) },
     )
 }

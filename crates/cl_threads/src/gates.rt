@@ -1,6 +1,9 @@
 //! What ranks pass on their threads: it may hold one back, and knows nothing of it but its number and how many turns it
 //! came to.
 
+use crate::lookout::Lookout;
+use crate::roll::Roll;
+
 /// Where a rank is.
 #[derive(Clone, Copy, PartialEq, Eq, Drop, Debug)]
 pub enum Point {
@@ -33,6 +36,12 @@ pub trait Gate: Sync {
     #[inline(always)]
     fn is_awaited(&self, _rank: u8) -> bool {
         false
+    }
+
+    /// The roll on which all ranks are, by which they learn that nobody can go on. Without one they don't.
+    #[inline(always)]
+    fn roll(&self) -> Option<&Roll> {
+        None
     }
 }
 
@@ -71,6 +80,11 @@ impl<'g, G: Gate> Gate for &'g G {
     fn is_awaited(&self, rank: u8) -> bool {
         (**self).is_awaited(rank)
     }
+
+    #[inline(always)]
+    fn roll(&self) -> Option<&Roll> {
+        (**self).roll()
+    }
 }
 
 /// A rank's way past a gate. Dropping it passes `End`, so that each rank passes that on every way it may end.
@@ -101,6 +115,11 @@ impl<G: Gate + Drop> Passage<G> {
     #[inline(always)]
     pub(crate) fn is_awaited(&self) -> bool {
         self.gate.is_awaited(self.rank)
+    }
+
+    /// What the rank looks out for behind its turns, by a plan that gives so many until each of its harts had one.
+    pub(crate) fn lookout(&self, round: usize) -> Lookout<'_> {
+        Lookout::new(self.gate.roll(), self.rank, round)
     }
 }
 

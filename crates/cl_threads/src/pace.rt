@@ -4,6 +4,7 @@ ghost use Rattle.std.specs.Prelude.{◌≡◌, ◌<◌, ◌≤◌, ◌^◌, ◌�
 ghost use Rattle.cl_threads.specs.Pacing.{MayTake};
 
 use crate::gates::{Gate, Point};
+use crate::roll::Roll;
 use crate::sights::{RANKS, Sight, Slowest};
 use crossbeam_utils::CachePadded;
 use once_cell::race::OnceBool;
@@ -59,6 +60,8 @@ struct Held {
 /// A rank tells its count now and then, and at once where one that seems too far ahead of it asks. So a rank that isn't
 /// more than `lead` ahead waits for that answer at most.
 ///
+/// Once all of them look in vain it holds nobody any more.
+///
 /// A rank whose number isn't below the number of ranks goes by, and holds nobody. One that never comes, nor passes
 /// `End`, holds the others, if only for their looks.
 #[derive(Drop)]
@@ -73,6 +76,8 @@ pub struct Pace {
     rest: u64,
     /// Each rank's, in cache lines of its own, so that a turn of one doesn't slow down the others.
     runners: [CachePadded<Runner>; 8],
+    /// Once all of them look in vain it holds nobody any more.
+    roll: Roll,
     ghost few: { ranks ≤ 8 },
 }
 
@@ -97,6 +102,7 @@ impl Pace {
                 Runner::new(),
                 Runner::new(),
             ],
+            roll: Roll::new(ranks),
         }
     }
 
@@ -152,6 +158,9 @@ impl Pace {
             if number <= sight.reach(self.lead) {
                 return Held { sight, looks };
             }
+            if self.roll.is_over() {
+                break;
+            }
             before = self.ask(before, &sight);
             self.rest_after(looks);
             sight = self.look(rank);
@@ -181,6 +190,9 @@ impl Pace {
         let reach = runner.reach.load(Ordering::SeqCst);
         if number <= reach {
             return reach;
+        }
+        if self.roll.is_over() {
+            return u64::MAX;
         }
         let held = self.wait(rank, number);
         let reach = held.sight.reach(self.lead).max(number);
@@ -254,5 +266,10 @@ impl Gate for Pace {
         }
         let runner: &Runner = &self.runners[usize::from(rank)];
         runner.due.load(Ordering::SeqCst) == 0
+    }
+
+    #[inline(always)]
+    fn roll(&self) -> Option<&Roll> {
+        Some(&self.roll)
     }
 }

@@ -23,6 +23,12 @@ pub(crate) struct RestingDesk<'a> {
     waits: u32,
     /// Whether there is a rest before the next turn.
     pub(crate) is_due: bool,
+    /// Whether the rank was told something since this was asked last.
+    told: bool,
+    /// How often it rests before its next turn.
+    rests: u64,
+    /// Whether it rests no more.
+    hurries: bool,
 }
 
 impl<'a> RestingDesk<'a> {
@@ -32,7 +38,30 @@ impl<'a> RestingDesk<'a> {
             vain: None,
             waits: 0,
             is_due: false,
+            told: false,
+            rests: 1,
+            hurries: false,
         }
+    }
+
+    /// Whether the rank was told anything, but that nothing is there, since this was asked last.
+    pub(crate) fn take_told(&mut self) -> bool {
+        let told = self.told;
+        self.told = false;
+        told
+    }
+
+    /// The rank rests before its next turn too, whatever that turn was, and so often: the longer it looked in vain, the
+    /// longer it may rest without being late for long.
+    pub(crate) fn be_patient(&mut self, rests: u64) {
+        self.is_due = !self.hurries;
+        self.rests = rests;
+    }
+
+    /// The rank rests no more: nothing will ever be there.
+    pub(crate) fn hurry(&mut self) {
+        self.hurries = true;
+        self.is_due = false;
     }
 
     /// Rests behind a call in vain. Where other ranks are held until this one comes to its next turn there is no rest,
@@ -40,6 +69,18 @@ impl<'a> RestingDesk<'a> {
     #[inline(never)]
     pub(crate) fn rest<G: Gate + Drop>(&mut self, passage: &Passage<G>) {
         self.is_due = false;
+        let rests = self.rests;
+        self.rests = 1;
+        for _ in 0..rests {
+            if !self.rest_once(passage) {
+                return;
+            }
+        }
+        self.waits = self.waits.saturating_mul(2).clamp(1, MOST);
+    }
+
+    /// Rests, and lets other threads run. Whether the rank may rest on.
+    fn rest_once<G: Gate + Drop>(&mut self, passage: &Passage<G>) -> bool {
         for _ in 0..self.waits {
             if passage.is_awaited() {
                 break;
@@ -48,10 +89,10 @@ impl<'a> RestingDesk<'a> {
         }
         if passage.is_awaited() {
             self.waits = 0;
-            return;
+            return false;
         }
         yield_now();
-        self.waits = self.waits.saturating_mul(2).clamp(1, MOST);
+        true
     }
 }
 
@@ -79,7 +120,8 @@ impl<'a, R: Wait> Desk<R> for RestingDesk<'a> {
             Ok((Reply::NotYet, stamp)) => Some(*stamp),
             _ => None,
         };
-        self.is_due = self.vain.is_some();
+        self.told = self.told || self.vain.is_none();
+        self.is_due = self.vain.is_some() && !self.hurries;
         told
     }
 }

@@ -1,6 +1,6 @@
 //! All ranks, each on a thread of its own.
 
-ghost use Rattle.std.specs.Prelude.{◌≡◌, ◌↔◌, ◌≤◌, Err, IfErr, IfOk, OnOk, length, map};
+ghost use Rattle.std.specs.Prelude.{◌≡◌, ◌↔◌, ◌≤◌, Err, IfErr, IfOk, OnOk, false, length, map};
 ghost use Rattle.cl_arrival_laws.specs.Runs.{IsArrivedRun};
 ghost use Rattle.cl_journal.specs.Replaying.{Replays};
 ghost use Rattle.cl_record.specs.Plans.{HasPlans};
@@ -8,6 +8,8 @@ ghost use Rattle.cl_record.specs.Records.{IsMergedRun};
 ghost use Rattle.cl_record.specs.Settling.{MaySettle};
 ghost use Rattle.cl_record.specs.Leaving.{HaveRoom, IsRecordOf, ends_of, trace_of};
 ghost use Rattle.cl_threads.specs.Loading.{IsCluster};
+ghost use Rattle.cl_threads.specs.Cuts.{IsEndedThreadRun, IsRunUntil};
+ghost use Rattle.cl_threads.specs.CutRefusals.{IsEndedRefusal, IsRefusalUntil};
 ghost use Rattle.cl_threads.specs.Refusals.{IsRefusal};
 ghost use Rattle.cl_threads.specs.Runs.{IsThreadRun};
 ghost use Rattle.cl_threads.specs.Callers.{AreOf};
@@ -18,6 +20,8 @@ use crate::gates::{Gate, Passage};
 use crate::leaving::leave;
 use crate::loading::Cluster;
 use crate::ties::{are_same_links, compare};
+use crate::told::has_told;
+use crate::until::Until;
 use cl_journal::Hub;
 use cl_record::{Done, Lists, Plan, Record, RunFault, has_plans};
 use part_channel::Channel;
@@ -66,13 +70,14 @@ fn run_cluster<R: Threads + Wait + Sync, G: Gate>(
     image: &Image,
     plans: &[Plan],
     passages: VecDeque<Passage<&G>>,
+    until: Until,
     cluster: Cluster,
 ) -> Result<Record, RunFault>
     requires planned { HasPlans image.now plans.now }
     requires loaded { IsCluster image.now plans.now cluster }
     requires passages { length passages.items ≡ image.now.ranks }
-    ensures run { IfOk result (IsThreadRun image.now plans.now) }
-    ensures fault { IfErr result (IsRefusal image.now plans.now) }
+    ensures run { IfOk result (IsRunUntil until image.now plans.now) }
+    ensures fault { IfErr result (IsRefusalUntil until image.now plans.now) }
 {
     // whoever asks for the parts knows that there are 8 ranks at most
     let _parts = image.parts();
@@ -84,10 +89,37 @@ fn run_cluster<R: Threads + Wait + Sync, G: Gate>(
         lists,
     } = cluster;
     let hub = Mutex::new(hub);
-    let Ok(done) = run_all(rt, &hub, channels.as_slice(), passages, seats, done) else {
+    let Ok(done) = run_all(rt, &hub, channels.as_slice(), passages, until, seats, done) else {
         return Err(RunFault::Spawn);
     };
     gather(image, channels, hub.into_inner(), done, lists)
+}
+
+/// Runs each rank of the image on a thread of its own, until each is stopped, by its plan or because it was told to.
+fn run_until<R: Threads + Wait + Sync, G: Gate>(
+    rt: &R,
+    alloc: Global,
+    image: &Image,
+    plans: &[Plan],
+    gate: &G,
+    until: Until,
+) -> Result<Record, RunFault>
+    ensures run { IfOk result (IsRunUntil until image.now plans.now) }
+    ensures right { OnOk result (HasPlans image.now plans.now) }
+    ensures plans { (result ≡ Err RunFault.Plans) ↔ ¬ HasPlans image.now plans.now }
+    ensures fault { IfErr result (IsRefusalUntil until image.now plans.now) }
+{
+    if !has_plans(image, plans) {
+        return Err(RunFault::Plans);
+    }
+    let ranks = image.parts().ranks;
+    let Ok(cluster) = Cluster::load(alloc, image, plans) else {
+        return Err(RunFault::Memory);
+    };
+    let Ok(passages) = passages(alloc, gate, ranks) else {
+        return Err(RunFault::Memory);
+    };
+    run_cluster(rt, image, plans, passages, until, cluster)
 }
 
 /// Runs each rank of the image on a thread of its own, by its plan, until each is stopped. All ranks call one hub,
@@ -113,15 +145,43 @@ pub fn run_threads<R: Threads + Wait + Sync, G: Gate>(
     ensures plans { (result ≡ Err RunFault.Plans) ↔ ¬ HasPlans image.now plans.now }
     ensures fault { IfErr result (IsRefusal image.now plans.now) }
 {
-    if !has_plans(image, plans) {
-        return Err(RunFault::Plans);
-    }
-    let ranks = image.parts().ranks;
-    let Ok(cluster) = Cluster::load(alloc, image, plans) else {
-        return Err(RunFault::Memory);
-    };
-    let Ok(passages) = passages(alloc, gate, ranks) else {
-        return Err(RunFault::Memory);
-    };
-    run_cluster(rt, image, plans, passages, cluster)
+    // whoever asks for the parts knows that they are an image's
+    let _parts = image.parts();
+    run_until(rt, alloc, image, plans, gate, Until::Planned)
+}
+
+/// What a run leaves, and how it came to its end.
+#[derive(Drop)]
+pub struct Ended {
+    pub left: Record,
+    /// A rank was told to stop. Of such a rank the record says Budget, with fewer turns than its plan gives.
+    pub told: bool,
+}
+
+/// Runs each rank of the image on a thread of its own, as `run_threads` does, but that ranks are told to stop once all that
+/// are left look in vain, by the gate's roll. Without a roll nobody is.
+///
+/// That nobody could go on is no part of the promise: it's to be asked of what the run left.
+///
+/// Refusals: those of `run_threads`.
+pub fn run_threads_until_told<R: Threads + Wait + Sync, G: Gate>(
+    rt: &R,
+    alloc: Global,
+    image: &Image,
+    plans: &[Plan],
+    gate: &G,
+) -> Result<Ended, RunFault>
+    ensures run { IfOk result (λ ended. IsEndedThreadRun image.now plans.now ended.left) }
+    ensures whole { IfOk result (λ ended. ended.told ≡ false → IsThreadRun image.now plans.now ended.left) }
+    ensures merged { IfOk result (λ ended. IsMergedRun image.now ended.left) }
+    ensures arrived { IfOk result (λ ended. IsArrivedRun image.now ended.left) }
+    ensures right { OnOk result (HasPlans image.now plans.now) }
+    ensures plans { (result ≡ Err RunFault.Plans) ↔ ¬ HasPlans image.now plans.now }
+    ensures fault { IfErr result (IsEndedRefusal image.now plans.now) }
+{
+    // whoever asks for the parts knows that they are an image's
+    let _parts = image.parts();
+    let left = run_until(rt, alloc, image, plans, gate, Until::Told)?;
+    let told = has_told(plans, &left);
+    Ok(Ended { left, told })
 }

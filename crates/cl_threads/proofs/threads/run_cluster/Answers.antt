@@ -1,4 +1,5 @@
-use Rattle.std.proofs.Common.{arith, length, subst, sym}
+use Rattle.std.proofs.Common.{◌∙◌, ◌≤◌, arith, length, subst, sym}
+use Rattle.std.specs.VecDeque.{deque_capacity}
 use Rattle.cl_record.specs.Leaving.{HaveRoom}
 use Rattle.cl_threads.specs.OnThreads.{AreReady}
 use Rattle.cl_threads.proofs.Readied.{all_ready}
@@ -6,37 +7,42 @@ use Rattle.cl_threads.proofs.Gathered.{gathered, refused}
 use Rattle.cl_threads.proofs.Settled.{count, may_settle}
 use Rattle.cl_threads.proofs.threads.run_cluster.Goals as goal
 
-pub run_all-requires-clause-ready : goal.run_all-requires-clause-ready
-run_all-requires-clause-ready g c = λ lifetimes lives.
+pub run_all-requires-clause-seated : goal.run_all-requires-clause-seated
+run_all-requires-clause-seated g c = λ lifetimes lives.
     let cluster = c.args.cluster in
-    subst (λ channels. AreReady channels cluster.seats.items) (sym c.as_slice.ensures.value)
-    (all_ready c.args.image.now cluster.channels.items cluster.seats.items c.requires.loaded.loaded)
+    let loaded = c.requires.loaded in (
+      subst (λ channels. AreReady channels cluster.seats.items) (sym c.as_slice.ensures.value)
+          (all_ready c.args.image.now cluster.channels.items cluster.seats.items loaded.loaded),
+      c.requires.passages ∙ sym loaded.count,
+      loaded.done_empty,
+      subst (λ n. n ≤ deque_capacity cluster.done) (sym loaded.count) loaded.done_room,
+    )
 
 pub gather-requires-clause-settle : goal.gather-requires-clause-settle
 gather-requires-clause-settle g c =
-    may_settle c.args.image.now c.args.plans.now c.args.cluster c.in-Ok.done.items c.requires.planned c.requires.loaded
+    may_settle c.args.until c.args.image.now c.args.plans.now c.args.cluster c.in-Ok.done.items c.requires.planned c.requires.loaded
     (rw c.as_slice.ensures.value at c.in-Ok.ensures.done)
 
 pub gather-requires-clause-room : goal.gather-requires-clause-room
 gather-requires-clause-room g c =
-    let many = count c.args.image.now c.args.plans.now c.args.cluster c.in-Ok.done.items c.requires.planned c.requires.loaded
+    let many = count c.args.until c.args.image.now c.args.plans.now c.args.cluster c.in-Ok.done.items c.requires.planned c.requires.loaded
     (rw c.as_slice.ensures.value at c.in-Ok.ensures.done) in
     subst (λ n. HaveRoom n (length c.args.image.now.links) c.args.cluster.lists) (sym many) c.requires.loaded.room
 
 pub gather-requires-clause-few : goal.gather-requires-clause-few
 gather-requires-clause-few g c =
-    let many = count c.args.image.now c.args.plans.now c.args.cluster c.in-Ok.done.items c.requires.planned c.requires.loaded
+    let many = count c.args.until c.args.image.now c.args.plans.now c.args.cluster c.in-Ok.done.items c.requires.planned c.requires.loaded
     (rw c.as_slice.ensures.value at c.in-Ok.ensures.done) in
     omega (arith, many, c.parts-parts.ensures.limits.few_ranks)
 
 pub returns-clause-run : goal.returns-clause-run
 returns-clause-run g c =
-    gathered c.args.image.now c.args.plans.now c.args.cluster c.in-Ok.done.items c.into_inner.result c.gather.result
+    gathered c.args.until c.args.image.now c.args.plans.now c.args.cluster c.in-Ok.done.items c.into_inner.result c.gather.result
     c.requires.planned c.requires.loaded (rw c.as_slice.ensures.value at c.in-Ok.ensures.done)
     c.gather.ensures.links c.gather.ensures.replays c.gather.ensures.left c.gather.ensures.tied c.gather.ensures.of
 
 pub returns-clause-fault : goal.returns-clause-fault
 returns-clause-fault g c =
-    refused c.args.image.now c.args.plans.now c.args.cluster c.in-Ok.done.items c.into_inner.result
+    refused c.args.until c.args.image.now c.args.plans.now c.args.cluster c.in-Ok.done.items c.into_inner.result
     c.requires.planned c.requires.loaded (rw c.as_slice.ensures.value at c.in-Ok.ensures.done)
     c.gather.result c.gather.ensures.unlike
