@@ -1,0 +1,2 @@
+pub mod HintLines
+pub mod Beginnings

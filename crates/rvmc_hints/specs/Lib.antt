@@ -5,4 +5,7 @@ pub mod Plans
 pub mod Words
 pub mod Calls
 pub mod Rows
+pub mod HintLines
+pub mod Runs
+pub mod Laws
 pub mod Worked

@@ -112,8 +112,6 @@ pub enum Hint<'a> {
     Least(usize),
     /// Another version of the record.
     Version,
-    /// A hart waits where a run was stopped.
-    Waits,
 }
 
 /// What begins a statement.
@@ -312,7 +310,6 @@ impl fmt::Display for Hint<'_> {
             }
             Hint::Least(bytes) => { write!(f, "a record that begins so has {bytes} bytes or more") }
             Hint::Version => write!(f, "a record begins with RVMR and version 2"),
-            Hint::Waits => write!(f, "a hart waits; --why says for what"),
         }
     }
 }

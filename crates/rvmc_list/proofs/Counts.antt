@@ -1,8 +1,8 @@
 -- Steps that are counted one after another.
-use Rattle.std.specs.Prelude.{ℕ, ◌+◌, ◌-◌, ◌*◌, ◌/◌, ◌^◌, ◌<◌, ◌≤◌, ◌≡◌, Bool, true, false, cond, List, [], ◌∷◌, ◌++◌}
+use Rattle.std.specs.Prelude.{ℕ, ◌+◌, ◌-◌, ◌≤◌, ◌≡◌, true, false, cond, List, [], ◌∷◌, ◌++◌}
 use Rattle.std.specs.Prelude.{length, map, slice_get, Option, Some, None}
 use Rattle.std.specs.List.{filter}
-use Rattle.std.proofs.Common.{refl, sym, ap, ◌∙◌, subst, append_assoc, append-nil, arith}
+use Rattle.std.proofs.Common.{sym, ap, ◌∙◌, subst, append_assoc, append-nil, arith}
 use Rattle.std.proofs.lemmas.List.{map-append}
 use Rattle.std.proofs.lemmas.List.Elements.{filter-append}
 use Rattle.rv_image.specs.declared.images.ImageParts.{ImageParts}
@@ -12,7 +12,7 @@ use Rattle.cl_replay.specs.Replaying.{IsReached}
 use Rattle.cl_replay.specs.Steps.{Leads}
 use Rattle.cl_replay.specs.declared.states.ClusterState.{ClusterState}
 use Rattle.cl_state.specs.Room.{rank_of}
-use Rattle.rvmc_stats.specs.Counted.{Taken, taken_seen}
+use Rattle.rvmc_stats.specs.Counted.{taken_seen}
 use Rattle.rvmc_stats.specs.Tables.{AreOf}
 use Rattle.rvmc_stats.specs.Adding.{Adds}
 use Rattle.rvmc_stats.specs.declared.tables.Tables.{Tables}

@@ -3,8 +3,8 @@ use Rattle.std.specs.Prelude.{ℕ, ◌+◌, ◌≡◌, Bool, true, false, cond, 
 use Rattle.std.specs.List.{filter}
 use Rattle.std.proofs.Common.{refl, sym, ap, ◌∙◌, append_assoc, arith}
 use Rattle.rv_image.specs.declared.images.Symbol.{Symbol}
-use Rattle.rvmc_list.specs.Lines.{Sight}
-use Rattle.rvmc_list.specs.Folding.{Line, folded_at_front, is_wanted, sight_line, lines_of, lines_text, folded_text}
+use Rattle.rvmc_list.specs.Phases.{Scene}
+use Rattle.rvmc_list.specs.Folding.{Line, folded_at_front, is_wanted, scene_line, lines_of, lines_text, folded_text}
 use Rattle.rvmc_list.specs.Pieces.{behind, closing, is_folded, opened, opened_by, piece, piece_of}
 use Rattle.rvmc_list.specs.declared.folding.Wanted.{Wanted}
 
@@ -35,19 +35,20 @@ pub behind_none : (begun : Option ℕ) → behind begun [] ≡ closing begun
 behind_none None = refl
 behind_none (Some more) = let same : more + 0 ≡ more = omega arith in ap (λ n. folded_text n ++ 10 ∷ []) same
 
--- one sight more
-pub sight_more : (symbols : List Symbol) (wanted : Wanted) (begun : Option ℕ) (sight : Sight) (rest : List Sight)
-    → behind begun (lines_of symbols wanted (sight ∷ rest))
-    ≡ piece_of begun (sight_line symbols wanted sight) (is_wanted wanted sight.step)
-    ++ behind (opened_by wanted begun sight.step) (lines_of symbols wanted rest)
-sight_more symbols wanted begun sight rest = go (is_wanted wanted sight.step)
+-- one scene more
+pub scene_more : (symbols : List Symbol) (wanted : Wanted) (begun : Option ℕ) (scene : Scene) (rest : List Scene)
+    → behind begun (lines_of symbols wanted (scene ∷ rest))
+    ≡ piece_of begun (scene_line symbols wanted scene) (is_wanted wanted scene.sight.step)
+    ++ behind (opened_by wanted begun scene.sight.step) (lines_of symbols wanted rest)
+scene_more symbols wanted begun scene rest = go (is_wanted wanted scene.sight.step)
   where
-    kept : List Sight
-    kept = filter (λ (s : Sight). is_wanted wanted s.step) rest
+    kept : List Scene
+    kept = filter (λ (s : Scene). is_wanted wanted s.sight.step) rest
 
-    go : (told : Bool) → behind begun (map (sight_line symbols wanted) (cond told (sight ∷ kept) kept))
-        ≡ piece_of begun (sight_line symbols wanted sight) told
-        ++ behind (cond told (opened begun (is_folded wanted sight.step)) begun) (map (sight_line symbols wanted) kept)
-    go true = behind_more begun (is_folded wanted sight.step) (sight_line symbols wanted sight).text
-        (map (sight_line symbols wanted) kept)
+    go : (told : Bool) → behind begun (map (scene_line symbols wanted) (cond told (scene ∷ kept) kept))
+        ≡ piece_of begun (scene_line symbols wanted scene) told
+        ++ behind (cond told (opened begun (is_folded wanted scene.sight.step)) begun)
+        (map (scene_line symbols wanted) kept)
+    go true = behind_more begun (is_folded wanted scene.sight.step) (scene_line symbols wanted scene).text
+        (map (scene_line symbols wanted) kept)
     go false = refl

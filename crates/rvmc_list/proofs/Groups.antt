@@ -1,7 +1,7 @@
 -- Lines in groups.
-use Rattle.std.specs.Prelude.{ℕ, ◌+◌, ◌≡◌, Bool, true, false, List, [], ◌∷◌, ◌++◌, length}
+use Rattle.std.specs.Prelude.{ℕ, ◌≡◌, Bool, true, false, List, [], ◌∷◌, ◌++◌, length}
 use Rattle.std.specs.List.{AllByRecursion, flat_map}
-use Rattle.std.proofs.Common.{refl, sym, ap, ◌∙◌, append_assoc, inl, inr, arith}
+use Rattle.std.proofs.Common.{refl, sym, ap, ◌∙◌, inl, inr, arith}
 use Rattle.rvmc_list.specs.Folding.{Line, folded_at_front, lines_text, folded_text}
 use Rattle.rvmc_list.specs.Laws.{AreGrouped, Group, IsGroup, NoCallLeftOutLaw, group_text, lines_in}
 

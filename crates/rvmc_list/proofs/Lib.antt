@@ -1,3 +1,4 @@
+pub mod BoxCounts
 pub mod Folds
 pub mod Groups
 pub mod Told
@@ -5,3 +6,7 @@ pub mod Counts
 pub mod Hottest
 pub mod CallNames
 pub mod PutSteps
+pub mod Hex
+pub mod KeptOnes
+pub mod Aheads
+pub mod Plains

@@ -1,31 +1,36 @@
 -- Steps that are told one after another.
 use Rattle.std.specs.Prelude.{ℕ, zero, suc, ◌+◌, ◌-◌, ◌<◌, ◌≤◌, ◌≡◌, List, [], ◌∷◌, ◌++◌, length, map, slice_get, take}
 use Rattle.std.specs.Prelude.{Option, Some, None, false, max, option_map}
-use Rattle.std.proofs.Common.{refl, sym, ap, ◌∙◌, subst, append_assoc, append-nil, arith}
-use Rattle.std.proofs.lemmas.List.{length-append, length-map}
+use Rattle.std.proofs.Common.{refl, sym, ap, ◌∙◌, subst, add-one, append_assoc, append-nil, arith}
+use Rattle.std.proofs.lemmas.List.{length-append}
 use Rattle.std.proofs.lemmas.Option.{same_Some, slice_get-map, slice_get_within}
 use Rattle.rv_image.specs.declared.images.ImageParts.{ImageParts}
 use Rattle.cl_debug.proofs.Ranks.{run_sized}
 use Rattle.cl_machine.proofs.Tables.{run_more}
-use Rattle.cl_machine.specs.Cluster.{loaded_cluster}
+use Rattle.cl_machine.specs.Cluster.{IsRun, loaded_cluster}
 use Rattle.cl_machine.specs.declared.steps.Step.{Step}
-use Rattle.cl_replay.proofs.Runs.{breaks, reached_more}
+use Rattle.cl_replay.proofs.Runs.{breaks, take_next}
 use Rattle.cl_replay.specs.InnerReplaying.{BreaksAt}
 use Rattle.cl_replay.specs.Replaying.{IsReached}
 use Rattle.cl_replay.specs.Steps.{Leads}
 use Rattle.cl_replay.specs.declared.states.ClusterState.{ClusterState}
+use Rattle.cl_state.specs.Asked.{asked}
 use Rattle.cl_state.specs.Rank.{Rank}
 use Rattle.cl_state.specs.Room.{rank_of}
 use Rattle.cl_state.specs.declared.state.RankState.{RankState}
-use Rattle.rvmc_list.specs.Lines.{Sight, sight_of}
-use Rattle.rvmc_list.specs.Folding.{is_wanted, sight_line, lines_of, sights_text}
-use Rattle.rvmc_list.specs.List.{AreSights, IsSightAt, ListFaultHolds, is_past, last_place, names_no_rank}
+use Rattle.rvmc_list.specs.Lines.{Sight, box_in, sight_of}
+use Rattle.rvmc_list.specs.Folding.{is_wanted, scene_line, lines_of, scenes_text}
+use Rattle.rvmc_list.specs.List.{AreScenes, AreSights, IsSceneAt, IsSightAt, ListFaultHolds, is_past, last_place, names_no_rank}
+use Rattle.rvmc_list.specs.Meeting.{AreOfBoxes, IsCountedTo, IsMet, IsMetBy, behind_box}
+use Rattle.rvmc_list.specs.Phases.{Scene}
 use Rattle.rvmc_list.specs.Pieces.{behind, closing, opened_by, piece_of}
 use Rattle.rvmc_list.specs.Putting.{ArePut, AreTold, IsPut, PutFaultHolds, Puts, StepsFaultHolds}
 use Rattle.rvmc_list.specs.declared.folding.Wanted.{Wanted}
+use Rattle.rvmc_list.specs.declared.phases.Phases.{Phases}
 use Rattle.rvmc_list.specs.declared.walk.ListFault.{ListFault}
 use Rattle.rvmc_list.specs.declared.walk.ListFault.TheVariants as fault
-use Rattle.rvmc_list.proofs.Folds.{behind_none, sight_more}
+use Rattle.rvmc_list.proofs.Folds.{behind_none, scene_more}
+use Rattle.rvmc_list.proofs.BoxCounts.{boxes_more, phase_is_known}
 
 -- what holds of each holds of each with one more
 pub each_more : {X : Type 0} (P : ℕ → X → Type 0) (xs : List X) (y : X)
@@ -118,61 +123,109 @@ sights_more image steps from n forwards sights are sight seen =
           (subst (λ k. IsSightAt image steps k sight) (sym here) seen);
     }
 
--- one step more
-module _ (image : ImageParts) (steps : List Step) (wanted : Wanted) (from n : ℕ) (forwards : from ≤ n)
-    (state : ClusterState) (begun : Option ℕ) (old text : List ℕ)
-    (put : ArePut image steps wanted from n state begun old text) (e : Step) (there : slice_get steps n ≡ Some e)
-    (new : ClusterState) (leads : Leads state e new) (next : Option ℕ) (after : List ℕ)
-    (puts : Puts image.symbols wanted state n e new text begun after next) where
+-- one scene more
+scenes_more : (image : ImageParts) (steps : List Step) (from n : ℕ) → from ≤ n → (scenes : List Scene)
+    → AreScenes image steps from n scenes → (scene : Scene) → IsSceneAt image steps n scene
+    → AreScenes image steps from (n + 1) (scenes ++ scene ∷ [])
+scenes_more image steps from n forwards scenes are scene seen =
+    let here : from + length scenes ≡ n = (let count = are.count in omega (arith, forwards)) in
+    record {
+      count = (let count = are.count in omega (arith, forwards, length-append scenes (scene ∷ [])));
+      each = each_more (λ k x. IsSceneAt image steps (from + k) x) scenes scene are.each
+          (subst (λ k. IsSceneAt image steps k scene) (sym here) seen);
+    }
+
+-- one step more, which met a box or none
+module _ (image : ImageParts) (steps : List Step) (n : ℕ) (state : ClusterState) (phases : Phases)
+    (to : IsCountedTo image steps n state phases) (e : Step) (there : slice_get steps n ≡ Some e)
+    (new : ClusterState) (leads : Leads state e new) (phase : Option ℕ) (after : Phases)
+    (met : IsMet state e phases phase after) where
   seen : IsSeen image steps n state e new
-  seen = seen_at image steps n state put.reached e there new leads
+  seen = seen_at image steps n state to.reached e there new leads
 
-  abbrev sight : Sight
-  sight = sight_of n e (rank_of seen.s) (rank_of seen.t)
+  is_met : IsMetBy e (asked (rank_of seen.s) e.hart) phases phase after
+  is_met = met seen.s seen.s_there seen.s_hart
 
-  is_put : IsPut wanted begun (sight_line image.symbols wanted sight) e text after next
-  is_put = puts seen.s seen.t seen.s_there seen.t_there seen.s_hart seen.t_hart
+  abbrev scene : Scene
+  scene = record { sight = sight_of n e (rank_of seen.s) (rank_of seen.t); phase = phase }
 
-  text_more : (rest : List Sight)
-      → old ++ sights_text image.symbols wanted ((put.sights ++ sight ∷ []) ++ rest)
-      ≡ after ++ behind next (lines_of image.symbols wanted rest)
-  text_more rest =
-      let lines = lines_of image.symbols wanted rest in
-      let piece = piece_of begun (sight_line image.symbols wanted sight) (is_wanted wanted e) in
-      ap (λ sights. old ++ sights_text image.symbols wanted sights) (append_assoc put.sights (sight ∷ []) rest)
-      ∙ put.text (sight ∷ rest)
-      ∙ ap (λ more. text ++ more) (sight_more image.symbols wanted begun sight rest)
-      ∙ sym (append_assoc text piece (behind (opened_by wanted begun e) lines))
-      ∙ ap (λ t. t ++ behind (opened_by wanted begun e) lines) (sym is_put.text)
-      ∙ ap (λ o. after ++ behind o lines) (sym is_put.open_is)
-
-  pub put_more : ArePut image steps wanted from (n + 1) new next old after
-  put_more = record {
-    reached = reached_more image steps n state put.reached e there new leads;
-    sights = put.sights ++ sight ∷ [];
-    are = sights_more image steps from n forwards put.sights put.are sight seen.sight;
-    text = text_more;
+  is_scene : IsSceneAt image steps n scene
+  unfolding seen seen_at
+  is_scene = record {
+    sight = seen.sight;
+    phase = is_met.phase_is
+        ∙ phase_is_known to.reached.cluster.boxes phases to.phases_are e.kind (asked (rank_of seen.s) e.hart);
   }
+
+  pub counted_more : IsCountedTo image steps (n + 1) new after
+  unfolding seen seen_at
+  counted_more =
+      let led = leads image to.reached.cluster to.reached.stands in
+      let rank_is : led.1.0 ≡ rank_of seen.s =
+      same_Some led.1.0 (rank_of seen.s) (sym led.1.1 ∙ seen.sight.before_there)
+      in
+      record {
+        reached = record {
+          cluster = led.0;
+          run = subst (λ es. IsRun (loaded_cluster image) es led.0)
+              (sym (ap (λ k. take k steps) (add-one n) ∙ take_next steps n e there))
+              (run_more (take n steps) (loaded_cluster image) to.reached.cluster led.0 e to.reached.run led.1);
+          stands = led.2;
+        };
+        phases_are = subst (λ ps. AreOfBoxes led.0.boxes ps) (sym is_met.counted_is)
+            (subst (λ (r : Rank). AreOfBoxes led.0.boxes (behind_box e.kind (box_in (asked r e.hart)) phases)) rank_is
+            (boxes_more to.reached.cluster e led.0 led.1 phases to.phases_are));
+      }
+
+  -- and was put
+  module _ (wanted : Wanted) (from : ℕ) (forwards : from ≤ n) (begun : Option ℕ) (old text : List ℕ)
+      (put : ArePut image steps wanted from n state phases begun old text)
+      (next : Option ℕ) (told : List ℕ) (puts : Puts image.symbols wanted state n phase e new text begun told next) where
+    is_put : IsPut wanted begun (scene_line image.symbols wanted scene) e text told next
+    is_put = puts seen.s seen.t seen.s_there seen.t_there seen.s_hart seen.t_hart
+
+    text_more : (rest : List Scene)
+        → old ++ scenes_text image.symbols wanted ((put.scenes ++ scene ∷ []) ++ rest)
+        ≡ told ++ behind next (lines_of image.symbols wanted rest)
+    text_more rest =
+        let lines = lines_of image.symbols wanted rest in
+        let piece = piece_of begun (scene_line image.symbols wanted scene) (is_wanted wanted e) in
+        ap (λ scenes. old ++ scenes_text image.symbols wanted scenes) (append_assoc put.scenes (scene ∷ []) rest)
+        ∙ put.text (scene ∷ rest)
+        ∙ ap (λ more. text ++ more) (scene_more image.symbols wanted begun scene rest)
+        ∙ sym (append_assoc text piece (behind (opened_by wanted begun e) lines))
+        ∙ ap (λ t. t ++ behind (opened_by wanted begun e) lines) (sym is_put.text)
+        ∙ ap (λ o. told ++ behind o lines) (sym is_put.open_is)
+
+    pub put_more : ArePut image steps wanted from (n + 1) new after next old told
+    put_more = record {
+      counted_to = counted_more;
+      scenes = put.scenes ++ scene ∷ [];
+      are = scenes_more image steps from n forwards put.scenes put.are scene is_scene;
+      text = text_more;
+    }
 
 -- before the first step
 pub put_none : (image : ImageParts) (steps : List Step) (wanted : Wanted) (from : ℕ) (state : ClusterState)
-    (text : List ℕ) → IsReached image steps from state → ArePut image steps wanted from from state None text text
-put_none image steps wanted from state text reached = record {
-  reached = reached;
-  sights = [];
+    (phases : Phases) (text : List ℕ) → IsCountedTo image steps from state phases
+    → ArePut image steps wanted from from state phases None text text
+put_none image steps wanted from state phases text to = record {
+  counted_to = to;
+  scenes = [];
   are = record { count = omega arith; each = λ k x at. absurd (cc) };
   text = λ rest. refl;
 }
 
 -- behind the last one
 pub told_all : (image : ImageParts) (steps : List Step) (wanted : Wanted) (n to : ℕ) (state : ClusterState)
-    (begun : Option ℕ) (old text after : List ℕ) → ArePut image steps wanted wanted.from n state begun old text
+    (phases : Phases) (begun : Option ℕ) (old text after : List ℕ)
+    → ArePut image steps wanted wanted.from n state phases begun old text
     → n - wanted.from ≡ to - wanted.from → after ≡ text ++ closing begun → AreTold image steps wanted to old after
-told_all image steps wanted n to state begun old text after put same closed = record {
-  sights = put.sights;
+told_all image steps wanted n to state phases begun old text after put same closed = record {
+  scenes = put.scenes;
   are = record { count = put.are.count ∙ same; each = put.are.each };
   text = closed ∙ ap (λ more. text ++ more) (sym (behind_none begun)) ∙ sym (put.text [])
-      ∙ ap (λ sights. old ++ sights_text image.symbols wanted sights) (append-nil put.sights);
+      ∙ ap (λ scenes. old ++ scenes_text image.symbols wanted scenes) (append-nil put.scenes);
 }
 
 -- why a step wasn't put is why those before a place behind it weren't all done

@@ -8,7 +8,7 @@ use Rattle.mp_types.specs.declared.replies.Reply.{Reply}
 use Rattle.mp_types.specs.declared.replies.Reply.TheVariants as reply
 use Rattle.cl_trace.specs.declared.events.Kind.{Kind}
 use Rattle.cl_machine.specs.declared.steps.Step.{Step}
-use Rattle.rvmc_list.specs.Lines.{Sight, sight_text}
+use Rattle.rvmc_list.specs.Phases.{Scene, scene_text}
 use Rattle.rvmc_list.specs.declared.folding.Wanted.{Wanted}
 
 -- ---- which of them are told
@@ -69,14 +69,14 @@ lines_text within (line ∷ behind) =
 -- ---- the text
 
 -- looks in vain are folded where calls alone are wanted
-abbrev pub sight_line : List Symbol → Wanted → Sight → Line
-sight_line symbols wanted sight =
-    record { folded = wanted.calls && is_vain sight.step.kind; text = sight_text symbols sight }
+abbrev pub scene_line : List Symbol → Wanted → Scene → Line
+scene_line symbols wanted scene =
+    record { folded = wanted.calls && is_vain scene.sight.step.kind; text = scene_text symbols scene }
 
--- of the sights that are wanted
-abbrev pub lines_of : List Symbol → Wanted → List Sight → List Line
-lines_of symbols wanted sights =
-    map (sight_line symbols wanted) (filter (λ (sight : Sight). is_wanted wanted sight.step) sights)
+-- of those that are wanted
+abbrev pub lines_of : List Symbol → Wanted → List Scene → List Line
+lines_of symbols wanted scenes =
+    map (scene_line symbols wanted) (filter (λ (scene : Scene). is_wanted wanted scene.sight.step) scenes)
 
-abbrev pub sights_text : List Symbol → Wanted → List Sight → List ℕ
-sights_text symbols wanted sights = lines_text false (lines_of symbols wanted sights)
+abbrev pub scenes_text : List Symbol → Wanted → List Scene → List ℕ
+scenes_text symbols wanted scenes = lines_text false (lines_of symbols wanted scenes)

@@ -11,7 +11,7 @@ use Rattle.rv_hart.specs.Effect.{offset}
 use Rattle.rv_hart.specs.Results.{is_taken}
 use Rattle.rv_hart.specs.State.{State, read}
 use Rattle.rv_hart.specs.declared.state.Mode.{Mode}
-use Rattle.rv_hart.specs.declared.state.Mode.TheVariants.{Running, Waiting, Ended, Trapped}
+use Rattle.rv_hart.specs.declared.state.Mode.TheVariants.{Trapped}
 use Rattle.rvmc_list.specs.Names.{cause_name}
 use Rattle.rvmc_inspect.specs.Places.{hex_text}
 

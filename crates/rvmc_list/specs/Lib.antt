@@ -3,6 +3,8 @@ pub mod Arguments
 pub mod Instructions
 pub mod Gave
 pub mod Lines
+pub mod Phases
+pub mod Meeting
 pub mod Seen
 pub mod Folding
 pub mod Laws
@@ -13,3 +15,7 @@ pub mod Places
 pub mod Placing
 pub mod Stats
 pub mod Counting
+pub mod Worked
+pub mod Rows
+pub mod Keeping
+pub mod Ahead

@@ -1,5 +1,5 @@
 -- The line of a step.
-use Rattle.std.specs.Prelude.{ℕ, if◌then◌else◌, List, [], ◌∷◌, ◌++◌, codes, get_or, Option, Some, None}
+use Rattle.std.specs.Prelude.{ℕ, if◌then◌else◌, List, ◌++◌, codes, get_or, Option, Some, None}
 use Rattle.std.specs.Fmt.{decimal}
 use Rattle.rv_hart.specs.State.{State, read}
 use Rattle.rv_image.specs.declared.images.Symbol.{Symbol}

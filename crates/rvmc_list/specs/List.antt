@@ -3,12 +3,14 @@ use Rattle.std.specs.Prelude.{ℕ, ◌≡◌, ◌<◌, ◌+◌, ◌-◌, ◌||�
 use Rattle.std.specs.Prelude.{take, Option, Some, None}
 use Rattle.std.specs.Option.{unwrap_or}
 use Rattle.rv_image.specs.declared.images.ImageParts.{ImageParts}
+use Rattle.cl_state.specs.Asked.{asked}
 use Rattle.cl_state.specs.Rank.{Rank}
 use Rattle.cl_machine.specs.Cluster.{Cluster, IsRun, IsStep, loaded_cluster}
 use Rattle.cl_machine.specs.declared.steps.Step.{Step}
 use Rattle.cl_replay.specs.InnerReplaying.{BreaksAt}
-use Rattle.rvmc_list.specs.Folding.{sights_text}
+use Rattle.rvmc_list.specs.Folding.{scenes_text}
 use Rattle.rvmc_list.specs.Lines.{Sight, sight_of}
+use Rattle.rvmc_list.specs.Phases.{Scene, phase_in}
 use Rattle.rvmc_list.specs.declared.folding.Wanted.{Wanted}
 use Rattle.rvmc_list.specs.declared.walk.ListFault.{ListFault}
 use Rattle.rvmc_list.specs.declared.walk.ListFault.TheVariants as fault
@@ -34,15 +36,24 @@ pub record AreSights (image : ImageParts) (steps : List Step) (from to : ℕ) (s
   pub count : length sights ≡ to - from
   pub each : (k : ℕ) (sight : Sight) → slice_get sights k ≡ Some sight → IsSightAt image steps (from + k) sight
 
+-- and with the phase of the box that it asks, in the cluster before it
+pub record IsSceneAt (image : ImageParts) (steps : List Step) (n : ℕ) (scene : Scene) : Type 0 where
+  pub sight : IsSightAt image steps n scene.sight
+  pub phase : scene.phase ≡ phase_in sight.step.kind sight.old.boxes (asked sight.before sight.step.hart)
+
+pub record AreScenes (image : ImageParts) (steps : List Step) (from to : ℕ) (scenes : List Scene) : Type 0 where
+  pub count : length scenes ≡ to - from
+  pub each : (k : ℕ) (scene : Scene) → slice_get scenes k ≡ Some scene → IsSceneAt image steps (from + k) scene
+
 -- where the list ends: all steps are told where no end is given
 abbrev pub last_place : Wanted → List Step → ℕ
 last_place wanted steps = unwrap_or wanted.to (length steps)
 
 -- the text of a record
 pub record IsList (image : ImageParts) (steps : List Step) (wanted : Wanted) (text : List ℕ) : Type 0 where
-  pub sights : List Sight
-  pub are : AreSights image steps wanted.from (last_place wanted steps) sights
-  pub is : text ≡ sights_text image.symbols wanted sights
+  pub scenes : List Scene
+  pub are : AreScenes image steps wanted.from (last_place wanted steps) scenes
+  pub is : text ≡ scenes_text image.symbols wanted scenes
 
 -- ---- why there is none
 

@@ -1,5 +1,5 @@
 -- The places of the text with most turns, as text.
-use Rattle.std.specs.Prelude.{ℕ, ◌≡◌, ◌*◌, List, ◌++◌, codes, length, Option, None}
+use Rattle.std.specs.Prelude.{ℕ, ◌≡◌, ◌*◌, List, ◌++◌, codes, length, None}
 use Rattle.std.specs.Fmt.{decimal}
 use Rattle.std.specs.List.{flat_map}
 use Rattle.rv_image.specs.declared.images.Symbol.{Symbol}

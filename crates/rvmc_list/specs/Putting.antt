@@ -1,5 +1,5 @@
 -- How the text of a record is put together, one step after another.
-use Rattle.std.specs.Prelude.{ℕ, ◌≡◌, ◌<◌, ◌++◌, List, Option, None, Some, false, length, slice_get}
+use Rattle.std.specs.Prelude.{ℕ, ◌≡◌, ◌<◌, ◌++◌, ◌∷◌, [], List, Option, None, Some, false, length, slice_get}
 use Rattle.rv_hart.specs.State.{State}
 use Rattle.rv_image.specs.declared.images.ImageParts.{ImageParts}
 use Rattle.rv_image.specs.declared.images.Symbol.{Symbol}
@@ -10,13 +10,16 @@ use Rattle.cl_replay.specs.Steps.{LeadsNowhere}
 use Rattle.cl_replay.specs.declared.states.ClusterState.{ClusterState}
 use Rattle.cl_state.specs.Room.{rank_of}
 use Rattle.cl_state.specs.declared.state.RankState.{RankState}
-use Rattle.rvmc_list.specs.Folding.{Line, is_wanted, sight_line, lines_of, sights_text}
-use Rattle.rvmc_list.specs.Lines.{Sight, hart_of, sight_of}
+use Rattle.rvmc_list.specs.Folding.{Line, is_wanted, scene_line, lines_of, scenes_text}
+use Rattle.rvmc_list.specs.Lines.{hart_of, sight_of}
+use Rattle.rvmc_list.specs.Phases.{Scene, scene_text}
+use Rattle.rvmc_list.specs.Meeting.{IsCountedTo}
 use Rattle.rvmc_list.specs.Seen.{IsSeenBefore, seen}
-use Rattle.rvmc_list.specs.List.{AreSights, is_past, last_place, names_no_rank}
-use Rattle.rvmc_list.specs.Pieces.{behind, opened_by, piece_of}
+use Rattle.rvmc_list.specs.List.{AreScenes, is_past, last_place, names_no_rank}
+use Rattle.rvmc_list.specs.Pieces.{behind, closing, opened_by, piece_of}
 use Rattle.rvmc_list.specs.declared.folding.Wanted.{Wanted}
 use Rattle.rvmc_list.specs.declared.lines.Seen.{Seen}
+use Rattle.rvmc_list.specs.declared.phases.Phases.{Phases}
 use Rattle.rvmc_list.specs.declared.walk.Done.{Done}
 use Rattle.rvmc_list.specs.declared.walk.ListFault.{ListFault}
 use Rattle.rvmc_list.specs.declared.walk.ListFault.TheVariants as fault
@@ -27,11 +30,23 @@ pub record IsPut (wanted : Wanted) (begun : Option ℕ) (line : Line) (e : Step)
   pub text : new ≡ old ++ piece_of begun line (is_wanted wanted e)
   pub open_is : next ≡ opened_by wanted begun e
 
-abbrev pub Puts : List Symbol → Wanted → ClusterState → ℕ → Step → ClusterState → List ℕ → Option ℕ → List ℕ → Option ℕ → Type 0
-Puts symbols wanted old place e new text begun after next =
+abbrev pub Puts : List Symbol → Wanted → ClusterState → ℕ → Option ℕ → Step → ClusterState → List ℕ → Option ℕ → List ℕ
+    → Option ℕ → Type 0
+Puts symbols wanted old place phase e new text begun after next =
     (s t : RankState) → slice_get old.ranks.items e.rank ≡ Some s → slice_get new.ranks.items e.rank ≡ Some t
     → e.hart < length s.harts.items → e.hart < length t.harts.items
-    → IsPut wanted begun (sight_line symbols wanted (sight_of place e (rank_of s) (rank_of t))) e text after next
+    → IsPut wanted begun
+    (scene_line symbols wanted (record { sight = sight_of place e (rank_of s) (rank_of t); phase = phase })) e text after next
+
+-- the line of a step that does an instruction was put behind what was begun, whatever its rank was before and after it
+abbrev pub PutsPlainLine : List Symbol → ClusterState → ℕ → Option ℕ → Step → ClusterState → Option ℕ → List ℕ → List ℕ
+    → Type 0
+PutsPlainLine symbols old place phase e new begun text after =
+    (s t : RankState) → slice_get old.ranks.items e.rank ≡ Some s → slice_get new.ranks.items e.rank ≡ Some t
+    → e.hart < length s.harts.items → e.hart < length t.harts.items
+    → after ≡ text
+    ++ (closing begun
+    ++ (scene_text symbols (record { sight = sight_of place e (rank_of s) (rank_of t); phase = phase }) ++ 10 ∷ []))
 
 -- what was seen of a step in whichever rank has it
 abbrev pub IsLook : ClusterState → Step → Option Seen → Type 0
@@ -53,10 +68,10 @@ IsDone old e new done =
     (s t : RankState) → slice_get old.ranks.items e.rank ≡ Some s → slice_get new.ranks.items e.rank ≡ Some t
     → e.hart < length s.harts.items → e.hart < length t.harts.items → IsDoneAs e s t done
 
--- the cluster where what is wanted begins, and the place where it ends
-pub record IsStart (image : ImageParts) (steps : List Step) (wanted : Wanted) (state : ClusterState) (to : ℕ)
+-- the cluster at a place, and the place where what is wanted ends
+pub record IsStart (image : ImageParts) (steps : List Step) (wanted : Wanted) (place : ℕ) (state : ClusterState) (to : ℕ)
     : Type 0 where
-  pub reached : IsReached image steps wanted.from state
+  pub reached : IsReached image steps place state
   pub to_is : to ≡ last_place wanted steps
   pub rank : names_no_rank wanted.rank image.ranks ≡ false
   pub within : is_past wanted steps ≡ false
@@ -75,15 +90,15 @@ StepsFaultHolds image steps to _ = ⊥
 
 -- the steps from one place to another were put, and the state is the cluster there
 pub record ArePut (image : ImageParts) (steps : List Step) (wanted : Wanted) (from n : ℕ) (state : ClusterState)
-    (begun : Option ℕ) (old new : List ℕ) : Type 0 where
-  pub reached : IsReached image steps n state
-  pub sights : List Sight
-  pub are : AreSights image steps from n sights
-  pub text : (rest : List Sight) → old ++ sights_text image.symbols wanted (sights ++ rest)
+    (phases : Phases) (begun : Option ℕ) (old new : List ℕ) : Type 0 where
+  pub counted_to : IsCountedTo image steps n state phases
+  pub scenes : List Scene
+  pub are : AreScenes image steps from n scenes
+  pub text : (rest : List Scene) → old ++ scenes_text image.symbols wanted (scenes ++ rest)
       ≡ new ++ behind begun (lines_of image.symbols wanted rest)
 
 -- what was told of the steps from one place to another was added to a text, each line with its end
 pub record AreTold (image : ImageParts) (steps : List Step) (wanted : Wanted) (to : ℕ) (old new : List ℕ) : Type 0 where
-  pub sights : List Sight
-  pub are : AreSights image steps wanted.from to sights
-  pub text : new ≡ old ++ sights_text image.symbols wanted sights
+  pub scenes : List Scene
+  pub are : AreScenes image steps wanted.from to scenes
+  pub text : new ≡ old ++ scenes_text image.symbols wanted scenes

@@ -3,11 +3,13 @@
 ghost use Rattle.std.specs.Prelude.{◌≡◌, ◌+◌, ◌-◌, ◌++◌, ◌<◌, ◌^◌, IfOk, OnOk};
 ghost use Rattle.cl_machine.specs.SameSteps.{kind_seen};
 ghost use Rattle.rvmc_list.specs.Folding.{is_of_rank as is_of_rank_of, is_vain as is_vain_of, is_wanted as is_wanted_of};
-ghost use Rattle.rvmc_list.specs.Folding.{sight_line};
+ghost use Rattle.rvmc_list.specs.Folding.{scene_line};
+ghost use Rattle.rvmc_list.specs.Phases.{scene_text};
 ghost use Rattle.rvmc_list.specs.Seen.{seen};
 ghost use Rattle.rvmc_list.specs.Pieces.{IsWithin, closing, is_folded as is_folded_of, opened, piece};
 
 use crate::lines::{Seen, put_sight};
+use crate::phases::put_phase;
 use cl_machine::{KindRef, Step};
 use cl_trace::Bare;
 use mp_types::Reply;
@@ -81,13 +83,36 @@ pub(crate) fn close(text: &mut Vec<u8>, begun: Option<u64>) -> io::Result<()>
     Ok(())
 }
 
-/// A step that is told: where it stands, what was seen of it before it was done, and its hart after it.
+/// A step that is told: where it stands, what was seen of it before it was done, its hart after it, and the phase of the
+/// box that it asked.
 #[derive(Clone, Copy, Drop)]
 pub(crate) struct Told<'a> {
     pub(crate) place: u64,
     pub(crate) step: &'a Step,
     pub(crate) before: &'a Seen,
     pub(crate) after: &'a Hart,
+    pub(crate) phase: Option<u64>,
+}
+
+/// Adds what a step did, without a newline.
+fn put_scene(text: &mut Vec<u8>, symbols: &[Symbol], told: &Told<'_>) -> io::Result<()>
+    ensures { OnOk result (text.new.items
+        ≡ text.old.items
+        ++ scene_text symbols.now
+        (record {
+          sight = seen told.now.place told.now.step.now told.now.before.now told.now.after.now;
+          phase = told.now.phase;
+        })) }
+{
+    let Told {
+        place,
+        step,
+        before,
+        after,
+        phase,
+    } = told;
+    put_sight(text, symbols, *place, step, before, after)?;
+    put_phase(text, *phase)
 }
 
 /// Adds a step to what is told, and says whether a line is begun behind it.
@@ -103,25 +128,23 @@ pub(crate) fn put_line(
     ensures text { OnOk result (text.new.items
         ≡ text.old.items
         ++ piece begun (is_folded_of wanted.now told.now.step.now)
-        (sight_line symbols.now wanted.now (seen told.now.place told.now.step.now told.now.before.now told.now.after.now)).text) }
+        (scene_line symbols.now wanted.now
+        (record {
+          sight = seen told.now.place told.now.step.now told.now.before.now told.now.after.now;
+          phase = told.now.phase;
+        })).text) }
     ensures begun { IfOk result (λ next. next ≡ opened begun (is_folded_of wanted.now told.now.step.now)) }
     ensures within { IfOk result (λ next. IsWithin (told.now.place + 1) next) }
 {
-    let Told {
-        place,
-        step,
-        before,
-        after,
-    } = told;
-    if is_folded(wanted, step) {
+    if is_folded(wanted, told.step) {
         if let Some(more) = begun {
             return Ok(Some(more + 1));
         }
-        put_sight(text, symbols, *place, step, before, after)?;
+        put_scene(text, symbols, told)?;
         return Ok(Some(0));
     }
     close(text, begun)?;
-    put_sight(text, symbols, *place, step, before, after)?;
+    put_scene(text, symbols, told)?;
     text.push(b'\n')?;
     Ok(None)
 }

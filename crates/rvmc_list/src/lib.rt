@@ -4,21 +4,26 @@
 //! tables.
 #![tactic(auto)]
 
+mod ahead;
 mod arguments;
 mod folding;
 mod gave;
 mod instructions;
+mod kept;
 pub mod laws;
 mod lines;
 mod listing;
 mod names;
+mod phases;
 mod places;
+mod plain;
+mod rows;
 mod tables;
 mod walk;
 
 pub use folding::Wanted;
 pub use gave::{BoxNumber, is_refused};
-pub use lines::{Seen, look, put_sight};
+pub use lines::{Seen, box_in, look, put_sight};
 pub use listing::list;
 pub use names::cause_name;
 pub use tables::stats;

@@ -1,6 +1,6 @@
 //! What is seen of a step, and its line.
 
-ghost use Rattle.std.specs.Prelude.{◌≡◌, ◌++◌, ◌<◌, IfOk, OnOk, vec_len};
+ghost use Rattle.std.specs.Prelude.{◌≡◌, ◌++◌, ◌<◌, ◌≤◌, drop, IfOk, OnOk, vec_len};
 ghost use Rattle.cl_calls.specs.Calls.{call_named};
 ghost use Rattle.cl_machine.specs.SameSteps.{kind_seen};
 ghost use Rattle.cl_state.specs.Asked.{asked};
@@ -13,6 +13,7 @@ ghost use Rattle.rvmc_list.specs.Seen.{IsSeenBefore, seen};
 use crate::arguments::put_arguments;
 use crate::gave::{BoxNumber, is_refused, put_box, put_end, put_kind};
 use crate::instructions::put_instruction;
+use crate::rows::{write_decimal, write_word};
 use cl_calls::Call;
 use cl_machine::{KindRef, Step};
 use cl_state::{Ask, RankState};
@@ -35,7 +36,7 @@ pub struct Seen {
 }
 
 /// The box that is asked.
-fn box_in(ask: &Ask) -> Option<BoxNumber>
+pub fn box_in(ask: &Ask) -> Option<BoxNumber>
     ensures { result ≡ box_in_ask ask.now }
 {
     match ask {
@@ -100,14 +101,29 @@ pub(crate) fn put_place(text: &mut Vec<u8>, symbols: &[Symbol], at: u64) -> io::
     }
 }
 
+/// Writes where a step stands, and whose it is, and says where that begins.
+fn write_head(place: u64, step: &Step, row: &mut [u8; 104]) -> usize
+    ensures within { result ≤ 104 }
+    ensures written { drop result row.new ≡ head_text place step.now }
+{
+    let at = write_word(b" at ", row, 104);
+    let at = write_decimal(step.stamp(), row, at);
+    let at = write_word(b" stamp ", row, at);
+    let at = write_decimal(u64::from(step.hart()), row, at);
+    let at = write_word(b" hart ", row, at);
+    let at = write_decimal(u64::from(step.rank()), row, at);
+    let at = write_word(b" rank ", row, at);
+    write_decimal(place, row, at)
+}
+
 /// Adds where a step stands, and whose it is.
-fn put_head(text: &mut Vec<u8>, place: u64, step: &Step) -> io::Result<()>
+pub(crate) fn put_head(text: &mut Vec<u8>, place: u64, step: &Step) -> io::Result<()>
     ensures { OnOk result (text.new.items ≡ text.old.items ++ head_text place step.now) }
 {
-    let rank = step.rank();
-    let hart = step.hart();
-    let stamp = step.stamp();
-    write!(text, "{place} rank {rank} hart {hart} stamp {stamp} at ")
+    let mut row = [0; 104];
+    let at = write_head(place, step, &mut row);
+    text.extend_from_slice(&row[at..])?;
+    Ok(())
 }
 
 /// Adds a refused call.

@@ -1,41 +1,53 @@
 //! The text of a record.
 
-ghost use Rattle.std.specs.Prelude.{◌≡◌, ◌+◌, ◌-◌, ◌<◌, ◌≤◌, ◌^◌, IfErr, IfOk, OnOk, length};
-ghost use Rattle.cl_replay.specs.Replaying.{IsReached};
+ghost use Rattle.std.specs.Prelude.{◌≡◌, ◌+◌, ◌-◌, ◌<◌, ◌≤◌, ◌^◌, IfErr, IfOk, OnOk, length, true};
 ghost use Rattle.cl_replay.specs.Steps.{Leads};
+ghost use Rattle.rvmc_list.specs.Folding.{is_wanted as is_wanted_of};
+ghost use Rattle.rvmc_list.specs.Keeping.{AreKept};
 ghost use Rattle.rvmc_list.specs.List.{IsList, ListFaultHolds};
+ghost use Rattle.rvmc_list.specs.Meeting.{IsCountedTo};
 ghost use Rattle.rvmc_list.specs.Pieces.{IsWithin};
 ghost use Rattle.rvmc_list.specs.Putting.{AreTold, PutFaultHolds, Puts, StepsFaultHolds};
 
 use crate::folding::{Told, Wanted, close, is_wanted, put_line};
+use crate::kept::Texts;
+use crate::phases::{Phases, meet};
+use crate::plain::{is_plain, put_plain_line};
 use crate::walk::{ListFault, advance, do_step, start};
 use cl_machine::Step;
 use cl_replay::ClusterState;
 use rv_image::{Image, Symbol};
 use std::alloc::Global;
 
-/// Does a step, and adds it to what is told.
-fn put_step(
+/// A step that is to be done: its place, and the phase of the box that it asks.
+#[derive(Clone, Copy, Drop)]
+pub(crate) struct Due<'a> {
+    pub(crate) place: u64,
+    pub(crate) step: &'a Step,
+    pub(crate) phase: Option<u64>,
+}
+
+/// Does a step that is wanted, and adds it to what is told. It is a function of its own, so that what it keeps of the
+/// step's hart isn't paid for by steps that do an instruction.
+#[inline(never)]
+fn put_seen(
     state: &mut ClusterState,
     text: &mut Vec<u8>,
     symbols: &[Symbol],
     wanted: &Wanted,
     begun: Option<u64>,
-    place: u64,
-    step: &Step,
+    due: &Due<'_>,
 ) -> Result<Option<u64>, ListFault>
-    requires within { IsWithin place begun }
-    requires fits { place < 2 ^ 64 - 1 }
-    ensures leads { OnOk result (Leads state.old step.now state.new) }
-    ensures puts { IfOk result (Puts symbols.now wanted.now state.old place step.now state.new text.old.items begun
-        text.new.items) }
-    ensures within { IfOk result (λ next. IsWithin (place + 1) next) }
-    ensures fault { IfErr result (PutFaultHolds state.old place step.now) }
+    requires fits { due.now.place < 2 ^ 64 - 1 }
+    requires within { IsWithin due.now.place begun }
+    requires told { is_wanted_of wanted.now due.now.step.now ≡ true }
+    ensures leads { OnOk result (Leads state.old due.now.step.now state.new) }
+    ensures puts { IfOk result (Puts symbols.now wanted.now state.old due.now.place due.now.phase due.now.step.now
+        state.new text.old.items begun text.new.items) }
+    ensures within { IfOk result (λ next. IsWithin (due.now.place + 1) next) }
+    ensures fault { IfErr result (PutFaultHolds state.old due.now.place due.now.step.now) }
 {
-    if !is_wanted(wanted, step) {
-        advance(state, place, step)?;
-        return Ok(begun);
-    }
+    let Due { place, step, phase } = *due;
     let Some(done) = do_step(state, place, step)? else {
         return Ok(begun);
     };
@@ -44,30 +56,94 @@ fn put_step(
         step,
         before: &done.before,
         after: &done.after,
+        phase,
     };
     Ok(put_line(text, symbols, wanted, begun, &told)?)
 }
 
-/// Does the steps from one place to another, and adds them to the text. After a refusal text and state may be anything.
-fn put_steps(
+/// Does a step, and adds it to what is told.
+fn put_step(
     state: &mut ClusterState,
     text: &mut Vec<u8>,
+    texts: &mut Texts,
+    symbols: &[Symbol],
+    wanted: &Wanted,
+    begun: Option<u64>,
+    due: &Due<'_>,
+) -> Result<Option<u64>, ListFault>
+    requires within { IsWithin due.now.place begun }
+    requires fits { due.now.place < 2 ^ 64 - 1 }
+    requires kept { AreKept symbols.now texts.old }
+    ensures leads { OnOk result (Leads state.old due.now.step.now state.new) }
+    ensures puts { IfOk result (Puts symbols.now wanted.now state.old due.now.place due.now.phase due.now.step.now
+        state.new text.old.items begun text.new.items) }
+    ensures within { IfOk result (λ next. IsWithin (due.now.place + 1) next) }
+    ensures kept { OnOk result (AreKept symbols.now texts.new) }
+    ensures fault { IfErr result (PutFaultHolds state.old due.now.place due.now.step.now) }
+{
+    if !is_wanted(wanted, due.step) {
+        advance(state, due.place, due.step)?;
+        return Ok(begun);
+    }
+    if is_plain(due.step) {
+        put_plain_line(state, text, texts, symbols, begun, due)?;
+        return Ok(None);
+    }
+    put_seen(state, text, symbols, wanted, begun, due)
+}
+
+/// Does the steps from one place to another, and adds them to the text. After a refusal text, state and phases may be
+/// anything.
+fn put_steps(
+    state: &mut ClusterState,
+    phases: &mut Phases,
+    text: &mut Vec<u8>,
+    texts: &mut Texts,
     image: &Image,
     steps: &[Step],
     wanted: &Wanted,
     to: u64,
 ) -> Result<(), ListFault>
-    requires reached { IsReached image.now steps.now wanted.now.from state.old }
+    requires counted { IsCountedTo image.now steps.now wanted.now.from state.old phases.old }
     requires within { to ≤ length steps.now }
+    requires kept { AreKept image.now.symbols texts.old }
     ensures told { OnOk result (AreTold image.now steps.now wanted.now to text.old.items text.new.items) }
     ensures fault { IfErr result (StepsFaultHolds image.now steps.now to) }
 {
     let symbols = image.parts().symbols.as_slice();
     let mut begun = None;
     for n in wanted.from..to {
-        begun = put_step(state, text, symbols, wanted, begun, n, &steps[n as usize])?;
+        let step = &steps[n as usize];
+        let phase = meet(phases, state, step)?;
+        let due = Due {
+            place: n,
+            step,
+            phase,
+        };
+        begun = put_step(state, text, texts, symbols, wanted, begun, &due)?;
     }
     close(text, begun)?;
+    Ok(())
+}
+
+/// Does the first steps, and counts the boxes that they ask. After a refusal state and phases may be anything.
+fn meet_steps(
+    state: &mut ClusterState,
+    phases: &mut Phases,
+    image: &Image,
+    steps: &[Step],
+    to: u64,
+) -> Result<(), ListFault>
+    requires counted { IsCountedTo image.now steps.now 0 state.old phases.old }
+    requires within { to ≤ length steps.now }
+    ensures counted { OnOk result (IsCountedTo image.now steps.now to state.new phases.new) }
+    ensures fault { IfErr result (StepsFaultHolds image.now steps.now to) }
+{
+    for n in 0..to {
+        let step = &steps[n as usize];
+        meet(phases, state, step)?;
+        advance(state, n, step)?;
+    }
     Ok(())
 }
 
@@ -76,6 +152,7 @@ fn put_steps(
 ///
 /// Refusals, in this order: NoRank where the image hasn't the rank; PastEnd where a place is behind the last step;
 /// NotARun where a step before the list's end is none of the machine; Memory.
+#[tactic(auto, using(crate::proofs::Told::list_fault))]
 pub fn list(
     alloc: Global,
     image: &Image,
@@ -85,8 +162,20 @@ pub fn list(
     ensures list { IfOk result (λ text. IsList image.now steps.now wanted.now text.items) }
     ensures fault { IfErr result (ListFaultHolds image.now steps.now wanted.now) }
 {
-    let (mut state, to) = start(alloc, image, steps, wanted)?;
+    let (mut state, to) = start(alloc, image, steps, wanted, 0)?;
+    let mut phases = Phases::new(alloc, image)?;
+    meet_steps(&mut state, &mut phases, image, steps, wanted.from)?;
+    let mut texts = Texts::new(alloc)?;
     let mut text = Vec::new(alloc);
-    put_steps(&mut state, &mut text, image, steps, wanted, to)?;
+    put_steps(
+        &mut state,
+        &mut phases,
+        &mut text,
+        &mut texts,
+        image,
+        steps,
+        wanted,
+        to,
+    )?;
     Ok(text)
 }

@@ -107,7 +107,7 @@ pub fn stats(
     ensures stats { IfOk result (λ text. IsStats image.now steps.now wanted.now text.items) }
     ensures fault { IfErr result (ListFaultHolds image.now steps.now wanted.now) }
 {
-    let (mut state, to) = start(alloc, image, steps, wanted)?;
+    let (mut state, to) = start(alloc, image, steps, wanted, wanted.from)?;
     let mut tables = no_steps(alloc, image)?;
     count_steps(&mut state, &mut tables, image, steps, wanted, to)?;
     Ok(tables_text(alloc, image, &tables)?)

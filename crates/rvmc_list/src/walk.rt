@@ -1,6 +1,7 @@
 //! The steps of a record, done one after another.
 
 ghost use Rattle.std.specs.Prelude.{◌≡◌, ◌≤◌, ◌<◌, ◌||◌, IfErr, IfOk, OnOk, length, nat_lt};
+ghost use Rattle.std.specs.Option.{option_copied};
 ghost use Rattle.cl_replay.specs.Replaying.{IsReached};
 ghost use Rattle.cl_replay.specs.Steps.{Leads};
 ghost use Rattle.rvmc_list.specs.List.{ListFaultHolds, names_no_rank as names_no_rank_of};
@@ -56,12 +57,11 @@ fn look_at(state: &ClusterState, step: &Step) -> Result<Option<Seen>, AllocError
 }
 
 /// A step's hart.
-fn hart_after(state: &ClusterState, step: &Step) -> Option<Hart>
-    ensures { IsHartAfter state.now step.now result }
+pub(crate) fn hart_after<'a>(state: &'a ClusterState, step: &Step) -> Option<&'a Hart>
+    ensures { IsHartAfter state.now step.now (option_copied result) }
 {
     let own = state.ranks.get(usize::from(step.rank()))?;
-    let hart = own.harts.get(usize::from(step.hart()))?;
-    Some(*hart)
+    own.harts.get(usize::from(step.hart()))
 }
 
 /// Does a step that stands at this place.
@@ -101,7 +101,10 @@ pub(crate) fn do_step(
     let Some(after) = hart_after(state, step) else {
         return Ok(None);
     };
-    Ok(Some(Done { before, after }))
+    Ok(Some(Done {
+        before,
+        after: *after,
+    }))
 }
 
 /// Whether a rank that is wanted isn't one of the image's.
@@ -140,17 +143,19 @@ fn state_at(
     }
 }
 
-/// The cluster where what is wanted of a record begins.
+/// The cluster at a place of a record, which isn't behind the first step that is wanted.
 ///
-/// Refusals, in this order: NoRank where the image hasn't the rank; PastEnd where a place is behind the last step;
-/// NotARun where a step before the first that is wanted is none of the machine; Memory.
+/// Refusals, in this order: NoRank where the image hasn't the rank; PastEnd where what is wanted begins or ends behind the
+/// last step; NotARun where a step before the place is none of the machine; Memory.
 pub(crate) fn start(
     alloc: Global,
     image: &Image,
     steps: &[Step],
     wanted: &Wanted,
+    place: u64,
 ) -> Result<(ClusterState, u64), ListFault>
-    ensures start { IfOk result (λ found. IsStart image.now steps.now wanted.now found.0 found.1) }
+    requires { place ≤ wanted.now.from }
+    ensures start { IfOk result (λ found. IsStart image.now steps.now wanted.now place found.0 found.1) }
     ensures fault { IfErr result (ListFaultHolds image.now steps.now wanted.now) }
 {
     let parts = image.parts();
@@ -162,6 +167,6 @@ pub(crate) fn start(
     if is_past(wanted.from, to, len) {
         return Err(ListFault::PastEnd(len));
     }
-    let state = state_at(alloc, image, steps, wanted.from)?;
+    let state = state_at(alloc, image, steps, place)?;
     Ok((state, to))
 }

@@ -3,3 +3,4 @@ pub mod Counters
 pub mod Mails
 pub mod Tabling
 pub mod EachKind
+pub mod Witnesses

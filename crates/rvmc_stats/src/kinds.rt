@@ -14,17 +14,15 @@ pub(crate) fn kind_place(kind: KindRef<'_>) -> usize
     ensures { result ≡ kind_place_of (kind_seen kind.entry) }
 {
     match kind {
+        KindRef::Bare(Bare::Plain) => 0,
+        KindRef::Bare(Bare::Local) => 1,
         KindRef::Hub(_) => 2,
-        KindRef::Bare(kind) => match kind {
-            Bare::Plain => 0,
-            Bare::Local => 1,
-            Bare::Ready => 3,
-            Bare::Take => 4,
-            Bare::Miss => 5,
-            Bare::Freed => 6,
-            Bare::Held => 7,
-            Bare::Idle => 8,
-        },
+        KindRef::Bare(Bare::Ready) => 3,
+        KindRef::Bare(Bare::Take) => 4,
+        KindRef::Bare(Bare::Miss) => 5,
+        KindRef::Bare(Bare::Freed) => 6,
+        KindRef::Bare(Bare::Held) => 7,
+        KindRef::Bare(Bare::Idle) => 8,
     }
 }
 

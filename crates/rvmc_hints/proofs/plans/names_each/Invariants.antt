@@ -1,5 +1,5 @@
 -- How the loop stands before each turn: the numbers from this one on are named.
-use Rattle.std.proofs.Common.{◌≡◌, length}
+use Rattle.std.proofs.Common.{◌≡◌}
 use Rattle.rvmc_hints.specs.Plans.{names_each}
 use Rattle.rvmc_hints.proofs.plans.names_each.Given as goal
 

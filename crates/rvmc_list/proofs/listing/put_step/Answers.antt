@@ -1,16 +1,13 @@
-use Rattle.std.proofs.Common.{rules, ◌≡◌, true, subst}
-use Rattle.std.specs.Prelude.{Option}
-use Rattle.rvmc_list.specs.Folding.{is_wanted}
-use Rattle.rvmc_list.specs.Putting.{IsDone}
-use Rattle.rvmc_list.specs.declared.walk.Done.{Done}
-use Rattle.rvmc_list.proofs.PutSteps.{put_done}
+use Rattle.std.proofs.Common.{◌≡◌, true, rules}
+use Rattle.rvmc_list.specs.Folding.{is_plain, is_wanted}
+use Rattle.rvmc_list.proofs.Plains.{plain_line_put}
 use Rattle.rvmc_list.proofs.listing.put_step.Goals as goal
 
-pub returns-clause-puts : goal.returns-clause-puts
-returns-clause-puts c =
-    let told : is_wanted c.args.wanted.now c.args.step.now ≡ true = search rules in
-    let done = subst (λ (d : Option Done). IsDone c.args.state.now c.args.step.now c.do_step.new.state d) c.in-Some.is
-    c.in_ok-done.ensures.done in
-    put_done c.args.symbols.now c.args.wanted.now c.args.state.now c.args.place c.args.step.now c.do_step.new.state
-    c.args.text.now.items c.args.begun c.put_line.new.text.items c.in_ok-put_line.field-0 c.in-Some.done done told
-    c.in_ok-put_line.ensures.text c.in_ok-put_line.ensures.begun
+pub returns-then-is_plain-clause-puts : goal.returns-then-is_plain-clause-puts
+returns-then-is_plain-clause-puts c =
+    let step = c.args.due.now.step.now in
+    let told : is_wanted c.args.wanted.now step ≡ true = search rules in
+    let plain : is_plain step.kind ≡ true = search rules in
+    plain_line_put c.args.symbols.now c.args.wanted.now c.args.state.now c.args.due.now.place c.args.due.now.phase step
+    c.put_plain_line.new.state c.args.text.now.items c.args.begun c.put_plain_line.new.text.items
+    c.in_ok-put_plain_line.ensures.puts told plain
