@@ -296,3 +296,15 @@ def read(svg):
         else:
             rows.append(title(part))
     return marks, sorted(arrows), sorted(bars), rows, "".join(lines)
+
+
+def has_lanes(svg):
+    """Whether all marks of a hart stand in one lane, and the lanes in the order of ranks and of their harts."""
+    across = {}
+    for part in tree.fromstring(svg).iter(f"{SVG}g"):
+        if part.get("id") and title(part) is not None:
+            words = title(part).split()
+            hart = int(words[words.index("rank") + 1]), int(words[words.index("hart") + 1])
+            across.setdefault(hart, set()).add(float(part.find(f"{SVG}use").get("x").rstrip("%")))
+    lanes = [sorted(across[hart]) for hart in sorted(across)]
+    return all(len(lane) == 1 for lane in lanes) and all(one < other for one, other in zip(lanes, lanes[1:]))

@@ -38,7 +38,7 @@ counted : (d : Deed) (m : Option Post) (ds : List Deed) → d.made ≡ m
     → length (posts_made (d ∷ ds)) ≡ length (option_to_list m ++ posts_made ds)
 counted d m ds e = ap (λ o. length (option_to_list o ++ posts_made ds)) e
 
-made_at : (deeds : List Deed) (place : ℕ) (p : Post) (spot : Spot) → slice_get (posts_made deeds) place ≡ Some p
+pub made_at : (deeds : List Deed) (place : ℕ) (p : Post) (spot : Spot) → slice_get (posts_made deeds) place ≡ Some p
     → slice_get (spots_made deeds) place ≡ Some spot → IsMadeAt deeds place p spot
 made_at [] place p spot e f = absurd (cc)
 made_at (d ∷ ds) place p spot e f = go d.made refl (made_at ds) place e f
@@ -78,7 +78,7 @@ made_at (d ∷ ds) place p spot e f = go d.made refl (made_at ds) place e f
 
 -- ---- an arrow
 
-post_at : (ps : List Post) (place : ℕ) (line : Line) → slice_get (pairs ps) place ≡ Some line
+pub post_at : (ps : List Post) (place : ℕ) (line : Line) → slice_get (pairs ps) place ≡ Some line
     → slice_get ps place ≡ Some line.post
 post_at ps place line e =
     ap (λ l. slice_get l place) (sym (posts_pairs ps))

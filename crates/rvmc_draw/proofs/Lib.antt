@@ -1,8 +1,12 @@
+pub mod Among
 pub mod Boards
 pub mod Could
 pub mod Gots
 pub mod Lost
+pub mod Messages
 pub mod Pairs
+pub mod Partitions
 pub mod Sources
 pub mod Tables
+pub mod Waits
 pub mod Walked

@@ -64,7 +64,7 @@ set_nowhere (y ∷ xs) zero v none = absurd (cc)
 set_nowhere (y ∷ xs) (suc k) v none = ap (λ l. y ∷ l) (set_nowhere xs k v none)
 
 -- what stands in a table's place
-within_some : {A : Type 0} (count : ℕ) (at : ℕ → A) (k : ℕ) (x : A) → within count at k ≡ Some x
+pub within_some : {A : Type 0} (count : ℕ) (at : ℕ → A) (k : ℕ) (x : A) → within count at k ≡ Some x
     → (nat_lt k count ≡ true) × (x ≡ at k)
 within_some count at k x is = go (nat_lt k count) refl is
   where
@@ -150,7 +150,7 @@ table_none count x at ats place = go (nat_lt place count) refl
 
 -- ---- boxes
 
-last_append : {A : Type 0} (o : Option A) (xs ys : List A) → last_or o (xs ++ ys) ≡ last_or (last_or o xs) ys
+pub last_append : {A : Type 0} (o : Option A) (xs ys : List A) → last_or o (xs ++ ys) ≡ last_or (last_or o xs) ys
 last_append o [] ys = refl
 last_append o (x ∷ xs) ys = last_append (Some x) xs ys
 

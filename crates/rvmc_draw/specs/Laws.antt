@@ -1,5 +1,6 @@
 -- What an arrow says of the steps.
-use Rattle.std.specs.Prelude.{ℕ, ◌≡◌, ◌≢◌, ◌<◌, ◌↔◌, Bool, true, false, List, [], ◌∷◌, ◌++◌, length, option_to_list, Some}
+use Rattle.std.specs.Prelude.{ℕ, ◌≡◌, ◌≢◌, ◌<◌, ◌+◌, ◌-◌, ◌^◌, ◌⊎◌, ◌↔◌, Bool, true, false, List, [], ◌∷◌, ◌++◌, length, min}
+use Rattle.std.specs.Prelude.{option_to_list, Option, Some, None}
 use Rattle.std.specs.List.{list_any, slice_get}
 use Rattle.mp_match.specs.Pairs.{partner_for}
 use Rattle.mp_match.specs.PostPairs.{pairs}
@@ -8,12 +9,20 @@ use Rattle.mp_match.specs.declared.posts.Post.{Post}
 use Rattle.mp_match.specs.declared.posts.Post.TheVariants.{Receive, Send}
 use Rattle.mp_match.specs.declared.posts.Selection.{Selection}
 use Rattle.mp_match.specs.declared.posts.Sent.{Sent}
-use Rattle.rvmc_draw.specs.Board.{arrow_to, carried_by, is_got_in, is_open_to, lines_with, other_first, partner_numbered, posts_made, spot_if, spots_made}
-use Rattle.rvmc_draw.specs.Walks.{got_places}
+use Rattle.rvmc_draw.specs.Among.{IsAmong}
+use Rattle.rvmc_draw.specs.Board.{arrow_to, carried_by, is_got_in, is_open_to, lines_with, lost, other_first, partner_numbered}
+use Rattle.rvmc_draw.specs.Board.{posts_made, spot_if, spots_made}
+use Rattle.rvmc_draw.specs.Looks.{lane_of}
+use Rattle.rvmc_draw.specs.Parts.{box_place, readies}
+use Rattle.rvmc_draw.specs.Views.{is_in_view}
+use Rattle.rvmc_draw.specs.Walks.{Scope, arrows_of, got_places}
 use Rattle.rvmc_draw.specs.declared.board.Manner.{Manner}
 use Rattle.rvmc_draw.specs.declared.deeds.Deed.{Deed}
 use Rattle.rvmc_draw.specs.declared.drawing.Arrow.{Arrow}
+use Rattle.rvmc_draw.specs.declared.drawing.Carried.{Carried}
+use Rattle.rvmc_draw.specs.declared.drawing.Carried.TheVariants.{Message, Partition}
 use Rattle.rvmc_draw.specs.declared.drawing.Spot.{Spot}
+use Rattle.rvmc_draw.specs.declared.views.View.{View}
 
 -- these are the posts that the steps made, in their order and with their partners, and the steps that made them
 pub record IsBoardOf (deeds : List Deed) (lines : List Line) (spots : List Spot) : Type 0 where
@@ -83,3 +92,88 @@ pub record IsFirstOfOthers (lines : List Line) (a : Selection) (source place : �
 abbrev pub CouldLaw : Type 0
 CouldLaw = (lines : List Line) (a : Selection) (source place : ℕ)
     → (other_first lines a source ≡ Some place) ↔ IsFirstOfOthers lines a source place
+
+-- ---- all arrows
+
+abbrev pub is_message : Carried → Bool
+is_message (Message tag count) = true
+is_message c = false
+
+-- a step got this message: by the number of a post of which it was told that it brings one. So a claim, which brings none,
+-- isn't taken for the receive, nor is a receive that was posted only
+pub record IsGotArrow (deeds : List Deed) (a : Arrow) : Type 0 where
+  pub before : List Deed
+  pub getter : Deed
+  pub after : List Deed
+  pub all : deeds ≡ before ++ getter ∷ after
+  pub number : ℕ
+  pub got : IsAmong getter.got.items number
+  pub joins : JoinsSend (before ++ getter ∷ []) Manner.Got number getter.spot a
+
+-- the arrows of messages are those of the messages that steps got: each has its arrow, and there are no others
+abbrev pub MessagesLaw : Type 0
+MessagesLaw = (scope : Scope) (deeds : List Deed) (a : Arrow)
+    → (IsAmong (arrows_of scope deeds) a × (is_message a.carried ≡ true)) ↔ IsGotArrow deeds a
+
+-- nobody got the message of a send that is shown: its arrow ends in an open head
+pub record IsLostArrow (deeds : List Deed) (view : View) (a : Arrow) : Type 0 where
+  pub place : ℕ
+  pub s : Sent
+  pub from : Spot
+  pub made : IsMadeAt deeds place (Send s) from
+  pub shown : is_in_view view from ≡ true
+  pub nobody : ¬ IsGotAmong deeds place
+  pub arrow_is : a
+      ≡ record { from = from; to = None; dest = s.dest; carried = Message s.envelope.tag s.envelope.count }
+
+-- those are all arrows of messages that weren't got
+abbrev pub LostLaw : Type 0
+LostLaw = (deeds : List Deed) (view : View) (a : Arrow)
+    → IsAmong (lost view (pairs (posts_made deeds)) (spots_made deeds) (got_places deeds)) a
+    ↔ IsLostArrow deeds view a
+
+-- ---- partitions
+
+-- a step took a partition which the maker made ready, and none did so between them: the arrow joins the two. Its phase is
+-- that which the maker began: the number of the times that the box was made ready, as 64 bits hold it (MPI 4.1, chapter 4.2)
+pub record JoinsReady (scope : Scope) (deeds : List Deed) (a : Arrow) : Type 0 where
+  pub earlier : List Deed
+  pub maker : Deed
+  pub between : List Deed
+  pub taker : Deed
+  pub after : List Deed
+  pub all : deeds ≡ (earlier ++ maker ∷ between) ++ taker ∷ after
+  pub box : ℕ × ℕ
+  pub takes : taker.taken ≡ Some box
+  pub there : box_place box < scope.boxes
+  pub made : ℕ × ℕ
+  pub makes : maker.ready ≡ Some made
+  pub same : box_place made ≡ box_place box
+  pub none_between : readies (box_place box) between ≡ []
+  pub arrow_is : a
+      ≡ record {
+        from = maker.spot;
+        to = Some taker.spot;
+        dest = taker.spot.rank;
+        carried = Partition box.0 box.1 (min (length (readies (box_place box) earlier) + 1) (2 ^ 64 - 1));
+      }
+
+abbrev pub is_partition : Carried → Bool
+is_partition (Partition link part phase) = true
+is_partition c = false
+
+-- the arrows of partitions are these, so none comes from the phase before
+abbrev pub PartitionsLaw : Type 0
+PartitionsLaw = (scope : Scope) (deeds : List Deed) (a : Arrow)
+    → (IsAmong (arrows_of scope deeds) a × (is_partition a.carried ≡ true)) ↔ JoinsReady scope deeds a
+
+-- a box is one partition of one link, where each link has 16
+abbrev pub BoxLaw : Type 0
+BoxLaw = (a b : ℕ × ℕ) → a.1 < 16 → b.1 < 16 → box_place a ≡ box_place b → (a.0 ≡ b.0) × (a.1 ≡ b.1)
+
+-- ---- lanes
+
+-- lanes are in the ranks' order, and those of a rank in its harts', whoever had the first step
+abbrev pub LanesLaw : Type 0
+LanesLaw = (harts : ℕ) (a b : Spot) → a.hart < harts → b.hart < harts
+    → (lane_of harts a < lane_of harts b) ↔ ((a.rank < b.rank) ⊎ ((a.rank ≡ b.rank) × (a.hart < b.hart)))

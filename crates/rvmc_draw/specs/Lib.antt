@@ -1,3 +1,4 @@
+pub mod Among
 pub mod Asked
 pub mod Board
 pub mod Held
@@ -7,3 +8,4 @@ pub mod Marks
 pub mod Parts
 pub mod Views
 pub mod Walks
+pub mod Waits

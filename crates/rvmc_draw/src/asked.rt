@@ -16,11 +16,11 @@ pub fn made_by(rank: u8, request: &Request, reply: &Reply) -> Option<Post>
 {
     match request {
         Request::Send {
-            sync,
             comm,
             dest,
             tag,
             bytes,
+            sync,
         } => match reply {
             Reply::Posted { .. } => Some(Post::Send(Sent {
                 sync: *sync,

@@ -1,6 +1,7 @@
 //! Laws of a picture's data. The functions do nothing; their contracts are the laws.
 
-ghost use Rattle.rvmc_draw.specs.Laws.{ArrowLaw, BoardLaw, CouldLaw, GotLaw};
+ghost use Rattle.rvmc_draw.specs.Laws.{ArrowLaw, BoardLaw, BoxLaw, CouldLaw, GotLaw, LanesLaw, LostLaw, MessagesLaw, PartitionsLaw};
+ghost use Rattle.rvmc_draw.specs.Waits.{BarsLaw, WaitingLaw};
 
 /// The posts that are kept are those that the steps made, with the partners that MPI's rule gives them (MPI 4.1, chapter
 /// 3.5), each with the step that made it.
@@ -24,4 +25,41 @@ pub fn got_law()
 /// nobody had before it, and from no other.
 pub fn could_law()
     ensures { CouldLaw }
+{}
+
+/// Each message that a step got has its arrow, from the step of its send to that step, and no other step has one: not the
+/// claim of the message, nor a receive that was posted and got nothing yet.
+pub fn messages_law()
+    ensures { MessagesLaw }
+{}
+
+/// The arrows with an open head are those of sends that are shown and whose messages nobody got.
+pub fn lost_law()
+    ensures { LostLaw }
+{}
+
+/// An arrow of a partition joins the step that took it and the step that made it ready last before: of the same link and
+/// place, and in the phase that the latter began (MPI 4.1, chapter 4.2).
+pub fn partitions_law()
+    ensures { PartitionsLaw }
+{}
+
+/// A box is one partition of one link.
+pub fn box_law()
+    ensures { BoxLaw }
+{}
+
+/// A hart's bar is begun exactly where it waits: at its first look in vain since it went on.
+pub fn waiting_law()
+    ensures { WaitingLaw }
+{}
+
+/// A bar ends exactly at the step of its hart that went on, behind looks in vain.
+pub fn bars_law()
+    ensures { BarsLaw }
+{}
+
+/// The lanes are in the order of ranks and of their harts.
+pub fn lanes_law()
+    ensures { LanesLaw }
 {}

@@ -2,7 +2,8 @@
 //! each partition, and the looks in vain.
 //!
 //! The meaning stands in specs/: the arrows to a step (`Board`, `Parts`), the bars of a hart (`Looks`), which steps have a
-//! mark (`Marks`), what is shown (`Views`), all of a list of steps (`Walks`), and what an arrow says of the steps (`Laws`).
+//! mark (`Marks`), what is shown (`Views`), all of a list of steps (`Walks`), and what an arrow (`Laws`) and a bar (`Waits`)
+//! say of the steps.
 #![tactic(auto)]
 
 mod asked;

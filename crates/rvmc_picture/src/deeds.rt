@@ -3,7 +3,6 @@
 ghost use Rattle.std.specs.Prelude.{◌≡◌, IfOk, option_to_list};
 ghost use Rattle.cl_calls.specs.Calls.{call_named};
 ghost use Rattle.cl_machine.specs.SameSteps.{kind_seen};
-ghost use Rattle.rvmc_list.specs.Lines.{box_in as box_in_ask};
 ghost use Rattle.rvmc_picture.specs.Deeds.{IsDeedBy, all_shape, done_shape, got_in, hub_shape, is_put as is_put_of};
 ghost use Rattle.rvmc_picture.specs.Deeds.{is_silent as is_quiet_of, is_vain as is_vain_of, is_in_wait as is_waiting_of};
 ghost use Rattle.rvmc_picture.specs.Deeds.{local_shape, made_in, numbers_by, posted_shape, posts_by, ready_in, request_in};
@@ -19,7 +18,7 @@ use mp_match::Post;
 use mp_types::{Message, Reply, Request};
 use rv_hart::{Hart, Mode};
 use rvmc_draw::{Deed, Shape, Spot, got_by, made_by};
-use rvmc_list::{BoxNumber, is_refused};
+use rvmc_list::{BoxNumber, box_in, is_refused};
 use std::alloc::{AllocError, Global};
 
 /// What the hub is asked.
@@ -29,18 +28,6 @@ fn request_of(ask: &Ask) -> Option<&Request>
     match ask {
         Ask::Hub(request) => Some(request),
         _ => None,
-    }
-}
-
-/// The box that is asked.
-fn box_of(ask: &Ask) -> Option<BoxNumber>
-    ensures { result ≡ box_in_ask ask.now }
-{
-    match ask {
-        Ask::Ready { link, part, .. } => Some((*link, *part)),
-        Ask::Look { link, part } => Some((*link, *part)),
-        Ask::Freed { link, part } => Some((*link, *part)),
-        Ask::Plain | Ask::Local | Ask::Hub(_) | Ask::Held | Ask::Idle => None,
     }
 }
 
@@ -94,7 +81,7 @@ fn ready(step: &Step, ask: &Ask) -> Option<BoxNumber>
     ensures { result ≡ ready_in step.now.kind ask.now }
 {
     match step.kind() {
-        KindRef::Bare(Bare::Ready) => box_of(ask),
+        KindRef::Bare(Bare::Ready) => box_in(ask),
         _ => None,
     }
 }
@@ -104,7 +91,7 @@ fn taken(step: &Step, ask: &Ask) -> Option<BoxNumber>
     ensures { result ≡ took_in step.now.kind ask.now }
 {
     match step.kind() {
-        KindRef::Bare(Bare::Take) => box_of(ask),
+        KindRef::Bare(Bare::Take) => box_in(ask),
         _ => None,
     }
 }

@@ -6,7 +6,8 @@ use Rattle.std.proofs.lemmas.Bool.{and_parts, eqb-true, leb-true}
 use Rattle.std.proofs.lemmas.List.Elements.{All-cons, All-nil}
 use mathlib.Core.Logic.{inl, inr}
 use Rattle.rvmc_svg.specs.Safe.{IsAllowed}
-use Rattle.rvmc_svg.specs.Escaped.{safe_byte, safe_one}
+use Rattle.rvmc_svg.specs.Adding.{safe_one}
+use Rattle.rvmc_svg.specs.Escaped.{safe_byte}
 
 allowed : (b : ℕ) → IsAllowed (safe_byte b)
 allowed b = newline (b == 10) refl

@@ -5,9 +5,6 @@ use Rattle.std.specs.Prelude.{ℕ, ◌≡◌, ◌≤◌, ◌⊎◌, ◌==◌, �
 abbrev pub safe_byte : ℕ → ℕ
 safe_byte byte = if (byte == 10) then byte else (if nat_le 32 byte && nat_le byte 126 then byte else 46)
 
-unfoldable pub safe_one : ℕ → List ℕ
-safe_one byte = safe_byte byte ∷ []
-
 -- what would be markup is written as an entity (2.4)
 unfoldable pub escaped : ℕ → List ℕ
 escaped byte =

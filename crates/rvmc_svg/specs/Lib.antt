@@ -1,2 +1,5 @@
+pub mod Adding
 pub mod Escaped
 pub mod Safe
+pub mod Shown
+pub mod Titles

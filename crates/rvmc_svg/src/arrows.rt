@@ -1,9 +1,14 @@
 //! Arrows: messages, claims, what a wildcard receive could have taken, and partitions.
 
+ghost use Rattle.std.specs.Prelude.{◌≡◌, ◌++◌, OnOk};
+ghost use Rattle.rvmc_svg.specs.Adding.{Adds, AddsIf, is_could as is_could_of, is_wanted as is_wanted_of};
+ghost use Rattle.rvmc_svg.specs.Titles.{arrow_title, cargo_text, arrow_end_text, spot_text};
+
 use crate::labels::Places;
 use crate::layout::{Layout, TOP, rank_at};
-use crate::marks::put_across;
+use crate::marks::{put_across, put_titled};
 use rvmc_draw::{Arrow, Carried, Drawing, Spot};
+use std::alloc::Global;
 use std::io;
 use std::io::Write;
 
@@ -34,7 +39,9 @@ pub(crate) fn put_heads(text: &mut Vec<u8>, ranks: u8) -> io::Result<()> {
 }
 
 /// What is told of what it carries.
-fn put_carried(text: &mut Vec<u8>, carried: &Carried) -> io::Result<()> {
+fn put_carried(text: &mut Vec<u8>, carried: &Carried) -> io::Result<()>
+    ensures { OnOk result (text.new.items ≡ text.old.items ++ cargo_text carried.now) }
+{
     match carried {
         Carried::Message { tag, count } => write!(text, "tag {tag}, {count} bytes"),
         Carried::Claim { tag, count } => write!(text, "claimed, tag {tag}, {count} bytes"),
@@ -47,24 +54,33 @@ fn put_carried(text: &mut Vec<u8>, carried: &Carried) -> io::Result<()> {
     }
 }
 
-/// What is told of an arrow.
-fn put_title(text: &mut Vec<u8>, arrow: &Arrow) -> io::Result<()> {
-    let Spot { place, rank, .. } = arrow.from;
-    write!(text, "<title>step {place} of rank {rank} to ")?;
-    match arrow.to {
-        Some(to) => {
-            let place = to.place;
-            let rank = to.rank;
-            write!(text, "step {place} of rank {rank}: ")?;
-        }
-        None => {
-            let dest = arrow.dest;
-            write!(text, "rank {dest}, where nobody got it: ")?;
-        }
+/// A step of a rank.
+fn put_spot(text: &mut Vec<u8>, spot: Spot) -> io::Result<()>
+    ensures { OnOk result (text.new.items ≡ text.old.items ++ spot_text spot) }
+{
+    let Spot { place, rank, .. } = spot;
+    write!(text, "step {place} of rank {rank}")
+}
+
+/// Where it goes to.
+fn put_end(text: &mut Vec<u8>, to: Option<Spot>, dest: u8) -> io::Result<()>
+    ensures { OnOk result (text.new.items ≡ text.old.items ++ arrow_end_text to dest) }
+{
+    match to {
+        Some(to) => put_spot(text, to),
+        None => write!(text, "rank {dest}, where nobody got it"),
     }
-    put_carried(text, &arrow.carried)?;
-    text.extend_from_slice(b"</title>")?;
-    Ok(())
+}
+
+/// What is told of an arrow.
+fn put_title(text: &mut Vec<u8>, arrow: &Arrow) -> io::Result<()>
+    ensures { OnOk result (text.new.items ≡ text.old.items ++ arrow_title arrow.now) }
+{
+    put_spot(text, arrow.from)?;
+    text.extend_from_slice(b" to ")?;
+    put_end(text, arrow.to, arrow.dest)?;
+    text.extend_from_slice(b": ")?;
+    put_carried(text, &arrow.carried)
 }
 
 /// How its line is drawn.
@@ -184,11 +200,10 @@ fn put_border(text: &mut Vec<u8>, drawing: &Drawing, line: &Line, arrow: &Arrow)
     Ok(())
 }
 
-/// Adds an arrow.
-fn put_arrow(text: &mut Vec<u8>, layout: &Layout<'_>, arrow: &Arrow) -> io::Result<()> {
+/// Adds what stands behind an arrow's title: its line, and the numbers at the border.
+fn put_drawn(text: &mut Vec<u8>, layout: &Layout<'_>, arrow: &Arrow) -> io::Result<()> {
     let line = line_of(layout, arrow);
-    text.extend_from_slice(b"<g>")?;
-    put_title(text, arrow)?;
+    text.extend_from_slice(b"</title>")?;
     if line.from == line.to {
         put_bow(text, arrow, &line)?;
     } else {
@@ -199,19 +214,85 @@ fn put_arrow(text: &mut Vec<u8>, layout: &Layout<'_>, arrow: &Arrow) -> io::Resu
     Ok(())
 }
 
-/// Adds all arrows. Those that tell of what could have been lie below the others.
-pub(crate) fn put_arrows(text: &mut Vec<u8>, layout: &Layout<'_>) -> io::Result<()> {
-    for arrow in layout.drawing.arrows.as_slice() {
-        if matches!(arrow.carried, Carried::Could { .. }) {
-            put_arrow(text, layout, arrow)?;
-        }
+/// Adds an arrow.
+fn put_arrow(
+    alloc: Global,
+    text: &mut Vec<u8>,
+    layout: &Layout<'_>,
+    arrow: &Arrow,
+) -> io::Result<()>
+    ensures { OnOk result (Adds text.old.items (arrow_title arrow.now) text.new.items) }
+{
+    let mut title = Vec::new(alloc);
+    put_title(&mut title, arrow)?;
+    let mut behind = Vec::new(alloc);
+    put_drawn(&mut behind, layout, arrow)?;
+    put_titled(text, b"<g>", title.as_slice(), behind.as_slice())
+}
+
+/// Whether an arrow tells of what could have been taken.
+fn is_could(carried: &Carried) -> bool
+    ensures { result ≡ is_could_of carried.now }
+{
+    match carried {
+        Carried::Could { .. } => true,
+        _ => false,
     }
-    for arrow in layout.drawing.arrows.as_slice() {
-        if !matches!(arrow.carried, Carried::Could { .. }) {
-            put_arrow(text, layout, arrow)?;
-        }
+}
+
+/// Whether an arrow is one of those, or else of the others.
+fn is_wanted(could: bool, carried: &Carried) -> bool
+    ensures { result ≡ is_wanted_of could carried.now }
+{
+    if could {
+        is_could(carried)
+    } else {
+        !is_could(carried)
+    }
+}
+
+/// Adds an arrow if it is wanted.
+#[tactic(auto, using(crate::proofs::Shown::adds_none, crate::proofs::Shown::adds_some))]
+fn put_wanted(
+    alloc: Global,
+    text: &mut Vec<u8>,
+    layout: &Layout<'_>,
+    could: bool,
+    arrow: &Arrow,
+) -> io::Result<()>
+    ensures { OnOk result
+        (AddsIf (is_wanted_of could arrow.now.carried) text.old.items (arrow_title arrow.now) text.new.items) }
+{
+    if is_wanted(could, &arrow.carried) {
+        put_arrow(alloc, text, layout, arrow)?;
     }
     Ok(())
+}
+
+/// Those that tell of what could have been taken, or the others.
+fn wanted(
+    alloc: Global,
+    layout: &Layout<'_>,
+    could: bool,
+    arrows: &[Arrow],
+) -> io::Result<Vec<u8>> {
+    let mut text = Vec::new(alloc);
+    for arrow in arrows {
+        put_wanted(alloc, &mut text, layout, could, arrow)?;
+    }
+    Ok(text)
+}
+
+/// All arrows. Those that tell of what could have been taken lie below the others.
+pub(crate) fn all_arrows(
+    alloc: Global,
+    layout: &Layout<'_>,
+    arrows: &[Arrow],
+) -> io::Result<Vec<u8>> {
+    let mut text = wanted(alloc, layout, true, arrows)?;
+    let above = wanted(alloc, layout, false, arrows)?;
+    text.extend_from_slice(above.as_slice())?;
+    Ok(text)
 }
 
 /// The tag and the size of a message, if it is one.
@@ -268,26 +349,31 @@ fn put_label(
     Ok(())
 }
 
-/// Adds at the open head of a message that nobody got that it wasn't.
+/// How far below an open head its label is tried.
+static LOWER: [u64; 3] = [4, 16, 28];
+
+/// Adds at the open head of a message that nobody got that it wasn't, where there is room.
 fn put_lost(text: &mut Vec<u8>, places: &mut Places, line: &Line, arrow: &Arrow) -> io::Result<()> {
     let rank = arrow.from.rank;
     let dest = arrow.dest;
-    let row = line.to_row.saturating_add(4);
     let width = places.pixels(78);
     let (anchor, dx, left) = if line.to >= line.from {
         ("start", "4", line.to)
     } else {
         ("end", "-4", line.to.saturating_sub(width))
     };
-    if !places.take(left, width, row)? {
-        return Ok(());
+    for lower in &LOWER {
+        let row = line.to_row.saturating_add(*lower);
+        if places.take(left, width, row)? {
+            write!(
+                text,
+                "<text class=\"f{rank} halo wide\" font-size=\"9.5\" text-anchor=\"{anchor}\" dx=\"{dx}\" x=\""
+            )?;
+            put_across(text, line.to)?;
+            return writeln!(text, "\" y=\"{row}\">to {dest}: not got</text>");
+        }
     }
-    write!(
-        text,
-        "<text class=\"f{rank} halo wide\" font-size=\"9.5\" text-anchor=\"{anchor}\" dx=\"{dx}\" x=\""
-    )?;
-    put_across(text, line.to)?;
-    writeln!(text, "\" y=\"{row}\">to {dest}: not got</text>")
+    Ok(())
 }
 
 /// Adds the labels of messages that nobody got.

@@ -18,7 +18,7 @@ g:hover>.a{stroke-width:3}.bold{font-weight:600}
 @media (prefers-color-scheme:dark){
 svg{background:#16181b}
 .ink{fill:#e8e8e8}.dim{fill:#a6a6a6}.lane{stroke:#555}.band{fill:#fff;opacity:.04}.halo{stroke:#16181b}
-.mark{stroke:#e8e8e8}.open{fill:#16181b}.full{fill:#e8e8e8}.wait{fill:#4c4733}.ever{fill:#6b2a20;stroke:#ff7d66}
+.mark{stroke:#e8e8e8}.open{fill:#16181b}.full{fill:#e8e8e8}.wait{fill:#6b6344}.ever{fill:#6b2a20;stroke:#ff7d66}
 .red{fill:#ff9c8a}.rule{stroke:#ff7d66}.ribbon{opacity:.2}
 .s0{stroke:#56b4e9}.s1{stroke:#ff8a3d}.s2{stroke:#2fd6a3}.s3{stroke:#e59ccb}
 .s4{stroke:#f0e442}.s5{stroke:#9fd3ff}.s6{stroke:#d9a066}.s7{stroke:#bbb}

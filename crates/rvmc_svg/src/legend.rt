@@ -86,6 +86,26 @@ fn has_could(drawing: &Drawing) -> bool {
     false
 }
 
+/// Whether there is a message that nobody got.
+fn has_lost(drawing: &Drawing) -> bool {
+    for arrow in drawing.arrows.as_slice() {
+        if arrow.to.is_none() {
+            return true;
+        }
+    }
+    false
+}
+
+/// Whether there is an arrow to a claim.
+fn has_claim(drawing: &Drawing) -> bool {
+    for arrow in drawing.arrows.as_slice() {
+        if matches!(arrow.carried, Carried::Claim { .. }) {
+            return true;
+        }
+    }
+    false
+}
+
 /// Adds what a sign means.
 fn put_meaning(text: &mut Vec<u8>, pen: &mut Pen, meaning: &'static str) -> io::Result<()> {
     let across = pen.across();
@@ -115,13 +135,16 @@ fn put_shapes(text: &mut Vec<u8>, drawing: &Drawing, pen: &mut Pen) -> io::Resul
     Ok(())
 }
 
-/// Adds the sign of a bar.
-fn put_bar(
-    text: &mut Vec<u8>,
-    pen: &mut Pen,
+/// How a sign is drawn, and what it means.
+#[derive(Clone, Copy, Drop)]
+struct Sign {
     class: &'static str,
     meaning: &'static str,
-) -> io::Result<()> {
+}
+
+/// Adds the sign of a bar.
+fn put_bar(text: &mut Vec<u8>, pen: &mut Pen, sign: Sign) -> io::Result<()> {
+    let Sign { class, meaning } = sign;
     let across = pen.across();
     let down = pen.down().saturating_sub(6);
     write!(
@@ -152,15 +175,16 @@ fn put_wild(text: &mut Vec<u8>, pen: &mut Pen) -> io::Result<()> {
     put_meaning(text, pen, "from any rank")
 }
 
-/// Adds the sign of what could have been taken.
-fn put_could(text: &mut Vec<u8>, pen: &mut Pen) -> io::Result<()> {
+/// Adds the sign of a line that is drawn so.
+fn put_line(text: &mut Vec<u8>, pen: &mut Pen, sign: Sign) -> io::Result<()> {
+    let Sign { class, meaning } = sign;
     let across = pen.across();
     let down = pen.down();
     write!(
         text,
-        "<svg overflow=\"visible\" x=\"{across}%\" y=\"{down}\"><path class=\"a thin far s0\" d=\"M4,0h18\"/></svg>"
+        "<svg overflow=\"visible\" x=\"{across}%\" y=\"{down}\"><path class=\"a thin {class} s0\" d=\"M4,0h18\"/></svg>"
     )?;
-    put_meaning(text, pen, "could have been got")
+    put_meaning(text, pen, meaning)
 }
 
 /// Whether there is a message.
@@ -181,6 +205,11 @@ fn put_numbers(text: &mut Vec<u8>, down: u64) -> io::Result<()> {
     )
 }
 
+/// One byte, or several.
+fn bytes_word(count: u16) -> &'static str {
+    if count == 1 { "byte" } else { "bytes" }
+}
+
 /// Adds what all messages share, or how one is told, and where the next line stands.
 fn put_kind(text: &mut Vec<u8>, drawing: &Drawing, down: u64) -> io::Result<u64> {
     if !has_message(drawing) {
@@ -191,12 +220,69 @@ fn put_kind(text: &mut Vec<u8>, drawing: &Drawing, down: u64) -> io::Result<u64>
             text,
             "<text class=\"dim wide\" font-size=\"10\" x=\"12\" y=\"{down}\">t7 8B: a message with tag 7 and 8 bytes</text>"
         )?,
-        Some((tag, count)) => writeln!(
-            text,
-            "<text class=\"dim\" font-size=\"10\" x=\"12\" y=\"{down}\">each message: tag {tag}, {count} bytes</text>"
-        )?,
+        Some((tag, count)) => {
+            let bytes = bytes_word(count);
+            writeln!(
+                text,
+                "<text class=\"dim\" font-size=\"10\" x=\"12\" y=\"{down}\">each message: tag {tag}, {count} {bytes}</text>"
+            )?;
+        }
     }
     Ok(down.saturating_add(LINE))
+}
+
+/// Those that look in vain and go on, those that wait at the end, and arrows of other kinds.
+const WAITS: Sign = Sign {
+    class: "wait",
+    meaning: "waits",
+};
+
+const WAITS_AT_END: Sign = Sign {
+    class: "ever",
+    meaning: "waits at the end",
+};
+
+const LOST: Sign = Sign {
+    class: "lost",
+    meaning: "got by nobody",
+};
+
+const CLAIMED: Sign = Sign {
+    class: "claim",
+    meaning: "to the claim",
+};
+
+const COULD: Sign = Sign {
+    class: "far",
+    meaning: "could have been got",
+};
+
+/// Adds the signs of bars.
+fn put_waits(text: &mut Vec<u8>, drawing: &Drawing, pen: &mut Pen) -> io::Result<()> {
+    if has_bar(drawing, true) {
+        put_bar(text, pen, WAITS)?;
+    }
+    if has_bar(drawing, false) {
+        put_bar(text, pen, WAITS_AT_END)?;
+    }
+    if has_wild(drawing) {
+        put_wild(text, pen)?;
+    }
+    Ok(())
+}
+
+/// Adds the signs of arrows that aren't plain.
+fn put_lines(text: &mut Vec<u8>, drawing: &Drawing, pen: &mut Pen) -> io::Result<()> {
+    if has_lost(drawing) {
+        put_line(text, pen, LOST)?;
+    }
+    if has_claim(drawing) {
+        put_line(text, pen, CLAIMED)?;
+    }
+    if has_could(drawing) {
+        put_line(text, pen, COULD)?;
+    }
+    Ok(())
 }
 
 /// Adds the legend, from this row on, and tells where it ends.
@@ -208,17 +294,7 @@ pub(crate) fn put_legend(text: &mut Vec<u8>, drawing: &Drawing, from: u64) -> io
         from: down.saturating_add(18),
     };
     put_shapes(text, drawing, &mut pen)?;
-    if has_bar(drawing, true) {
-        put_bar(text, &mut pen, "wait", "waits")?;
-    }
-    if has_bar(drawing, false) {
-        put_bar(text, &mut pen, "ever", "waits at the end")?;
-    }
-    if has_wild(drawing) {
-        put_wild(text, &mut pen)?;
-    }
-    if has_could(drawing) {
-        put_could(text, &mut pen)?;
-    }
+    put_waits(text, drawing, &mut pen)?;
+    put_lines(text, drawing, &mut pen)?;
     Ok(pen.down().saturating_add(ROW))
 }

@@ -1,9 +1,16 @@
 //! Marks: a shape for each step that is shown, and what stands beside it.
 
+ghost use Rattle.std.specs.Prelude.{IfOk, OnOk};
+ghost use Rattle.std.specs.List.{All};
+ghost use Rattle.rvmc_draw.specs.declared.drawing.Mark.{Mark as MarkView};
+ghost use Rattle.rvmc_svg.specs.Adding.{Adds};
+ghost use Rattle.rvmc_svg.specs.Shown.{HasTitle};
+
 use crate::labels::Places;
 use crate::layout::{Layout, TOP, long};
 use crate::safe::put_text;
 use rvmc_draw::{Mark, Shape};
+use std::alloc::Global;
 use std::io;
 use std::io::Write;
 
@@ -132,8 +139,25 @@ pub(crate) fn put_count(
     writeln!(text, "\" y=\"{row}\">{count} {these}</text>")
 }
 
-/// Adds a mark, with what is told of it.
-fn put_mark(
+/// Adds a title of these bytes, each of them escaped, with what stands before its tag and what stands behind the bytes.
+#[tactic(auto, using(crate::proofs::Shown::adds_titled))]
+pub(crate) fn put_titled(
+    text: &mut Vec<u8>,
+    before: &[u8],
+    title: &[u8],
+    behind: &[u8],
+) -> io::Result<()>
+    ensures { OnOk result (Adds text.old.items title.now text.new.items) }
+{
+    text.extend_from_slice(before)?;
+    text.extend_from_slice(b"<title>")?;
+    put_text(text, title)?;
+    text.extend_from_slice(behind)?;
+    Ok(())
+}
+
+/// Adds what stands behind a mark's title: how many steps it stands for, its shape, and what is written beside it.
+fn put_behind(
     text: &mut Vec<u8>,
     places: &mut Places,
     layout: &Layout<'_>,
@@ -141,9 +165,6 @@ fn put_mark(
     row: u64,
 ) -> io::Result<()> {
     let at = layout.lane_of(mark.spot);
-    let place = mark.spot.place;
-    write!(text, "<g id=\"step{place}\"><title>")?;
-    put_text(text, mark.tip.as_slice())?;
     if mark.times > 1 {
         let more = mark.times;
         write!(text, "\nand more of its kind: {more} in a row")?;
@@ -163,19 +184,47 @@ fn put_mark(
     put_count(text, places, at, above, mark.quiet, "steps")
 }
 
-/// Adds all marks.
-pub(crate) fn put_marks(
+/// Adds a mark, with what is told of it.
+fn put_mark(
+    alloc: Global,
     text: &mut Vec<u8>,
     places: &mut Places,
     layout: &Layout<'_>,
-) -> io::Result<()> {
+    mark: &Mark,
+    row: u64,
+) -> io::Result<()>
+    ensures { OnOk result (Adds text.old.items mark.now.tip.items text.new.items) }
+{
+    let place = mark.spot.place;
+    let mut before = Vec::new(alloc);
+    write!(&mut before, "<g id=\"step{place}\">")?;
+    let mut behind = Vec::new(alloc);
+    put_behind(&mut behind, places, layout, mark, row)?;
+    put_titled(
+        text,
+        before.as_slice(),
+        mark.tip.as_slice(),
+        behind.as_slice(),
+    )
+}
+
+/// All marks, which stand in the rows of the layout.
+pub(crate) fn all_marks(
+    alloc: Global,
+    places: &mut Places,
+    layout: &Layout<'_>,
+    marks: &[Mark],
+) -> io::Result<Vec<u8>>
+    ensures { IfOk result (λ text. All (λ (m : MarkView). HasTitle text.items m.tip.items) marks.now) }
+{
+    let mut text = Vec::new(alloc);
     let mut number: usize = 0;
-    for mark in layout.drawing.marks.as_slice() {
+    for mark in marks {
         let row = layout.rows.get(number).copied().unwrap_or(0);
-        put_mark(text, places, layout, mark, row)?;
+        put_mark(alloc, &mut text, places, layout, mark, row)?;
         number = number.saturating_add(1);
     }
-    Ok(())
+    Ok(text)
 }
 
 /// How far apart two places that stand in one column are.

@@ -1,17 +1,18 @@
 //! The whole page.
 
-ghost use Rattle.std.specs.Prelude.{IfOk};
+ghost use Rattle.std.specs.Prelude.{◌≡◌, ◌++◌, IfOk};
 ghost use Rattle.std.specs.List.{All};
 ghost use Rattle.rvmc_svg.specs.Safe.{IsAllowed};
+ghost use Rattle.rvmc_svg.specs.Shown.{IsShown};
 
-use crate::arrows::{put_arrows, put_heads, put_labels, put_losses};
+use crate::arrows::{all_arrows, put_heads, put_labels, put_losses};
 use crate::bars::put_bars;
 use crate::ends::{put_rows, put_told};
 use crate::fonts::{SHAPES, STYLE};
 use crate::labels::Places;
 use crate::layout::{Layout, TOP, lane_at, page_wide, rank_at, rows, share};
 use crate::legend::put_legend;
-use crate::marks::{put_across, put_marks, put_places};
+use crate::marks::{all_marks, put_across, put_places};
 use crate::ribbons::put_ribbons;
 use crate::safe::put_safe;
 use rvmc_draw::Drawing;
@@ -36,7 +37,10 @@ fn put_lane(
     if drawing.harts > 1 {
         text.extend_from_slice(b"<text class=\"dim\" font-size=\"9\" text-anchor=\"middle\" x=\"")?;
         put_across(text, at)?;
-        writeln!(text, "\" y=\"38\">{hart}</text>")?;
+        writeln!(
+            text,
+            "\" y=\"38\"><tspan class=\"wide\">hart </tspan>{hart}</text>"
+        )?;
     }
     Ok(())
 }
@@ -78,53 +82,94 @@ fn put_ranks(text: &mut Vec<u8>, drawing: &Drawing, foot: u64) -> io::Result<()>
     Ok(())
 }
 
-/// What stands in the picture, and where it ends.
-fn body(alloc: Global, drawing: &Drawing, text: &mut Vec<u8>) -> io::Result<u64> {
-    let rows = rows(alloc, drawing)?;
-    let last = rows.as_slice().last().copied().unwrap_or(TOP);
-    let foot = last.saturating_add(34);
-    let mut places = Places::new(alloc, page_wide(drawing));
+/// What lies below the arrows: the heads that they use, the lanes, the bars, the ribbons and the steps' numbers.
+fn put_under(text: &mut Vec<u8>, places: &mut Places, layout: &Layout<'_>) -> io::Result<()> {
+    let drawing = layout.drawing;
     put_heads(text, drawing.ranks)?;
-    put_ranks(text, drawing, foot)?;
-    let layout = Layout {
-        drawing,
-        rows: rows.as_slice(),
-        foot,
-    };
-    put_bars(text, &mut places, &layout)?;
-    put_ribbons(text, &layout)?;
-    put_arrows(text, &layout)?;
-    put_places(text, &layout)?;
-    put_marks(text, &mut places, &layout)?;
-    put_labels(text, &mut places, &layout)?;
-    put_losses(text, &mut places, &layout)?;
-    let down = put_rows(text, drawing, foot.saturating_add(20))?;
+    put_ranks(text, drawing, layout.foot)?;
+    put_bars(text, places, layout)?;
+    put_ribbons(text, layout)?;
+    put_places(text, layout)
+}
+
+/// What lies above the marks or stands below them, and where it ends: labels, the rows of the end, what is told of it, and
+/// the legend.
+fn put_over(text: &mut Vec<u8>, places: &mut Places, layout: &Layout<'_>) -> io::Result<u64> {
+    let drawing = layout.drawing;
+    put_labels(text, places, layout)?;
+    put_losses(text, places, layout)?;
+    let down = put_rows(text, drawing, layout.foot.saturating_add(20))?;
     let down = put_told(text, drawing.told.as_slice(), down.saturating_add(10))?;
     put_legend(text, drawing, down.saturating_add(12))
 }
 
-/// The page before its bytes are made safe.
-fn page(alloc: Global, drawing: &Drawing) -> io::Result<Vec<u8>> {
-    let mut inner = Vec::new(alloc);
-    let high = body(alloc, drawing, &mut inner)?;
+/// What stands before all that is drawn, on a page of this height.
+fn put_front(text: &mut Vec<u8>, drawing: &Drawing, high: u64) -> io::Result<()> {
     let wide = page_wide(drawing);
-    let mut text = Vec::new(alloc);
     writeln!(
-        &mut text,
+        text,
         "<svg xmlns=\"http://www.w3.org/2000/svg\" width=\"{wide}\" height=\"{high}\" font-family=\"system-ui,sans-serif\" role=\"img\">"
     )?;
     text.extend_from_slice(STYLE.as_bytes())?;
     text.extend_from_slice(SHAPES.as_bytes())?;
-    text.extend_from_slice(inner.as_slice())?;
-    text.extend_from_slice(b"</svg>\n")?;
+    Ok(())
+}
+
+/// The parts of a page, one behind another.
+fn joined(
+    alloc: Global,
+    under: &[u8],
+    arrows: &[u8],
+    marks: &[u8],
+    over: &[u8],
+) -> io::Result<Vec<u8>>
+    ensures { IfOk result (λ text. text.items ≡ ((under.now ++ arrows.now) ++ marks.now) ++ over.now) }
+{
+    let mut text = Vec::new(alloc);
+    text.extend_from_slice(under)?;
+    text.extend_from_slice(arrows)?;
+    text.extend_from_slice(marks)?;
+    text.extend_from_slice(over)?;
     Ok(text)
 }
 
-/// The picture as an SVG image. Each byte is one that XML allows, whatever the drawing holds. The only error is want of
-/// memory.
-#[tactic(auto, using(crate::proofs::Allowed::all_safe))]
+/// The page before its bytes are made safe.
+fn page(alloc: Global, drawing: &Drawing) -> io::Result<Vec<u8>>
+    ensures { IfOk result (λ text. IsShown drawing.now text.items) }
+{
+    let rows = rows(alloc, drawing)?;
+    let last = rows.as_slice().last().copied().unwrap_or(TOP);
+    let layout = Layout {
+        drawing,
+        rows: rows.as_slice(),
+        foot: last.saturating_add(34),
+    };
+    let mut places = Places::new(alloc, page_wide(drawing));
+    let mut below = Vec::new(alloc);
+    put_under(&mut below, &mut places, &layout)?;
+    let arrows = all_arrows(alloc, &layout, drawing.arrows.as_slice())?;
+    let marks = all_marks(alloc, &mut places, &layout, drawing.marks.as_slice())?;
+    let mut over = Vec::new(alloc);
+    let high = put_over(&mut over, &mut places, &layout)?;
+    over.extend_from_slice(b"</svg>\n")?;
+    let mut under = Vec::new(alloc);
+    put_front(&mut under, drawing, high)?;
+    under.extend_from_slice(below.as_slice())?;
+    joined(
+        alloc,
+        under.as_slice(),
+        arrows.as_slice(),
+        marks.as_slice(),
+        over.as_slice(),
+    )
+}
+
+/// The picture as an SVG image: what the drawing tells of each mark stands in it as a title, each of its bytes escaped. Each
+/// byte is one that XML allows, whatever the drawing holds. The only error is want of memory.
+#[tactic(auto, using(crate::proofs::Allowed::all_safe, crate::proofs::Shown::page_safe))]
 pub fn svg(alloc: Global, drawing: &Drawing) -> io::Result<Vec<u8>>
-    ensures { IfOk result (λ text. All IsAllowed text.items) }
+    ensures allowed { IfOk result (λ text. All IsAllowed text.items) }
+    ensures shown { IfOk result (λ text. IsShown drawing.now text.items) }
 {
     let page = page(alloc, drawing)?;
     let mut text = Vec::new(alloc);

@@ -2,7 +2,8 @@
 
 ghost use Rattle.std.specs.Prelude.{◌≡◌, ◌++◌, OnOk};
 ghost use Rattle.std.specs.List.{flat_map};
-ghost use Rattle.rvmc_svg.specs.Escaped.{escaped, safe_byte as safe_byte_of, safe_one};
+ghost use Rattle.rvmc_svg.specs.Adding.{safe_one};
+ghost use Rattle.rvmc_svg.specs.Escaped.{escaped, safe_byte as safe_byte_of};
 
 use std::io;
 
@@ -20,7 +21,7 @@ fn safe_byte(byte: u8) -> u8
 }
 
 /// Adds the safe byte.
-#[tactic(auto, unfolding(crate::specs::Escaped::safe_one))]
+#[tactic(auto, unfolding(crate::specs::Adding::safe_one))]
 fn put_one(text: &mut Vec<u8>, byte: u8) -> io::Result<()>
     ensures { OnOk result (text.new.items ≡ text.old.items ++ safe_one byte) }
 {

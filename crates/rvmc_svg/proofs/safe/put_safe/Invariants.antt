@@ -1,6 +1,6 @@
 use Rattle.std.proofs.Common.{◌≡◌, ◌++◌, take}
 use Rattle.std.specs.List.{flat_map}
-use Rattle.rvmc_svg.specs.Escaped.{safe_one}
+use Rattle.rvmc_svg.specs.Adding.{safe_one}
 use Rattle.rvmc_svg.proofs.safe.put_safe.Given as goal
 
 -- those so far

@@ -1,0 +1,32 @@
+-- What is added to a picture's text.
+use Rattle.std.specs.Prelude.{ℕ, ◌≡◌, if◌then◌else◌, not, Bool, true, false, List, [], ◌∷◌, ◌++◌}
+use Rattle.rvmc_draw.specs.declared.drawing.Carried.{Carried}
+use Rattle.rvmc_draw.specs.declared.drawing.Carried.TheVariants.{Could}
+use Rattle.rvmc_svg.specs.Escaped.{safe_byte}
+use Rattle.rvmc_svg.specs.Shown.{HasTitle}
+
+-- the safe byte alone
+unfoldable pub safe_one : ℕ → List ℕ
+safe_one byte = safe_byte byte ∷ []
+
+-- something was added in which this title stands
+pub record Adds (old title new : List ℕ) : Type 0 where
+  pub more : List ℕ
+  pub are : new ≡ old ++ more
+  pub shows : HasTitle more title
+
+-- ---- which lie below others
+
+abbrev pub is_could : Carried → Bool
+is_could (Could tag count) = true
+is_could c = false
+
+-- those of what could have been taken, or the others
+abbrev pub is_wanted : Bool → Carried → Bool
+is_wanted could c = if could then is_could c else not (is_could c)
+
+-- if an arrow is wanted, something was added in which its title stands
+pub record AddsIf (wanted : Bool) (old title new : List ℕ) : Type 0 where
+  pub more : List ℕ
+  pub are : new ≡ old ++ more
+  pub shows : wanted ≡ true → HasTitle more title
