@@ -1,22 +1,36 @@
 """What the programs of this folder are, and what each rank of them may print: the files `programs` and
-NAME.expected. c/run-all, c/build-all and c/examples/by-mpi use it."""
+NAME.expected; and which programs c/course has. c/run-all, c/run-course, c/build-all and c/examples/by-mpi use it."""
 
 import os
 import re
 
 FOLDER = os.path.dirname(os.path.abspath(__file__))
+COURSE = os.path.join(os.path.dirname(FOLDER), "course")
 
 # the line that begins the part of a rank, and the one that begins what `--why` tells
 HEAD = re.compile(r"rank ([0-7])|why")
 
 
-class Program:
+class Source:
+    """A source of a folder, which rvmc-cc makes an image of."""
+
+    def __init__(self, folder, name, options):
+        self.folder, self.name, self.options = folder, name, options
+        self.source = os.path.join(folder, name + ".c")
+        self.image = name + ".image"
+        self.made = os.path.join(folder, self.image)
+
+    def command(self):
+        """The words that build its image, at the top of the repository."""
+        return ["c/rvmc-cc", *self.options, "-o", self.image, f"c/{os.path.basename(self.folder)}/{self.name}.c"]
+
+
+class Program(Source):
     """A line of the file `programs`."""
 
     def __init__(self, name, kind, status, options):
-        self.name, self.kind, self.status, self.options = name, kind, int(status), options
-        self.source = os.path.join(FOLDER, name + ".c")
-        self.image = name + ".image"
+        super().__init__(FOLDER, name, options)
+        self.kind, self.status = kind, int(status)
         self.ranks = int(options[options.index("-n") + 1])
 
     def expected(self):
@@ -53,11 +67,20 @@ class Expected:
         return {(rank, part) for rank, parts in self.parts.items() if len(parts) > 1 for part in parts}
 
 
+def lines_of(folder):
+    """The words of each line of a folder's file `programs`."""
+    with open(os.path.join(folder, "programs"), encoding="ascii") as file:
+        return [line.split() for line in file if line.strip() and not line.startswith("#")]
+
+
+def course():
+    """The programs of c/course."""
+    return [Source(COURSE, line[0], line[1:]) for line in lines_of(COURSE)]
+
+
 def programs(names=()):
     """The programs in the order of the file: those that are named, or all."""
-    with open(os.path.join(FOLDER, "programs"), encoding="ascii") as file:
-        lines = [line.split() for line in file if line.strip() and not line.startswith("#")]
-    found = [Program(*line[:3], line[3:]) for line in lines]
+    found = [Program(*line[:3], line[3:]) for line in lines_of(FOLDER)]
     missing = set(names) - {program.name for program in found}
     if missing:
         raise SystemExit(f"there is no program {', '.join(sorted(missing))} in the file `programs`")

@@ -1,0 +1,39 @@
+/* A solution of lesson 5: nothing reads the buffer before MPI_Wait.
+
+   c/rvmc-cc -n 2 -o early_mended.image c/course/early_mended.c */
+#include <mpi.h>
+#include <stdio.h>
+
+enum { TAG = 1 };
+
+/* the sum of the squares of 1 to n, worked out the long way */
+static int work(int n)
+{
+    int sum = 0;
+
+    for (int i = 1; i <= n; i++)
+        sum += i * i;
+    return sum;
+}
+
+int main(int argc, char **argv)
+{
+    int rank, mine, theirs = 0;
+
+    MPI_Init(&argc, &argv);
+    MPI_Comm_rank(MPI_COMM_WORLD, &rank);
+    if (rank == 0) {
+        mine = work(500);
+        MPI_Send(&mine, 1, MPI_INT, 1, TAG, MPI_COMM_WORLD);
+    } else {
+        MPI_Request request;
+
+        MPI_Irecv(&theirs, 1, MPI_INT, 0, TAG, MPI_COMM_WORLD, &request);
+        mine = work(600);
+        MPI_Wait(&request, MPI_STATUS_IGNORE);
+        mine += theirs;
+        printf("in all %d\n", mine);
+    }
+    MPI_Finalize();
+    return 0;
+}

@@ -1,0 +1,56 @@
+/* A solution of lesson 6: rank 1 adds each piece when it is there, and doesn't wait for the row.
+
+   c/rvmc-cc -n 2 --link 0,1 -o pieces_arrived.image c/course/pieces_arrived.c */
+#include <mpi.h>
+#include <stdio.h>
+
+enum { TAG = 1, ROWS = 2, PIECES = 4 };
+
+static void give(MPI_Request *request, long *row)
+{
+    MPI_Psend_init(row, PIECES, 1, MPI_LONG, 1, TAG, MPI_COMM_WORLD, MPI_INFO_NULL, request);
+    for (int y = 1; y <= ROWS; y++) {
+        MPI_Start(request);
+        for (int x = 0; x < PIECES; x++) {
+            row[x] = 10 * y + x;
+            MPI_Pready(x, *request);
+        }
+        MPI_Wait(request, MPI_STATUS_IGNORE);
+    }
+}
+
+static void take(MPI_Request *request, long *row)
+{
+    MPI_Precv_init(row, PIECES, 1, MPI_LONG, 0, TAG, MPI_COMM_WORLD, MPI_INFO_NULL, request);
+    for (int y = 1; y <= ROWS; y++) {
+        long sum = 0;
+
+        MPI_Start(request);
+        for (int x = 0; x < PIECES; x++) {
+            int arrived = 0;
+
+            while (!arrived)
+                MPI_Parrived(*request, x, &arrived);
+            sum += row[x];
+        }
+        MPI_Wait(request, MPI_STATUS_IGNORE);
+        printf("sum %ld\n", sum);
+    }
+}
+
+int main(int argc, char **argv)
+{
+    long row[PIECES];
+    MPI_Request request;
+    int rank;
+
+    MPI_Init(&argc, &argv);
+    MPI_Comm_rank(MPI_COMM_WORLD, &rank);
+    if (rank == 0)
+        give(&request, row);
+    else
+        take(&request, row);
+    MPI_Request_free(&request);
+    MPI_Finalize();
+    return 0;
+}

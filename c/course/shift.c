@@ -1,0 +1,30 @@
+/* Wrong: three ranks in a ring, and each receives before it sends. None gets to its send.
+
+   c/rvmc-cc -n 3 -o shift.image c/course/shift.c */
+#include <mpi.h>
+#include <stdio.h>
+
+enum { TAG = 7 };
+
+/* gives a number to the right, and returns the one that comes from the left */
+static int shift(int mine, int rank, int size)
+{
+    int got, left = (rank + size - 1) % size, right = (rank + 1) % size;
+
+    MPI_Recv(&got, 1, MPI_INT, left, TAG, MPI_COMM_WORLD, MPI_STATUS_IGNORE);
+    MPI_Send(&mine, 1, MPI_INT, right, TAG, MPI_COMM_WORLD);
+    return got;
+}
+
+int main(int argc, char **argv)
+{
+    int rank, size, got;
+
+    MPI_Init(&argc, &argv);
+    MPI_Comm_rank(MPI_COMM_WORLD, &rank);
+    MPI_Comm_size(MPI_COMM_WORLD, &size);
+    got = shift(10 * rank, rank, size);
+    printf("rank %d got %d\n", rank, got);
+    MPI_Finalize();
+    return 0;
+}

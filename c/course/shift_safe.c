@@ -1,0 +1,30 @@
+/* A solution of lesson 3: all sends are synchronous, which nothing buffers. So it shows that shift_buffered.c isn't safe.
+
+   c/rvmc-cc -n 3 -o shift_safe.image c/course/shift_safe.c */
+#include <mpi.h>
+#include <stdio.h>
+
+enum { TAG = 7 };
+
+/* gives a number to the right, and returns the one that comes from the left */
+static int shift(int mine, int rank, int size)
+{
+    int got, left = (rank + size - 1) % size, right = (rank + 1) % size;
+
+    MPI_Ssend(&mine, 1, MPI_INT, right, TAG, MPI_COMM_WORLD);
+    MPI_Recv(&got, 1, MPI_INT, left, TAG, MPI_COMM_WORLD, MPI_STATUS_IGNORE);
+    return got;
+}
+
+int main(int argc, char **argv)
+{
+    int rank, size, got;
+
+    MPI_Init(&argc, &argv);
+    MPI_Comm_rank(MPI_COMM_WORLD, &rank);
+    MPI_Comm_size(MPI_COMM_WORLD, &size);
+    got = shift(10 * rank, rank, size);
+    printf("rank %d got %d\n", rank, got);
+    MPI_Finalize();
+    return 0;
+}
