@@ -8,11 +8,11 @@ use Rattle.rvmc_cli.specs.declared.places.Places.{Places}
 use Rattle.rvmc_cli.specs.Options.{flag_in, list_option, number_option, optional_number}
 use Rattle.rvmc_words.specs.Debug.{debug_words_in}
 use Rattle.rvmc_line.specs.declared.line.CommandLine.{CommandLine}
-use Rattle.rvmc_line.specs.declared.line.CommandLine.TheVariants.{OfImage, OfRecord}
+use Rattle.rvmc_line.specs.declared.line.CommandLine.TheVariants.{OfImage, OfRecord, Session}
 use Rattle.rvmc_line.specs.declared.line.ImageCommand.{ImageCommand}
-use Rattle.rvmc_line.specs.declared.line.ImageCommand.TheVariants.{Asm, Dis, One, OneUntilStuck, Run}
-use Rattle.rvmc_line.specs.declared.line.RecordCommand.TheVariants.{Check, Debug, Draw, List as ListSteps, Report, Stats}
-use Rattle.rvmc_line.specs.declared.line.RecordCommand.TheVariants.{Why}
+use Rattle.rvmc_line.specs.declared.line.ImageCommand.TheVariants.{Asm, Dis, One, OneUntilStuck, Run, RunUntilStuck}
+use Rattle.rvmc_line.specs.declared.line.RecordCommand.TheVariants.{Check, Debug, Draw, List as ListSteps, Page, Report}
+use Rattle.rvmc_line.specs.declared.line.RecordCommand.TheVariants.{Stats, Why}
 use Rattle.rvmc_line.specs.declared.line.RecordCommand.{RecordCommand}
 use Rattle.rvmc_line.specs.declared.line.Written.{Written}
 use Rattle.rvmc_line.specs.declared.line.Written.TheVariants as written
@@ -64,15 +64,20 @@ written_in rows =
 abbrev pub lead_in : List Row → Option ℕ
 lead_in rows = number_option (codes "lead") 1 65536 64 rows
 
--- `run [--source] [--budget N] [--plan HARTS] [--record] [--why] [--lead N]`
+-- a run with threads, to the end of its plans or `until_stuck`
+abbrev pub run_by : Bool → ℕ → Option (List ℕ) → ℕ → Written → ImageCommand
+run_by false budget plan lead written = Run budget plan lead written
+run_by true budget plan lead written = RunUntilStuck budget plan lead written
+
+-- `run [--source] [--budget N] [--plan HARTS] [--record] [--why] [--lead N] [--until-stuck]`
 abbrev pub run_row : CommandRow
 run_row =
     record {
       name = codes "run";
-      rules = runner_rules ++ option (codes "lead") ∷ [];
+      rules = runner_rules ++ option (codes "lead") ∷ flag (codes "until-stuck") ∷ [];
       meaning = λ rows.
           option_and_then (λ budget. option_and_then (λ lead. option_and_then (λ written. option_map (λ plan.
-          OfImage (flag_in (codes "source") rows) (Run budget plan lead written))
+          OfImage (flag_in (codes "source") rows) (run_by (flag_in (codes "until-stuck") rows) budget plan lead written))
           (list_option (codes "plan") rows)) (written_in rows)) (lead_in rows)) (budget_in rows);
     }
 
@@ -113,7 +118,7 @@ report_row =
       meaning = λ rows. Some (OfRecord Report);
     }
 
--- what `list` and `draw` share: `[--from N] [--to N]`
+-- what `list`, `draw` and `page` share: `[--from N] [--to N]`
 abbrev pub place_rules : List Rule
 place_rules = option (codes "from") ∷ option (codes "to") ∷ []
 
@@ -153,6 +158,16 @@ draw_row =
           option_map (λ (places : Places). OfRecord (Draw places.from places.to)) (places_given rows);
     }
 
+-- `page [--from N] [--to N]`
+abbrev pub page_row : CommandRow
+page_row =
+    record {
+      name = codes "page";
+      rules = place_rules;
+      meaning = λ rows.
+          option_map (λ (places : Places). OfRecord (Page places.from places.to)) (places_given rows);
+    }
+
 -- `debug CMD..`
 abbrev pub debug_row : CommandRow
 debug_row =
@@ -162,6 +177,15 @@ debug_row =
       meaning = λ rows.
           option_and_then (λ words. option_map (λ words. OfRecord (Debug words)) (debug_words_in words))
           (all_of (codes "words") rows);
+    }
+
+-- `gdb [--rank R]`, R from 0 to 255
+abbrev pub gdb_row : CommandRow
+gdb_row =
+    record {
+      name = codes "gdb";
+      rules = option (codes "rank") ∷ [];
+      meaning = λ rows. option_map (λ rank. Session rank) (number_option (codes "rank") 0 255 0 rows);
     }
 
 -- `why [--at N] [--frames]`, N below 2^64
@@ -179,8 +203,8 @@ why_row =
 
 -- in the order in which help lists them
 abbrev pub commands : List CommandRow
-commands = asm_row ∷ dis_row ∷ run_row ∷ one_row ∷ check_row ∷ report_row ∷ list_row ∷ draw_row ∷ debug_row ∷ why_row
-    ∷ []
+commands = asm_row ∷ dis_row ∷ run_row ∷ one_row ∷ check_row ∷ report_row ∷ list_row ∷ draw_row ∷ page_row ∷ debug_row
+    ∷ gdb_row ∷ why_row ∷ []
 
 -- what clap reads of a command
 abbrev pub app_of : CommandRow → App

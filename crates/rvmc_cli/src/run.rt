@@ -1,18 +1,19 @@
-//! `run [--source] [--budget N] [--plan HARTS] [--record] [--why] [--lead N]`.
+//! `run [--source] [--budget N] [--plan HARTS] [--record] [--why] [--lead N] [--until-stuck]`.
 
-ghost use Rattle.std.specs.Prelude.{IfOk};
+ghost use Rattle.std.specs.Prelude.{◌≡◌, IfOk};
 ghost use Rattle.clap.specs.Walk.{rows_of};
 ghost use Rattle.clap.specs.Words.{found_of};
 ghost use Rattle.rvmc_cli.specs.Built.{StandsFor};
-ghost use Rattle.rvmc_cli.specs.Commands.{app_of, lead_in, run_row};
+ghost use Rattle.rvmc_cli.specs.Commands.{app_of, lead_in, run_by, run_row};
 ghost use Rattle.rvmc_cli.specs.Parsing.{Finds, Reads};
 
-use crate::parts::option;
+use crate::parts::{flag, option};
 use crate::runner::{budget, runner, written};
 use crate::values::{self, list, number};
 use crate::wrong::Wrong;
 use clap::{ArgMatches, Command};
-use rvmc_line::{CommandLine, ImageCommand};
+use rvmc_line::{CommandLine, ImageCommand, Written};
+use rvmc_words::Numbers;
 use std::alloc::{AllocError, Global};
 
 /// What help says below its options.
@@ -32,12 +33,15 @@ With --record the record is written in place of the report: the image, and each
 step of each rank in the order of their stamps. `rvmc check` reads it. With --why
 it is told behind the report what each hart waits for, as `rvmc why` tells it.
 
+With --until-stuck the run ends once each rank that has a running or a waiting
+hart is in a deadlock, and the text of --why stands behind the report.
+
 At most 67,108,864 bytes are read.
 
 Status:
   0 done, 1 fault of the source, the image, or the plan,
   2 fault of the command line, 3 a hart trapped,
-  4 a rank stopped by its budget, a full clock or too many calls,
+  4 a rank stopped by its budget, a full clock or too many calls, or is stuck,
   5 out of memory or of threads, 6 a read or write failed, or the input is too long
 
 Examples:
@@ -46,7 +50,8 @@ Examples:
   rvmc run --lead 1 <hi.image          the ranks keep close together
   rvmc run --plan 0,0,1 <hi.image      hart 0 takes two turns, then hart 1 one
   rvmc run --record <hi.image >hi.record
-  rvmc run --why <hi.image             a deadlock is told behind the report";
+  rvmc run --why <hi.image             a deadlock is told behind the report
+  rvmc run --until-stuck <hi.image     and at once";
 
 /// The command as clap builds it.
 pub fn command<'a>(alloc: Global) -> Result<Command<'a>, AllocError>
@@ -63,7 +68,39 @@ pub fn command<'a>(alloc: Global) -> Result<Command<'a>, AllocError>
         "lead",
         "N",
         "Holds back a rank more than N turns ahead, from 1 to 65536 [default: 64]",
+    ))?
+    .arg(flag(
+        alloc,
+        "until-stuck",
+        "Ends the run at a deadlock, and tells of it",
     ))
+}
+
+/// A run with threads, to the end of its plans or `until_stuck`.
+fn run_by(
+    until_stuck: bool,
+    budget: u64,
+    plan: Option<Numbers>,
+    lead: u64,
+    written: Written,
+) -> ImageCommand
+    ensures { result ≡ run_by until_stuck budget plan lead written }
+{
+    if until_stuck {
+        ImageCommand::RunUntilStuck {
+            budget,
+            plan,
+            lead,
+            written,
+        }
+    } else {
+        ImageCommand::Run {
+            budget,
+            plan,
+            lead,
+            written,
+        }
+    }
 }
 
 /// How many turns a rank may be ahead.
@@ -83,11 +120,12 @@ pub fn line<'a>(alloc: Global, matches: &ArgMatches<'a>) -> Result<CommandLine, 
     let plan = list(alloc, matches, "plan")?;
     Ok(CommandLine::OfImage {
         source: values::flag(matches, "source"),
-        command: ImageCommand::Run {
+        command: run_by(
+            values::flag(matches, "until-stuck"),
             budget,
             plan,
             lead,
             written,
-        },
+        ),
     })
 }

@@ -11,7 +11,7 @@ ghost use Rattle.rvmc_cli.specs.Parsing.{Finds};
 
 use crate::parts::command as new_command;
 use crate::wrong::Wrong;
-use crate::{asm, check, debug, dis, draw, list, one, report, run, why};
+use crate::{asm, check, debug, dis, draw, gdb, list, one, page, report, run, why};
 use clap::{ArgMatches, Command};
 use rvmc_line::CommandLine;
 use std::alloc::{AllocError, Global};
@@ -20,7 +20,7 @@ use std::alloc::{AllocError, Global};
 /// module that builds and reads it too.
 macro_rules! commands {
     ($made:ident($($given:tt)*)) => {
-        $made!($($given)*; asm, dis, run, one, check, report, list, draw, debug, why)
+        $made!($($given)*; asm, dis, run, one, check, report, list, draw, page, debug, gdb, why)
     };
 }
 
@@ -66,6 +66,8 @@ Examples:
   rvmc list <hi.record        lists its steps in words
   rvmc draw <hi.record >hi.svg
                               draws its steps as a picture
+  rvmc page <hi.record >hi.html
+                              makes a page that walks its steps
   rvmc debug go=2 regs=0,0 <hi.record
                               shows the registers after two steps
   rvmc one --source --why <hi.s

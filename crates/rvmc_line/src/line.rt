@@ -24,6 +24,9 @@ pub enum CommandLine {
     OfImage { source: bool, command: ImageCommand },
     /// A record is read, and the command is done with its image and its steps.
     OfRecord(RecordCommand),
+    /// A record is read, and behind it the packets of gdb, each of which is answered as it comes: of this rank of the record
+    /// (0 to 255). Whether there is such a rank is not known here.
+    Session { rank: u64 },
 }
 
 /// What is done with an image.
@@ -41,6 +44,14 @@ pub enum ImageCommand {
     /// in the order of `plan`, round and round; without it all take turns in order. Whether a hart is
     /// there is not known here.
     Run {
+        budget: u64,
+        plan: Option<Numbers>,
+        lead: u64,
+        written: Written,
+    },
+    /// The same, but that the run ends once all ranks that are left look in vain. Then what each hart waits for is written
+    /// behind the report, also where `written` doesn't ask for it.
+    RunUntilStuck {
         budget: u64,
         plan: Option<Numbers>,
         lead: u64,
@@ -96,6 +107,12 @@ pub enum RecordCommand {
     /// A picture of the steps is written: of those from place `from` on, up to place `to` or else to the end. Whether there
     /// are such places is not known here.
     Draw {
+        from: u64,
+        to: Option<u64>,
+    },
+    /// A page that walks the steps forwards and back is written: those from place `from` on, up to place `to` or else to
+    /// the end. Whether there are such places is not known here.
+    Page {
         from: u64,
         to: Option<u64>,
     },

@@ -9,7 +9,8 @@ use Rattle.rv_image.specs.declared.faults.ImageFault.{ImageFault}
 use Rattle.rv_image.specs.declared.faults.ImageFault.TheVariants as image
 use Rattle.rvmc_report.specs.declared.faults.Fault.{Fault}
 use Rattle.rvmc_report.specs.declared.faults.Fault.TheVariants.{Source, Image, Record, Plans, Unlike, Debug, Memory}
-use Rattle.rvmc_report.specs.declared.faults.Fault.TheVariants.{Draw, List as ListFaulty, Report, Spawn, Read, Why, Write}
+use Rattle.rvmc_report.specs.declared.faults.Fault.TheVariants.{Draw, List as ListFaulty, Page, Report, Spawn, Read}
+use Rattle.rvmc_report.specs.declared.faults.Fault.TheVariants.{Why, Write}
 
 -- 1 for a fault of the input, 5 for memory or a thread, 6 for reads and writes
 abbrev pub fault_status : Fault → ℕ
@@ -23,6 +24,7 @@ fault_status (Why fault) = 1
 fault_status (Report n) = 1
 fault_status (ListFaulty fault) = 1
 fault_status (Draw fault) = 1
+fault_status (Page fault) = 1
 fault_status Memory = 5
 fault_status Spawn = 5
 fault_status Read = 6

@@ -41,7 +41,7 @@ pub enum ListRefusal {
     NotARun(u64),
 }
 
-/// Why a record isn't drawn.
+/// Why a record isn't drawn, as a picture or on a page.
 #[derive(Clone, Copy, Debug, Drop, Error)]
 pub enum DrawRefusal {
     /// A place is behind the end. Carries the number of steps.
@@ -50,7 +50,7 @@ pub enum DrawRefusal {
     /// The machine has no such step where the steps before it lead. Carries its number, from 0.
     #[error("NotARun {0}")]
     NotARun(u64),
-    /// More steps have a mark than a picture may have. Carries how many.
+    /// More steps have a mark than a picture may have, or there are more than a page may have. Carries how many.
     #[error("TooMany {0}")]
     TooMany(u64),
 }
@@ -89,6 +89,9 @@ pub enum Fault {
     /// Why there is no picture of a record.
     #[error("draw: {0}")]
     Draw(DrawRefusal),
+    /// Why there is no page of a record.
+    #[error("page: {0}")]
+    Page(DrawRefusal),
     /// Memory was refused.
     #[error("memory")]
     Memory,
@@ -119,7 +122,8 @@ impl Fault {
             | Fault::Why(_)
             | Fault::Report(_)
             | Fault::List(_)
-            | Fault::Draw(_) => 1,
+            | Fault::Draw(_)
+            | Fault::Page(_) => 1,
             Fault::Memory | Fault::Spawn => 5,
             Fault::Read | Fault::Write => 6,
         }

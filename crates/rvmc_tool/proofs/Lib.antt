@@ -1,3 +1,4 @@
+pub mod ListFaults
 pub mod Places
 pub mod Reading
 pub mod Readings

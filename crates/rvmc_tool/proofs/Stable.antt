@@ -4,7 +4,6 @@ use Rattle.std.specs.Prelude.{◌↔◌, Result, Err}
 use Rattle.std.proofs.Math.Nat.{lt_of_not-le, not-le_of_lt}
 use Rattle.cl_record.specs.Plans.{HasPlans, IsOrder, IsPlan}
 use Rattle.cl_record.specs.declared.plans.Plan.{Plan}
-use Rattle.cl_record.specs.declared.records.Record.{Record}
 use Rattle.cl_record.specs.declared.records.RunFault.{RunFault}
 use Rattle.cl_record.specs.declared.records.RunFault.TheVariants as run
 use Rattle.rv_image.specs.declared.images.ImageParts.{ImageParts}
@@ -46,15 +45,16 @@ plans_stable image plans h = record {
   are_plans = λ k d below. plan_stable _ _ (λ no. h (λ has. no (has.are_plans k d below)));
 }
 
-abbrev without_record : RunFault → Result Record RunFault
+abbrev without_record : {A : Type 0} → RunFault → Result A RunFault
 without_record fault = Err fault
 
-abbrev is_plans : Result Record RunFault → Bool
+abbrev is_plans : {A : Type 0} → Result A RunFault → Bool
 is_plans (Err run.Plans) = true
 is_plans other = false
 
 -- a run with threads refuses wrong plans as Plans, and nothing else of wrong plans
-pub thread_fault : (image : ImageParts) (plans : List Plan) (fault : RunFault) → (without_record fault ≡ Err run.Plans) ↔ ¬ (HasPlans image plans)
+pub thread_fault : {A : Type 0} (image : ImageParts) (plans : List Plan) (fault : RunFault)
+    → (without_record {A = A} fault ≡ Err run.Plans) ↔ ¬ (HasPlans image plans)
     → IsRunFault (¬ (HasPlans image plans)) (HasPlans image plans) (fault_of_run fault)
 thread_fault image plans run.Plans h = h.0 refl
 thread_fault image plans run.Memory h = tt

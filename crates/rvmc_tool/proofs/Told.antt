@@ -1,15 +1,15 @@
 -- What stands on the output is what the command line says of the bytes.
-use Rattle.std.proofs.Common.{◌≤◌, ℕ, ◌∙◌, List, [], Option, Some, None, ap, length, inl, inr, refl, sym, subst, append-nil}
-use Rattle.std.specs.Prelude.{◌⊎◌, IfOk, IfErr, MatchResult, Result, Ok, Err}
+use Rattle.std.proofs.Common.{◌≡◌, ◌≤◌, ℕ, ◌∙◌, List, [], Option, Some, None, ap, length, inl, inr, refl, sym, subst, append-nil}
+use Rattle.std.specs.Prelude.{◌⊎◌, IfOk, IfErr, IfSome, MatchResult, Result, Ok, Err}
 use Rattle.std.specs.Io.KnownBytes.{Appends, Keeps}
 use Rattle.cl_machine.specs.declared.steps.Step.{Step}
 use Rattle.cl_text.specs.Reading.{reading_record}
 use Rattle.cl_text.specs.declared.faults.RecordFault.{RecordFault}
 use Rattle.rv_image.specs.declared.images.ImageParts.{ImageParts}
 use Rattle.rvmc_line.specs.declared.line.CommandLine.{CommandLine}
-use Rattle.rvmc_line.specs.declared.line.CommandLine.TheVariants.{OfImage, OfRecord}
+use Rattle.rvmc_line.specs.declared.line.CommandLine.TheVariants.{OfImage, OfRecord, Session}
 use Rattle.rvmc_line.specs.declared.line.ImageCommand.{ImageCommand}
-use Rattle.rvmc_line.specs.declared.line.ImageCommand.TheVariants.{One, OneUntilStuck, Run}
+use Rattle.rvmc_line.specs.declared.line.ImageCommand.TheVariants.{One, OneUntilStuck, Run, RunUntilStuck}
 use Rattle.rvmc_line.specs.declared.line.RecordCommand.{RecordCommand}
 use Rattle.rvmc_report.specs.Faults.{fault_status}
 use Rattle.rvmc_report.specs.declared.faults.Fault.{Fault}
@@ -23,11 +23,13 @@ use Rattle.rvmc_tool.specs.Records.{SaysOfSteps}
 use Rattle.rvmc_tool.specs.Taking.{IsFaultIn}
 use Rattle.rvmc_tool.specs.declared.answers.Answer.{Answer}
 use Rattle.rvmc_tool.specs.Tool.{Answers, IsRefused, IsSaid, IsUnlike}
-use Rattle.rvmc_tool.specs.Plain.{Tells}
+use Rattle.rvmc_tool.specs.Plain.{IsWhole, Tells}
 
 -- wrong plans are a fault of the input
 misplanned : (command : ImageCommand) (image : ImageParts) → IsMisplanned command image → Makes command image [] 1
 misplanned (Run budget plan lead written) image (plans, of, wrong) =
+    (plans, of, record { told = λ right. absurd (wrong right); refused = λ _. (refl, refl) })
+misplanned (RunUntilStuck budget plan lead written) image (plans, of, wrong) =
     (plans, of, record { told = λ right. absurd (wrong right); refused = λ _. (refl, refl) })
 misplanned (One budget plan order written) image (plans, of, wrong) =
     (plans, of, record { told = λ right. absurd (wrong right); refused = λ _. (refl, refl) })
@@ -76,6 +78,7 @@ LeavesOf line bytes fault =
 leaves_of : (line : CommandLine) (bytes : List ℕ) (fault : Fault) → IsFaultOf line bytes fault
     → LeavesOf line bytes fault
 leaves_of (OfImage source command) bytes fault is = leaves command (image_in source bytes) fault is
+leaves_of (Session rank) bytes fault is = absurd is
 leaves_of (OfRecord command) bytes fault is = go (leaves_read command (reading_record bytes) fault is)
   where
     go : SaysNothing command (reading_record bytes) fault ⊎ IsRefused [] (fault_status fault)
@@ -96,13 +99,24 @@ pub answered : (line : CommandLine) (bytes : List ℕ) (answer : Result Answer F
     → Tells answer status old new → Answers line bytes status old new
 answered line bytes (Ok answer) status old new short says fault (is, grows) =
     let told = subst (λ s. Says line bytes (output_bytes answer.output) s) (sym is) says in
-    (output_bytes answer.output, inl (record { short = short; says = inl told }), grows)
+    (output_bytes answer.output, inl (record { short = λ _. short; says = inl told }), grows)
 answered line bytes (Err fault) status old new short says is (status_is, keeps) =
     ([], go (leaves_of line bytes fault is), nothing_more old new keeps)
   where
     go : LeavesOf line bytes fault → IsSaid line bytes [] status ⊎ IsRefused [] status
     go (inl (inl made)) =
-        inl (record { short = short; says = inl (subst (λ s. Says line bytes [] s) (sym status_is) made) })
+        inl (record { short = λ _. short; says = inl (subst (λ s. Says line bytes [] s) (sym status_is) made) })
     go (inl (inr unlike)) =
-        inl (record { short = short; says = inr (subst (λ s. IsUnlike line bytes [] s) (sym status_is) unlike) })
+        inl (record { short = λ _. short; says = inr (subst (λ s. IsUnlike line bytes [] s) (sym status_is) unlike) })
     go (inr refused) = inr (subst (λ s. IsRefused [] s) (sym status_is) refused)
+
+-- the same of all bytes of an input
+pub obeyed : (line : CommandLine) (known : Option (List ℕ)) (bytes taken whole : List ℕ) (answer : Result Answer Fault)
+    (status : ℕ) (old new : Option (List ℕ)) → known ≡ Some bytes → IsWhole known taken → whole ≡ taken
+    → IfOk answer (λ a. Says line whole (output_bytes a.output) (end_status a.end)) → IfErr answer (IsFaultOf line whole)
+    → Tells answer status old new → Answers line bytes status old new
+obeyed line known bytes taken whole answer status old new is has same says fault tells =
+    let all : taken ≡ bytes = subst (λ (k : Option (List ℕ)). IfSome k (λ b. taken ≡ b)) is has.all in
+    let short : length whole ≤ 67108864 = subst (λ (b : List ℕ). length b ≤ 67108864) (sym same) has.short in
+    subst (λ (b : List ℕ). Answers line b status old new) (same ∙ all)
+    (answered line whole answer status old new short says fault tells)

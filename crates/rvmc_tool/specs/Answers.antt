@@ -11,14 +11,15 @@ use Rattle.cl_run.specs.Cuts.{IsEndedRun}
 use Rattle.cl_run.specs.Runs.{IsOneRun}
 use Rattle.cl_text.specs.Text.{record_text}
 use Rattle.cl_text.specs.Whole.{IsRecord}
+use Rattle.cl_threads.specs.Cuts.{IsEndedThreadRun}
 use Rattle.cl_threads.specs.Runs.{IsThreadRun}
 use Rattle.rv_image.specs.Image.{in_version_two}
 use Rattle.rv_image.specs.Text.{image_text}
 use Rattle.rv_image.specs.declared.images.ImageParts.{ImageParts}
 use Rattle.rvmc_line.specs.declared.line.CommandLine.{CommandLine}
-use Rattle.rvmc_line.specs.declared.line.CommandLine.TheVariants.{OfImage, OfRecord}
+use Rattle.rvmc_line.specs.declared.line.CommandLine.TheVariants.{OfImage, OfRecord, Session}
 use Rattle.rvmc_line.specs.declared.line.ImageCommand.{ImageCommand}
-use Rattle.rvmc_line.specs.declared.line.ImageCommand.TheVariants.{Asm, Dis, One, OneUntilStuck, Run}
+use Rattle.rvmc_line.specs.declared.line.ImageCommand.TheVariants.{Asm, Dis, One, OneUntilStuck, Run, RunUntilStuck}
 use Rattle.rvmc_line.specs.declared.line.Written.{Written}
 use Rattle.rvmc_line.specs.declared.line.Written.TheVariants as written
 use Rattle.rvmc_report.specs.Listing.{listing}
@@ -28,6 +29,7 @@ use Rattle.rvmc_tool.specs.Ends.{IsDone, IsFaulty}
 use Rattle.rvmc_tool.specs.Images.{image_in}
 use Rattle.rvmc_tool.specs.Plans.{ArePlansOf, listed}
 use Rattle.rvmc_tool.specs.Records.{IsWhyAt, SaysOfRecord}
+use Rattle.rvmc_tool.specs.Sessions.{SaysOfSession}
 
 -- ---- runs
 
@@ -101,24 +103,28 @@ IsOne image budget harts ranks written text status =
     let order = listed ranks image.ranks in
     IsRunBy (ArePlans image plans order) (IsLeftByOne image plans order) (IsTextOf written image) text status)
 
--- ---- a run that ends at a deadlock
+-- ---- a run that ends where nobody can go on
+
+-- the report of a record whose ranks were told to stop, of each of which it says this word, and what its harts wait for
+pub record IsToldReport (word : List ℕ) (image : ImageParts) (budget : ℕ) (left : Record) (text : List ℕ) : Type 0 where
+  pub why : List ℕ
+  pub told : IsWhyOf image left why
+  pub spelled : text ≡ told_report word budget (rank_ends left) ++ why
+
+-- or with `--record` the text of the record, as of any run
+abbrev pub IsToldTextOf : List ℕ → Written → ImageParts → ℕ → Record → List ℕ → Type 0
+IsToldTextOf word written.Record image budget left text = IsRecordOf image left text
+IsToldTextOf word other image budget left text = IsToldReport word image budget left text
+
+-- of ranks in a deadlock
+abbrev pub IsStuckTextOf : Written → ImageParts → ℕ → Record → List ℕ → Type 0
+IsStuckTextOf written image budget left text = IsToldTextOf (codes "stuck") written image budget left text
 
 -- what ranks leave that ran on one thread until each that has a running or a waiting hart was in a deadlock
 pub record IsLeftStuck (image : ImageParts) (plans : List Plan) (order : List ℕ) (left : Record) : Type 0 where
   pub turns : IsEndedRun image plans order left
   pub merged : IsMergedRun image left
   pub stuck : IsStuckAt image left
-
--- the report of a record that ends in a deadlock, where a rank that was told to stop is stuck, and what its harts wait for
-pub record IsStuckReport (image : ImageParts) (budget : ℕ) (left : Record) (text : List ℕ) : Type 0 where
-  pub why : List ℕ
-  pub told : IsWhyOf image left why
-  pub spelled : text ≡ told_report (codes "stuck") budget (rank_ends left) ++ why
-
--- or with `--record` the text of the record, as of any run
-abbrev pub IsStuckTextOf : Written → ImageParts → ℕ → Record → List ℕ → Type 0
-IsStuckTextOf written.Record image budget left text = IsRecordOf image left text
-IsStuckTextOf other image budget left text = IsStuckReport image budget left text
 
 -- the run came to the end of its plans, or to a deadlock
 abbrev pub IsToldOfEither : ImageParts → ℕ → List Plan → List ℕ → Written → List ℕ → ℕ → Type 0
@@ -138,6 +144,34 @@ IsOneUntilStuck image budget harts ranks written text status =
     ByPlans image budget harts (λ plans.
     IsRunUntilStuck image budget plans (listed ranks image.ranks) written text status)
 
+-- what ranks leave that ran on threads of their own and were told to stop: what fits together, as of any run
+pub record IsLeftTold (image : ImageParts) (plans : List Plan) (left : Record) : Type 0 where
+  pub apart : IsEndedThreadRun image plans left
+  pub merged : IsMergedRun image left
+
+-- in a deadlock, all that have a running or a waiting hart
+pub record IsLeftStuckByThreads (image : ImageParts) (plans : List Plan) (left : Record) : Type 0 where
+  pub left_told : IsLeftTold image plans left
+  pub stuck : IsStuckAt image left
+
+-- the run came to the end of its plans, or its ranks were told to stop: in a deadlock, or else it says `told` of them
+abbrev pub IsToldOfThreads : ImageParts → ℕ → List Plan → Written → List ℕ → ℕ → Type 0
+IsToldOfThreads image budget plans written text status =
+    IsTold (IsLeftByThreads image plans) (IsTextOf written image) text status
+    ⊎ (IsTold (IsLeftStuckByThreads image plans) (IsStuckTextOf written image budget) text status
+    ⊎ IsTold (IsLeftTold image plans) (IsToldTextOf (codes "told") written image budget) text status)
+
+-- a run, if its plans are right: else there is a fault
+pub record IsThreadsUntilStuckBy (image : ImageParts) (budget : ℕ) (plans : List Plan) (written : Written)
+    (text : List ℕ) (status : ℕ) : Type 0 where
+  pub told : HasPlans image plans → IsToldOfThreads image budget plans written text status
+  pub refused : ¬ HasPlans image plans → IsFaulty text status
+
+-- `run --until-stuck`
+abbrev pub IsThreadsUntilStuck : ImageParts → ℕ → Option (List ℕ) → Written → List ℕ → ℕ → Type 0
+IsThreadsUntilStuck image budget harts written text status =
+    ByPlans image budget harts (λ plans. IsThreadsUntilStuckBy image budget plans written text status)
+
 -- ---- the commands
 
 -- one case a command, of the image that it takes
@@ -146,6 +180,8 @@ Makes (Asm false) image text status = IsDone (image_text image) text status
 Makes (Asm true) image text status = IsDone (image_text (in_version_two image)) text status
 Makes Dis image text status = IsDone (listing image) text status
 Makes (Run budget plan lead written) image text status = IsRunAnswer image budget plan written text status
+Makes (RunUntilStuck budget plan lead written) image text status =
+    IsThreadsUntilStuck image budget plan written text status
 Makes (One budget plan order written) image text status = IsOne image budget plan order written text status
 Makes (OneUntilStuck budget plan order written) image text status =
     IsOneUntilStuck image budget plan order written text status
@@ -159,10 +195,12 @@ SaysOfImage source command bytes text status =
 abbrev pub Says : CommandLine → List ℕ → List ℕ → ℕ → Type 0
 Says (OfImage source command) bytes text status = SaysOfImage source command bytes text status
 Says (OfRecord command) bytes text status = SaysOfRecord command bytes text status
+Says (Session rank) bytes text status = SaysOfSession rank bytes text status
 
 -- ---- which fault is told
 
 -- threads are started: the plan is right
 abbrev pub HasThreads : ImageCommand → ImageParts → Type 0
 HasThreads (Run budget plan lead written) image = ByPlans image budget plan (HasPlans image)
+HasThreads (RunUntilStuck budget plan lead written) image = ByPlans image budget plan (HasPlans image)
 HasThreads other image = ⊥

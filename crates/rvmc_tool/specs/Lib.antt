@@ -3,7 +3,9 @@ pub mod Plans
 pub mod Images
 pub mod Taking
 pub mod Outputs
+pub mod Waiting
 pub mod Records
+pub mod Sessions
 pub mod Answers
 pub mod Making
 pub mod Tool

@@ -1,5 +1,5 @@
 -- What the calls behind each command answer, and their faults.
-use Rattle.std.specs.Prelude.{◌≡◌, ⊤, ℕ, Bool, true, false, List, length, MatchResult, Result, Err}
+use Rattle.std.specs.Prelude.{◌≡◌, ⊤, ℕ, Bool, true, false, List, length, MatchResult, Option, Result, Err}
 use Rattle.cl_machine.specs.declared.steps.Step.{Step}
 use Rattle.cl_record.specs.Plans.{ArePlans, HasPlans}
 use Rattle.cl_record.specs.Records.{IsMergedRun}
@@ -9,14 +9,18 @@ use Rattle.cl_text.specs.declared.faults.RecordFault.{RecordFault}
 use Rattle.rv_image.specs.Image.{IsImage}
 use Rattle.rv_image.specs.declared.images.ImageParts.{ImageParts}
 use Rattle.rvmc_line.specs.declared.line.CommandLine.{CommandLine}
-use Rattle.rvmc_line.specs.declared.line.CommandLine.TheVariants.{OfImage, OfRecord}
+use Rattle.rvmc_line.specs.declared.line.CommandLine.TheVariants.{OfImage, OfRecord, Session}
 use Rattle.rvmc_line.specs.declared.line.ImageCommand.{ImageCommand}
-use Rattle.rvmc_line.specs.declared.line.ImageCommand.TheVariants.{One, OneUntilStuck, Run}
+use Rattle.rvmc_line.specs.declared.line.ImageCommand.TheVariants.{One, OneUntilStuck, Run, RunUntilStuck}
 use Rattle.rvmc_line.specs.declared.line.RecordCommand.{RecordCommand}
+use Rattle.rvmc_line.specs.declared.line.Written.{Written}
+use Rattle.rvmc_list.specs.declared.walk.ListFault.{ListFault}
+use Rattle.rvmc_list.specs.declared.walk.ListFault.TheVariants as list
 use Rattle.rvmc_report.specs.WholeRecord.{HasEachRank}
 use Rattle.rvmc_report.specs.declared.faults.Fault.{Fault}
 use Rattle.rvmc_report.specs.declared.faults.Fault.TheVariants as faults
-use Rattle.rvmc_tool.specs.Answers.{ByPlans, HasThreads}
+use Rattle.rvmc_report.specs.declared.faults.ListRefusal.TheVariants as refusal
+use Rattle.rvmc_tool.specs.Answers.{ByPlans, HasThreads, IsOne, IsOneUntilStuck, IsRunAnswer, IsThreadsUntilStuck}
 use Rattle.rvmc_tool.specs.Images.{image_in}
 use Rattle.rvmc_tool.specs.Plans.{listed}
 use Rattle.rvmc_tool.specs.Records.{RefusesSteps, TellsOfSteps}
@@ -40,22 +44,40 @@ HasTold command bytes text end =
 abbrev pub EndsSo : CommandLine → List ℕ → List ℕ → End → Type 0
 EndsSo (OfImage source command) bytes text end = IsWhole end
 EndsSo (OfRecord command) bytes text end = HasTold command bytes text end
+EndsSo (Session rank) bytes text end = ⊥
+
+-- ---- runs to the end of their plans or until nobody can go on
+
+-- `one`, with `--until-stuck` or without
+abbrev pub IsAnyOne : Bool → ImageParts → ℕ → Option (List ℕ) → Option (List ℕ) → Written → List ℕ → ℕ → Type 0
+IsAnyOne false image budget harts ranks written text status = IsOne image budget harts ranks written text status
+IsAnyOne true image budget harts ranks written text status =
+    IsOneUntilStuck image budget harts ranks written text status
+
+-- `run`, with it or without
+abbrev pub IsAnyRun : Bool → ImageParts → ℕ → Option (List ℕ) → Written → List ℕ → ℕ → Type 0
+IsAnyRun false image budget harts written text status = IsRunAnswer image budget harts written text status
+IsAnyRun true image budget harts written text status = IsThreadsUntilStuck image budget harts written text status
 
 -- ---- which fault is told
 
 -- whether a command of an image needs threads
 abbrev pub runs_threads : ImageCommand → Bool
 runs_threads (Run budget plan lead written) = true
+runs_threads (RunUntilStuck budget plan lead written) = true
 runs_threads other = false
 
 -- whether a command needs threads
 abbrev pub needs_threads : CommandLine → Bool
 needs_threads (OfImage source command) = runs_threads command
 needs_threads (OfRecord command) = false
+needs_threads (Session rank) = false
 
 -- the plan is wrong, or the order of the ranks
 abbrev pub IsMisplanned : ImageCommand → ImageParts → Type 0
 IsMisplanned (Run budget plan lead written) image =
+    ByPlans image budget plan (λ plans. ¬ (HasPlans image plans))
+IsMisplanned (RunUntilStuck budget plan lead written) image =
     ByPlans image budget plan (λ plans. ¬ (HasPlans image plans))
 IsMisplanned (One budget plan order written) image =
     ByPlans image budget plan (λ plans. ¬ (ArePlans image plans (listed order image.ranks)))
@@ -93,6 +115,13 @@ abbrev pub IsStepsFault : RecordCommand → ImageParts → List Step → Fault �
 IsStepsFault command image steps faults.Memory = ⊤
 IsStepsFault command image steps fault = RefusesSteps command image steps fault
 
+-- what is told of a fault of `list`
+abbrev pub fault_of_list : ListFault → Fault
+fault_of_list list.NoRank = faults.List refusal.NoRank
+fault_of_list (list.PastEnd n) = faults.List (refusal.PastEnd n)
+fault_of_list (list.NotARun n) = faults.List (refusal.NotARun n)
+fault_of_list list.Memory = faults.Memory
+
 -- of what was read as a record: its first fault, or else one of its image and its steps, unless memory was refused
 abbrev pub IsReadFault : RecordCommand → Result (ImageParts × List Step) RecordFault → Fault → Type 0
 IsReadFault command read faults.Memory = ⊤
@@ -103,6 +132,7 @@ IsReadFault command read fault =
 abbrev pub IsFaultOf : CommandLine → List ℕ → Fault → Type 0
 IsFaultOf (OfImage source command) bytes fault = IsImageFault source command bytes fault
 IsFaultOf (OfRecord command) bytes fault = IsReadFault command (reading_record bytes) fault
+IsFaultOf (Session rank) bytes fault = ⊥
 
 -- ---- the steps to an answer
 

@@ -20,12 +20,14 @@ use Rattle.rvmc_inspect.specs.Why.{IsWhy}
 use Rattle.rvmc_inspect.specs.Words.{IsTextOfWords}
 use Rattle.rvmc_words.specs.declared.debug.DebugWord.{DebugWord}
 use Rattle.rvmc_line.specs.declared.line.RecordCommand.{RecordCommand}
-use Rattle.rvmc_line.specs.declared.line.RecordCommand.TheVariants.{Check, Debug, Draw, List as ListSteps, Report, Stats}
-use Rattle.rvmc_line.specs.declared.line.RecordCommand.TheVariants.{Why}
+use Rattle.rvmc_line.specs.declared.line.RecordCommand.TheVariants.{Check, Debug, Draw, List as ListSteps, Page, Report}
+use Rattle.rvmc_line.specs.declared.line.RecordCommand.TheVariants.{Stats, Why}
 use Rattle.rvmc_list.specs.List.{IsList, ListFaultHolds}
 use Rattle.rvmc_list.specs.Stats.{IsStats}
 use Rattle.rvmc_list.specs.declared.folding.Wanted.{Wanted}
 use Rattle.rvmc_list.specs.declared.walk.ListFault.TheVariants as list
+use Rattle.rvmc_page.specs.Records.{IsPage, PageFaultHolds}
+use Rattle.rvmc_page.specs.declared.records.PageFault.TheVariants as page
 use Rattle.rvmc_picture.specs.Pictures.{DrawFaultHolds, IsDrawing, view_of}
 use Rattle.rvmc_picture.specs.declared.pictures.DrawFault.TheVariants as draw
 use Rattle.rvmc_report.specs.Faults.{fault_of_debug, fault_status}
@@ -37,6 +39,7 @@ use Rattle.rvmc_report.specs.declared.faults.Fault.TheVariants as faults
 use Rattle.rvmc_report.specs.declared.faults.ListRefusal.TheVariants as refusal
 use Rattle.rvmc_report.specs.declared.faults.PlaceFault.TheVariants as place
 use Rattle.rvmc_svg.specs.Safe.{IsAllowed}
+use Rattle.rvmc_svg.specs.Shown.{IsShown}
 use Rattle.rvmc_tool.specs.Ends.{IsFaulty, end_status}
 use Rattle.rvmc_tool.specs.declared.answers.End.{End}
 use Rattle.rvmc_tool.specs.declared.answers.End.TheVariants.{Cut, Status}
@@ -82,12 +85,13 @@ IsNoList image steps wanted other = ⊥
 
 -- ---- `draw`
 
--- a picture of the steps from one place to another, or to the end: a drawing of them, and a text of which each byte is one
--- that XML allows
+-- a picture of the steps from one place to another, or to the end: a drawing of them, and a text in which what is told of its
+-- marks stands, and of which each byte is one that XML allows
 pub record IsPicture (image : ImageParts) (steps : List Step) (from : ℕ) (to : Option ℕ) (text : List ℕ) : Type 0 where
   pub drawing : Drawing
   pub is : IsDrawing image steps (view_of from to steps) drawing
   pub allowed : All IsAllowed text
+  pub shown : IsShown drawing text
 
 -- a place that isn't there, a step that is none of the machine's, and more marks than a picture may have are faults
 abbrev pub IsNoPicture : ImageParts → List Step → ℕ → Option ℕ → Fault → Type 0
@@ -98,6 +102,18 @@ IsNoPicture image steps from to (faults.Draw (drawn.NotARun n)) =
 IsNoPicture image steps from to (faults.Draw (drawn.TooMany n)) =
     DrawFaultHolds image steps (view_of from to steps) (draw.TooMany n)
 IsNoPicture image steps from to other = ⊥
+
+-- ---- `page`
+
+-- a place that isn't there, a step that is none of the machine's, and more steps than a page may have are faults
+abbrev pub IsNoPage : ImageParts → List Step → ℕ → Option ℕ → Fault → Type 0
+IsNoPage image steps from to (faults.Page (drawn.PastEnd n)) =
+    PageFaultHolds image steps (view_of from to steps) (page.PastEnd n)
+IsNoPage image steps from to (faults.Page (drawn.NotARun n)) =
+    PageFaultHolds image steps (view_of from to steps) (page.NotARun n)
+IsNoPage image steps from to (faults.Page (drawn.TooMany n)) =
+    PageFaultHolds image steps (view_of from to steps) (page.TooMany n)
+IsNoPage image steps from to other = ⊥
 
 -- ---- `debug`
 
@@ -153,6 +169,7 @@ TellsOfSteps (ListSteps from to rank calls) image steps text end =
 TellsOfSteps (Stats from to rank) image steps text end =
     IsStats image steps (counted_of from to rank) text × (end ≡ Status 0)
 TellsOfSteps (Draw from to) image steps text end = IsPicture image steps from to text × (end ≡ Status 0)
+TellsOfSteps (Page from to) image steps text end = IsPage image steps (view_of from to steps) text × (end ≡ Status 0)
 TellsOfSteps (Debug words) image steps text end = IsDebugged image steps words text end
 TellsOfSteps (Why at frames) image steps text end =
     IsWhyAt frames image steps (place_asked at steps) text × (end ≡ Status 0)
@@ -165,6 +182,7 @@ RefusesSteps (ListSteps from to rank calls) image steps fault =
     IsNoList image steps (wanted_of from to rank calls) fault
 RefusesSteps (Stats from to rank) image steps fault = IsNoList image steps (counted_of from to rank) fault
 RefusesSteps (Draw from to) image steps fault = IsNoPicture image steps from to fault
+RefusesSteps (Page from to) image steps fault = IsNoPage image steps from to fault
 RefusesSteps (Debug words) image steps fault = IsNoRun image steps fault
 RefusesSteps (Why at frames) image steps fault = IsNoPlace image steps (place_asked at steps) fault
 

@@ -1,13 +1,14 @@
 -- What the program leaves on standard output, and its status.
-use Rattle.std.specs.Prelude.{◌≡◌, ℕ, ◌≤◌, ◌⊎◌, ◌==◌, ◌||◌, Bool, List, [], length, MatchResult, Option, Err}
+use Rattle.std.specs.Prelude.{◌≡◌, ℕ, ◌≤◌, ◌⊎◌, ◌==◌, ◌||◌, Bool, false, List, [], length, MatchResult, Option, Err}
 use Rattle.std.specs.Prelude.{string_bytes}
 use Rattle.std.specs.Io.KnownBytes.{Appends, Keeps}
 use Rattle.rvmc_tool.specs.Answers.{HasThreads, Says}
 use Rattle.rvmc_tool.specs.Ends.{IsFaulty}
 use Rattle.rvmc_tool.specs.Images.{image_in}
+use Rattle.rvmc_tool.specs.Sessions.{is_session}
 use Rattle.rvmc_cli.specs.Meaning.{Parses}
 use Rattle.rvmc_line.specs.declared.line.CommandLine.{CommandLine}
-use Rattle.rvmc_line.specs.declared.line.CommandLine.TheVariants.{OfImage, OfRecord}
+use Rattle.rvmc_line.specs.declared.line.CommandLine.TheVariants.{OfImage, OfRecord, Session}
 use Rattle.rvmc_line.specs.declared.line.ParseFault.{ParseFault}
 use Rattle.rvmc_line.specs.declared.line.ParseFault.TheVariants as parse
 
@@ -20,10 +21,11 @@ abbrev pub IsUnlike : CommandLine → List ℕ → List ℕ → ℕ → Type 0
 IsUnlike (OfImage source command) bytes text status =
     IsFaulty text status × MatchResult (image_in source bytes) (λ image. HasThreads command image) (λ _. ⊥)
 IsUnlike (OfRecord command) bytes text status = ⊥
+IsUnlike (Session rank) bytes text status = ⊥
 
--- what a command line says of the bytes, of which there are 2^26 at most
+-- what a command line says of the bytes, of which there are 2^26 at most; a session reads no more of them than it hears
 pub record IsSaid (line : CommandLine) (bytes : List ℕ) (text : List ℕ) (status : ℕ) : Type 0 where
-  pub short : length bytes ≤ 67108864
+  pub short : is_session line ≡ false → length bytes ≤ 67108864
   pub says : Says line bytes text status ⊎ IsUnlike line bytes text status
 
 -- the output, before and after, where every read and write succeeded

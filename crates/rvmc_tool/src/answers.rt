@@ -7,13 +7,14 @@ ghost use Rattle.rvmc_tool.specs.Answers.{Makes, Says, SaysOfImage};
 ghost use Rattle.rvmc_tool.specs.Ends.{IsDone, end_status};
 ghost use Rattle.rvmc_tool.specs.Making.{EndsSo, IsFaultOf, IsImageFault, IsWhole, RefusesImage};
 ghost use Rattle.rvmc_tool.specs.Making.{needs_threads, runs_threads};
+ghost use Rattle.rvmc_tool.specs.Sessions.{is_session};
 ghost use Rattle.rvmc_tool.specs.Outputs.{output_bytes};
+ghost use Rattle.rvmc_tool.specs.declared.answers.End.TheVariants.{Status};
 
 use crate::images::image_in;
 use crate::outputs::Output;
 use crate::records::answer_of_record;
 use crate::runs::{one, run};
-use crate::stuck::one_until_stuck;
 use rv_image::{Image, write_image};
 use rvmc_line::{CommandLine, ImageCommand};
 use rvmc_report::faults::Fault;
@@ -47,6 +48,18 @@ impl End {
 pub struct Answer {
     pub output: Output,
     pub end: End,
+}
+
+impl Answer {
+    /// All is done, and this is the text.
+    pub(crate) fn done(text: Vec<u8>) -> Answer
+        ensures text { output_bytes result.output ≡ text.items }
+        ensures end { result.end ≡ Status 0 }
+    {
+        let output = Output::Text(text);
+        let end = End::Status(0);
+        Answer { output, end }
+    }
 }
 
 /// The bytes of an image.
@@ -88,14 +101,14 @@ fn made(alloc: Global, command: &ImageCommand, image: Image) -> Result<Answer, F
             plan,
             order,
             written,
-        } => one(alloc, &image, *budget, plan, order, *written),
+        } => one(alloc, &image, *budget, plan, order, false, *written),
         ImageCommand::OneUntilStuck {
             budget,
             plan,
             order,
             written,
-        } => one_until_stuck(alloc, &image, *budget, plan, order, *written),
-        ImageCommand::Run { .. } => unreachable!(),
+        } => one(alloc, &image, *budget, plan, order, true, *written),
+        ImageCommand::Run { .. } | ImageCommand::RunUntilStuck { .. } => unreachable!(),
     }
 }
 
@@ -116,11 +129,14 @@ fn answer_of_image(
     made(alloc, command, image)
 }
 
-/// Whether a command of an image needs threads: `run` alone does.
+/// Whether a command of an image needs threads: `run` does.
 fn runs_threads(command: &ImageCommand) -> bool
     ensures { result ≡ runs_threads command.now }
 {
-    matches!(command, ImageCommand::Run { .. })
+    matches!(
+        command,
+        ImageCommand::Run { .. } | ImageCommand::RunUntilStuck { .. }
+    )
 }
 
 /// Whether a command needs threads.
@@ -129,7 +145,7 @@ pub fn needs_threads(line: &CommandLine) -> bool
 {
     match line {
         CommandLine::OfImage { command, .. } => runs_threads(command),
-        CommandLine::OfRecord(_) => false,
+        CommandLine::OfRecord(_) | CommandLine::Session { .. } => false,
     }
 }
 
@@ -138,9 +154,10 @@ pub fn needs_threads(line: &CommandLine) -> bool
 /// A fault of the input is an `Err`, as want of memory is: the first fault of the source, the image or the record,
 /// `Plans` where a run's plan or order is wrong, or the fault for which a command tells nothing of a record's steps. A
 /// word of `debug` that is refused is no such `Err`: the answer has the texts of the words before it, and is cut short
-/// by the fault.
+/// by the fault. A session answers as its input comes, and not here.
 pub fn answer_to(alloc: Global, line: &CommandLine, bytes: &[u8]) -> Result<Answer, Fault>
     requires plain { needs_threads line.now ≡ false }
+    requires whole { is_session line.now ≡ false }
     ensures says { IfOk result (λ answer.
         Says line.now bytes.now (output_bytes answer.output) (end_status answer.end)) }
     ensures ends { IfOk result (λ answer. EndsSo line.now bytes.now (output_bytes answer.output) answer.end) }
@@ -149,6 +166,7 @@ pub fn answer_to(alloc: Global, line: &CommandLine, bytes: &[u8]) -> Result<Answ
     match line {
         CommandLine::OfImage { source, command } => answer_of_image(alloc, *source, command, bytes),
         CommandLine::OfRecord(command) => answer_of_record(alloc, command, bytes),
+        CommandLine::Session { .. } => unreachable!(),
     }
 }
 
@@ -173,7 +191,16 @@ fn answer_of_image_with_threads<R: Threads + Wait + Sync>(
             written,
         } => {
             let image = image_in(alloc, source, bytes)?;
-            run(rt, alloc, &image, *budget, plan, *lead, *written)
+            run(rt, alloc, &image, *budget, plan, *lead, false, *written)
+        }
+        ImageCommand::RunUntilStuck {
+            budget,
+            plan,
+            lead,
+            written,
+        } => {
+            let image = image_in(alloc, source, bytes)?;
+            run(rt, alloc, &image, *budget, plan, *lead, true, *written)
         }
         _ => answer_of_image(alloc, source, command, bytes),
     }
@@ -189,6 +216,7 @@ pub fn answer_with_threads<R: Threads + Wait + Sync>(
     line: &CommandLine,
     bytes: &[u8],
 ) -> Result<Answer, Fault>
+    requires whole { is_session line.now ≡ false }
     ensures says { IfOk result (λ answer.
         Says line.now bytes.now (output_bytes answer.output) (end_status answer.end)) }
     ensures ends { IfOk result (λ answer. EndsSo line.now bytes.now (output_bytes answer.output) answer.end) }
@@ -199,5 +227,6 @@ pub fn answer_with_threads<R: Threads + Wait + Sync>(
             answer_of_image_with_threads(rt, alloc, *source, command, bytes)
         }
         CommandLine::OfRecord(command) => answer_of_record(alloc, command, bytes),
+        CommandLine::Session { .. } => unreachable!(),
     }
 }

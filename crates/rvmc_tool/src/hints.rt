@@ -1,16 +1,18 @@
-//! What is told behind a fault's line.
+//! What is told behind a fault's line, or beside an output.
 
 ghost use Rattle.std.specs.Prelude.{◌≡◌};
+ghost use Rattle.rvmc_hints.specs.HintLines.{AppendsHint};
 ghost use Rattle.rvmc_tool.specs.Hints.{wanted_by};
 
 use crate::images::image_in;
+use crate::outputs::{Output, length_of};
 use cl_debug::DebugFault;
 use cl_text::RecordFault;
 use rv_image::{Image, Symbol, read_image};
 use rvmc_cli::parse;
 use rvmc_hints::{
-    Hint, Wanted, content_hint, form_of, is_file_name, is_near, magic_hint, plans_hint, short_hint,
-    source_hint,
+    Hint, INPUT_MOST, RunHint, Wanted, content_hint, form_of, is_file_name, is_near, magic_hint,
+    plans_hint, put_run_hint, short_hint, source_hint,
 };
 use rvmc_line::{CommandLine, ImageCommand, RecordCommand};
 use rvmc_report::faults::{DrawRefusal, Fault};
@@ -41,7 +43,7 @@ fn wanted_by(line: &CommandLine) -> Wanted
             ..
         } => Wanted::Listed,
         CommandLine::OfImage { .. } => Wanted::Image,
-        CommandLine::OfRecord(_) => Wanted::Record,
+        CommandLine::OfRecord(_) | CommandLine::Session { .. } => Wanted::Record,
     }
 }
 
@@ -81,7 +83,9 @@ fn plans<'a>(alloc: Global, line: &CommandLine, bytes: &[u8]) -> Option<Hint<'a>
     };
     let parts = image.parts();
     match command {
-        ImageCommand::Run { plan, .. } => plans_hint(parts.ranks, parts.harts, numbers(plan), None),
+        ImageCommand::Run { plan, .. } | ImageCommand::RunUntilStuck { plan, .. } => {
+            plans_hint(parts.ranks, parts.harts, numbers(plan), None)
+        }
         ImageCommand::One { plan, order, .. } | ImageCommand::OneUntilStuck { plan, order, .. } => {
             plans_hint(parts.ranks, parts.harts, numbers(plan), numbers(order))
         }
@@ -102,6 +106,10 @@ fn of_bytes<'a>(bytes: &'a [u8], fault: &Fault) -> Option<Hint<'a>> {
 /// How a record with more marks than a picture may have is drawn.
 const FEWER: &str = "a picture has at most 5000 marks: --from and --to draw a part of the record";
 
+/// How a page is made of a record with more steps than a page may have.
+const SHORTER: &str =
+    "a page has at most 200000 steps: --from and --to make one of a part of the record";
+
 /// What can be told of a fault, of what stands in the input.
 fn hint_of<'a>(
     alloc: Global,
@@ -116,6 +124,7 @@ fn hint_of<'a>(
         },
         Fault::Plans => plans(alloc, line, bytes),
         Fault::Draw(DrawRefusal::TooMany(_)) => Some(Hint::Most(FEWER)),
+        Fault::Page(DrawRefusal::TooMany(_)) => Some(Hint::Most(SHORTER)),
         _ => None,
     }
 }
@@ -260,5 +269,33 @@ fn hint_of_words<'a>(alloc: Global, words: &'a [&'a str]) -> Option<Hint<'a>> {
 pub(crate) fn hint_words<E: Write>(alloc: Global, words: &[&str], err: &mut E) {
     if let Some(hint) = hint_of_words(alloc, words) {
         put_hint(err, hint);
+    }
+}
+
+/// What can be told of a record of so many bytes: that no command reads it, where that is so.
+fn length_hint(bytes: u64) -> Option<RunHint> {
+    if bytes > INPUT_MOST {
+        Some(RunHint::LongRecord(bytes))
+    } else {
+        None
+    }
+}
+
+/// What can be told beside an output.
+fn run_hint(output: &Output) -> Option<RunHint> {
+    match output {
+        Output::Text(_) => None,
+        Output::Waiting(_) => Some(RunHint::Waits),
+        Output::Record(text) => length_hint(length_of(text)),
+    }
+}
+
+/// Writes what can be told beside an output, if there is anything.
+#[tactic(auto, using(crate::proofs::Quiet::unhinted, crate::proofs::Quiet::kept))]
+pub(crate) fn tell_run_hint<E: Write>(alloc: Global, output: &Output, err: &mut E)
+    ensures { AppendsHint (E.contents err.old) (E.contents err.new) }
+{
+    if let Some(hint) = run_hint(output) {
+        put_run_hint(alloc, err, hint);
     }
 }

@@ -10,11 +10,14 @@ mod hints;
 mod images;
 mod listing;
 pub mod outputs;
+mod paging;
 pub mod plans;
 mod program;
 mod records;
 mod reporting;
 mod runs;
+mod sessions;
 mod stuck;
+mod waiting;
 
 pub use program::{tool, tool_plain};

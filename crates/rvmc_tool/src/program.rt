@@ -9,12 +9,14 @@ ghost use Rattle.rvmc_line.specs.declared.line.CommandLine.{CommandLine as Line}
 ghost use Rattle.rvmc_tool.specs.Tool.{Answers, RefusesWords, ShowsFault, is_quiet};
 ghost use Rattle.rvmc_tool.specs.Plain.{IsWhole, RefusesPlain, Tells};
 ghost use Rattle.rvmc_tool.specs.Plain.{plain_meaning_of};
+ghost use Rattle.rvmc_hints.specs.HintLines.{AppendsHint};
 ghost use Rattle.rvmc_report.specs.Faults.{fault_status};
 ghost use Rattle.rvmc_report.specs.Input.{TakesAtMost};
 
 use crate::answers::{Answer, End, answer_to, answer_with_threads, needs_threads};
-use crate::hints::{hint_words, put_hint, tell_hint};
+use crate::hints::{hint_words, put_hint, tell_hint, tell_run_hint};
 use crate::outputs::Output;
+use crate::sessions::served;
 use rvmc_cli::parse;
 use rvmc_hints::Hint;
 use rvmc_line::{CommandLine, ParseFault};
@@ -50,7 +52,7 @@ fn fail<E: Write>(err: &mut E, fault: Fault) -> u8
 }
 
 /// The same, with a hint behind the line where there is one. A hint changes no status.
-fn fail_with_hint<E: Write>(
+pub(crate) fn fail_with_hint<E: Write>(
     alloc: Global,
     line: &CommandLine,
     bytes: &[u8],
@@ -68,7 +70,7 @@ fn fail_with_hint<E: Write>(
 }
 
 /// Tells that the input can't be read, or is too long, and which can.
-fn fail_to_read<E: Write>(err: &mut E) -> u8
+pub(crate) fn fail_to_read<E: Write>(err: &mut E) -> u8
     ensures status { result ≡ 6 }
 {
     if put_fault(err, Fault::Read) {
@@ -77,27 +79,17 @@ fn fail_to_read<E: Write>(err: &mut E) -> u8
     Fault::Read.status()
 }
 
-/// The status where a writer took all, or else tells that a write failed.
-fn ended<E: Write>(err: &mut E, taken: bool, status: u8) -> u8
-    ensures taken { result ≢ 6 → taken ≡ true }
-    ensures status { result ≢ 6 → result ≡ status }
-    ensures quiet { is_quiet result ≡ true → Keeps (E.contents err.old) (E.contents err.new) }
-{
-    if taken {
-        status
-    } else {
-        fail(err, Fault::Write)
-    }
-}
-
 /// Writes a text on standard output with this status, or else tells that a write failed.
 fn finish<O: Write, E: Write>(out: &mut O, err: &mut E, text: &[u8], status: u8) -> u8
     ensures written { result ≢ 6 → Appends (O.contents out.old) (O.contents out.new) text.now }
     ensures status { result ≢ 6 → result ≡ status }
     ensures quiet { is_quiet result ≡ true → Keeps (E.contents err.old) (E.contents err.new) }
 {
-    let taken = put(out, text);
-    ended(err, taken, status)
+    if put(out, text) {
+        status
+    } else {
+        fail(err, Fault::Write)
+    }
 }
 
 /// Writes an output, and tells whether the writer took all of it. No memory is asked for here: a record is written in
@@ -106,8 +98,29 @@ fn put_output<W: Write>(out: &mut W, output: &Output) -> bool
     ensures { result ≡ true → Appends (W.contents out.old) (W.contents out.new) (output_bytes output.now) }
 {
     match output {
-        Output::Text(text) => put(out, text),
+        Output::Text(text) | Output::Waiting(text) => put(out, text),
         Output::Record(text) => text.put(out).is_ok() && out.flush().is_ok(),
+    }
+}
+
+/// The status of an output that a writer took, with a hint beside it where there is one, or else tells that a write
+/// failed. A hint changes no status.
+fn ended_with_hint<E: Write>(
+    alloc: Global,
+    output: &Output,
+    err: &mut E,
+    taken: bool,
+    status: u8,
+) -> u8
+    ensures taken { result ≢ 6 → taken ≡ true }
+    ensures status { result ≢ 6 → result ≡ status }
+    ensures quiet { is_quiet result ≡ true → AppendsHint (E.contents err.old) (E.contents err.new) }
+{
+    if taken {
+        tell_run_hint(alloc, output, err);
+        status
+    } else {
+        fail(err, Fault::Write)
     }
 }
 
@@ -137,13 +150,13 @@ fn tell<O: Write, E: Write>(
     err: &mut E,
 ) -> u8
     ensures told { result ≢ 6 → Tells answer result (O.contents out.old) (O.contents out.new) }
-    ensures quiet { is_quiet result ≡ true → Keeps (E.contents err.old) (E.contents err.new) }
+    ensures quiet { is_quiet result ≡ true → AppendsHint (E.contents err.old) (E.contents err.new) }
 {
     match answer {
         Ok(answer) => {
             let taken = put_output(out, &answer.output);
             match answer.end {
-                End::Status(status) => ended(err, taken, status),
+                End::Status(status) => ended_with_hint(alloc, &answer.output, err, taken, status),
                 End::Cut(fault) => {
                     if taken {
                         fail_with_hint(alloc, line, bytes, fault, err)
@@ -158,9 +171,10 @@ fn tell<O: Write, E: Write>(
 }
 
 /// Does what a command line asks for that needs no threads.
+#[tactic(auto, using(crate::proofs::Quiet::hinted_behind))]
 fn obey<I: Read, O: Write, E: Write>(
-    alloc: Global,
     line: &CommandLine,
+    alloc: Global,
     input: &mut I,
     out: &mut O,
     err: &mut E,
@@ -169,8 +183,11 @@ fn obey<I: Read, O: Write, E: Write>(
     ensures answers { (bytes : List ℕ) → I.remaining input.old ≡ Some bytes → result ≢ 6
         → Answers line.now bytes result (O.contents out.old) (O.contents out.new) }
     ensures front { TakesAtMost 67112960 (I.remaining input.old) (I.remaining input.new) }
-    ensures quiet { is_quiet result ≡ true → Keeps (E.contents err.old) (E.contents err.new) }
+    ensures quiet { is_quiet result ≡ true → AppendsHint (E.contents err.old) (E.contents err.new) }
 {
+    if let CommandLine::Session { rank } = line {
+        return served(alloc, line, *rank, input, out, err);
+    }
     match take(alloc, input, err) {
         Ok(bytes) => {
             let whole = bytes.as_slice();
@@ -182,6 +199,7 @@ fn obey<I: Read, O: Write, E: Write>(
 }
 
 /// Does what any command line asks for.
+#[tactic(auto, using(crate::proofs::Quiet::hinted_behind))]
 fn obey_with_threads<R: Threads + Wait + Sync, I: Read, O: Write, E: Write>(
     rt: &R,
     alloc: Global,
@@ -193,8 +211,11 @@ fn obey_with_threads<R: Threads + Wait + Sync, I: Read, O: Write, E: Write>(
     ensures answers { (bytes : List ℕ) → I.remaining input.old ≡ Some bytes → result ≢ 6
         → Answers line.now bytes result (O.contents out.old) (O.contents out.new) }
     ensures front { TakesAtMost 67112960 (I.remaining input.old) (I.remaining input.new) }
-    ensures quiet { is_quiet result ≡ true → Keeps (E.contents err.old) (E.contents err.new) }
+    ensures quiet { is_quiet result ≡ true → AppendsHint (E.contents err.old) (E.contents err.new) }
 {
+    if let CommandLine::Session { rank } = line {
+        return served(alloc, line, *rank, input, out, err);
+    }
     match take(alloc, input, err) {
         Ok(bytes) => {
             let whole = bytes.as_slice();
@@ -218,6 +239,7 @@ fn refuse<E: Write>(alloc: Global, words: &[&str], text: &str, err: &mut E) -> u
 }
 
 /// Shows what there is in place of a command line.
+#[tactic(auto, using(crate::proofs::Quiet::unhinted))]
 fn show<O: Write, E: Write>(
     alloc: Global,
     words: &[&str],
@@ -226,7 +248,7 @@ fn show<O: Write, E: Write>(
     err: &mut E,
 ) -> u8
     ensures shows { result ≢ 6 → ShowsFault fault.now result (O.contents out.old) (O.contents out.new) }
-    ensures quiet { is_quiet result ≡ true → Keeps (E.contents err.old) (E.contents err.new) }
+    ensures quiet { is_quiet result ≡ true → AppendsHint (E.contents err.old) (E.contents err.new) }
 {
     match fault {
         ParseFault::Memory => fail(err, Fault::Memory),
@@ -276,9 +298,9 @@ pub fn tool<'a, R: Threads + Wait + Sync, I: Read, O: Write, E: Write>(
         → Keeps (I.remaining input.old) (I.remaining input.new) }
 
     // Whatever is answered: the input loses bytes from its front alone, and 4,096 beyond the limit at most; and with
-    // the statuses 0, 3 and 4 standard error is as it was.
+    // the statuses 0, 3 and 4 standard error gets nothing but one line that begins with `hint: `, or none.
     ensures front { TakesAtMost 67112960 (I.remaining input.old) (I.remaining input.new) }
-    ensures quiet { is_quiet result ≡ true → Keeps (E.contents err.old) (E.contents err.new) }
+    ensures quiet { is_quiet result ≡ true → AppendsHint (E.contents err.old) (E.contents err.new) }
 {
     match parse(alloc, words) {
         Ok(line) => obey_with_threads(rt, alloc, &line, input, out, err),
@@ -308,14 +330,14 @@ pub fn tool_plain<'a, I: Read, O: Write, E: Write>(
 
     // Whatever is answered.
     ensures front { TakesAtMost 67112960 (I.remaining input.old) (I.remaining input.new) }
-    ensures quiet { is_quiet result ≡ true → Keeps (E.contents err.old) (E.contents err.new) }
+    ensures quiet { is_quiet result ≡ true → AppendsHint (E.contents err.old) (E.contents err.new) }
 {
     match parse(alloc, words) {
         Ok(line) => {
             if needs_threads(&line) {
                 refuse_threads(err)
             } else {
-                obey(alloc, &line, input, out, err)
+                obey(&line, alloc, input, out, err)
             }
         }
         Err(fault) => show(alloc, words, &fault, out, err),

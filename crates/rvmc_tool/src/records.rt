@@ -13,6 +13,7 @@ use crate::debugging::debugged;
 use crate::drawing::pictured;
 use crate::explaining::explained;
 use crate::listing::{counted_steps, listed_steps};
+use crate::paging::paged;
 use crate::reporting::reported;
 use cl_machine::Step;
 use cl_text::read_record;
@@ -65,6 +66,7 @@ fn told(
             counted_steps(alloc, *from, *to, *rank, image, steps)
         }
         RecordCommand::Draw { from, to } => pictured(alloc, *from, *to, image, steps),
+        RecordCommand::Page { from, to } => paged(*from, *to, alloc, image, steps),
         RecordCommand::Debug { words } => debugged(alloc, words, image, steps),
         RecordCommand::Why { at, frames } => explained(alloc, *at, *frames, image, steps),
     }

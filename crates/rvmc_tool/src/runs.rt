@@ -3,19 +3,22 @@
 ghost use Rattle.std.specs.Prelude.{◌≡◌, IfErr, IfOk};
 ghost use Rattle.cl_record.specs.Plans.{ArePlans, HasPlans};
 ghost use Rattle.rv_image.specs.Image.{IsImage};
-ghost use Rattle.rvmc_tool.specs.Answers.{ByPlans, IsLeftByOne, IsLeftByThreads, IsOne, IsRecordOf};
+ghost use Rattle.rvmc_tool.specs.Answers.{ByPlans, IsLeftByOne, IsLeftByThreads, IsRecordOf};
 ghost use Rattle.rvmc_tool.specs.Making.{IsLeft};
-ghost use Rattle.rvmc_tool.specs.Answers.{IsRunAnswer, IsRunBy, IsTextOf};
+ghost use Rattle.rvmc_tool.specs.Answers.{IsRunBy, IsTextOf};
 ghost use Rattle.rvmc_tool.specs.Ends.{end_status};
-ghost use Rattle.rvmc_tool.specs.Making.{IsRunFault, IsWhole};
-ghost use Rattle.rvmc_tool.specs.Outputs.{output_bytes};
+ghost use Rattle.rvmc_tool.specs.Making.{IsAnyOne, IsAnyRun, IsRunFault, IsWhole};
+ghost use Rattle.rvmc_tool.specs.Outputs.{hides_a_wait, output_bytes};
 ghost use Rattle.rvmc_tool.specs.Plans.{listed};
+ghost use Rattle.rvmc_tool.specs.Waiting.{is_told_waiting};
 ghost use Rattle.rvmc_report.specs.Report.{rank_ends, status_of};
 
 use crate::answers::{Answer, End};
 use crate::explaining::report_with_why;
-use crate::outputs::Output;
+use crate::outputs::{Output, reported};
 use crate::plans::{listed, plans_of};
+use crate::stuck::{one_until_stuck, run_until_stuck};
+use crate::waiting::waits_at_budget;
 use cl_merge::merge;
 use cl_record::{Plan, Record};
 use cl_run::run_one;
@@ -53,10 +56,11 @@ fn output_of(
     written: Written,
 ) -> Result<Output, AllocError>
     requires { IsLeft image.now left }
-    ensures { IfOk result (λ output. IsTextOf written image.now left (output_bytes output)) }
+    ensures text { IfOk result (λ output. IsTextOf written image.now left (output_bytes output)) }
+    ensures waits { IfOk result (λ output. hides_a_wait output ≡ is_told_waiting written left) }
 {
     match written {
-        Written::Report => Ok(Output::Text(report(alloc, &left)?)),
+        Written::Report => Ok(reported(report(alloc, &left)?, waits_at_budget(&left))),
         Written::Record => Ok(Output::Record(record_of(alloc, image, left)?)),
         Written::Why => Ok(Output::Text(report_with_why(alloc, image, left)?)),
     }
@@ -98,17 +102,19 @@ fn one_by(
     Ok(told(alloc, image, left, written)?)
 }
 
-/// `one`: a run by the same plan for each rank, all ranks on one thread.
+/// `one`: a run by the same plan for each rank, all ranks on one thread, to the end of its plans or `until_stuck`.
 pub(crate) fn one(
     alloc: Global,
     image: &Image,
     budget: u64,
     harts: &Option<Numbers>,
     ranks: &Option<Numbers>,
+    until_stuck: bool,
     written: Written,
 ) -> Result<Answer, Fault>
     ensures says { IfOk result (λ answer.
-        IsOne image.now budget harts.now ranks.now written (output_bytes answer.output) (end_status answer.end)) }
+        IsAnyOne until_stuck image.now budget harts.now ranks.now written (output_bytes answer.output)
+        (end_status answer.end)) }
     ensures whole { IfOk result (λ answer. IsWhole answer.end) }
     ensures fault { IfErr result (IsRunFault
         (ByPlans image.now budget harts.now (λ plans. ¬ (ArePlans image.now plans (listed ranks.now image.now.ranks))))
@@ -116,7 +122,11 @@ pub(crate) fn one(
 {
     let plans = plans_of(alloc, image, budget, harts)?;
     let order = listed(alloc, ranks, image.parts().ranks)?;
-    one_by(alloc, image, &plans, &order, written)
+    if until_stuck {
+        one_until_stuck(alloc, image, &plans, &order, budget, written)
+    } else {
+        one_by(alloc, image, &plans, &order, written)
+    }
 }
 
 /// A run by these plans with a thread for each rank, which is held back where it is more than `lead` turns ahead.
@@ -139,7 +149,7 @@ fn run_by<R: Threads + Wait + Sync>(
     Ok(told(alloc, image, left, written)?)
 }
 
-/// `run`: a run by the same plan for each rank, each rank on a thread of its own.
+/// `run`: a run by the same plan for each rank, each rank on a thread of its own, to the end of its plans or `until_stuck`.
 pub(crate) fn run<R: Threads + Wait + Sync>(
     rt: &R,
     alloc: Global,
@@ -147,15 +157,20 @@ pub(crate) fn run<R: Threads + Wait + Sync>(
     budget: u64,
     harts: &Option<Numbers>,
     lead: u64,
+    until_stuck: bool,
     written: Written,
 ) -> Result<Answer, Fault>
     ensures says { IfOk result (λ answer.
-        IsRunAnswer image.now budget harts.now written (output_bytes answer.output) (end_status answer.end)) }
+        IsAnyRun until_stuck image.now budget harts.now written (output_bytes answer.output) (end_status answer.end)) }
     ensures whole { IfOk result (λ answer. IsWhole answer.end) }
     ensures fault { IfErr result (IsRunFault
         (ByPlans image.now budget harts.now (λ plans. ¬ (HasPlans image.now plans)))
         (ByPlans image.now budget harts.now (HasPlans image.now))) }
 {
     let plans = plans_of(alloc, image, budget, harts)?;
-    run_by(rt, alloc, image, &plans, lead, written)
+    if until_stuck {
+        run_until_stuck(rt, alloc, image, &plans, lead, budget, written)
+    } else {
+        run_by(rt, alloc, image, &plans, lead, written)
+    }
 }

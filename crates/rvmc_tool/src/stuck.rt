@@ -1,91 +1,82 @@
-//! A run that ends at a deadlock, and what is told of it.
+//! A run that ends where nobody can go on, and what is told of it.
 
 ghost use Rattle.std.specs.Prelude.{◌≡◌, IfErr, IfOk};
-ghost use Rattle.cl_record.specs.Plans.{ArePlans};
+ghost use Rattle.cl_record.specs.Plans.{ArePlans, HasPlans};
 ghost use Rattle.rv_image.specs.Image.{IsImage};
 ghost use Rattle.rvmc_report.specs.Report.{rank_ends, status_of};
-ghost use Rattle.rvmc_tool.specs.Answers.{ByPlans, IsOneUntilStuck, IsRunUntilStuck, IsStuckReport, IsStuckTextOf};
+ghost use Rattle.rvmc_tool.specs.Answers.{IsRunUntilStuck, IsThreadsUntilStuckBy, IsToldReport, IsToldTextOf};
 ghost use Rattle.rvmc_tool.specs.Ends.{end_status};
 ghost use Rattle.rvmc_tool.specs.Making.{IsLeft, IsRunFault, IsWhole};
 ghost use Rattle.rvmc_tool.specs.Outputs.{output_bytes};
-ghost use Rattle.rvmc_tool.specs.Plans.{listed};
 
 use crate::answers::{Answer, End};
 use crate::explaining::why_of;
 use crate::outputs::Output;
-use crate::plans::{listed, plans_of};
 use crate::runs::{record_of, told};
-use cl_ending::{Stuck, run_one_until_stuck};
+use cl_ending::{Outcome, Stuck, StuckThreads, run_one_until_stuck, run_threads_until_stuck};
 use cl_record::{Plan, Record};
+use cl_threads::Pace;
 use rv_image::Image;
 use rvmc_line::Written;
 use rvmc_report::faults::Fault;
 use rvmc_report::report::status;
 use rvmc_report::stuck::told_report;
-use rvmc_words::Numbers;
 use std::alloc::{AllocError, Global};
+use std::sync::Wait;
+use std::thread::Threads;
 
-/// The report of a run that was ended at a deadlock, and behind it what its harts wait for. Each rank has so many turns by
-/// its plan.
-fn stuck_with_why(
+/// The report of a run whose ranks were told to stop, of each of which it says this word, and behind it what its harts wait
+/// for. Each rank has so many turns by its plan.
+fn report_with_word(
     alloc: Global,
     image: &Image,
+    word: &str,
     budget: u64,
     left: Record,
 ) -> Result<Vec<u8>, AllocError>
     requires { IsLeft image.now left }
-    ensures { IfOk result (λ text. IsStuckReport image.now budget left text.items) }
+    ensures { IfOk result (λ text. IsToldReport word.now image.now budget left text.items) }
 {
-    let mut text = told_report(alloc, &left, "stuck", budget)?;
+    let mut text = told_report(alloc, &left, word, budget)?;
     let why = why_of(alloc, image, left)?;
     text.extend_from_slice(&why)?;
     Ok(text)
 }
 
-/// That, or the text of the record.
-fn stuck_output(
+/// That, or the text of the record, with the status of the run.
+fn told_with_word(
     alloc: Global,
     image: &Image,
-    budget: u64,
-    left: Record,
-    written: Written,
-) -> Result<Output, AllocError>
-    requires { IsLeft image.now left }
-    ensures { IfOk result (λ output. IsStuckTextOf written image.now budget left (output_bytes output)) }
-{
-    match written {
-        Written::Record => Ok(Output::Record(record_of(alloc, image, left)?)),
-        Written::Report | Written::Why => {
-            Ok(Output::Text(stuck_with_why(alloc, image, budget, left)?))
-        }
-    }
-}
-
-/// The same, with the status of the run.
-fn told_stuck(
-    alloc: Global,
-    image: &Image,
+    word: &str,
     budget: u64,
     left: Record,
     written: Written,
 ) -> Result<Answer, AllocError>
     requires { IsLeft image.now left }
-    ensures text { IfOk result (λ answer. IsStuckTextOf written image.now budget left (output_bytes answer.output)) }
+    ensures text { IfOk result (λ answer. IsToldTextOf word.now written image.now budget left (output_bytes answer.output)) }
     ensures status { IfOk result (λ answer. end_status answer.end ≡ status_of (rank_ends left)) }
     ensures whole { IfOk result (λ answer. IsWhole answer.end) }
 {
     let end = End::Status(status(&left));
-    let output = stuck_output(alloc, image, budget, left, written)?;
-    Ok(Answer { output, end })
+    match written {
+        Written::Record => {
+            let output = Output::Record(record_of(alloc, image, left)?);
+            Ok(Answer { output, end })
+        }
+        Written::Report | Written::Why => {
+            let output = Output::Text(report_with_word(alloc, image, word, budget, left)?);
+            Ok(Answer { output, end })
+        }
+    }
 }
 
 /// A run by these plans on one thread, with the ranks in this order, until nobody can go on.
-fn until_stuck(
+pub(crate) fn one_until_stuck(
     alloc: Global,
     image: &Image,
-    budget: u64,
     plans: &[Plan],
     order: &[u8],
+    budget: u64,
     written: Written,
 ) -> Result<Answer, Fault>
     requires { IsImage image.now }
@@ -97,30 +88,33 @@ fn until_stuck(
 {
     let Stuck { left, stuck } = run_one_until_stuck(alloc, image, plans, order)?;
     if stuck {
-        Ok(told_stuck(alloc, image, budget, left, written)?)
+        Ok(told_with_word(alloc, image, "stuck", budget, left, written)?)
     } else {
         Ok(told(alloc, image, left, written)?)
     }
 }
 
-/// `one --until-stuck`: a run by the same plan for each rank, all ranks on one thread, until nobody can go on.
-pub(crate) fn one_until_stuck(
+/// A run by these plans with a thread for each rank, which is held back where it is more than `lead` turns ahead, until
+/// nobody can go on.
+pub(crate) fn run_until_stuck<R: Threads + Wait + Sync>(
+    rt: &R,
     alloc: Global,
     image: &Image,
+    plans: &[Plan],
+    lead: u64,
     budget: u64,
-    harts: &Option<Numbers>,
-    ranks: &Option<Numbers>,
     written: Written,
 ) -> Result<Answer, Fault>
     ensures says { IfOk result (λ answer.
-        IsOneUntilStuck image.now budget harts.now ranks.now written (output_bytes answer.output)
-        (end_status answer.end)) }
+        IsThreadsUntilStuckBy image.now budget plans.now written (output_bytes answer.output) (end_status answer.end)) }
     ensures whole { IfOk result (λ answer. IsWhole answer.end) }
-    ensures fault { IfErr result (IsRunFault
-        (ByPlans image.now budget harts.now (λ plans. ¬ (ArePlans image.now plans (listed ranks.now image.now.ranks))))
-        ⊥) }
+    ensures fault { IfErr result (IsRunFault (¬ (HasPlans image.now plans.now)) (HasPlans image.now plans.now)) }
 {
-    let plans = plans_of(alloc, image, budget, harts)?;
-    let order = listed(alloc, ranks, image.parts().ranks)?;
-    until_stuck(alloc, image, budget, &plans, &order, written)
+    let pace = Pace::new(image.parts().ranks, lead);
+    let StuckThreads { left, outcome } = run_threads_until_stuck(rt, alloc, image, plans, &pace)?;
+    match outcome {
+        Outcome::Planned => Ok(told(alloc, image, left, written)?),
+        Outcome::Stuck => Ok(told_with_word(alloc, image, "stuck", budget, left, written)?),
+        Outcome::Told => Ok(told_with_word(alloc, image, "told", budget, left, written)?),
+    }
 }

@@ -13,7 +13,9 @@ use Rattle.cl_text.proofs.ReadAgain.{read_again}
 use Rattle.cl_text.specs.Reading.{reading_record}
 use Rattle.cl_text.specs.declared.faults.RecordFault.{RecordFault}
 use Rattle.rv_image.specs.declared.images.ImageParts.{ImageParts}
-use Rattle.rvmc_tool.specs.Answers.{IsOne, IsOneUntilStuck, IsRecordOf, IsRunAnswer, IsRunBy, IsTextOf}
+use Rattle.rvmc_tool.specs.Answers.{IsOne, IsOneUntilStuck, IsRecordOf, IsRunAnswer, IsRunBy, IsTextOf, IsThreadsUntilStuck}
+use Rattle.rvmc_tool.specs.Answers.{IsToldOfThreads}
+use Rattle.cl_record.specs.declared.plans.Plan.{Plan}
 use Rattle.rvmc_tool.specs.Ends.{IsDone, IsFaulty, end_status}
 use Rattle.rvmc_tool.specs.Images.{image_in}
 use Rattle.rvmc_tool.specs.Records.{IsChecked, SaysOfRecord, SaysOfSteps}
@@ -21,7 +23,7 @@ use Rattle.rvmc_tool.specs.declared.answers.End.{End}
 use Rattle.rvmc_tool_laws.specs.Answers.{RecordedIsGoodLaw}
 use Rattle.rvmc_tool.proofs.Reading.{ok≢err}
 use Rattle.rvmc_line.specs.declared.line.CommandLine.TheVariants.{OfImage}
-use Rattle.rvmc_line.specs.declared.line.ImageCommand.TheVariants.{One, OneUntilStuck, Run}
+use Rattle.rvmc_line.specs.declared.line.ImageCommand.TheVariants.{One, OneUntilStuck, Run, RunUntilStuck}
 use Rattle.rvmc_line.specs.declared.line.RecordCommand.TheVariants.{Check}
 use Rattle.rvmc_line.specs.declared.line.Written.TheVariants as written
 use Rattle.rvmc_report.specs.Verdicts.{verdict_status, verdict_text}
@@ -126,6 +128,25 @@ until_text (Ok image) budget harts ranks text status some (plans, of, by) none =
     ])).0
 until_text (Err fault) budget harts ranks text status some faulty none = some faulty.0
 
+-- however threads ended
+merged_text : (image : ImageParts) (budget : ℕ) (plans : List Plan) (text : List ℕ) (status : ℕ)
+    → IsToldOfThreads image budget plans written.Record text status → IsMergedText text
+merged_text image budget plans text status (inl told) =
+    record { image = image; left = told.left; merged = told.run.merged; spells = told.told }
+merged_text image budget plans text status (inr (inl told)) =
+    record { image = image; left = told.left; merged = told.run.left_told.merged; spells = told.told }
+merged_text image budget plans text status (inr (inr told)) =
+    record { image = image; left = told.left; merged = told.run.merged; spells = told.told }
+
+threads_text : (meant : Result ImageParts Fault) (budget : ℕ) (harts : Option (List ℕ)) (text : List ℕ) (status : ℕ)
+    → text ≢ []
+    → MatchResult meant (λ image. IsThreadsUntilStuck image budget harts written.Record text status)
+    (λ _. IsFaulty text status)
+    → ¬ (¬ (IsMergedText text))
+threads_text (Ok image) budget harts text status some (plans, of, by) none =
+    some (by.refused (λ right. none (merged_text image budget plans text status (by.told right)))).0
+threads_text (Err fault) budget harts text status some faulty none = some faulty.0
+
 pub recorded_is_good : RecordedIsGoodLaw
 recorded_is_good (OfImage source (Run budget plan lead written.Record)) bytes text told status ended asked says some checked =
     good_text text told ended (run_text (image_in source bytes) budget plan text status some says) checked
@@ -133,4 +154,6 @@ recorded_is_good (OfImage source (One budget plan order written.Record)) bytes t
     good_text text told ended (one_text (image_in source bytes) budget plan order text status some says) checked
 recorded_is_good (OfImage source (OneUntilStuck budget plan order written.Record)) bytes text told status ended asked says some checked =
     good_text text told ended (until_text (image_in source bytes) budget plan order text status some says) checked
+recorded_is_good (OfImage source (RunUntilStuck budget plan lead written.Record)) bytes text told status ended asked says some checked =
+    good_text text told ended (threads_text (image_in source bytes) budget plan text status some says) checked
 recorded_is_good other bytes text told status ended asked says some checked = absurd (true≢false (sym asked))

@@ -15,7 +15,7 @@ use Rattle.rvmc_tool.specs.Records.{IsWhyAt}
 use Rattle.rvmc_tool.specs.Plans.{ArePlansOf, listed}
 use Rattle.rvmc_line.specs.declared.line.CommandLine.{CommandLine}
 use Rattle.rvmc_line.specs.declared.line.CommandLine.TheVariants.{OfImage, OfRecord}
-use Rattle.rvmc_line.specs.declared.line.ImageCommand.TheVariants.{One, OneUntilStuck, Run}
+use Rattle.rvmc_line.specs.declared.line.ImageCommand.TheVariants.{One, OneUntilStuck, Run, RunUntilStuck}
 use Rattle.rvmc_line.specs.declared.line.RecordCommand.TheVariants.{Check}
 use Rattle.rvmc_line.specs.declared.line.Written.{Written}
 use Rattle.rvmc_line.specs.declared.line.Written.TheVariants as written
@@ -51,6 +51,7 @@ is_record other = false
 
 abbrev pub is_recorded : CommandLine → Bool
 is_recorded (OfImage source (Run budget plan lead written)) = is_record written
+is_recorded (OfImage source (RunUntilStuck budget plan lead written)) = is_record written
 is_recorded (OfImage source (One budget plan order written)) = is_record written
 is_recorded (OfImage source (OneUntilStuck budget plan order written)) = is_record written
 is_recorded other = false

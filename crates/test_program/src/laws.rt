@@ -6,6 +6,7 @@ ghost use Rattle.rvmc_tool.specs.Answers.{Says};
 ghost use Rattle.rvmc_tool.specs.Ends.{IsDone, end_status};
 ghost use Rattle.rvmc_tool_laws.specs.Answers.{FitsStop};
 ghost use Rattle.rvmc_tool.specs.Making.{needs_threads};
+ghost use Rattle.rvmc_tool.specs.Sessions.{is_session};
 ghost use Rattle.rvmc_tool.specs.Outputs.{output_bytes};
 ghost use Rattle.rvmc_tool.specs.Plans.{ArePlansOf};
 ghost use Rattle.rvmc_report.specs.Report.{RankEnd, report};
@@ -25,9 +26,10 @@ use std::alloc::Global;
 use std::sync::Wait;
 use std::thread::Threads;
 
-/// What a command answers that needs no threads.
+/// What a command answers that needs no threads, and takes all of its input at once.
 fn answered(alloc: Global, line: &CommandLine, bytes: &[u8]) -> Option<Answer>
-    requires { needs_threads line.now ≡ false }
+    requires plain { needs_threads line.now ≡ false }
+    requires whole { is_session line.now ≡ false }
     ensures { IfSome result (λ answer. Says line.now bytes.now (output_bytes answer.output) (end_status answer.end)) }
 {
     match answer_to(alloc, line, bytes) {
@@ -42,7 +44,9 @@ fn bytes_of(alloc: Global, output: &Output) -> Option<Vec<u8>>
 {
     let mut bytes = Vec::new(alloc);
     match output {
-        Output::Text(text) => bytes.extend_from_slice(text.as_slice()).ok()?,
+        Output::Text(text) | Output::Waiting(text) => bytes
+            .extend_from_slice(text.as_slice())
+            .ok()?,
         Output::Record(text) => text.put(&mut bytes).ok()?,
     }
     Some(bytes)

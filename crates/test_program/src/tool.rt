@@ -1,13 +1,16 @@
 //! The program on slices and vectors.
 
-ghost use Rattle.std.specs.Prelude.{◌≡◌, ◌≢◌};
+ghost use Rattle.std.specs.Prelude.{◌≡◌, ◌≢◌, ◌++◌, ℕ, List, codes, take, true};
+ghost use Rattle.std.specs.Io.{StartsWith};
+ghost use Rattle.rvmc_tool.specs.Tool.{is_quiet};
 
+use rvmc_hints::laws::hint_law;
 use rvmc_tool::{tool, tool_plain};
 use std::alloc::Global;
 use std::sync::Wait;
 use std::thread::Threads;
 
-/// Words that are no command line leave the output as it was, and nothing is read.
+/// Words that are no command line leave the input and the output as they were.
 #[tactic(auto, unfolding(rvmc_cli::specs::Meaning::faults_in, rvmc_cli::specs::Meaning::command_in, rvmc_cli::specs::Commands::line_in, clap::proofs::OnLiterals::clap_on_literals))]
 pub fn refused_words_read_nothing(
     alloc: Global,
@@ -15,20 +18,8 @@ pub fn refused_words_read_nothing(
     out: &mut Vec<u8>,
     err: &mut Vec<u8>,
 ) -> u8
-    ensures { input.new.now ≡ input.old.now }
-{
-    tool_plain(alloc, &["fly"], input, out, err)
-}
-
-/// Nor is anything put out but on standard error.
-#[tactic(auto, unfolding(rvmc_cli::specs::Meaning::faults_in, rvmc_cli::specs::Meaning::command_in, rvmc_cli::specs::Commands::line_in, clap::proofs::OnLiterals::clap_on_literals))]
-pub fn refused_words_leave_the_output(
-    alloc: Global,
-    input: &mut &[u8],
-    out: &mut Vec<u8>,
-    err: &mut Vec<u8>,
-) -> u8
-    ensures { result ≢ 6 → out.new.items ≡ out.old.items }
+    ensures input { input.new.now ≡ input.old.now }
+    ensures output { result ≢ 6 → out.new.items ≡ out.old.items }
 {
     tool_plain(alloc, &["fly"], input, out, err)
 }
@@ -41,8 +32,8 @@ pub fn run_needs_threads(
     out: &mut Vec<u8>,
     err: &mut Vec<u8>,
 ) -> u8
-    ensures input { input.new.now ≡ input.old.now }
     ensures output { result ≢ 6 → out.new.items ≡ out.old.items }
+    ensures input { input.new.now ≡ input.old.now }
 {
     tool_plain(alloc, &["run"], input, out, err)
 }
@@ -59,4 +50,20 @@ pub fn threads_read_nothing_of_refused_words<R: Threads + Wait + Sync>(
     ensures { input.new.now ≡ input.old.now }
 {
     tool(rt, alloc, &["fly"], input, out, err)
+}
+
+/// With the statuses 0, 3 and 4 no fault's line stands on standard error: what comes there begins as a hint does.
+pub fn quiet_statuses_tell_hints_alone<'a>(
+    alloc: Global,
+    words: &'a [&'a str],
+    input: &mut &[u8],
+    out: &mut Vec<u8>,
+    err: &mut Vec<u8>,
+) -> u8
+    ensures { is_quiet result ≡ true → (said : List ℕ) × (err.new.items ≡ err.old.items ++ said)
+        × StartsWith (codes "hint: ") (take 6 said) }
+{
+    let status = tool_plain(alloc, words, input, out, err);
+    hint_law();
+    status
 }

@@ -7,7 +7,8 @@ returns-clause-tells c = (
   record {
     drawing = c.in_ok-picture.picture;
     is = search rules;
-    allowed = c.in-Ok.ensures;
+    allowed = c.in-Ok.ensures.allowed;
+    shown = c.in-Ok.ensures.shown;
   },
   search rules,
 )

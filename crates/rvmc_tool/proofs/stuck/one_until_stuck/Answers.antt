@@ -1,9 +1,9 @@
 use Rattle.std.proofs.Common.{◌∙◌, inl, inr, rules, sym}
 use Rattle.rvmc_tool.proofs.Reading.{ok≢err}
-use Rattle.rvmc_tool.proofs.stuck.until_stuck.Goals as goal
+use Rattle.rvmc_tool.proofs.stuck.one_until_stuck.Goals as goal
 
-pub told_stuck-requires : goal.told_stuck-requires
-told_stuck-requires c =
+pub told_with_word-requires : goal.told_with_word-requires
+told_with_word-requires c =
     let run = c.in_ok-left.ensures.run.run in
     record {
       limits = c.requires;
@@ -22,8 +22,8 @@ told-requires c =
       merged = c.in_ok-left.ensures.merged;
     }
 
-pub returns-in_ok-told_stuck-clause-says : goal.returns-in_ok-told_stuck-clause-says
-returns-in_ok-told_stuck-clause-says c =
+pub returns-in_ok-told_with_word-clause-says : goal.returns-in_ok-told_with_word-clause-says
+returns-in_ok-told_with_word-clause-says c =
     let ran = c.in_ok-left.ensures in
     record {
       told = λ are. inr (record {
