@@ -1,4 +1,4 @@
-"""What is told behind the first line of a fault, as docs/DEBUGGING.md lists it."""
+"""What is told behind the first line of a fault, or beside a report, as docs/DEBUGGING.md lists it."""
 
 import re
 
@@ -127,23 +127,33 @@ def of_symbols(words, given):
     return ""
 
 
-def meant(words, given, first):
+def of_report(words, out):
+    """Returns what is told beside the report of a run that was cut short while a hart waited."""
+    waits = out.startswith(b"rank 0 output ") and b" waiting at 0x" in out and b" stop budget turns " in out
+    # with --why, and where --until-stuck ended the run, it stands behind the report what each hart waits for
+    alone = not words or words[0] in ("one", "run") and "--why" not in words and b" waits at 0x" not in out
+    return "a hart waits; --why says for what" if alone and waits else ""
+
+
+def meant(words, given, first, out):
     """Returns the hint's text, "" where there is none, or None where it is one of the many of a source's fault."""
     if first == b"rvmc: debug: NoSymbol\n":
         return of_symbols(words, given)
     if first.startswith(b"rvmc: draw: TooMany "):
         return "a picture has at most 5000 marks: --from and --to draw a part of the record"
+    if first.startswith(b"rvmc: page: TooMany "):
+        return "a page has at most 200000 steps: --from and --to make one of a part of the record"
     if first == b"rvmc: plans\n":
         return of_plans(words, given)
     if first.startswith((b"rvmc: image: ", b"rvmc: record: ", b"rvmc: line ")):
         content = of_content(wanted_by(words), given)
         return content or (None if first.startswith(b"rvmc: line ") else of_record(given, first))
-    return ""
+    return "" if first else of_report(words, out)
 
 
-def is_right(words, given, first, hint):
-    """Whether a hint is the one that is meant behind the first line."""
-    text = meant(words, given, first)
+def is_right(words, given, first, hint, out=b""):
+    """Whether a hint is the one that is meant behind the first line, or beside what stands on standard output."""
+    text = meant(words, given, first, out)
     if text is None:
         return not hint or LINE.fullmatch(hint) is not None
     return hint == (f"hint: {text}\n".encode() if text else b"")

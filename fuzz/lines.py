@@ -35,6 +35,7 @@ COMMANDS = {
     "run": (("--source", "--record", "--why"), (BUDGET, PLAN, ("--lead", lambda text: bounded(text, MOST_LEAD)))),
     "list": (("--calls", "--stats"), (("--from", PLACE), ("--to", PLACE), ("--rank", lambda text: bounded(text, 255, 0)))),
     "draw": ((), (("--from", PLACE), ("--to", PLACE))),
+    "page": ((), (("--from", PLACE), ("--to", PLACE))),
     "why": (("--frames",), (("--at", PLACE),)),
 }
 
@@ -99,7 +100,7 @@ class Lines:
         """Some words."""
         if self.random.randrange(30) == 0:
             return [self.random.choice(WORDS)]
-        command = self.random.choice(["one", "one", "run", "run", "asm", "dis", "check", "report", "list", "draw", "why"])
+        command = self.random.choice(["one", "one", "run", "run", *COMMANDS])
         flags, options = COMMANDS[command]
         words = [command]
         for flag in flags:

@@ -81,6 +81,22 @@ class Before:
         self.rank.box = self.look
 
 
+class Phases:
+    """How often each box was made ready, and how often taken."""
+
+    def __init__(self, image):
+        self.links, self.made, self.taken = image.links, Counter(), Counter()
+
+    def met(self, step, box):
+        """What the line of a step tells of its box's phase, where it asked a box; the box is counted."""
+        if step.kind not in (READY, TAKE, MISS, FREED):
+            return ""
+        self.made[box] += step.kind == READY
+        phase = self.made[box] if self.links[box[0]][0] == step.rank else self.taken[box] + 1
+        self.taken[box] += step.kind == TAKE
+        return f" -> phase {phase}"
+
+
 # ---- instructions
 
 
@@ -299,7 +315,7 @@ def told(image, steps, first=0, last=None, rank=None, calls=False, stats=False):
         return 1, b"", b"rvmc: list: NoRank\n"
     if max(first, end) > len(steps):
         return 1, b"", f"rvmc: list: PastEnd {len(steps)}\n".encode()
-    walk, lines, tables = Walk(image, len(steps)), Lines(calls), Tables(image)
+    walk, lines, tables, phases = Walk(image, len(steps)), Lines(calls), Tables(image), Phases(image)
     for number, step in enumerate(steps[: max(first, end)]):
         owner = walk.cluster.ranks[step.rank]
         before = Before(owner, step)
@@ -307,10 +323,11 @@ def told(image, steps, first=0, last=None, rank=None, calls=False, stats=False):
         before.end()
         if not done:
             return 1, b"", f"rvmc: list: NotARun {number}\n".encode()
+        phase = phases.met(step, before.box)
         if not first <= number < end or rank not in (None, step.rank):
             continue
         if stats:
             tables.add(step, before, owner.harts[step.hart])
         elif not (calls and step.kind == PLAIN):
-            lines.add(line(image, number, step, before, owner.harts[step.hart]), step)
+            lines.add(line(image, number, step, before, owner.harts[step.hart]) + phase, step)
     return 0, tables.told() if stats else lines.told(), b""
