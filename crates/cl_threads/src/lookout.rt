@@ -130,13 +130,14 @@ impl<'a> Lookout<'a> {
         }
         self.next = number.wrapping_add(1);
         self.turns = self.turns.saturating_add(1);
+        // a rank that isn't told when nobody can go on uses up its turns without it
+        let Some(roll) = self.roll else {
+            return false;
+        };
         if self.turns > PATIENCE {
             desk.be_patient(self.turns / PATIENCE);
         }
-        match self.roll {
-            None => false,
-            Some(roll) => self.attend(roll),
-        }
+        self.attend(roll)
     }
 
     /// Sees the seat behind its turn of this number, which it took at this desk. Whether nobody can go on.
@@ -147,6 +148,14 @@ impl<'a> Lookout<'a> {
             return false;
         }
         self.count(seat, desk, number)
+    }
+
+    /// Whether a rank had left that could have gone on, once nobody can: then those that wait aren't stuck for ever.
+    pub(crate) fn is_cut(&self) -> bool {
+        match self.roll {
+            None => false,
+            Some(roll) => roll.is_cut(),
+        }
     }
 
     /// Waits until the rank may use up its turns. Nothing is looked for from here on.

@@ -228,6 +228,7 @@ impl Gate for Pace {
             }
             Point::End => {
                 let _ = runner.ended.set(true);
+                self.roll.end(rank);
             }
         }
     }

@@ -13,7 +13,7 @@ use std::sync::{Mutex, MutexGuard, Wait};
 struct Answer {
     /// The call of the roll that it answered last, 0 where it answered none.
     call: AtomicU64,
-    /// Whether all its harts are stopped.
+    /// Whether it takes no turn any more.
     left: OnceBool,
 }
 
@@ -30,8 +30,11 @@ impl Answer {
 ///
 /// A rank answers a call where all its harts looked in vain behind it, and nothing changed by the rank since a turn before
 /// it. So once all have answered the same call, nothing changed behind it: the first that changes anything would have to
-/// find what it looked for in vain before, and nobody was there to bring it. A rank whose harts are all stopped calls the
+/// find what it looked for in vain before, and nobody was there to bring it. A rank that takes no turn any more calls the
 /// roll once more and leaves it, so that what it did stands before the call that the others answer.
+///
+/// Where a rank left that has a hart which isn't stopped, by its budget or for want of memory, say, nobody goes on either;
+/// but that is no deadlock.
 ///
 /// Nothing that is proved of a run depends on it.
 #[derive(Drop)]
@@ -44,6 +47,8 @@ pub struct Roll {
     answers: [CachePadded<Answer>; 8],
     /// Whether all ranks answered the same call.
     over: OnceBool,
+    /// Whether a rank had left by then that has a hart which isn't stopped.
+    cut: OnceBool,
     /// Whose turns are used up now, once it is over.
     place: Mutex<()>,
     ghost few: { ranks ≤ 8 },
@@ -68,6 +73,7 @@ impl Roll {
                 Answer::new(),
             ],
             over: OnceBool::new(),
+            cut: OnceBool::new(),
             place: Mutex::new(()),
         }
     }
@@ -90,6 +96,11 @@ impl Roll {
     /// Whether nobody can go on any more.
     pub(crate) fn is_over(&self) -> bool {
         self.over.get().is_some()
+    }
+
+    /// Whether a rank had left that could have gone on, once nobody can.
+    pub(crate) fn is_cut(&self) -> bool {
+        self.cut.get().is_some()
     }
 
     /// Whether all ranks answered this call, and it is the last.
@@ -125,6 +136,21 @@ impl Roll {
         self.call.fetch_add(1, Ordering::SeqCst);
         let answer: &Answer = &self.answers[usize::from(rank)];
         let _ = answer.left.set(true);
+    }
+
+    /// A rank takes no turn any more, on whatever way it ended. It leaves, if it hasn't yet.
+    pub(crate) fn end(&self, rank: u8) {
+        if rank >= self.ranks {
+            return;
+        }
+        let answer: &Answer = &self.answers[usize::from(rank)];
+        if answer.left.get().is_some() {
+            return;
+        }
+        if !self.is_over() {
+            let _ = self.cut.set(true);
+        }
+        self.leave(rank);
     }
 
     /// Waits for the ranks that use up their turns before this one, once it is over: one after another is done with them

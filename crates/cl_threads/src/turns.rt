@@ -62,7 +62,7 @@ fn give_up<R: Wait>(
     ensures told { result ≡ true → (until ≡ Told) × IsToldHere seat.old seat.new }
     ensures same { result ≡ false → seat.new ≡ seat.old }
 {
-    if until == Until::Told && end_here(seat) {
+    if until == Until::Told && !lookout.is_cut() && end_here(seat) {
         return true;
     }
     desk.hurry();
