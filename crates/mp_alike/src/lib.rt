@@ -1,0 +1,16 @@
+//! Whether two hubs are alike, and a hub that forgets nothing, so that this can be seen.
+#![tactic(auto)]
+
+mod alike;
+mod board;
+mod hub;
+mod names;
+mod pairing;
+mod posts;
+mod sides;
+pub mod worked;
+
+pub use alike::alike_names;
+pub use board::WholeBoard;
+pub use hub::WholeHub;
+pub use names::Names;

@@ -1,0 +1,183 @@
+//! The posts of two hubs, compared by names.
+
+ghost use Rattle.std.specs.Prelude.{◌≡◌, ◌<◌, ◌≤◌, ◌↔◌, ℕ, IfNone, IfSome, IsTrue, None, Some, length, option_map, slice_get};
+ghost use Rattle.mp_match.specs.declared.posts.Post.TheVariants as post;
+ghost use Rattle.mp_alike_laws.specs.Alike.{IsUnpaired};
+ghost use Rattle.mp_alike.specs.Names.{renamed as renamed_by};
+ghost use Rattle.mp_alike.specs.InnerAlike.{AreAlikeBoards, IsAlikeAt, KeepsClaim, KeepsSend, KeepsSends, line_to};
+
+use crate::board::WholeBoard;
+use crate::names::renamed;
+use mp_match::{Line, Post, Sent};
+use mp_types::Bytes;
+
+fn is_same_send(s: &Sent, t: &Sent) -> bool
+    ensures { IsTrue result ↔ (s.now ≡ t.now) }
+{
+    s.sync == t.sync && s.dest == t.dest && s.envelope == t.envelope
+}
+
+fn is_same_post(p: &Post, q: &Post) -> bool
+    ensures { IsTrue result ↔ (p.now ≡ q.now) }
+{
+    match (p, q) {
+        (Post::Send(s), Post::Send(t)) => is_same_send(s, t),
+        (Post::Receive(a), Post::Receive(b)) => a == b,
+        (Post::Claim(a), Post::Claim(b)) => a == b,
+        _ => false,
+    }
+}
+
+// The place of a partner in the other hub.
+fn partner_to(to: &[u64], partner: Option<u64>) -> Option<u64>
+    ensures { result ≡ option_map (renamed_by to.now) partner }
+{
+    match partner {
+        None => None,
+        Some(place) => Some(renamed(to, place)),
+    }
+}
+
+fn is_line_to(to: &[u64], mine: &Line, theirs: &Line) -> bool
+    ensures { IsTrue result ↔ (theirs.now ≡ line_to to.now mine.now) }
+{
+    theirs.partner == partner_to(to, mine.partner) && is_same_post(&theirs.post, &mine.post)
+}
+
+fn has_line(to: &[u64], mine: &[Line], theirs: &[Line], place: usize) -> bool
+    ensures { IsTrue result
+        ↔ (slice_get theirs.now (renamed_by to.now place) ≡ option_map (line_to to.now) (slice_get mine.now place)) }
+{
+    match (
+        mine.get(place),
+        theirs.get(renamed(to, place as u64) as usize),
+    ) {
+        (Some(line), Some(other)) => is_line_to(to, line, other),
+        (None, None) => true,
+        _ => false,
+    }
+}
+
+fn is_same_body(a: &Option<Bytes>, b: &Option<Bytes>) -> bool
+    ensures { IsTrue result ↔ (a.now ≡ b.now) }
+{
+    match (a, b) {
+        (Some(bytes), Some(others)) => bytes == others,
+        (None, None) => true,
+        _ => false,
+    }
+}
+
+fn has_body(to: &[u64], mine: &[Option<Bytes>], theirs: &[Option<Bytes>], place: usize) -> bool
+    ensures { IsTrue result ↔ (slice_get theirs.now (renamed_by to.now place) ≡ slice_get mine.now place) }
+{
+    let there = theirs.get(renamed(to, place as u64) as usize);
+    match mine.get(place) {
+        None => there.is_none(),
+        Some(body) => match there {
+            None => false,
+            Some(other) => is_same_body(other, body),
+        },
+    }
+}
+
+fn keeps_claim(to: &[u64], lines: &[Line], place: usize) -> bool
+    ensures { IsTrue result ↔ KeepsClaim to.now lines.now place }
+{
+    match lines.get(place) {
+        Some(line) => match line.post {
+            Post::Claim(_) => renamed(to, place as u64) == place as u64,
+            _ => true,
+        },
+        None => true,
+    }
+}
+
+fn is_alike_at(to: &[u64], mine: &WholeBoard, theirs: &WholeBoard, place: usize) -> bool
+    ensures { IsTrue result ↔ IsAlikeAt to.now mine.now theirs.now place }
+{
+    has_line(to, mine.lines(), theirs.lines(), place)
+        && has_body(to, mine.bodies(), theirs.bodies(), place)
+        && keeps_claim(to, mine.lines(), place)
+}
+
+// The send at a place, where it has no partner.
+fn unpaired_at(lines: &[Line], place: usize) -> Option<Sent>
+    ensures some { IfSome result (λ s. IsUnpaired lines.now place s) }
+    ensures none { IfNone result ((s : Sent) → ¬ IsUnpaired lines.now place s) }
+{
+    match lines.get(place) {
+        Some(line) => match (line.post, line.partner) {
+            (Post::Send(sent), None) => Some(sent),
+            _ => None,
+        },
+        None => None,
+    }
+}
+
+fn keeps_send(to: &[u64], lines: &[Line], place: usize, s: &Sent, behind: usize) -> bool
+    ensures { IsTrue result ↔ KeepsSend to.now lines.now place s.now behind }
+{
+    if behind <= place {
+        return true;
+    }
+    match unpaired_at(lines, behind) {
+        None => true,
+        Some(t) => {
+            s.dest != t.dest
+                || s.envelope.comm != t.envelope.comm
+                || renamed(to, place as u64) < renamed(to, behind as u64)
+        }
+    }
+}
+
+fn keeps_sends_behind(to: &[u64], lines: &[Line], place: usize, s: &Sent) -> bool
+    ensures { IsTrue result ↔ ((behind : ℕ) → KeepsSend to.now lines.now place s.now behind) }
+{
+    for behind in 0..lines.len() {
+        if !keeps_send(to, lines, place, s, behind) {
+            return false;
+        }
+    }
+    true
+}
+
+fn keeps_sends_at(to: &[u64], lines: &[Line], place: usize) -> bool
+    ensures { IsTrue result ↔ ((s : Sent) → IsUnpaired lines.now place s
+        → (behind : ℕ) → KeepsSend to.now lines.now place s behind) }
+{
+    match unpaired_at(lines, place) {
+        None => true,
+        Some(s) => keeps_sends_behind(to, lines, place, &s),
+    }
+}
+
+fn keeps_sends(to: &[u64], lines: &[Line]) -> bool
+    ensures { IsTrue result ↔ KeepsSends to.now lines.now }
+{
+    for place in 0..lines.len() {
+        if !keeps_sends_at(to, lines, place) {
+            return false;
+        }
+    }
+    true
+}
+
+fn are_alike_each(to: &[u64], mine: &WholeBoard, theirs: &WholeBoard) -> bool
+    ensures { IsTrue result
+        ↔ ((place : ℕ) → place < length mine.now.lines → IsAlikeAt to.now mine.now theirs.now place) }
+{
+    for place in 0..mine.lines().len() {
+        if !is_alike_at(to, mine, theirs, place) {
+            return false;
+        }
+    }
+    true
+}
+
+/// Whether each post is the one where the names have it go, and the sends that wait stand in the same order.
+pub fn are_alike_posts(to: &[u64], mine: &WholeBoard, theirs: &WholeBoard) -> bool
+    ensures { IsTrue result ↔ AreAlikeBoards to.now mine.now theirs.now }
+{
+    are_alike_each(to, mine, theirs) && keeps_sends(to, mine.lines())
+}
