@@ -1,20 +1,18 @@
 -- Boards are alike by the names that were found, or by none.
-use Rattle.std.proofs.Common.{◌≡◌, ℕ, zero, suc, ◌+◌, ◌<◌, ◌≤◌, inl, inr, List, [], ◌∷◌, length, get_or, Bool, true, false, Option, Some, None, refl, sym, ap, ◌∙◌, subst, arith}
+use Rattle.std.proofs.Common.{◌≡◌, ℕ, zero, suc, ◌<◌, ◌≤◌, inl, inr, List, [], ◌∷◌, length, Bool, true, false, Option, Some, None, refl, sym, ap, ◌∙◌, subst, arith}
 use Rattle.std.specs.Prelude.{◌&&◌, IfSome, is_some}
 use Rattle.std.specs.List.{list_all, slice_get}
 use Rattle.std.specs.Option.{option_map}
 use Rattle.std.proofs.lemmas.Bool.{and_parts, cases_lt}
 use Rattle.std.proofs.lemmas.Option.{get_or_from_slice_get, same_Some, slice_get_past}
 use Rattle.mp_match.specs.declared.posts.Line.{Line}
-use Rattle.mp_match.specs.declared.posts.Selection.{Selection}
-use Rattle.mp_match.specs.declared.posts.Sent.{Sent}
 use Rattle.mp_match.specs.Board.{Board}
 use Rattle.mp_match.proofs.Places.{get_within}
 use Rattle.mp_alike_laws.specs.Renaming.{Renaming, line_by}
-use Rattle.mp_alike_laws.specs.Alike.{AlikeBoards, IsUnpaired, maker}
+use Rattle.mp_alike_laws.specs.Alike.{AlikeBoards, maker}
 use Rattle.mp_alike.specs.Names.{IsListed, renamed}
 use Rattle.mp_alike.specs.InnerNames.{Corresponds, IsNaming}
-use Rattle.mp_alike.specs.InnerAlike.{AreAlikeBoards, IsAlikeAt, IsAlikeBoardBy, line_to}
+use Rattle.mp_alike.specs.InnerAlike.{AreAlikeBoards, IsAlikeBoardBy, line_to}
 use Rattle.mp_alike.proofs.Places.{past_end, there_is}
 
 -- behind the end of the list

@@ -1,5 +1,5 @@
 -- Hubs are alike where their boards are, and all beside.
-use Rattle.std.proofs.Common.{◌≡◌, ℕ, List, Option, Some, None, Result, Ok, Err, IfOk, refl, sym, subst}
+use Rattle.std.proofs.Common.{◌≡◌, ℕ, List, Option, Some, None, Result, Ok, Err, IfOk, sym, subst}
 use Rattle.std.specs.Prelude.{IfSome}
 use Rattle.mp_match.specs.Board.{Board}
 use Rattle.mp_hub.specs.Hub.{HubView}

@@ -1,14 +1,14 @@
 -- Sides that were initialised: what holds of each that is there holds of all.
-use Rattle.std.proofs.Common.{◌≡◌, ℕ, ◌<◌, ◌⊎◌, inl, inr, Bool, true, false, cond, not, List, length, get_or, Some, None, refl, sym, ap, ◌∙◌, subst}
-use Rattle.std.specs.Prelude.{All, filter, find, ◌==◌, ◌&&◌}
-use Rattle.std.specs.List.{list_any, slice_get}
+use Rattle.std.proofs.Common.{◌≡◌, ℕ, ◌⊎◌, inl, inr, Bool, true, false, cond, not, List, get_or, Some, None, refl, sym, ap, ◌∙◌, subst}
+use Rattle.std.specs.Prelude.{All, filter, ◌==◌, ◌&&◌}
+use Rattle.std.specs.List.{slice_get}
 use Rattle.std.proofs.lemmas.Bool.{and_parts, eqb-true}
 use Rattle.std.proofs.lemmas.Option.{get_or_from_slice_get, slice_get_within}
 use Rattle.mp_transfers.specs.declared.sides.Setup.{Setup}
 use Rattle.mp_transfers.specs.declared.sides.Side.{Side}
 use Rattle.mp_transfers.specs.Inits.{is_reserved, is_same_side, is_sender_over, same_transfer, sender_over}
 use Rattle.mp_alike.specs.InnerAlike.{AreAlikeSides, IsAlikeSide}
-use Rattle.mp_alike.proofs.Places.{NonePasses, Passes, none_any, none_filtered, none_found, some_or_none}
+use Rattle.mp_alike.proofs.Places.{NonePasses, none_any, none_filtered, none_found, some_or_none}
 
 at : (P : Side → Type 0) (xs : List Side) → All P xs → (i : ℕ) (t : Side) → slice_get xs i ≡ Some t → P t
 at P xs all i t here = subst P (get_or_from_slice_get xs i t t here) (all i t (slice_get_within xs i t here))

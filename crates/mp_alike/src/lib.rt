@@ -4,6 +4,7 @@
 mod alike;
 mod board;
 mod hub;
+mod key;
 mod names;
 mod pairing;
 mod posts;
