@@ -6,3 +6,4 @@ pub mod Boards
 pub mod Initialised
 pub mod Told
 pub mod Hubs
+pub mod Calls
