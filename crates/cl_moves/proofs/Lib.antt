@@ -1,0 +1,4 @@
+pub mod Asking
+pub mod Ways
+pub mod Going
+pub mod Resting

@@ -1,0 +1,24 @@
+use Rattle.std.proofs.Common.{◌≡◌, ◌+◌, Some, ap, arith, slice_get, slice_set, subst, ◌∙◌}
+use Rattle.std.proofs.lemmas.Option.{slice_get_read}
+use Rattle.cl_moves.proofs.Ways.{no_such_rank, no_turn, took}
+use Rattle.cl_moves.proofs.standing.Standing.take.Goals as goal
+
+pub returns-then-rank-len : goal.returns-then-rank-len
+returns-then-rank-len c =
+    let had = c.args.self.now.had in
+    no_such_rank c.args.self.now c.args.turn
+    (omega (arith, c.if-rank-len.true, c.from-rank.ensures, c.rank.ensures, c.len.ensures, had.ok.0))
+
+pub returns-in-Err-NotAStep : goal.returns-in-Err-NotAStep
+returns-in-Err-NotAStep c =
+    no_turn c.args.self.now c.args.turn (rw c.in-Err-NotAStep.field-0-is at c.in-Err-NotAStep.ensures.fault)
+
+pub returns : goal.returns
+returns c =
+    let had = c.args.self.now.had in
+    let here = slice_get_read had.items c.len.result c.from-rank.result c.index-had.result.now
+    (c.len.ensures ∙ had.ok.0) c.if-rank-len.false c.index-had.ensures in
+    took c.args.self.now _ c.args.turn c.index-had.result.now
+    (subst (λ r. slice_get had.items r ≡ Some c.index-had.result.now) (c.from-rank.ensures ∙ c.rank.ensures) here)
+    c.in-Ok.ensures.leads (ap (λ r. slice_set had.items r (c.index-had.result.now + 1)) (c.from-rank.ensures ∙ c.rank.ensures))
+    c.in_ok-push.ensures.items

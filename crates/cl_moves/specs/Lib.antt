@@ -1,0 +1,4 @@
+pub mod Moves
+pub mod Standing
+pub mod Ahead
+pub mod Ends

@@ -1,0 +1,17 @@
+//! What a search of all orders does at one cluster: the turns that a hart may take, all that the written machine has, also
+//! a look that misses; turns that need only their rank, taken at once; and whether nobody goes on.
+//!
+//! The laws of closed sets of clusters are those of `cl_order_laws`.
+#![tactic(auto)]
+
+mod ends;
+mod faults;
+mod single;
+mod standing;
+mod turns;
+
+pub use ends::{is_done, is_end};
+pub use faults::MoveFault;
+pub use single::Whose;
+pub use standing::Standing;
+pub use turns::turns_of;

@@ -1,0 +1,160 @@
+//! Where a search stands, and how it goes on.
+
+ghost use Rattle.std.specs.Prelude.{◌≡◌, ◌<◌, IfOk, OnOk, length, replicate};
+ghost use Rattle.cl_moves.specs.Ahead.{GoesAhead, IsAloneIfSome, IsAloneNext};
+ghost use Rattle.cl_moves.specs.Standing.{IsNextHart, IsStart, Takes};
+
+use crate::ends::is_done;
+use crate::faults::MoveFault;
+use cl_journal::CLOCK_MAX;
+use cl_machine::Step;
+use cl_replay::{ClusterState, StepFault};
+use cl_state::Ask;
+use cl_trace::Bare;
+use rv_image::Image;
+use std::alloc::{AllocError, Global};
+
+/// Where a search stands: a cluster, how many turns each of its ranks has had, and the turns that led there from where the
+/// search began to note them.
+#[derive(Drop)]
+pub struct Standing {
+    pub cluster: ClusterState,
+    pub had: Vec<u64>,
+    pub steps: Vec<Step>,
+}
+
+/// The kind of a turn that needs only its rank, of a hart that asks this. One that waits for a partition of its own is
+/// left out: it may wait for ever.
+fn alone_kind(ask: &Ask) -> Option<Bare>
+    ensures { IsAloneIfSome ask.now result }
+{
+    match ask {
+        Ask::Plain => Some(Bare::Plain),
+        Ask::Local => Some(Bare::Local),
+        Ask::Idle => Some(Bare::Idle),
+        _ => None,
+    }
+}
+
+/// So many counts of no turns.
+fn none_had(alloc: Global, ranks: usize) -> Result<Vec<u64>, AllocError>
+    ensures { IfOk result (λ had. had.items ≡ replicate ranks 0) }
+{
+    let mut had = Vec::new(alloc);
+    for _rank in 0..ranks {
+        had.push(0)?;
+    }
+    Ok(had)
+}
+
+impl Standing {
+    /// The loaded cluster of the image, before the first turn.
+    pub fn load(alloc: Global, image: &Image) -> Result<Standing, AllocError>
+        ensures { IfOk result (IsStart image.now) }
+    {
+        // whoever asks for the parts knows that the image has few ranks
+        let _parts = image.parts();
+        let cluster = ClusterState::load(alloc, image)?;
+        let had = none_had(alloc, cluster.ranks.len())?;
+        Ok(Standing {
+            cluster,
+            had,
+            steps: Vec::new(alloc),
+        })
+    }
+
+    /// Takes a turn, and notes it. False where the machine has no such turn, and then the standing may be anything.
+    ///
+    /// Refusals: Clock where the rank has had 2^64 - 1 turns, Memory. Then it may be anything too.
+    pub fn take(&mut self, turn: Step) -> Result<bool, MoveFault>
+        ensures { IfOk result (Takes self.old turn self.new) }
+    {
+        let rank = usize::from(turn.rank());
+        if rank >= self.had.len() {
+            return Ok(false);
+        }
+        let had = self.had[rank];
+        if had == u64::MAX {
+            return Err(MoveFault::Clock);
+        }
+        match self.cluster.step(&turn) {
+            Ok(()) => {}
+            Err(StepFault::NotAStep) => return Ok(false),
+            Err(StepFault::Memory) => return Err(MoveFault::Memory),
+        }
+        self.had[rank] = had + 1;
+        self.steps.push(turn)?;
+        Ok(true)
+    }
+
+    /// The hart whose turn is next in a rank, if the rank is there, and its order has one.
+    pub fn next_hart(&self, rank: u8, order: &[u8]) -> Option<u8>
+        ensures { IsNextHart order.now self.now rank result }
+    {
+        let had = *self.had.get(usize::from(rank))?;
+        if order.is_empty() {
+            return None;
+        }
+        Some(order[(had % order.len() as u64) as usize])
+    }
+
+    /// The next turn of a rank, if it needs only the rank, and not all harts of the order are stopped.
+    fn next_alone(&self, rank: u8, order: &[u8]) -> Result<Option<Step>, MoveFault>
+        requires { 0 < length order.now }
+        ensures { IfOk result (IsAloneNext order.now self.now rank) }
+    {
+        let place = usize::from(rank);
+        if place >= self.cluster.ranks.len() {
+            return Ok(None);
+        }
+        let own = &self.cluster.ranks[place];
+        let Some(hart) = self.next_hart(rank, order) else {
+            return Ok(None);
+        };
+        if usize::from(hart) >= own.harts.len() || own.clock >= CLOCK_MAX {
+            return Ok(None);
+        }
+        let ask = own.ask(hart)?;
+        let Some(kind) = alone_kind(&ask) else {
+            return Ok(None);
+        };
+        if is_done(own, order) {
+            return Ok(None);
+        }
+        Ok(Some(Step::bare(rank, hart, own.clock + 1, kind)))
+    }
+
+    /// Takes turns of a rank that need only the rank, at most so many. Answers whether it took fewer.
+    fn go_ahead(&mut self, rank: u8, order: &[u8], most: u64) -> Result<bool, MoveFault>
+        requires { 0 < length order.now }
+        ensures { OnOk result (GoesAhead order.now self.old self.new) }
+    {
+        for _turn in 0..most {
+            let Some(turn) = self.next_alone(rank, order)? else {
+                return Ok(true);
+            };
+            if !self.take(turn)? {
+                return Ok(true);
+            }
+        }
+        Ok(false)
+    }
+
+    /// Lets each rank take its turns that need only itself, at most so many. Answers the first rank that would take more,
+    /// if there is one.
+    ///
+    /// Refusals: Clock, Memory. Then the standing may be anything.
+    pub fn settle(&mut self, order: &[u8], most: u64) -> Result<Option<u8>, MoveFault>
+        requires { 0 < length order.now }
+        ensures { OnOk result (GoesAhead order.now self.old self.new) }
+    {
+        let mut long = None;
+        for rank in 0..8u8 {
+            let fewer = self.go_ahead(rank, order, most)?;
+            if !fewer && long.is_none() {
+                long = Some(rank);
+            }
+        }
+        Ok(long)
+    }
+}
