@@ -10,3 +10,4 @@ pub mod Hex
 pub mod KeptOnes
 pub mod Aheads
 pub mod Plains
+pub mod Written

@@ -43,7 +43,7 @@ each_more P (z ∷ xs) y each last (suc k) x at =
     each_more (λ m w. P (suc m) w) xs y (λ m w h. each (suc m) w h) last k x at
 
 -- an element stands wherever a list isn't over
-is_there : {X : Type 0} (xs : List X) (n : ℕ) → n < length xs → (x : X) × (slice_get xs n ≡ Some x)
+pub is_there : {X : Type 0} (xs : List X) (n : ℕ) → n < length xs → (x : X) × (slice_get xs n ≡ Some x)
 is_there [] n below = absurd (omega (arith, below))
 is_there (x ∷ xs) zero below = (x, refl)
 is_there (x ∷ xs) (suc n) below = is_there xs n (omega (arith, below))
@@ -124,7 +124,7 @@ sights_more image steps from n forwards sights are sight seen =
     }
 
 -- one scene more
-scenes_more : (image : ImageParts) (steps : List Step) (from n : ℕ) → from ≤ n → (scenes : List Scene)
+pub scenes_more : (image : ImageParts) (steps : List Step) (from n : ℕ) → from ≤ n → (scenes : List Scene)
     → AreScenes image steps from n scenes → (scene : Scene) → IsSceneAt image steps n scene
     → AreScenes image steps from (n + 1) (scenes ++ scene ∷ [])
 scenes_more image steps from n forwards scenes are scene seen =

@@ -19,3 +19,4 @@ pub mod Worked
 pub mod Rows
 pub mod Keeping
 pub mod Ahead
+pub mod Written

@@ -25,7 +25,7 @@ pub(crate) struct Kept {
 /// Texts, each at a place that its address gives. One that comes to the same place takes it.
 #[derive(Drop)]
 pub(crate) struct Texts {
-    alloc: Global,
+    pub(crate) alloc: Global,
     pub(crate) kept: Vec<Option<Kept>>,
 }
 

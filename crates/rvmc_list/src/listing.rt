@@ -1,23 +1,29 @@
 //! The text of a record.
 
-ghost use Rattle.std.specs.Prelude.{◌≡◌, ◌+◌, ◌-◌, ◌<◌, ◌≤◌, ◌^◌, IfErr, IfOk, OnOk, length, true};
+ghost use Rattle.std.specs.Prelude.{◌≡◌, ◌+◌, ◌-◌, ◌<◌, ◌≤◌, ◌^◌, IfErr, IfOk, OnOk, length, max, true};
 ghost use Rattle.cl_replay.specs.Steps.{Leads};
 ghost use Rattle.rvmc_list.specs.Folding.{is_wanted as is_wanted_of};
 ghost use Rattle.rvmc_list.specs.Keeping.{AreKept};
-ghost use Rattle.rvmc_list.specs.List.{IsList, ListFaultHolds};
+ghost use Rattle.rvmc_list.specs.List.{ListFaultHolds};
 ghost use Rattle.rvmc_list.specs.Meeting.{IsCountedTo};
 ghost use Rattle.rvmc_list.specs.Pieces.{IsWithin};
-ghost use Rattle.rvmc_list.specs.Putting.{AreTold, PutFaultHolds, Puts, StepsFaultHolds};
+ghost use Rattle.rvmc_list.specs.Putting.{PutFaultHolds, Puts, StepsFaultHolds};
+ghost use Rattle.rvmc_list.specs.Written.{IsBegun, IsChecked, IsMoved, IsWritten, Leaves};
+ghost use Rattle.rvmc_list.specs.declared.walk.ListFault.TheVariants.{Memory};
 
 use crate::folding::{Told, Wanted, close, is_wanted, put_line};
 use crate::kept::Texts;
 use crate::phases::{Phases, meet};
 use crate::plain::{is_plain, put_plain_line};
-use crate::walk::{ListFault, advance, do_step, start};
+use crate::walk::{ListFault, advance, checked, do_step, state_at};
 use cl_machine::Step;
 use cl_replay::ClusterState;
 use rv_image::{Image, Symbol};
 use std::alloc::Global;
+use std::io::Write;
+
+/// How many bytes a piece of the text has at least, but for the last one.
+const PIECE: usize = 65_536;
 
 /// A step that is to be done: its place, and the phase of the box that it asks.
 #[derive(Clone, Copy, Drop)]
@@ -92,25 +98,43 @@ fn put_step(
     put_seen(state, text, symbols, wanted, begun, due)
 }
 
-/// Does the steps from one place to another, and adds them to the text. After a refusal text, state and phases may be
-/// anything.
-fn put_steps(
+/// Writes what is told once it is a piece and no line is begun, and says whether the writer took it.
+fn put_piece<W: Write>(text: &mut Vec<u8>, begun: Option<u64>, out: &mut W) -> bool
+    ensures { result ≡ true → IsMoved text.old.items text.new.items (W.contents out.old) (W.contents out.new) }
+{
+    if text.len() < PIECE || begun.is_some() {
+        return true;
+    }
+    if out.write_all(text.as_slice()).is_err() {
+        return false;
+    }
+    text.clear();
+    true
+}
+
+/// Does the steps from one place to another, writes what is told of them piece by piece, and says whether the writer took
+/// all of it. After a refusal state and phases may be anything.
+fn put_steps<W: Write>(
     state: &mut ClusterState,
     phases: &mut Phases,
-    text: &mut Vec<u8>,
     texts: &mut Texts,
     image: &Image,
     steps: &[Step],
     wanted: &Wanted,
     to: u64,
-) -> Result<(), ListFault>
+    out: &mut W,
+) -> Result<bool, ListFault>
     requires counted { IsCountedTo image.now steps.now wanted.now.from state.old phases.old }
-    requires within { to ≤ length steps.now }
+    requires checked { IsChecked image.now steps.now wanted.now to }
+    requires within { max wanted.now.from to ≤ length steps.now }
     requires kept { AreKept image.now.symbols texts.old }
-    ensures told { OnOk result (AreTold image.now steps.now wanted.now to text.old.items text.new.items) }
-    ensures fault { IfErr result (StepsFaultHolds image.now steps.now to) }
+    ensures written { IfOk result (λ taken. taken ≡ true
+        → IsWritten image.now steps.now wanted.now (W.contents out.old) (W.contents out.new)) }
+    ensures fault { IfErr result (λ fault. fault ≡ Memory) }
+    ensures begun { IfErr result (λ _. IsBegun image.now steps.now wanted.now (W.contents out.old) (W.contents out.new)) }
 {
     let symbols = image.parts().symbols.as_slice();
+    let mut text = Vec::new(texts.alloc);
     let mut begun = None;
     for n in wanted.from..to {
         let step = &steps[n as usize];
@@ -120,10 +144,13 @@ fn put_steps(
             step,
             phase,
         };
-        begun = put_step(state, text, texts, symbols, wanted, begun, &due)?;
+        begun = put_step(state, &mut text, texts, symbols, wanted, begun, &due)?;
+        if !put_piece(&mut text, begun, out) {
+            return Ok(false);
+        }
     }
-    close(text, begun)?;
-    Ok(())
+    close(&mut text, begun)?;
+    Ok(out.write_all(text.as_slice()).is_ok())
 }
 
 /// Does the first steps, and counts the boxes that they ask. After a refusal state and phases may be anything.
@@ -147,35 +174,42 @@ fn meet_steps(
     Ok(())
 }
 
-/// A record in words: a line for each of its steps that is wanted, in their order. Step n, from 0, leads from place n to
-/// place n + 1, and its line has the place n.
+/// Writes a record in words: a line for each of its steps that is wanted, in their order. Step n, from 0, leads from place
+/// n to place n + 1, and its line has the place n. Says whether the writer took all of it.
+///
+/// The text is written in pieces of 65,536 bytes or some more, and never stands in memory as a whole. The steps are done
+/// once before, so that nothing is written where they are no run.
 ///
 /// Refusals, in this order: NoRank where the image hasn't the rank; PastEnd where a place is behind the last step;
-/// NotARun where a step before the list's end is none of the machine; Memory.
+/// NotARun where a step before the list's end is none of the machine; Memory, and then a beginning of the text may stand at
+/// the writer.
 #[tactic(auto, using(crate::proofs::Told::list_fault))]
-pub fn list(
+pub fn list<W: Write>(
     alloc: Global,
     image: &Image,
     steps: &[Step],
     wanted: &Wanted,
-) -> Result<Vec<u8>, ListFault>
-    ensures list { IfOk result (λ text. IsList image.now steps.now wanted.now text.items) }
+    out: &mut W,
+) -> Result<bool, ListFault>
+    ensures list { IfOk result (λ taken. taken ≡ true
+        → IsWritten image.now steps.now wanted.now (W.contents out.old) (W.contents out.new)) }
     ensures fault { IfErr result (ListFaultHolds image.now steps.now wanted.now) }
+    ensures left { IfErr result (λ fault.
+        Leaves image.now steps.now wanted.now fault (W.contents out.old) (W.contents out.new)) }
 {
-    let (mut state, to) = start(alloc, image, steps, wanted, 0)?;
+    let to = checked(alloc, image, steps, wanted)?;
+    let mut state = state_at(alloc, image, steps, 0)?;
     let mut phases = Phases::new(alloc, image)?;
     meet_steps(&mut state, &mut phases, image, steps, wanted.from)?;
     let mut texts = Texts::new(alloc)?;
-    let mut text = Vec::new(alloc);
     put_steps(
         &mut state,
         &mut phases,
-        &mut text,
         &mut texts,
         image,
         steps,
         wanted,
         to,
-    )?;
-    Ok(text)
+        out,
+    )
 }

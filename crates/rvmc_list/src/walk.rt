@@ -1,11 +1,13 @@
 //! The steps of a record, done one after another.
 
-ghost use Rattle.std.specs.Prelude.{◌≡◌, ◌≤◌, ◌<◌, ◌||◌, IfErr, IfOk, OnOk, length, nat_lt};
+ghost use Rattle.std.specs.Prelude.{◌≡◌, ◌≤◌, ◌<◌, ◌||◌, IfErr, IfOk, OnOk, false, length, max, nat_lt};
 ghost use Rattle.std.specs.Option.{option_copied};
 ghost use Rattle.cl_replay.specs.Replaying.{IsReached};
 ghost use Rattle.cl_replay.specs.Steps.{Leads};
-ghost use Rattle.rvmc_list.specs.List.{ListFaultHolds, names_no_rank as names_no_rank_of};
+ghost use Rattle.rvmc_list.specs.List.{ListFaultHolds, is_past as is_past_of, last_place};
+ghost use Rattle.rvmc_list.specs.List.{names_no_rank as names_no_rank_of};
 ghost use Rattle.rvmc_list.specs.Putting.{IsDone, IsHartAfter, IsLook, IsStart, PutFaultHolds, StepsFaultHolds};
+ghost use Rattle.rvmc_list.specs.Written.{IsChecked};
 ghost use Rattle.rvmc_list.specs.declared.walk.ListFault.TheVariants as faults;
 
 use crate::folding::Wanted;
@@ -125,7 +127,7 @@ fn is_past(from: u64, to: u64, len: u64) -> bool
 }
 
 /// The cluster at a place.
-fn state_at(
+pub(crate) fn state_at(
     alloc: Global,
     image: &Image,
     steps: &[Step],
@@ -143,6 +145,27 @@ fn state_at(
     }
 }
 
+/// The place where what is wanted ends.
+///
+/// Refusals, in this order: NoRank where the image hasn't the rank; PastEnd where what is wanted begins or ends behind the
+/// last step.
+fn end_of(image: &Image, steps: &[Step], wanted: &Wanted) -> Result<u64, ListFault>
+    ensures end { IfOk result (λ to. to ≡ last_place wanted.now steps.now) }
+    ensures rank { OnOk result (names_no_rank_of wanted.now.rank image.now.ranks ≡ false) }
+    ensures within { OnOk result (is_past_of wanted.now steps.now ≡ false) }
+    ensures fault { IfErr result (ListFaultHolds image.now steps.now wanted.now) }
+{
+    if names_no_rank(wanted.rank, image.parts().ranks) {
+        return Err(ListFault::NoRank);
+    }
+    let len = steps.len() as u64;
+    let to = wanted.to.unwrap_or(len);
+    if is_past(wanted.from, to, len) {
+        return Err(ListFault::PastEnd(len));
+    }
+    Ok(to)
+}
+
 /// The cluster at a place of a record, which isn't behind the first step that is wanted.
 ///
 /// Refusals, in this order: NoRank where the image hasn't the rank; PastEnd where what is wanted begins or ends behind the
@@ -158,15 +181,29 @@ pub(crate) fn start(
     ensures start { IfOk result (λ found. IsStart image.now steps.now wanted.now place found.0 found.1) }
     ensures fault { IfErr result (ListFaultHolds image.now steps.now wanted.now) }
 {
-    let parts = image.parts();
-    if names_no_rank(wanted.rank, parts.ranks) {
-        return Err(ListFault::NoRank);
-    }
-    let len = steps.len() as u64;
-    let to = wanted.to.unwrap_or(len);
-    if is_past(wanted.from, to, len) {
-        return Err(ListFault::PastEnd(len));
-    }
+    let to = end_of(image, steps, wanted)?;
     let state = state_at(alloc, image, steps, place)?;
     Ok((state, to))
+}
+
+/// The place where what is wanted ends, of steps that are a run up to there, and up to where it begins: they are done once,
+/// and nothing is kept of them.
+///
+/// Refusals, in this order: NoRank where the image hasn't the rank; PastEnd where what is wanted begins or ends behind the
+/// last step; NotARun where a step before the list's end is none of the machine; Memory.
+pub(crate) fn checked(
+    alloc: Global,
+    image: &Image,
+    steps: &[Step],
+    wanted: &Wanted,
+) -> Result<u64, ListFault>
+    ensures checked { IfOk result (IsChecked image.now steps.now wanted.now) }
+    ensures within { IfOk result (λ to. max wanted.now.from to ≤ length steps.now) }
+    ensures fault { IfErr result (ListFaultHolds image.now steps.now wanted.now) }
+{
+    let to = end_of(image, steps, wanted)?;
+    match state_at(alloc, image, steps, wanted.from.max(to)) {
+        Ok(_) => Ok(to),
+        Err(fault) => Err(fault),
+    }
 }

@@ -1,4 +1,4 @@
-pub mod ListFaults
+pub mod Lists
 pub mod Places
 pub mod Reading
 pub mod Readings

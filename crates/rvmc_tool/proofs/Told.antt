@@ -11,6 +11,7 @@ use Rattle.rvmc_line.specs.declared.line.CommandLine.TheVariants.{OfImage, OfRec
 use Rattle.rvmc_line.specs.declared.line.ImageCommand.{ImageCommand}
 use Rattle.rvmc_line.specs.declared.line.ImageCommand.TheVariants.{One, OneUntilStuck, Run, RunUntilStuck}
 use Rattle.rvmc_line.specs.declared.line.RecordCommand.{RecordCommand}
+use Rattle.rvmc_list.specs.declared.folding.Wanted.{Wanted}
 use Rattle.rvmc_report.specs.Faults.{fault_status}
 use Rattle.rvmc_report.specs.declared.faults.Fault.{Fault}
 use Rattle.rvmc_report.specs.declared.faults.Fault.TheVariants as faults
@@ -22,7 +23,8 @@ use Rattle.rvmc_tool.specs.Outputs.{output_bytes}
 use Rattle.rvmc_tool.specs.Records.{SaysOfSteps}
 use Rattle.rvmc_tool.specs.Taking.{IsFaultIn}
 use Rattle.rvmc_tool.specs.declared.answers.Answer.{Answer}
-use Rattle.rvmc_tool.specs.Tool.{Answers, IsRefused, IsSaid, IsUnlike}
+use Rattle.rvmc_tool.specs.Lists.{LeavesList, TellsList, list_of}
+use Rattle.rvmc_tool.specs.Tool.{Answers, IsCutShort, IsRefused, IsSaid, IsUnlike}
 use Rattle.rvmc_tool.specs.Plain.{IsWhole, Tells}
 
 -- wrong plans are a fault of the input
@@ -103,12 +105,13 @@ answered line bytes (Ok answer) status old new short says fault (is, grows) =
 answered line bytes (Err fault) status old new short says is (status_is, keeps) =
     ([], go (leaves_of line bytes fault is), nothing_more old new keeps)
   where
-    go : LeavesOf line bytes fault → IsSaid line bytes [] status ⊎ IsRefused [] status
+    go : LeavesOf line bytes fault
+        → IsSaid line bytes [] status ⊎ (IsRefused [] status ⊎ IsCutShort line bytes [] status)
     go (inl (inl made)) =
         inl (record { short = λ _. short; says = inl (subst (λ s. Says line bytes [] s) (sym status_is) made) })
     go (inl (inr unlike)) =
         inl (record { short = λ _. short; says = inr (subst (λ s. IsUnlike line bytes [] s) (sym status_is) unlike) })
-    go (inr refused) = inr (subst (λ s. IsRefused [] s) (sym status_is) refused)
+    go (inr refused) = inr (inl (subst (λ s. IsRefused [] s) (sym status_is) refused))
 
 -- the same of all bytes of an input
 pub obeyed : (line : CommandLine) (known : Option (List ℕ)) (bytes taken whole : List ℕ) (answer : Result Answer Fault)
@@ -120,3 +123,44 @@ obeyed line known bytes taken whole answer status old new is has same says fault
     let short : length whole ≤ 67108864 = subst (λ (b : List ℕ). length b ≤ 67108864) (sym same) has.short in
     subst (λ (b : List ℕ). Answers line b status old new) (same ∙ all)
     (answered line whole answer status old new short says fault tells)
+
+-- a list, whole or cut short, or the fault in its place
+listed_so : (wanted : Wanted) (bytes : List ℕ) (status : ℕ) (old new : Option (List ℕ)) → length bytes ≤ 67108864
+    → TellsList (list_of wanted) bytes status old new → Answers (OfRecord (list_of wanted)) bytes status old new
+listed_so wanted bytes status old new short tells = go tells
+  where
+    nothing : (fault : Fault) → IsReadFault (list_of wanted) (reading_record bytes) fault → status ≡ fault_status fault
+        → Keeps old new → Answers (OfRecord (list_of wanted)) bytes status old new
+    nothing fault is status_is keeps =
+        answered (OfRecord (list_of wanted)) bytes (Err fault) status old new short tt is (status_is, keeps)
+
+    by : (fault : Fault) → IsReadFault (list_of wanted) (reading_record bytes) fault → status ≡ fault_status fault
+        → LeavesList (list_of wanted) bytes fault old new → Answers (OfRecord (list_of wanted)) bytes status old new
+    by faults.Memory is status_is (inl keeps) = nothing faults.Memory is status_is keeps
+    by faults.Memory is status_is (inr begun) = (
+      begun.front,
+      inr (inr (status_is, begun.text, record { short = λ _. short; says = inl begun.says }, begun.begins)),
+      begun.there,
+    )
+    by other is status_is keeps = nothing other is status_is keeps
+
+    go : TellsList (list_of wanted) bytes status old new → Answers (OfRecord (list_of wanted)) bytes status old new
+    go (inl (done, all)) = (
+      all.text,
+      inl (record {
+        short = λ _. short;
+        says = inl (subst (λ s. Says (OfRecord (list_of wanted)) bytes all.text s) (sym done) all.says);
+      }),
+      all.there,
+    )
+    go (inr (fault, is, status_is, left)) = by fault is status_is left
+
+-- the same of all bytes of an input
+pub obeyed_list : (wanted : Wanted) (known : Option (List ℕ)) (bytes taken whole : List ℕ) (status : ℕ)
+    (old new : Option (List ℕ)) → known ≡ Some bytes → IsWhole known taken → whole ≡ taken
+    → TellsList (list_of wanted) whole status old new → Answers (OfRecord (list_of wanted)) bytes status old new
+obeyed_list wanted known bytes taken whole status old new is has same tells =
+    let all : taken ≡ bytes = subst (λ (k : Option (List ℕ)). IfSome k (λ b. taken ≡ b)) is has.all in
+    let short : length whole ≤ 67108864 = subst (λ (b : List ℕ). length b ≤ 67108864) (sym same) has.short in
+    subst (λ (b : List ℕ). Answers (OfRecord (list_of wanted)) b status old new) (same ∙ all)
+    (listed_so wanted whole status old new short tells)

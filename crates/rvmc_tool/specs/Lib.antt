@@ -8,6 +8,7 @@ pub mod Records
 pub mod Sessions
 pub mod Answers
 pub mod Making
+pub mod Lists
 pub mod Tool
 pub mod Plain
 pub mod Hints

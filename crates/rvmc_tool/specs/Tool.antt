@@ -1,6 +1,7 @@
 -- What the program leaves on standard output, and its status.
 use Rattle.std.specs.Prelude.{◌≡◌, ℕ, ◌≤◌, ◌⊎◌, ◌==◌, ◌||◌, Bool, false, List, [], length, MatchResult, Option, Err}
 use Rattle.std.specs.Prelude.{string_bytes}
+use Rattle.std.specs.Io.{StartsWith}
 use Rattle.std.specs.Io.KnownBytes.{Appends, Keeps}
 use Rattle.rvmc_tool.specs.Answers.{HasThreads, Says}
 use Rattle.rvmc_tool.specs.Ends.{IsFaulty}
@@ -9,6 +10,7 @@ use Rattle.rvmc_tool.specs.Sessions.{is_session}
 use Rattle.rvmc_cli.specs.Meaning.{Parses}
 use Rattle.rvmc_line.specs.declared.line.CommandLine.{CommandLine}
 use Rattle.rvmc_line.specs.declared.line.CommandLine.TheVariants.{OfImage, OfRecord, Session}
+use Rattle.rvmc_line.specs.declared.line.RecordCommand.TheVariants.{List as ListSteps}
 use Rattle.rvmc_line.specs.declared.line.ParseFault.{ParseFault}
 use Rattle.rvmc_line.specs.declared.line.ParseFault.TheVariants as parse
 
@@ -28,10 +30,19 @@ pub record IsSaid (line : CommandLine) (bytes : List ℕ) (text : List ℕ) (sta
   pub short : is_session line ≡ false → length bytes ≤ 67108864
   pub says : Says line bytes text status ⊎ IsUnlike line bytes text status
 
+-- of `list`: memory was refused while its text was written, so that a beginning of it stands there
+abbrev pub IsCutShort : CommandLine → List ℕ → List ℕ → ℕ → Type 0
+IsCutShort (OfRecord (ListSteps from to rank calls)) bytes text status =
+    (status ≡ 5) × (whole : List ℕ) × IsSaid (OfRecord (ListSteps from to rank calls)) bytes whole 0
+    × StartsWith whole text
+IsCutShort other bytes text status = ⊥
+
 -- the output, before and after, where every read and write succeeded
 abbrev pub Answers : CommandLine → List ℕ → ℕ → Option (List ℕ) → Option (List ℕ) → Type 0
 Answers line bytes status old new =
-    (text : List ℕ) × (IsSaid line bytes text status ⊎ IsRefused text status) × Appends old new text
+    (text : List ℕ)
+    × (IsSaid line bytes text status ⊎ (IsRefused text status ⊎ IsCutShort line bytes text status))
+    × Appends old new text
 
 -- the output where there is no command line: help and the version stand there, and a refusal leaves it
 abbrev pub ShowsFault : ParseFault → ℕ → Option (List ℕ) → Option (List ℕ) → Type 0

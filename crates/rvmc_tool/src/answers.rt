@@ -7,7 +7,7 @@ ghost use Rattle.rvmc_tool.specs.Answers.{Makes, Says, SaysOfImage};
 ghost use Rattle.rvmc_tool.specs.Ends.{IsDone, end_status};
 ghost use Rattle.rvmc_tool.specs.Making.{EndsSo, IsFaultOf, IsImageFault, IsWhole, RefusesImage};
 ghost use Rattle.rvmc_tool.specs.Making.{needs_threads, runs_threads};
-ghost use Rattle.rvmc_tool.specs.Sessions.{is_session};
+ghost use Rattle.rvmc_tool.specs.Lists.{is_written_as_made};
 ghost use Rattle.rvmc_tool.specs.Outputs.{output_bytes};
 ghost use Rattle.rvmc_tool.specs.declared.answers.End.TheVariants.{Status};
 
@@ -154,10 +154,10 @@ pub fn needs_threads(line: &CommandLine) -> bool
 /// A fault of the input is an `Err`, as want of memory is: the first fault of the source, the image or the record,
 /// `Plans` where a run's plan or order is wrong, or the fault for which a command tells nothing of a record's steps. A
 /// word of `debug` that is refused is no such `Err`: the answer has the texts of the words before it, and is cut short
-/// by the fault. A session answers as its input comes, and not here.
+/// by the fault. A session answers as its input comes, and a list is written as it is made: not here.
 pub fn answer_to(alloc: Global, line: &CommandLine, bytes: &[u8]) -> Result<Answer, Fault>
     requires plain { needs_threads line.now ≡ false }
-    requires whole { is_session line.now ≡ false }
+    requires whole { is_written_as_made line.now ≡ false }
     ensures says { IfOk result (λ answer.
         Says line.now bytes.now (output_bytes answer.output) (end_status answer.end)) }
     ensures ends { IfOk result (λ answer. EndsSo line.now bytes.now (output_bytes answer.output) answer.end) }
@@ -216,7 +216,7 @@ pub fn answer_with_threads<R: Threads + Wait + Sync>(
     line: &CommandLine,
     bytes: &[u8],
 ) -> Result<Answer, Fault>
-    requires whole { is_session line.now ≡ false }
+    requires whole { is_written_as_made line.now ≡ false }
     ensures says { IfOk result (λ answer.
         Says line.now bytes.now (output_bytes answer.output) (end_status answer.end)) }
     ensures ends { IfOk result (λ answer. EndsSo line.now bytes.now (output_bytes answer.output) answer.end) }

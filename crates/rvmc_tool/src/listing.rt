@@ -1,20 +1,29 @@
 //! Records in words, and in tables.
 
-ghost use Rattle.std.specs.Prelude.{◌≡◌, IfErr, IfOk};
+ghost use Rattle.std.specs.Prelude.{◌≡◌, ◌≢◌, IfErr, IfOk, List, Some, true, ℕ};
+ghost use Rattle.cl_text.specs.Reading.{reading_record};
+ghost use Rattle.rvmc_hints.specs.HintLines.{AppendsHint};
+ghost use Rattle.rvmc_line.specs.declared.line.CommandLine.TheVariants.{OfRecord};
 ghost use Rattle.rvmc_line.specs.declared.line.RecordCommand.TheVariants as command;
-ghost use Rattle.rvmc_list.specs.List.{IsList};
 ghost use Rattle.rvmc_list.specs.Stats.{IsStats};
-ghost use Rattle.rvmc_tool.specs.Making.{IsStepsFault, fault_of_list};
+ghost use Rattle.rvmc_report.specs.Input.{TakesAtMost};
+ghost use Rattle.rvmc_tool.specs.Lists.{IsListed, LeavesList, TellsList, list_of};
+ghost use Rattle.rvmc_tool.specs.Making.{IsReadFault, IsStepsFault, fault_of_list};
 ghost use Rattle.rvmc_tool.specs.Outputs.{output_bytes};
 ghost use Rattle.rvmc_tool.specs.Records.{counted_of};
+ghost use Rattle.rvmc_tool.specs.Tool.{Answers, is_quiet};
 ghost use Rattle.rvmc_tool.specs.declared.answers.End.TheVariants.{Status};
 
 use crate::answers::Answer;
+use crate::program::{fail, fail_with_hint, take};
+use crate::records::read;
 use cl_machine::Step;
 use rv_image::Image;
+use rvmc_line::CommandLine;
 use rvmc_list::{ListFault, Wanted, list, stats};
 use rvmc_report::faults::{Fault, ListRefusal};
 use std::alloc::Global;
+use std::io::{Read, Write};
 
 /// What is told of a fault of a list, or of its tables.
 fn refused(fault: ListFault) -> Fault
@@ -28,28 +37,74 @@ fn refused(fault: ListFault) -> Fault
     }
 }
 
-/// `list`: the steps that are wanted, in words. A rank or a place that isn't there, and a wrong step before the list's
-/// end, are faults of the input.
-#[tactic(auto, using(crate::proofs::ListFaults::list_fault))]
-pub(crate) fn listed_steps(
+/// Writes the steps that are wanted of the record that the bytes spell, in words, and says whether the writer took all of it.
+/// A rank or a place that isn't there, and a wrong step before the list's end, are faults of the input.
+#[tactic(auto, using(crate::proofs::Lists::left, crate::proofs::Lists::list_fault, crate::proofs::Lists::listed, crate::proofs::Lists::unread_left, crate::proofs::Readings::of_steps, crate::proofs::Readings::unread))]
+fn put_list<O: Write>(
     alloc: Global,
-    wanted: Wanted,
-    image: Image,
-    steps: Vec<Step>,
-) -> Result<Answer, Fault>
-    ensures tells { IfOk result (λ answer.
-        IsList image steps.items wanted (output_bytes answer.output) × (answer.end ≡ Status 0)) }
-    ensures fault { IfErr result
-        (IsStepsFault (command.List wanted.from wanted.to wanted.rank wanted.calls) image steps.items) }
+    wanted: &Wanted,
+    bytes: &[u8],
+    out: &mut O,
+) -> Result<bool, Fault>
+    ensures listed { IfOk result (λ taken. taken ≡ true
+        → IsListed (list_of wanted.now) bytes.now (O.contents out.old) (O.contents out.new)) }
+    ensures fault { IfErr result (IsReadFault (list_of wanted.now) (reading_record bytes.now)) }
+    ensures left { IfErr result (λ fault.
+        LeavesList (list_of wanted.now) bytes.now fault (O.contents out.old) (O.contents out.new)) }
 {
-    match list(alloc, &image, &steps, &wanted) {
-        Ok(text) => Ok(Answer::done(text)),
+    let (image, steps) = read(alloc, bytes)?;
+    match list(alloc, &image, &steps, wanted, out) {
+        Ok(taken) => Ok(taken),
         Err(fault) => Err(refused(fault)),
     }
 }
 
+/// Writes such a list on standard output, and tells on standard error the fault that is in its place, or that cuts it short.
+fn tell_list<O: Write, E: Write>(
+    alloc: Global,
+    line: &CommandLine,
+    wanted: &Wanted,
+    bytes: &[u8],
+    out: &mut O,
+    err: &mut E,
+) -> u8
+    ensures told { result ≢ 6 → TellsList (list_of wanted.now) bytes.now result (O.contents out.old) (O.contents out.new) }
+    ensures quiet { is_quiet result ≡ true → AppendsHint (E.contents err.old) (E.contents err.new) }
+{
+    let put = put_list(alloc, wanted, bytes, out);
+    if out.flush().is_err() {
+        return fail(err, Fault::Write);
+    }
+    match put {
+        Ok(true) => 0,
+        Ok(false) => fail(err, Fault::Write),
+        Err(fault) => fail_with_hint(alloc, line, bytes, fault, err),
+    }
+}
+
+/// `list`: a record is read, and the steps that are wanted are written in words, piece by piece.
+#[tactic(auto, using(crate::proofs::Quiet::hinted_behind))]
+pub(crate) fn listed<I: Read, O: Write, E: Write>(
+    alloc: Global,
+    line: &CommandLine,
+    wanted: &Wanted,
+    input: &mut I,
+    out: &mut O,
+    err: &mut E,
+) -> u8
+    ensures answers { (bytes : List ℕ) → I.remaining input.old ≡ Some bytes → result ≢ 6
+        → Answers (OfRecord (list_of wanted.now)) bytes result (O.contents out.old) (O.contents out.new) }
+    ensures front { TakesAtMost 67112960 (I.remaining input.old) (I.remaining input.new) }
+    ensures quiet { is_quiet result ≡ true → AppendsHint (E.contents err.old) (E.contents err.new) }
+{
+    match take(alloc, input, err) {
+        Ok(bytes) => tell_list(alloc, line, wanted, bytes.as_slice(), out, err),
+        Err(status) => status,
+    }
+}
+
 /// `list --stats`: the same steps, counted, with the same faults.
-#[tactic(auto, using(crate::proofs::ListFaults::stats_fault))]
+#[tactic(auto, using(crate::proofs::Lists::stats_fault))]
 pub(crate) fn counted_steps(
     alloc: Global,
     from: u64,

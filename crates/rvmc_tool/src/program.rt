@@ -15,11 +15,13 @@ ghost use Rattle.rvmc_report.specs.Input.{TakesAtMost};
 
 use crate::answers::{Answer, End, answer_to, answer_with_threads, needs_threads};
 use crate::hints::{hint_words, put_hint, tell_hint, tell_run_hint};
+use crate::listing::listed;
 use crate::outputs::Output;
 use crate::sessions::served;
 use rvmc_cli::parse;
 use rvmc_hints::Hint;
-use rvmc_line::{CommandLine, ParseFault};
+use rvmc_line::{CommandLine, ParseFault, RecordCommand};
+use rvmc_list::Wanted;
 use rvmc_report::faults::Fault;
 use rvmc_report::input::{InputFault, read_input};
 use std::alloc::Global;
@@ -40,7 +42,7 @@ fn put_fault<E: Write>(err: &mut E, fault: Fault) -> bool {
 }
 
 /// Tells a fault on standard error, and gives its status: 6 where the line can't be written.
-fn fail<E: Write>(err: &mut E, fault: Fault) -> u8
+pub(crate) fn fail<E: Write>(err: &mut E, fault: Fault) -> u8
     ensures status { result ≢ 6 → result ≡ fault_status fault }
     ensures loud { is_quiet result ≡ false }
 {
@@ -125,7 +127,11 @@ fn ended_with_hint<E: Write>(
 }
 
 /// All bytes of the input, or the status of the fault that was told in their place.
-fn take<I: Read, E: Write>(alloc: Global, input: &mut I, err: &mut E) -> Result<Vec<u8>, u8>
+pub(crate) fn take<I: Read, E: Write>(
+    alloc: Global,
+    input: &mut I,
+    err: &mut E,
+) -> Result<Vec<u8>, u8>
     ensures whole { IfOk result (λ bytes. IsWhole (I.remaining input.old) bytes.items) }
     ensures status { IfErr result (λ status. status ≢ 6 → status ≡ 5) }
     ensures loud { IfErr result (λ status. is_quiet status ≡ false) }
@@ -188,6 +194,23 @@ fn obey<I: Read, O: Write, E: Write>(
     if let CommandLine::Session { rank } = line {
         return served(alloc, line, *rank, input, out, err);
     }
+    if let CommandLine::OfRecord(
+        RecordCommand::List {
+            from,
+            to,
+            rank,
+            calls,
+        },
+    ) = line
+    {
+        let wanted = Wanted {
+            from: *from,
+            to: *to,
+            rank: *rank,
+            calls: *calls,
+        };
+        return listed(alloc, line, &wanted, input, out, err);
+    }
     match take(alloc, input, err) {
         Ok(bytes) => {
             let whole = bytes.as_slice();
@@ -215,6 +238,23 @@ fn obey_with_threads<R: Threads + Wait + Sync, I: Read, O: Write, E: Write>(
 {
     if let CommandLine::Session { rank } = line {
         return served(alloc, line, *rank, input, out, err);
+    }
+    if let CommandLine::OfRecord(
+        RecordCommand::List {
+            from,
+            to,
+            rank,
+            calls,
+        },
+    ) = line
+    {
+        let wanted = Wanted {
+            from: *from,
+            to: *to,
+            rank: *rank,
+            calls: *calls,
+        };
+        return listed(alloc, line, &wanted, input, out, err);
     }
     match take(alloc, input, err) {
         Ok(bytes) => {
@@ -286,7 +326,7 @@ pub fn tool<'a, R: Threads + Wait + Sync, I: Read, O: Write, E: Write>(
     err: &mut E,
 ) -> u8
     // The words mean a command line: what it says of all the bytes stands on the output, or nothing: for want of memory
-    // or of a thread, or where the threads left what doesn't fit together.
+    // or of a thread, or where the threads left what doesn't fit together; of `list` for want of memory a beginning.
     ensures answers { (line : Line) (bytes : List ℕ) → meaning_of (map (λ w. w.now) words.entry.now) ≡ Some line
         → I.remaining input.old ≡ Some bytes → result ≢ 6
         → Answers line bytes result (O.contents out.old) (O.contents out.new) }

@@ -1,9 +1,10 @@
 //! What a command answers that takes a record: it is read here once, for all of them.
 
-ghost use Rattle.std.specs.Prelude.{◌≡◌, IfErr, IfOk, Ok};
+ghost use Rattle.std.specs.Prelude.{◌≡◌, IfErr, IfOk, Ok, false};
 ghost use Rattle.cl_text.specs.Reading.{reading_record};
 ghost use Rattle.rvmc_tool.specs.Ends.{end_status};
 ghost use Rattle.rvmc_tool.specs.Making.{HasTold, IsReadFault, IsStepsFault, IsUnread};
+ghost use Rattle.rvmc_tool.specs.Lists.{is_list};
 ghost use Rattle.rvmc_tool.specs.Outputs.{output_bytes};
 ghost use Rattle.rvmc_tool.specs.Records.{SaysOfRecord, TellsOfSteps};
 
@@ -12,19 +13,18 @@ use crate::checks::checked;
 use crate::debugging::debugged;
 use crate::drawing::pictured;
 use crate::explaining::explained;
-use crate::listing::{counted_steps, listed_steps};
+use crate::listing::counted_steps;
 use crate::paging::paged;
 use crate::reporting::reported;
 use cl_machine::Step;
 use cl_text::read_record;
 use rv_image::Image;
 use rvmc_line::RecordCommand;
-use rvmc_list::Wanted;
 use rvmc_report::faults::Fault;
 use std::alloc::Global;
 
 /// The image and the steps of the record that the bytes spell, or its first fault.
-fn read(alloc: Global, bytes: &[u8]) -> Result<(Image, Vec<Step>), Fault>
+pub(crate) fn read(alloc: Global, bytes: &[u8]) -> Result<(Image, Vec<Step>), Fault>
     ensures read { IfOk result (λ found. reading_record bytes.now ≡ Ok (found.0, found.1.items)) }
     ensures fault { IfErr result (IsUnread bytes.now) }
 {
@@ -32,13 +32,14 @@ fn read(alloc: Global, bytes: &[u8]) -> Result<(Image, Vec<Step>), Fault>
 }
 
 /// What a command tells of the image and the steps of a record, or the fault for which it tells nothing: one case a
-/// command.
+/// command. What `list` tells isn't made here: it is written as it is made.
 fn told(
     alloc: Global,
     command: &RecordCommand,
     image: Image,
     steps: Vec<Step>,
 ) -> Result<Answer, Fault>
+    requires { is_list command.now ≡ false }
     ensures tells { IfOk result (λ answer.
         TellsOfSteps command.now image steps.items (output_bytes answer.output) answer.end) }
     ensures fault { IfErr result (IsStepsFault command.now image steps.items) }
@@ -46,22 +47,7 @@ fn told(
     match command {
         RecordCommand::Check => checked(alloc, image, steps),
         RecordCommand::Report => reported(alloc, image, steps),
-        RecordCommand::List {
-            from,
-            to,
-            rank,
-            calls,
-        } => listed_steps(
-            alloc,
-            Wanted {
-                from: *from,
-                to: *to,
-                rank: *rank,
-                calls: *calls,
-            },
-            image,
-            steps,
-        ),
+        RecordCommand::List { .. } => unreachable!(),
         RecordCommand::Stats { from, to, rank } => {
             counted_steps(alloc, *from, *to, *rank, image, steps)
         }
@@ -79,6 +65,7 @@ pub(crate) fn answer_of_record(
     command: &RecordCommand,
     bytes: &[u8],
 ) -> Result<Answer, Fault>
+    requires { is_list command.now ≡ false }
     ensures says { IfOk result (λ answer.
         SaysOfRecord command.now bytes.now (output_bytes answer.output) (end_status answer.end)) }
     ensures ends { IfOk result (λ answer. HasTold command.now bytes.now (output_bytes answer.output) answer.end) }

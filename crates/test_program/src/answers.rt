@@ -5,8 +5,8 @@ ghost use Rattle.cl_record.specs.declared.plans.Plan.{Plan as Held};
 ghost use Rattle.cl_text.specs.declared.faults.RecordFault.TheVariants.{Short};
 ghost use Rattle.rv_asm_tokens.specs.declared.fault.AsmFault.{AsmFault};
 ghost use Rattle.rvmc_tool.specs.Ends.{end_status};
+ghost use Rattle.rvmc_tool.specs.Lists.{is_written_as_made};
 ghost use Rattle.rvmc_tool.specs.Making.{needs_threads};
-ghost use Rattle.rvmc_tool.specs.Sessions.{is_session};
 ghost use Rattle.rvmc_tool.specs.Outputs.{output_bytes};
 ghost use Rattle.rvmc_report.specs.declared.faults.Fault.TheVariants as faults;
 
@@ -23,7 +23,7 @@ use std::thread::Threads;
 /// No command tells of a read that failed: the bytes are there.
 pub fn nothing_is_read(alloc: Global, line: &CommandLine, bytes: &[u8]) -> Result<Answer, Fault>
     requires plain { needs_threads line.now ≡ false }
-    requires whole { is_session line.now ≡ false }
+    requires whole { is_written_as_made line.now ≡ false }
     ensures { result ≢ Err faults.Read }
 {
     answer_to(alloc, line, bytes)
@@ -32,7 +32,7 @@ pub fn nothing_is_read(alloc: Global, line: &CommandLine, bytes: &[u8]) -> Resul
 /// Nor of a write.
 pub fn nothing_is_written(alloc: Global, line: &CommandLine, bytes: &[u8]) -> Result<Answer, Fault>
     requires plain { needs_threads line.now ≡ false }
-    requires whole { is_session line.now ≡ false }
+    requires whole { is_written_as_made line.now ≡ false }
     ensures { result ≢ Err faults.Write }
 {
     answer_to(alloc, line, bytes)

@@ -5,8 +5,8 @@ ghost use Rattle.cl_replay.specs.declared.checking.Verdict.TheVariants.{Good};
 ghost use Rattle.rvmc_tool.specs.Answers.{Says};
 ghost use Rattle.rvmc_tool.specs.Ends.{IsDone, end_status};
 ghost use Rattle.rvmc_tool_laws.specs.Answers.{FitsStop};
+ghost use Rattle.rvmc_tool.specs.Lists.{is_written_as_made};
 ghost use Rattle.rvmc_tool.specs.Making.{needs_threads};
-ghost use Rattle.rvmc_tool.specs.Sessions.{is_session};
 ghost use Rattle.rvmc_tool.specs.Outputs.{output_bytes};
 ghost use Rattle.rvmc_tool.specs.Plans.{ArePlansOf};
 ghost use Rattle.rvmc_report.specs.Report.{RankEnd, report};
@@ -29,7 +29,7 @@ use std::thread::Threads;
 /// What a command answers that needs no threads, and takes all of its input at once.
 fn answered(alloc: Global, line: &CommandLine, bytes: &[u8]) -> Option<Answer>
     requires plain { needs_threads line.now ≡ false }
-    requires whole { is_session line.now ≡ false }
+    requires whole { is_written_as_made line.now ≡ false }
     ensures { IfSome result (λ answer. Says line.now bytes.now (output_bytes answer.output) (end_status answer.end)) }
 {
     match answer_to(alloc, line, bytes) {

@@ -77,6 +77,26 @@ fn a_record_that_cannot_be_flushed_is_told(rt: HostRuntime) {
     assert_eq!(rt; err.as_slice(), b"rvmc: write\n".as_slice());
 }
 
+/// Of a list, which is written in pieces as it is made, the line tells too. Where memory was refused there is no record, or
+/// no list.
+#[test]
+fn a_list_that_cannot_be_flushed_is_told(rt: HostRuntime) {
+    let mut source: &[u8] = b"nop\n";
+    let mut record = Vec::new(rt.alloc());
+    let mut err = Vec::new(rt.alloc());
+    let words = ["one", "--source", "--record"];
+    let recorded = tool_plain(rt.alloc(), &words, &mut source, &mut record, &mut err);
+    let mut reader: &[u8] = record.as_slice();
+    let mut out = Stuck { held: 0 };
+    let status = tool_plain(rt.alloc(), &["list"], &mut reader, &mut out, &mut err);
+    let told = (
+        recorded,
+        status,
+        err.as_slice() == b"rvmc: write\n".as_slice(),
+    );
+    assert!(rt; told == (3, 6, true) || recorded == 5 || status == 5);
+}
+
 /// A record stands on the output as a whole, or where memory was refused not at all: with `--fail-alloc N` the
 /// N-th request is refused. Its image has 32 bytes, and there are two steps.
 #[test]

@@ -4,20 +4,21 @@ use Rattle.std.proofs.lemmas.Result.{err_from_is_err_and}
 use Rattle.rv_image.specs.declared.images.Symbol.{Symbol}
 use Rattle.rvmc_list.specs.Keeping.{AreKept}
 use Rattle.rvmc_list.specs.Putting.{Puts}
-use Rattle.rvmc_list.proofs.Told.{put_more, put_none, step_fault, told_all}
+use Rattle.std.specs.Io.KnownBytes.{Appends}
+use Rattle.rvmc_list.proofs.Written.{begun_so_far, step_wants_memory, whatever, written_all, written_more, written_none}
 use Rattle.rvmc_list.proofs.listing.put_steps.Goals as goal
 
 pub loop-n-init : goal.loop-n-init
-loop-n-init c = record {
-  put = put_none c.args.image.now c.args.steps.now c.args.wanted.now c.args.wanted.now.from c.args.state.now
-      c.args.phases.now c.args.text.now.items c.requires.counted;
+loop-n-init g c = record {
+  written = written_none c.args.image.now c.args.steps.now c.args.wanted.now c.args.state.now c.args.phases.now
+      c.new-text.result.items _ c.requires.counted c.new-text.ensures.items;
   within = tt;
   kept = c.requires.kept;
   most = omega arith;
 }
 
 pub loop-n-preserved : goal.loop-n-preserved
-loop-n-preserved c =
+loop-n-preserved g c =
     let n = c.loop-n.n in
     let e = c.index-steps-n.result in
     let below : n < length c.args.steps.now = omega arith in
@@ -26,42 +27,62 @@ loop-n-preserved c =
     let on : n < c.args.to = omega arith in
     let named : c.as_slice-symbols.result.now ≡ c.args.image.now.symbols = search rules in
     record {
-      put = put_more c.args.image.now c.args.steps.now n c.loop-n.state c.loop-n.phases
-          c.loop-n.invariant.put.counted_to e there c.put_step.new.state c.in_ok-begun.ensures.leads c.in_ok-phase.phase
-          c.meet.new.phases c.in_ok-phase.ensures c.args.wanted.now c.args.wanted.now.from forwards c.loop-n.begun
-          c.args.text.now.items c.loop-n.text.items c.loop-n.invariant.put c.in_ok-begun.begun c.put_step.new.text.items
+      written = written_more c.args.image.now c.args.steps.now c.args.wanted.now n c.loop-n.state c.loop-n.phases
+          c.loop-n.begun c.loop-n.text.items _ _ c.loop-n.invariant.written forwards e there c.put_step.new.state
+          c.in_ok-begun.ensures.leads c.in_ok-phase.phase c.meet.new.phases c.in_ok-phase.ensures c.in_ok-begun.begun
+          c.put_step.new.text.items
           (subst (λ (symbols : List Symbol). Puts symbols c.args.wanted.now c.loop-n.state n c.in_ok-phase.phase e
           c.put_step.new.state c.loop-n.text.items c.loop-n.begun c.put_step.new.text.items c.in_ok-begun.begun) named
-          c.in_ok-begun.ensures.puts);
+          c.in_ok-begun.ensures.puts) c.put_piece.new.text.items _ (c.put_piece.ensures (search rules));
       within = c.in_ok-begun.ensures.within;
       kept = subst (λ (symbols : List Symbol). AreKept symbols c.put_step.new.texts) named c.in_ok-begun.ensures.kept;
       most = omega (arith, on);
     }
 
-pub returns-in_err-begun : goal.returns-in_err-begun
-returns-in_err-begun c =
+pub returns-in_err-phase-clause-begun : goal.returns-in_err-phase-clause-begun
+returns-in_err-phase-clause-begun g c =
+    whatever c.from_residual.result _
+    (begun_so_far c.args.image.now c.args.steps.now c.args.wanted.now c.loop-n.n c.loop-n.state c.loop-n.phases
+    c.loop-n.begun c.loop-n.text.items _ _ c.loop-n.invariant.written c.args.to c.requires.checked (omega arith)
+    c.loop-n.invariant.most c.requires.within)
+
+pub put_step-requires-clause-kept : goal.put_step-requires-clause-kept
+put_step-requires-clause-kept g c =
+    let named : c.as_slice-symbols.result.now ≡ c.args.image.now.symbols = search rules in
+    subst (λ (symbols : List Symbol). AreKept symbols c.loop-n.texts) (sym named) c.loop-n.invariant.kept
+
+pub returns-in_err-begun-clause-fault : goal.returns-in_err-begun-clause-fault
+returns-in_err-begun-clause-fault g c =
     let n = c.loop-n.n in
     let e = c.index-steps-n.result in
     let below : n < length c.args.steps.now = omega arith in
     let there = slice_get_read c.args.steps.now (length c.args.steps.now) n e refl below c.index-steps-n.is in
     let on : n < c.args.to = omega arith in
-    let fault = step_fault c.args.image.now c.args.steps.now n c.args.to c.loop-n.state
-    c.loop-n.invariant.put.counted_to.reached e there on c.in_err-begun.field-0.0 c.in_err-begun.ensures.fault in
     let p = err_from_is_err_and c.from_residual-in_err-begun.result c.from_residual-in_err-begun.ensures.1 in
-    rw (p.1, p.2) (record { told = tt; fault = fault })
+    rw (p.1, p.2)
+    (step_wants_memory c.args.image.now c.args.steps.now c.args.wanted.now c.args.to n c.loop-n.state c.loop-n.phases
+    c.requires.checked c.loop-n.invariant.written.put.counted_to e there on c.in_err-begun.field-0.0
+    c.in_err-begun.ensures.fault)
 
-pub returns : goal.returns
-returns c =
-    let same : c.loop-n.n - c.args.wanted.now.from ≡ c.args.to - c.args.wanted.now.from =
-    omega arith in
-    record {
-      told = told_all c.args.image.now c.args.steps.now c.args.wanted.now c.loop-n.n c.args.to c.loop-n.state
-          c.loop-n.phases c.loop-n.begun c.args.text.now.items c.loop-n.text.items c.close.new.text.items
-          c.loop-n.invariant.put same c.in_ok-close.ensures;
-      fault = tt;
-    }
+pub returns-in_err-begun-clause-begun : goal.returns-in_err-begun-clause-begun
+returns-in_err-begun-clause-begun g c =
+    whatever c.from_residual-in_err-begun.result _
+    (begun_so_far c.args.image.now c.args.steps.now c.args.wanted.now c.loop-n.n c.loop-n.state c.loop-n.phases
+    c.loop-n.begun c.loop-n.text.items _ _ c.loop-n.invariant.written c.args.to c.requires.checked (omega arith)
+    c.loop-n.invariant.most c.requires.within)
 
-pub put_step-requires-clause-kept : goal.put_step-requires-clause-kept
-put_step-requires-clause-kept c =
-    let named : c.as_slice-symbols.result.now ≡ c.args.image.now.symbols = search rules in
-    subst (λ (symbols : List Symbol). AreKept symbols c.loop-n.texts) (sym named) c.loop-n.invariant.kept
+pub returns-in_err-close-clause-begun : goal.returns-in_err-close-clause-begun
+returns-in_err-close-clause-begun g c =
+    whatever c.from_residual-in_err-close.result _
+    (begun_so_far c.args.image.now c.args.steps.now c.args.wanted.now c.loop-n.n c.loop-n.state c.loop-n.phases
+    c.loop-n.begun c.loop-n.text.items _ _ c.loop-n.invariant.written c.args.to c.requires.checked (omega arith)
+    c.loop-n.invariant.most c.requires.within)
+
+pub returns-clause-written : goal.returns-clause-written
+returns-clause-written g c = λ ok.
+    let same : c.loop-n.n - c.args.wanted.now.from ≡ c.args.to - c.args.wanted.now.from = omega arith in
+    let wrote : Appends (g.W.Write.contents c.loop-n.out) (g.W.Write.contents c.write_all.new.self) c.close.new.text.items =
+    search rules in
+    written_all c.args.image.now c.args.steps.now c.args.wanted.now c.loop-n.n c.loop-n.state c.loop-n.phases c.loop-n.begun
+    c.loop-n.text.items _ _ c.loop-n.invariant.written c.args.to c.requires.checked same c.close.new.text.items
+    c.in_ok-close.ensures _ wrote
