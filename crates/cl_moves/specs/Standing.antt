@@ -1,5 +1,5 @@
 -- Where a search stands: which node its state is, and how it came there.
-use Rattle.std.specs.Prelude.{ℕ, ◌≡◌, ◌<◌, List, [], length, slice_get, Option, Some, None, Bool, true, false}
+use Rattle.std.specs.Prelude.{ℕ, ◌≡◌, ◌<◌, ◌≤◌, List, [], length, slice_get, Option, Some, None, Bool, true, false}
 use Rattle.rv_image.specs.declared.images.ImageParts.{ImageParts}
 use Rattle.cl_record.specs.Plans.{in_slot}
 use Rattle.cl_machine.specs.Cluster.{Cluster, IsRun, IsStep, loaded_cluster}
@@ -58,8 +58,8 @@ pub record IsStart (image : ImageParts) (standing : Standing) : Type 0 where
   pub stands : StandsAt image standing (first_node image)
   pub steps : standing.steps.items ≡ []
 
--- the hart whose turn is next in a rank, by the order
+-- the hart whose turn is next in a rank, by the order; none only where the rank isn't there
 abbrev pub IsNextHart : List ℕ → Standing → ℕ → Option ℕ → Type 0
-IsNextHart order standing rank None = Unit {0}
+IsNextHart order standing rank None = length standing.had.items ≤ rank
 IsNextHart order standing rank (Some hart) =
     (had : ℕ) × (slice_get standing.had.items rank ≡ Some had) × (hart ≡ in_slot order had)

@@ -87,14 +87,12 @@ impl Standing {
         Ok(true)
     }
 
-    /// The hart whose turn is next in a rank, if the rank is there, and its order has one.
+    /// The hart whose turn is next in a rank, if the rank is there.
     pub fn next_hart(&self, rank: u8, order: &[u8]) -> Option<u8>
+        requires { 0 < length order.now }
         ensures { IsNextHart order.now self.now rank result }
     {
         let had = *self.had.get(usize::from(rank))?;
-        if order.is_empty() {
-            return None;
-        }
         Some(order[(had % order.len() as u64) as usize])
     }
 

@@ -1,0 +1,168 @@
+-- What nodes cover, and lists of them that grow.
+use Rattle.std.specs.Prelude.{ℕ, ◌+◌, ◌%◌, ◌<◌, ◌≡◌, ◌⊎◌, List, [], ◌∷◌, ◌++◌, length, slice_get, slice_index, Some}
+use Rattle.std.proofs.Common.{refl, sym, ap, ◌∙◌, subst, arith, inl, inr}
+use Rattle.std.proofs.Math.Nat.{mod-add-mod}
+use Rattle.std.proofs.lemmas.Option.{same_Some, slice_get_within}
+use Rattle.std.proofs.lemmas.List.{length-append}
+use Rattle.rv_image.specs.declared.images.ImageParts.{ImageParts}
+use Rattle.mp_alike_laws.specs.Alike.{AlikeHubs}
+use Rattle.mp_alike_laws.specs.Renaming.{no_renaming}
+use Rattle.cl_record.specs.Plans.{in_slot}
+use Rattle.cl_state.specs.Rank.{Rank}
+use Rattle.cl_machine.specs.Boxes.{Box}
+use Rattle.cl_machine.specs.Cluster.{Cluster}
+use Rattle.cl_machine.specs.Journal.{Journal}
+use Rattle.cl_machine.specs.declared.steps.Step.{Step}
+use Rattle.cl_order_laws.specs.Alike.{AlikeBoxes, AlikeClusters, AreEach, Leads, hub_of}
+use Rattle.cl_order_laws.specs.Closed.{IsCovered, IsDone, IsSamePlace, Node, Plans, one_more}
+use Rattle.cl_order_laws.specs.Laws.{AreAlike, IsReached}
+use Rattle.cl_order_laws.proofs.Likeness.{itself}
+use Rattle.cl_moves.specs.Ahead.{WentAhead}
+use Rattle.cl_moves.specs.Standing.{HaveHad, StandsAt, by_order, node_of}
+use Rattle.cl_moves.specs.declared.standing.Standing.{Standing}
+use Rattle.cl_explore.specs.Kept.{AreSamePlaces, IsFound, IsKeptOf, KeptStandsAt}
+use Rattle.cl_explore.specs.Covering.{AreAlikeNodes, AreNodes, Grows, IsAlikeOneOf, IsClosedAt, IsCoveredTurn}
+use Rattle.cl_explore.specs.Searching.{Arrives, HasFound, IsFoundIn, Keeps}
+use Rattle.cl_explore.specs.declared.kept.KeptNode.{KeptNode}
+use Rattle.cl_explore.proofs.Lists.{at_inside, at_last, stays_at, was_or_new}
+use Rattle.cl_explore.proofs.Keeping.{found_reached, kept_stands}
+
+-- ---- one that is alike a node, once its ranks went ahead
+
+pub covered_by : (plans : Plans) (nodes : List Node) (here there other : Node) (i : ℕ) → WentAhead plans here there
+    → AreAlikeNodes plans there other → slice_get nodes i ≡ Some other → IsCovered plans nodes here
+covered_by plans nodes here there other i went alike at = record {
+  index = i;
+  node = other;
+  there = at;
+  names = alike.names;
+  many = ((alike.alike).ranks).many ∙ went.many;
+  ranks = λ r rank was.
+      let v = went.ranks r rank was in
+      let w = ((alike.alike).ranks).each r v.0 v.1 in (
+        w.0,
+        w.1,
+        record {
+          turns = v.2.0;
+          then = v.0;
+          after = there.had r;
+          ahead = v.2.1;
+          alike = w.2;
+          place = inl (alike.places r v.0 v.1);
+        },
+      );
+  hubs = subst (λ (j : Journal). AlikeHubs alike.names (hub_of j) (hub_of other.cluster.journal)) went.journal
+      (alike.alike).hubs;
+  boxes = subst (λ (b : List Box). AreEach AlikeBoxes b other.cluster.boxes) went.boxes (alike.alike).boxes;
+}
+
+pub same_place : (order : List ℕ) (n m : ℕ) → n % length order ≡ m % length order → IsSamePlace (in_slot order) n m
+same_place order n m same = λ k.
+    ap (slice_index order) (sym (mod-add-mod n (length order) k)
+    ∙ (ap (λ q. (q + k) % length order) same ∙ mod-add-mod m (length order) k))
+
+-- ---- lists that grow
+
+pub grows_none : (nodes : List Node) → Grows nodes nodes
+grows_none nodes = λ i node at. at
+
+pub grows_on : (a b c : List Node) → Grows a b → Grows b c → Grows a c
+grows_on a b c first second = λ i node at. second i node (first i node at)
+
+pub covered_more : (plans : Plans) (nodes more : List Node) (here : Node) → Grows nodes more → IsCovered plans nodes here
+    → IsCovered plans more here
+covered_more plans nodes more here grows cov = record {
+  index = cov.index;
+  node = cov.node;
+  there = grows cov.index cov.node cov.there;
+  names = cov.names;
+  many = cov.many;
+  ranks = cov.ranks;
+  hubs = cov.hubs;
+  boxes = cov.boxes;
+}
+
+pub turn_more : (order : List ℕ) (nodes more : List Node) (node : Node) (e : Step) → Grows nodes more
+    → IsCoveredTurn order nodes node e → IsCoveredTurn order more node e
+turn_more order nodes more node e grows covered = λ new leads.
+    covered_more (by_order order) nodes more (node_of new (one_more node.had e.rank)) grows (covered new leads)
+
+pub closed_more : (order : List ℕ) (nodes more : List Node) (node : Node) (r : ℕ) → Grows nodes more
+    → IsClosedAt order nodes node r → IsClosedAt order more node r
+closed_more order nodes more node r grows closed = λ rank at. elim (closed rank at) [
+  | inl done ↦ inl done
+  | inr covered ↦ inr (λ e new is hart leads.
+      covered_more (by_order order) nodes more (node_of new (one_more node.had r)) grows (covered e new is hart leads))
+]
+
+pub are_more : (image : ImageParts) (order : List ℕ) (kept : List KeptNode) (nodes : List Node) (k : KeptNode) (node : Node)
+    → AreNodes image order kept nodes → KeptStandsAt image k node → IsFound image order node
+    → AreNodes image order (kept ++ k ∷ []) (nodes ++ node ∷ [])
+are_more image order kept nodes k node are stands found = record {
+  many = length-append nodes (node ∷ []) ∙ (ap (λ n. n + 1) are.many ∙ sym (length-append kept (k ∷ [])));
+  each = λ i x at. elim (was_or_new kept k i x at) [
+    | inl was ↦ let v = are.each i x was in (v.0, stays_at nodes node i v.0 v.1, v.2, v.3)
+    | inr new ↦ (
+      node,
+      subst (λ j. slice_get (nodes ++ node ∷ []) j ≡ Some node) (are.many ∙ sym new.0) (at_last nodes node),
+      subst (λ y. KeptStandsAt image y node) (same_Some k x new.1) stands,
+      found,
+    )
+  ];
+}
+
+-- ---- a standing arrives
+
+pub alike_found : (image : ImageParts) (order : List ℕ) (standing : Standing) (k : KeptNode) (here node : Node)
+    → StandsAt image standing here → KeptStandsAt image k node → AreAlike here.cluster node.cluster
+    → AreSamePlaces (length order) standing.had.items k.had.items → AreAlikeNodes (by_order order) here node
+alike_found image order standing k here node at kept alike same = record {
+  names = alike.0;
+  alike = alike.1;
+  places = λ r rank there.
+      let inside = slice_get_within here.cluster.ranks r rank there in
+      let n = at_inside standing.had.items r (subst (λ c. r < c) (sym at.each) inside) in
+      let m = at_inside k.had.items r
+      (subst (λ c. r < c) (sym (kept.each ∙ ((alike.1).ranks).many)) inside) in
+      same_place order (here.had r) (node.had r)
+      (ap (λ c. c % length order) (at.had r n.0 n.1)
+      ∙ (same r n.0 m.0 n.1 m.1 ∙ ap (λ c. c % length order) (sym (kept.had r m.0 m.1))));
+}
+
+pub alike_itself : (order : List ℕ) (here : Node) → IsReached here.cluster → AreAlikeNodes (by_order order) here here
+alike_itself order here reached = record {
+  names = no_renaming;
+  alike = itself here.cluster reached;
+  places = λ r rank there k. refl;
+}
+
+-- alike a node that is kept
+pub arrives_found : (order : List ℕ) (kept : List KeptNode) (standing : Standing) → HasFound order kept standing
+    → Arrives order kept standing kept
+arrives_found order kept standing has = λ image nodes here are at found.
+    let i = has.0 in
+    let in_it = has.1 in
+    let v = are.each i in_it.0 in_it.1 in
+    record {
+      more = nodes;
+      grows = grows_none nodes;
+      are = are;
+      holds = (
+        i,
+        v.0,
+        v.1,
+        alike_found image order standing in_it.0 here v.0 at v.2
+            (in_it.2 image here v.0 at v.2 (found_reached image order here found)) in_it.3,
+      );
+    }
+
+-- kept as one more
+pub arrives_new : (order : List ℕ) (kept new : List KeptNode) (standing : Standing) (k : KeptNode) → IsKeptOf standing k
+    → new ≡ kept ++ k ∷ [] → Arrives order kept standing new
+arrives_new order kept new standing k is same = λ image nodes here are at found. record {
+  more = nodes ++ here ∷ [];
+  grows = λ i node there. stays_at nodes here i node there;
+  are = subst (λ ks. AreNodes image order ks (nodes ++ here ∷ [])) (sym same)
+      (are_more image order kept nodes k here are (kept_stands image standing k here is at) found);
+  holds = (length nodes, here, at_last nodes here, alike_itself order here (found_reached image order here found));
+}

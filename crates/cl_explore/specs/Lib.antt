@@ -1,0 +1,4 @@
+pub mod Kept
+pub mod Covering
+pub mod Searching
+pub mod Ends

@@ -1,0 +1,81 @@
+-- What a search has done.
+use Rattle.std.specs.Prelude.{ℕ, ◌≡◌, ◌<◌, ◌^◌, ◌↔◌, List, length, slice_get, Some, Bool, true}
+use Rattle.rv_image.specs.declared.images.ImageParts.{ImageParts}
+use Rattle.cl_record.specs.Plans.{in_slot}
+use Rattle.cl_machine.specs.declared.steps.Step.{Step}
+use Rattle.cl_order_laws.specs.Closed.{IsEnd, Node}
+use Rattle.cl_moves.specs.Standing.{StandsAt, by_order}
+use Rattle.cl_moves.specs.declared.standing.Standing.{Standing}
+use Rattle.cl_explore.specs.Kept.{AreSamePlaces, IsAlikeKept, IsFound}
+use Rattle.cl_explore.specs.Covering.{AreNodes, Grows, IsAlikeOneOf, IsClosedAt, IsCoveredTurn}
+use Rattle.cl_explore.specs.declared.kept.KeptNode.{KeptNode}
+
+-- more is kept than before, and of these nodes something holds
+pub record Keeps (image : ImageParts) (order : List ℕ) (nodes : List Node) (new : List KeptNode)
+    (P : List Node → Type 0) : Type 0 where
+  pub more : List Node
+  pub grows : Grows nodes more
+  pub are : AreNodes image order new more
+  pub holds : P more
+
+-- the node of this number is alike a standing, at the same places
+abbrev pub IsFoundIn : List ℕ → List KeptNode → Standing → ℕ → Type 0
+IsFoundIn order kept standing i =
+    (node : KeptNode) × (slice_get kept i ≡ Some node) × IsAlikeKept standing node
+    × AreSamePlaces (length order) standing.had.items node.had.items
+
+abbrev pub HasFound : List ℕ → List KeptNode → Standing → Type 0
+HasFound order kept standing = (i : ℕ) × IsFoundIn order kept standing i
+
+-- where a standing came is among the nodes, or alike one of them
+abbrev pub Arrives : List ℕ → List KeptNode → Standing → List KeptNode → Type 0
+Arrives order old standing new =
+    (image : ImageParts) (nodes : List Node) (here : Node) → AreNodes image order old nodes
+    → StandsAt image standing here → IsFound image order here
+    → Keeps image order nodes new (λ more. IsAlikeOneOf order more here)
+
+-- of a node of the list something holds then
+abbrev pub KeepsOf : List ℕ → List KeptNode → ℕ → List KeptNode → (List Node → Node → Type 0) → Type 0
+KeepsOf order old n new P =
+    (image : ImageParts) (nodes : List Node) (node : Node) → AreNodes image order old nodes
+    → slice_get nodes n ≡ Some node
+    → Keeps image order nodes new (λ more. P more node)
+
+-- the turn is one of the hart whose turn it is in its rank, at a stamp that a step may have
+abbrev pub IsPlanned : List ℕ → Node → Step → Type 0
+IsPlanned order node e = (e.hart ≡ in_slot order (node.had e.rank)) × (e.stamp < 2 ^ 62)
+
+-- where it is one, wherever it leads is covered then
+abbrev pub Goes : List ℕ → List KeptNode → ℕ → Step → List KeptNode → Type 0
+Goes order old n e new =
+    (image : ImageParts) (nodes : List Node) (node : Node) → AreNodes image order old nodes
+    → slice_get nodes n ≡ Some node → IsPlanned order node e
+    → Keeps image order nodes new (λ more. IsCoveredTurn order more node e)
+
+abbrev pub ArePlanned : List ℕ → Node → List Step → Type 0
+ArePlanned order node turns = (i : ℕ) (e : Step) → slice_get turns i ≡ Some e → IsPlanned order node e
+
+abbrev pub AreCovered : List ℕ → List Step → List Node → Node → Type 0
+AreCovered order turns nodes node = (i : ℕ) (e : Step) → slice_get turns i ≡ Some e → IsCoveredTurn order nodes node e
+
+-- and so of each of these turns
+abbrev pub GoesEach : List ℕ → List KeptNode → ℕ → List Step → List KeptNode → Type 0
+GoesEach order old n turns new =
+    (image : ImageParts) (nodes : List Node) (node : Node) → AreNodes image order old nodes
+    → slice_get nodes n ≡ Some node → ArePlanned order node turns
+    → Keeps image order nodes new (λ more. AreCovered order turns more node)
+
+-- the first so many ranks of a node are closed
+abbrev pub AreClosedBelow : List ℕ → ℕ → List Node → Node → Type 0
+AreClosedBelow order count nodes node = (r : ℕ) → r < count → IsClosedAt order nodes node r
+
+-- each rank is, and it is told whether nobody goes on
+abbrev pub IsVisited : List ℕ → Bool → List Node → Node → Type 0
+IsVisited order end nodes node = ((r : ℕ) → IsClosedAt order nodes node r) × ((end ≡ true) ↔ IsEnd (by_order order) node.cluster)
+
+-- where a standing is the node, the rank is closed
+abbrev pub ClosesRank : List ℕ → List KeptNode → ℕ → Standing → ℕ → List KeptNode → Type 0
+ClosesRank order old n live rank new =
+    (image : ImageParts) (nodes : List Node) (node : Node) → AreNodes image order old nodes
+    → slice_get nodes n ≡ Some node → StandsAt image live node
+    → Keeps image order nodes new (λ more. IsClosedAt order more node rank)

@@ -1,0 +1,16 @@
+//! A search of all orders: from the loaded cluster each turn of each hart that is next in its rank, a look that misses
+//! too, until no node is left that isn't alike one that is kept.
+//!
+//! The laws of closed sets are those of `cl_order_laws`; what is done at one cluster is `cl_moves`.
+#![tactic(auto)]
+
+mod candidates;
+mod exploring;
+mod kept;
+mod likeness;
+mod moving;
+mod search;
+
+pub use exploring::{Exploration, explore};
+pub use kept::{KeptNode, Way};
+pub use likeness::{Course, Likeness};
