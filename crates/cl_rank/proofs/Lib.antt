@@ -5,6 +5,7 @@ pub mod Boxes
 pub mod Called
 pub mod Clocks
 pub mod Ends
+pub mod HartSteps
 pub mod Kept
 pub mod Keys
 pub mod Lists

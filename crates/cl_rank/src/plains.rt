@@ -3,17 +3,34 @@
 ghost use Rattle.std.specs.Prelude.{◌≡◌, ◌≤◌, ◌<◌, ◌+◌, ◌^◌, List, length, vec_len};
 ghost use Rattle.part_channel.specs.Channels.{ChannelView};
 ghost use Rattle.cl_state.specs.Room.{rank_of};
-ghost use Rattle.cl_rank.specs.Plains.{IsPlainStep, IsPlainTurn, Repeats};
+ghost use Rattle.cl_rank.specs.Plains.{IsHartStep, IsPlainStep, IsPlainTurn, Repeats};
 ghost use Rattle.cl_rank.specs.Views.{IsOver, view_of};
 
 use crate::ranks::Rank;
-use crate::turning::step_plain;
+use crate::turning::step_running;
 use cl_journal::CLOCK_MAX;
 use cl_state::RankState;
+use rv_hart::Hart;
+use rv_memory::RankMemory;
 
-/// Does instructions of a hart, at most so many, until one isn't plain: how many. A function of its own, so that the
-/// step stands inside its loop.
+/// Does instructions of a running hart, at most so many, until one isn't plain: how many. The hart and the memory stay at
+/// hand from one to the next. A function of its own, so that the step stands inside its loop.
 #[inline(never)]
+fn step_hart(hart: &mut Hart, memory: &mut RankMemory, most: u64) -> u64
+    ensures within { result ≤ most }
+    ensures steps { Repeats IsHartStep result (hart.old, memory.old) (hart.new, memory.new) }
+{
+    let mut done: u64 = 0;
+    while done < most {
+        if !step_running(hart, memory) {
+            return done;
+        }
+        done += 1;
+    }
+    done
+}
+
+/// Does the same for a hart of a rank, whose clock goes on by as many.
 fn step_plains(state: &mut RankState, hart: u8, most: u64) -> u64
     requires hart { hart < vec_len state.old.harts }
     requires low { state.old.clock + most < 2 ^ 62 }
@@ -23,14 +40,8 @@ fn step_plains(state: &mut RankState, hart: u8, most: u64) -> u64
     ensures clock { state.new.clock ≡ state.old.clock + result }
     ensures harts { vec_len state.new.harts ≡ vec_len state.old.harts }
 {
-    let mut done: u64 = 0;
-    while done < most {
-        let stamp = state.clock + 1;
-        if !step_plain(state, hart, stamp) {
-            return done;
-        }
-        done += 1;
-    }
+    let done = step_hart(&mut state.harts[hart as usize], &mut state.memory, most);
+    state.clock += done;
     done
 }
 

@@ -153,7 +153,7 @@ pub(crate) fn place_at(buffer: u64, part: u8, size: u8) -> u64
 }
 
 /// As many bytes of the memory from an address on as there are and `out` has room for.
-fn read_into<'a>(memory: &RankMemory, address: u64, out: &'a mut [u8]) -> &'a [u8]
+pub(crate) fn read_into<'a>(memory: &RankMemory, address: u64, out: &'a mut [u8]) -> &'a [u8]
     ensures { result.now ≡ bytes_at memory.now address (length out.old) }
 {
     let count = memory.read_into(address, out);

@@ -12,10 +12,11 @@ ghost use Rattle.cl_state.specs.Transfers.{asked_claimed, asked_transfer, claime
 ghost use Rattle.cl_state.specs.Transfers.{send_of, source_of, tag_of};
 
 use crate::asking::Ask;
+use crate::partitions::read_into;
 use crate::pending::Manner;
 use cl_calls::{ANY, Claimed, NO_MESSAGE, NO_RANK, Receiving, Sending, Site};
 use mp_request::{Progress, Transfer};
-use mp_types::{Bytes, MESSAGE_MAX, Request};
+use mp_types::{Bytes, MESSAGE_MAX, Request, SHORT_MAX};
 use rv_memory::RankMemory;
 use std::alloc::{AllocError, Global};
 
@@ -114,12 +115,25 @@ fn present(memory: &RankMemory, buffer: u64, count: u16) -> u64
     u64::from(count).min(memory.size().saturating_sub(buffer))
 }
 
-/// The bytes of a send, at most 4,096. No bytes take no memory.
+/// So few bytes of the memory, in place.
+fn short(memory: &RankMemory, buffer: u64, count: usize) -> Bytes
+    requires { count ≤ 16 }
+    ensures { result ≡ bytes_at memory.now buffer count }
+{
+    let mut bytes = [0; SHORT_MAX];
+    Bytes::short(read_into(memory, buffer, &mut bytes[..count]))
+}
+
+/// The bytes of a send, at most 4,096. At most 16 take no memory.
 fn copy(alloc: Global, memory: &RankMemory, buffer: u64, count: u16) -> Result<Bytes, AllocError>
     ensures { MatchResult result (λ bytes. bytes ≡ bytes_at memory.now buffer count)
-        (λ e. 0 < length (bytes_at memory.now buffer count)) }
+        (λ e. 16 < length (bytes_at memory.now buffer count)) }
 {
-    let Ok(bytes) = memory.read_bytes(alloc, buffer, present(memory, buffer, count)) else {
+    let present = present(memory, buffer, count);
+    if present <= SHORT_MAX as u64 {
+        return Ok(short(memory, buffer, present as usize));
+    }
+    let Ok(bytes) = memory.read_bytes(alloc, buffer, present) else {
         return Err(AllocError);
     };
     if bytes.len() > MESSAGE_MAX {

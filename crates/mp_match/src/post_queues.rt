@@ -110,7 +110,11 @@ fn next_key(selection: Selection) -> Selection
     }
 }
 
-/// A queue of places for each key. A key whose queue is empty isn't kept.
+/// How many keys are kept though their queues are empty: who sends and receives with the same few keys again and again
+/// makes and drops no queue. More would take memory, and time of receives of any source or tag.
+const KEPT_MAX: usize = 32;
+
+/// A queue of places for each key. A key whose queue is empty isn't kept where there are more than 32.
 #[derive(Drop)]
 pub struct PostQueues {
     alloc: Global,
@@ -189,7 +193,7 @@ impl PostQueues {
     pub fn pop(&mut self, key: Selection)
         ensures { (k : Selection) → queue self.new.map k ≡ popped (queue self.old.map) (Some key) k }
     {
-        if self.pop_front(key) {
+        if self.pop_front(key) && self.map.len() > KEPT_MAX {
             let _ = self.map.remove(&key);
         }
     }

@@ -11,7 +11,7 @@ mod replies;
 mod requests;
 
 pub use codes::Code;
-pub use lists::{Bytes, MESSAGE_MAX, Posts};
+pub use lists::{Bytes, MESSAGE_MAX, Posts, SHORT_MAX};
 pub use messages::{Envelope, Gots, Message, Stamp, Status};
 pub use replies::Reply;
 pub use requests::Request;

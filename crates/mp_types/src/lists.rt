@@ -1,8 +1,9 @@
 //! The small lists that requests and replies carry, which contracts see as lists.
 
-ghost use Rattle.std.specs.Prelude.{◌≡◌, ◌≤◌, [], length, nat_eq, IfOk, IsOk};
+ghost use Rattle.std.specs.Prelude.{◌≡◌, ◌≤◌, ◌++◌, [], drop, length, nat_eq, IfOk, IsOk};
 ghost use Rattle.std.specs.Cmp.{partial_equiv_from_equiv};
 ghost use Rattle.std.specs.Cmp.Lexicographic.{nat_list_eq_equiv, pointwise};
+ghost use Rattle.mp_types.specs.Lists.{IsBody, body_bytes};
 
 use std::alloc::{AllocError, Global};
 use std::marker::Model;
@@ -11,23 +12,34 @@ use std::sync::ArcSlice;
 /// The most bytes that a message has.
 pub const MESSAGE_MAX: usize = 4096;
 
-/// The bytes of a message, at most 4,096 of them. Copies share them. Contracts see a list of numbers.
+/// The most bytes that stand in place, where they take no memory.
+pub const SHORT_MAX: usize = 16;
+
+/// How the bytes of a message stand.
+#[derive(Drop)]
+enum Body {
+    /// In place: the first so many of these.
+    Short { count: u8, bytes: [u8; 16] },
+    /// More than 16, which copies share.
+    Shared(ArcSlice<u8>),
+}
+
+/// The bytes of a message, at most 4,096 of them. Up to 16 stand in place and take no memory; copies share more than
+/// that. Contracts see a list of numbers.
 #[derive(Drop)]
 pub struct Bytes {
-    // None where there are none, which takes no memory
-    shared: Option<ArcSlice<u8>>,
+    body: Body,
 }
 
 impl Model for Bytes {
-    ghost use Rattle.std.specs.Prelude.{List, [], ℕ, ◌≤◌, length};
-    ghost use Rattle.std.specs.Option.{option_map_or};
-    ghost use Rattle.std.specs.Arc.{arc_slice_items};
+    ghost use Rattle.std.specs.Prelude.{List, ℕ};
+    ghost use Rattle.mp_types.specs.Lists.{IsBody, body_bytes};
 
     ghost Value = { List ℕ };
 
-    ghost view = { λ bytes. option_map_or arc_slice_items bytes.shared [] };
+    ghost view = { λ bytes. body_bytes bytes.body };
 
-    ghost invariant = { λ bytes. length (option_map_or arc_slice_items bytes.shared []) ≤ 4096 };
+    ghost invariant = { λ bytes. IsBody bytes.body };
 }
 
 impl PartialEq for Bytes {
@@ -44,31 +56,54 @@ impl Eq for Bytes {
     ghost laws = { nat_list_eq_equiv };
 }
 
+// Puts other bytes at the beginning.
+fn put(bytes: &mut [u8], new: &[u8])
+    requires { length new.now ≤ length bytes.old }
+    ensures { bytes.new ≡ new.now ++ drop (length new.now) bytes.old }
+{
+    bytes[..new.len()].copy_from_slice(new);
+}
+
 impl Bytes {
-    /// A copy of the slice. One of no bytes takes no memory.
+    /// At most 16 bytes, in place.
+    pub fn short(items: &[u8]) -> Bytes
+        requires { length items.now ≤ 16 }
+        ensures { result ≡ items.now }
+    {
+        let mut bytes = [0; SHORT_MAX];
+        put(&mut bytes, items);
+        let count = items.len() as u8;
+        Bytes {
+            body: Body::Short { count, bytes },
+        }
+    }
+
+    /// A copy of the slice. One of at most 16 bytes takes no memory.
     pub fn from_slice(alloc: Global, items: &[u8]) -> Result<Bytes, AllocError>
         requires { length items.now ≤ 4096 }
         ensures copy { IfOk result (λ bytes. bytes ≡ items.now) }
-        ensures free { items.now ≡ [] → IsOk result }
+        ensures free { length items.now ≤ 16 → IsOk result }
     {
-        if items.is_empty() {
-            return Ok(Bytes { shared: None });
+        if items.len() <= SHORT_MAX {
+            return Ok(Bytes::short(items));
         }
         Bytes::from_vec(Vec::from_slice(alloc, items)?)
     }
 
-    /// The vector's bytes, which aren't copied. The only error is want of memory, for the count of those who share them:
-    /// of no bytes there is none.
+    /// The vector's bytes, which aren't copied where there are more than 16. The only error is want of memory, for the
+    /// count of those who share them: at most 16 aren't shared.
     pub fn from_vec(items: Vec<u8>) -> Result<Bytes, AllocError>
         requires { length items.items ≤ 4096 }
         ensures bytes { IfOk result (λ bytes. bytes ≡ items.items) }
-        ensures free { items.items ≡ [] → IsOk result }
+        ensures free { length items.items ≤ 16 → IsOk result }
     {
-        if items.is_empty() {
-            return Ok(Bytes { shared: None });
+        if items.len() <= SHORT_MAX {
+            return Ok(Bytes::short(items.as_slice()));
         }
-        let shared = Some(ArcSlice::from_vec(items)?);
-        Ok(Bytes { shared })
+        let shared = ArcSlice::from_vec(items)?;
+        Ok(Bytes {
+            body: Body::Shared(shared),
+        })
     }
 
     /// How many bytes there are.
@@ -76,9 +111,9 @@ impl Bytes {
         ensures count { result ≡ length self.now }
         ensures limit { result ≤ 4096 }
     {
-        match &self.shared {
-            None => 0,
-            Some(shared) => shared.len() as u16,
+        match &self.body {
+            Body::Short { count, bytes: _ } => u16::from(*count),
+            Body::Shared(shared) => shared.len() as u16,
         }
     }
 
@@ -86,23 +121,28 @@ impl Bytes {
     pub fn as_slice(&self) -> &[u8]
         ensures { result.now ≡ self.now }
     {
-        match &self.shared {
-            None => &[],
-            Some(shared) => shared.as_slice(),
+        match &self.body {
+            Body::Short { count, bytes } => &bytes[..usize::from(*count)],
+            Body::Shared(shared) => shared.as_slice(),
         }
     }
 
-    /// The same bytes once more. They are shared, which takes no memory: the only error is that 2^63 - 1 share them
-    /// already, and of no bytes there is none.
+    /// The same bytes once more. More than 16 are shared, so that no memory is taken: the only error is that 2^63 - 1
+    /// share them already.
     pub fn try_copy(&self, _alloc: Global) -> Result<Bytes, AllocError>
         ensures copy { IfOk result (λ copy. copy ≡ self.now) }
-        ensures free { self.now ≡ [] → IsOk result }
+        ensures free { length self.now ≤ 16 → IsOk result }
     {
-        match &self.shared {
-            Some(shared) if shared.len() > 0 => Ok(Bytes {
-                shared: Some(shared.clone()?),
+        match &self.body {
+            Body::Short { count, bytes } => Ok(Bytes {
+                body: Body::Short {
+                    count: *count,
+                    bytes: *bytes,
+                },
             }),
-            _ => Ok(Bytes { shared: None }),
+            Body::Shared(shared) => Ok(Bytes {
+                body: Body::Shared(shared.clone()?),
+            }),
         }
     }
 }

@@ -1,5 +1,5 @@
 -- One step of the loops that read a line's bytes.
-use Rattle.std.proofs.Common.{◌≡◌, ℕ, zero, suc, ◌+◌, ◌≤◌, ◌<◌, Bool, List, [], ◌∷◌, ◌++◌, length, get_or, drop, Option, Some, None, Result, Ok, Err, refl, sym, ap, ◌∙◌, add-one}
+use Rattle.std.proofs.Common.{◌≡◌, ℕ, zero, suc, ◌+◌, ◌≤◌, ◌<◌, Bool, true, List, [], ◌∷◌, ◌++◌, length, get_or, drop, Option, Some, None, Result, Ok, Err, refl, sym, ap, ◌∙◌, add-one, arith}
 use Rattle.std.proofs.Math.Seq.{drop-cons}
 use Rattle.std.proofs.lemmas.List.{append_assoc, append-nil, drop_all, drop-drop}
 use Rattle.rv_asm_tokens.specs.declared.fault.AsmFaultKind.{AsmFaultKind}
@@ -7,7 +7,7 @@ use Rattle.rv_asm_tokens.specs.declared.escapes.QuoteStep.TheVariants.{End, Bad,
 use Rattle.rv_asm_tokens.specs.Fault.{◌>>=◌, if_some}
 use Rattle.rv_asm_tokens.specs.Lexeme.{Lexeme}
 use Rattle.rv_asm_tokens.specs.Escapes.{quote_step, quoted_length}
-use Rattle.rv_asm_tokens.specs.Scan.{Front, front_at, with_token, tokens_from, tokens_of}
+use Rattle.rv_asm_tokens.specs.Scan.{Front, front_at, is_blank, with_token, tokens_from, tokens_of}
 
 -- from i on there is the byte at i, and the rest
 pub cons_at : (xs : List ℕ) (i : ℕ) → i < length xs → drop i xs ≡ get_or xs i 0 ∷ drop (i + 1) xs
@@ -78,6 +78,13 @@ token_goes i done xs t more next whole sum lt h so_far =
     let one : tokens_from 0 done (get_or xs i 0 ∷ drop (i + 1) xs) ≡ tokens_from more (with_token done t) (drop (i + 1) xs) = rw is refl in
     let two : tokens_from more (with_token done t) (drop (i + 1) xs) ≡ tokens_from 0 (with_token done t) (drop next xs) = rw sum (tokens_from-inside more (with_token done t) (drop (i + 1) xs) ∙ ap (tokens_from 0 (with_token done t)) (drop-drop more (i + 1) xs)) in
     sym two ∙ sym one ∙ ap (tokens_from 0 done) (sym here) ∙ so_far
+
+-- a blank stands at i
+pub blank_goes : (i : ℕ) (done : List Lexeme) (xs : List ℕ) → i < length xs → is_blank (get_or xs i 0) ≡ true → tokens_from 0 done (drop (i + 1) xs) ≡ tokens_from 0 done (drop i xs)
+unfolding front_at
+blank_goes i done xs lt h =
+    let found : front_at (get_or xs i 0) (drop i xs) (drop (i + 1) xs) ≡ Ok (Some (None, 0)) = rw h refl in
+    token_goes i done xs None 0 (i + 1) (tokens_from 0 done (drop i xs)) (omega arith) lt found refl
 
 pub tokens_end : (i : ℕ) (done : List Lexeme) (xs : List ℕ) (whole : Whole) → length xs ≤ i → tokens_from 0 done (drop i xs) ≡ whole → whole ≡ Ok done
 unfolding tokens_from

@@ -1,12 +1,13 @@
 //! What stands at a byte of a line, and so its first token.
 
-ghost use Rattle.std.specs.Prelude.{◌≡◌, ◌≤◌, ◌+◌, IfOk, IsOk, MatchResult, Err, drop, length};
+ghost use Rattle.std.specs.Prelude.{◌≡◌, ◌≤◌, ◌+◌, IfOk, IsOk, List, MatchResult, Err, drop, length};
 ghost use Rattle.std.specs.Option.{option_map};
 ghost use Rattle.rv_asm_tokens.specs.Cursor.{Begins};
+ghost use Rattle.rv_asm_tokens.specs.Lexeme.{Lexeme};
 ghost use Rattle.rv_asm_tokens.specs.Returned.{Is};
 ghost use Rattle.rv_asm_tokens.specs.TokenView.{lexeme_of};
-ghost use Rattle.rv_asm_tokens.specs.Scan.{is_name_byte, word_length, sign, sign_front, number_front, negative_front};
-ghost use Rattle.rv_asm_tokens.specs.Scan.{name_front, text_front, front_at, tokens_of};
+ghost use Rattle.rv_asm_tokens.specs.Scan.{is_blank, is_name_byte, word_length, sign, sign_front, number_front, negative_front};
+ghost use Rattle.rv_asm_tokens.specs.Scan.{name_front, text_front, front_at, tokens_from, tokens_of};
 ghost use Rattle.rv_asm_tokens.specs.FrontView.{front_view, LiesIn};
 
 use crate::digits::magnitude_of;
@@ -124,6 +125,13 @@ fn sign_at<'a>(b: u8) -> Result<Front<'a>, AsmFaultKind>
     }
 }
 
+#[inline(always)]
+fn is_blank(b: u8) -> bool
+    ensures { result ≡ is_blank b }
+{
+    matches!(b, b' ' | b'\t')
+}
+
 /// The bytes from a place on.
 fn behind(bytes: &[u8], at: usize) -> &[u8]
     requires { at ≤ length bytes.now }
@@ -133,7 +141,24 @@ fn behind(bytes: &[u8], at: usize) -> &[u8]
     &bytes[at..]
 }
 
+/// Where the blanks that stand from a place on end.
+#[inline(always)]
+fn past_blanks(bytes: &[u8], start: usize) -> usize
+    requires { start ≤ length bytes.now }
+    ensures onward { start ≤ result }
+    ensures within { result ≤ length bytes.now }
+    ensures same { (done : List Lexeme)
+        → tokens_from 0 done (drop result bytes.now) ≡ tokens_from 0 done (drop start bytes.now) }
+{
+    let mut at = start;
+    while at < bytes.len() && is_blank(bytes[at]) {
+        at += 1;
+    }
+    at
+}
+
 /// What stands at the first byte of `here`, which is `b` with `after` behind it.
+#[inline(always)]
 #[tactic(auto, unfolding(crate::specs::Scan::front_at))]
 fn found_at<'a>(b: u8, here: &'a [u8], after: &'a [u8]) -> Result<Front<'a>, AsmFaultKind>
     requires { length here.now ≡ length after.now + 1 }
@@ -167,7 +192,7 @@ pub struct First<'a> {
 pub fn first_token(bytes: &[u8]) -> Result<Option<First<'_>>, AsmFaultKind>
     ensures { MatchResult result (Begins bytes.now) (λ e. tokens_of bytes.now ≡ Err e) }
 {
-    let mut at: usize = 0;
+    let mut at = past_blanks(bytes, 0);
     while at < bytes.len() {
         let here = behind(bytes, at);
         let after = behind(bytes, at + 1);
@@ -187,14 +212,14 @@ pub fn first_token(bytes: &[u8]) -> Result<Option<First<'_>>, AsmFaultKind>
 pub fn check_tokens(bytes: &[u8]) -> Result<(), AsmFaultKind>
     ensures { MatchResult result (λ _. IsOk (tokens_of bytes.now)) (λ e. tokens_of bytes.now ≡ Err e) }
 {
-    let mut at: usize = 0;
+    let mut at = past_blanks(bytes, 0);
     while at < bytes.len() {
         let here = behind(bytes, at);
         let after = behind(bytes, at + 1);
         match found_at(bytes[at], here, after)? {
             Front::Comment => return Ok(()),
             Front::Blank => at += 1,
-            Front::Piece(_, more) => at += 1 + more,
+            Front::Piece(_, more) => at = past_blanks(bytes, at + 1 + more),
         }
     }
     Ok(())

@@ -1,4 +1,4 @@
-use Rattle.std.proofs.Common.{◌≤◌, ◌+◌, Some, None, IsOk, length, arith, refl, sym, subst}
+use Rattle.std.proofs.Common.{◌+◌, ◌∙◌, Some, None, IsOk, arith, refl, sym, subst}
 use Rattle.std.proofs.lemmas.Result.{err_from_is_err_and}
 use Rattle.rv_asm_tokens.specs.TokenView.{lexeme_of}
 use Rattle.rv_asm_tokens.specs.Scan.{tokens_of}
@@ -24,8 +24,10 @@ loop-at-preserved-in-Blank c =
 pub loop-at-preserved : goal.loop-at-preserved
 loop-at-preserved c =
     let bytes = c.args.bytes.now in
-    let within : c.in-Piece.more ≤ length c.behind-after.result.now = rw c.in-Piece.is at c.in_ok-found_at.ensures.within in
-    (omega arith, (_, token_goes c.loop-at.at c.loop-at.invariant.1.0 bytes (Some (lexeme_of c.in-Piece.field-0)) c.in-Piece.more (c.loop-at.at + (1 + c.in-Piece.more)) (tokens_of bytes) (omega arith) c.loop-at-test.true (rw (c.in-Piece.is, c.behind-here.ensures.value, c.behind-after.ensures.value) at c.in_ok-found_at.ensures.value) c.loop-at.invariant.1.1))
+    let next = c.loop-at.at + 1 + c.in-Piece.more in
+    let goes = token_goes c.loop-at.at c.loop-at.invariant.1.0 bytes (Some (lexeme_of c.in-Piece.field-0)) c.in-Piece.more next (tokens_of bytes) (omega arith) c.loop-at-test.true (rw (c.in-Piece.is, c.behind-here.ensures.value, c.behind-after.ensures.value) at c.in_ok-found_at.ensures.value) c.loop-at.invariant.1.1 in
+    let past = c.past_blanks-at-in-Piece.ensures in
+    (past.within, (_, past.same _ ∙ goes))
 
 pub returns : goal.returns
 returns c =
