@@ -28,13 +28,15 @@ pub struct ClusterState {
     pub boxes: Vec<[Settled; 16]>,
 }
 
-/// All ranks of the image as they are loaded, by their numbers.
+/// All ranks of the image as they are loaded, by their numbers. Its text is decoded once for all of them.
 fn load_ranks(alloc: Global, image: &Image, count: u8) -> Result<Vec<RankState>, AllocError>
     ensures { IfOk result (λ ranks. map rank_of ranks.items ≡ map (loaded image.now) (below count)) }
 {
     let mut ranks = Vec::new(alloc);
     for rank in 0..count {
-        ranks.push(RankState::load(alloc, image, rank)?)?;
+        let mut state = RankState::load(alloc, image, rank)?;
+        state.decode_text(ranks.get(0))?;
+        ranks.push(state)?;
     }
     Ok(ranks)
 }

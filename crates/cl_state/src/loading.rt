@@ -92,4 +92,15 @@ impl RankState {
         };
         Ok(RankState::new(alloc, parts))
     }
+
+    /// Decodes the words of the rank's text, each once; or by what another rank decoded, where its text is the same. The rank
+    /// stays as it is. The only error is want of memory.
+    pub fn decode_text(&mut self, other: Option<&RankState>) -> Result<(), AllocError>
+        ensures { self.new ≡ self.old }
+    {
+        match other {
+            Some(other) => self.memory.decode_as(&other.memory),
+            None => self.memory.decode_text(),
+        }
+    }
 }

@@ -1,2 +1,3 @@
 -- The lemmas of a step over pages that were made first.
 pub mod Placed
+pub mod Fetched

@@ -202,12 +202,31 @@ fn execute(hart: &mut Hart, memory: &mut RankMemory, instr: &Instr) -> Result<Di
     }
 }
 
+/// One step whose word is fetched and decoded. It stands by itself, so that what each step does of its own stays small.
+#[inline(never)]
+#[tactic(auto, unfolding(crate::specs::Stepped::stepped, crate::specs::Stores::store_range))]
+fn step_word(hart: &mut Hart, memory: &mut RankMemory) -> Result<Did, AllocError>
+    requires { hart.old.mode ≡ Running }
+    ensures effect { IfOk result
+        (λ did. record { did = did; state = hart.new; memory = memory.new } ≡ stepped hart.old memory.old) }
+    ensures hart { OnErr result (hart.new ≡ hart.old) }
+    ensures memory { OnErr result (memory.new ≡ memory.old) }
+    ensures takes_no_memory { IsThere memory.old (store_range_of hart.old memory.old) → IsOk result }
+{
+    let Some(word) = memory.text_word(hart.pc()) else {
+        return Ok(trap(hart, Cause::InstructionAccess));
+    };
+    let Some(instr) = decode(word) else {
+        return Ok(trap(hart, Cause::IllegalInstruction));
+    };
+    execute(hart, memory, &instr)
+}
+
 /// One step of a running hart: the instruction whose word stands at the pc, with its whole effect, or the trap. An
 /// ECALL is answered as `Call` and left to the caller. What the step leaves is what the table's relation allows, and
 /// the relation allows nothing else. The only error is want of memory for the page of a store, and leaves hart and
 /// memory as they were.
 #[inline(always)]
-#[tactic(auto, unfolding(crate::specs::Stepped::stepped, crate::specs::Stores::store_range))]
 pub fn step(hart: &mut Hart, memory: &mut RankMemory) -> Result<Did, AllocError>
     requires { hart.old.mode ≡ Running }
     ensures takes_no_memory { IsThere memory.old (store_range_of hart.old memory.old) → IsOk result }
@@ -221,13 +240,10 @@ pub fn step(hart: &mut Hart, memory: &mut RankMemory) -> Result<Did, AllocError>
         (λ did. (end : After) → IsStep hart.old memory.old end
         → end ≡ record { did = did; state = hart.new; memory = memory.new }) }
 {
-    let Some(word) = memory.text_word(hart.pc()) else {
-        return Ok(trap(hart, Cause::InstructionAccess));
-    };
-    let Some(instr) = decode(word) else {
-        return Ok(trap(hart, Cause::IllegalInstruction));
-    };
-    execute(hart, memory, &instr)
+    match memory.instruction(hart.pc()) {
+        Some(instr) => execute(hart, memory, &instr),
+        None => step_word(hart, memory),
+    }
 }
 
 /// The same step, with spare pages for what it stores. Takes no memory: the error is that there are fewer spare pages

@@ -1,6 +1,7 @@
--- The lemmas of values and their bytes, and of pages.
+-- The lemmas of values and their bytes, of pages, and of fetches.
 pub mod Values
 pub mod Marked
 pub mod Paged
 pub mod Shown
+pub mod Fetches
 mod Touched

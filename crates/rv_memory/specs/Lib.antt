@@ -6,4 +6,6 @@ pub mod Memory
 pub mod MorePages
 pub mod Access
 pub mod Present
+pub mod Readings
+pub mod Fetched
 pub mod Worked

@@ -1,7 +1,8 @@
 //! The bytes of a rank, with their loads, stores, fetches and ranges.
 ghost use Rattle.std.specs.Prelude.{◌≡◌, ◌≢◌, ◌↔◌, ◌+◌, ◌-◌, ◌/◌, ◌%◌, ◌^◌, ◌<◌, ◌≤◌, ◌++◌, length, cond, IsOk};
 ghost use Rattle.std.specs.Prelude.{IsTrue, nat_le, false, drop};
-ghost use Rattle.std.specs.Prelude.{IfOk, OnOk, OnErr, MatchOption};
+ghost use Rattle.std.specs.Prelude.{IfOk, IfSome, OnOk, OnErr, MatchOption};
+ghost use Rattle.rv_memory.specs.Fetched.{IsFetched};
 ghost use Rattle.std.specs.Arc.{arc_slice_items};
 ghost use Rattle.rv_memory.specs.Access.{size_of, load_trap, store_trap, stored, word_at, is_readable, is_writable};
 ghost use Rattle.rv_memory.specs.Access.{is_inside, IsReadable};
@@ -15,6 +16,7 @@ use crate::page::{Page, read, store, value};
 use crate::pages;
 use crate::spares::SparePages;
 use crate::text::Text;
+use rv_decode::Instr;
 use std::alloc::{AllocError, Global};
 use std::marker::Model;
 use std::sync::ArcSlice;
@@ -107,7 +109,7 @@ impl RankMemory {
         requires room { init_start (arc_slice_items text) + length init.now ≤ size }
         ensures { IfOk result (λ memory. memory ≡ loaded_memory size (arc_slice_items text) init.now) }
     {
-        let text = Text::new(text);
+        let text = Text::new(alloc, text)?;
         let bytes = text.as_slice();
         let whole = bytes.len() / 4096 * 4096;
         let start = (bytes.len() + 15) / 16 * 16;
@@ -144,6 +146,31 @@ impl RankMemory {
         ensures { result ≡ word_at self.now pc }
     {
         self.text.word(pc)
+    }
+
+    /// The instruction of the word at a pc, where the text was decoded: `None` where it wasn't, and where there is no such
+    /// word or instruction.
+    #[inline(always)]
+    pub fn instruction(&self, pc: u64) -> Option<Instr>
+        ensures { IfSome result (IsFetched self.now pc) }
+    {
+        self.text.instruction(pc)
+    }
+
+    /// Decodes the words of the text, each once, for the fetches that come: here and in copies. The only error is want of
+    /// memory.
+    pub fn decode_text(&mut self) -> Result<(), AllocError>
+        ensures { self.new ≡ self.old }
+    {
+        self.text.decode(self.alloc)
+    }
+
+    /// Does so by what another memory decoded, which isn't copied. Nothing is done where the texts differ. The only error is
+    /// that 2^63 - 1 hold it already.
+    pub fn decode_as(&mut self, other: &RankMemory) -> Result<(), AllocError>
+        ensures { self.new ≡ self.old }
+    {
+        self.text.decode_as(&other.text)
     }
 
     /// The value of the bytes at an address, zero-extended. Traps as `LoadMisaligned` where the address isn't a

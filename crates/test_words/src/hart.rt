@@ -1,5 +1,5 @@
 //! A hart, and its steps (rv_hart).
-ghost use Rattle.std.specs.Prelude.{◌≡◌, ◌≢◌, [], ◌∷◌, ℕ, ◌+◌, ◌-◌, ◌*◌, ◌^◌, ◌<◌, pos, negsuc, Some, None, Ok, true};
+ghost use Rattle.std.specs.Prelude.{◌≡◌, ◌≢◌, [], ◌∷◌, ℕ, ◌+◌, ◌-◌, ◌*◌, ◌^◌, ◌<◌, pos, negsuc, Some, None, Ok, IfOk, true};
 ghost use Rattle.rv_decode.specs.declared.instruction.ArithOp.TheVariants.{Addw, Srl, Mulh, Divw, Divuw, Remu};
 ghost use Rattle.rv_decode.specs.declared.instruction.BranchOp.TheVariants.{Bgeu};
 ghost use Rattle.rv_decode.specs.declared.instruction.ImmOp.TheVariants.{Sltiu};
@@ -94,6 +94,25 @@ pub fn trap_leaves_the_pc(hart: &mut Hart, memory: &mut RankMemory) -> Result<Di
     ensures pc { hart.new.pc ≡ hart.old.pc }
 {
     step(hart, memory)
+}
+
+/// A step goes alike where the text was decoded and where it wasn't: behind the text, at a pc that is no multiple of 4, and
+/// at a word that stands for no instruction, as at any other.
+pub fn decoded_text_is_stepped_alike(
+    hart: &mut Hart,
+    other: &mut Hart,
+    memory: &mut RankMemory,
+    decoded: &mut RankMemory,
+) -> Result<(Did, Did), AllocError>
+    requires running { hart.old.mode ≡ Running }
+    requires harts { other.old ≡ hart.old }
+    requires memories { decoded.old ≡ memory.old }
+    ensures did { IfOk result (λ did. did.0 ≡ did.1) }
+    ensures hart { IfOk result (λ did. hart.new ≡ other.new) }
+    ensures memory { IfOk result (λ did. memory.new ≡ decoded.new) }
+{
+    decoded.decode_text()?;
+    Ok((step(hart, memory)?, step(other, decoded)?))
 }
 
 /// A branch that isn't taken goes on to the next instruction: 00001463 is `bne x0, x0, 8`.

@@ -11,7 +11,7 @@ use Rattle.rv_memory.proofs.memory.RankMemory.sharing.Goals as goal
 
 pub write-requires-clause-whole : goal.write-requires-clause-whole
 write-requires-clause-whole c =
-    let text : List ℕ = c.new-text.result in
+    let text : List ℕ = c.in_ok-text.text in
     rw (c.in_ok-pages.ensures, c.as_slice-bytes.ensures) (shown-whole _ (length text / 4096) text (omega arith) (omega arith))
 
 loaded : (c : goal.In_ok-write-2) → (record {
@@ -21,7 +21,7 @@ loaded : (c : goal.In_ok-write-2) → (record {
 }) ≡ loaded_memory c.args.size (arc_slice_items c.args.text) c.args.init.now
 loaded c =
     let text : List ℕ = arc_slice_items c.args.text in
-    let bytes : c.as_slice-bytes.result.now ≡ text = c.as_slice-bytes.ensures ∙ c.new-text.ensures in
+    let bytes : c.as_slice-bytes.result.now ≡ text = c.as_slice-bytes.ensures ∙ c.in_ok-text.ensures in
     let behind : (length text + 15) / 16 * 16 ≡ init_start text = search rules in
     let none = c.in_ok-pages.ensures in
     let n : ℕ = c.args.size / 4096 in
@@ -36,14 +36,14 @@ loaded c =
     one there (rw (bytes, behind) at c.in_ok-write-2.ensures.bytes) (rw (bytes, behind) at c.in_ok-write-2.ensures.there)
 
 pub returns : goal.returns
-returns c = rw c.new-text.ensures (loaded c)
+returns c = rw c.in_ok-text.ensures (loaded c)
 
 pub invariant_of-result : goal.invariant_of-result
 invariant_of-result c =
     let text : List ℕ = arc_slice_items c.args.text in
-    let bytes : c.as_slice-bytes.result.now ≡ text = c.as_slice-bytes.ensures ∙ c.new-text.ensures in
+    let bytes : c.as_slice-bytes.result.now ≡ text = c.as_slice-bytes.ensures ∙ c.in_ok-text.ensures in
     let behind : (length text + 15) / 16 * 16 ≡ init_start text = search rules in
     let long : length c.write-2.new.pages.items ≡ c.args.size / 4096 =
     c.in_ok-write-2.ensures.long ∙ c.in_ok-write.ensures.long ∙ ap length c.in_ok-pages.ensures ∙ length-replicate (c.args.size / 4096) None in
-    rw c.new-text.ensures (held-loaded c.args.size text c.args.init.now c.write-2.new.pages.items c.requires.least c.requires.most (omega (arith, c.requires.room, behind)) c.requires.whole
+    rw c.in_ok-text.ensures (held-loaded c.args.size text c.args.init.now c.write-2.new.pages.items c.requires.least c.requires.most (omega (arith, c.requires.room, behind)) c.requires.whole
     (rw bytes at c.in_ok-write-2.ensures.whole) long (ap (λ (m : Memory). m.bytes) (loaded c)))
