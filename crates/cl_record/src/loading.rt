@@ -12,10 +12,19 @@ ghost use Rattle.cl_record.specs.Wiring.{AreAllNew};
 use crate::plans::Plan;
 use crate::seats::Seat;
 use crate::wiring::Ends;
+use cl_rank::RankState;
 use rv_image::Image;
 use std::alloc::{AllocError, Global};
 
-/// All ranks as they are loaded, by their numbers, at their plans, with these ends of the links.
+/// A rank whose text is decoded, for all ranks of the image, which have the same text.
+fn decoded(alloc: Global, image: &Image) -> Result<RankState, AllocError> {
+    let mut first = RankState::load(alloc, image, 0)?;
+    first.decode_text(None)?;
+    Ok(first)
+}
+
+/// All ranks as they are loaded, by their numbers, at their plans, with these ends of the links. The
+/// image's text is decoded once for all of them.
 pub fn load_seats<'a>(
     alloc: Global,
     image: &Image,
@@ -34,10 +43,11 @@ pub fn load_seats<'a>(
     ensures fresh { IfOk result (λ seats. (channels : List ChannelView) → AreAllNew image.now channels ends.items
         → AreFresh image.now channels seats.items) }
 {
+    let decoded = decoded(alloc, image)?;
     let mut seats: Vec<Seat<'a>> = Vec::new(alloc);
     for own in ends {
         let rank = seats.len();
-        let seat = Seat::load(alloc, image, rank as u8, &plans[rank], own)?;
+        let seat = Seat::load(alloc, image, rank as u8, &plans[rank], own, &decoded)?;
         seats.push(seat)?;
     }
     Ok(seats)

@@ -10,7 +10,7 @@ ghost use Rattle.cl_record.specs.Wiring.{AreNewEnds, sides_in};
 use crate::done::Done;
 use crate::plans::Plan;
 use crate::wiring::Ends;
-use cl_rank::{Desk, Rank, Stop};
+use cl_rank::{Desk, Rank, RankState, Stop};
 use part_channel::Channel;
 use rv_image::Image;
 use std::alloc::{AllocError, Global};
@@ -45,13 +45,15 @@ impl<'a> Seat<'a> {
     ghost use Rattle.cl_rank.specs.Plains.{Repeats};
     ghost use Rattle.cl_record.specs.Seats.{GoesOn, IsFresh, TakesPlainTurn, station};
 
-    /// A rank as it is loaded, with its plan and its ends of the links. It took no turn.
+    /// A rank as it is loaded, with its plan and its ends of the links. It took no turn. The words of its text stand for
+    /// what they were decoded to in another rank of the image.
     pub fn load(
         alloc: Global,
         image: &Image,
         rank: u8,
         plan: &'a Plan,
         ends: Ends,
+        decoded: &RankState,
     ) -> Result<Seat<'a>, AllocError>
         requires plan { IsPlan image.now.harts plan.now }
         requires joined { All (IsLink image.now.ranks) image.now.links }
@@ -63,8 +65,10 @@ impl<'a> Seat<'a> {
             → IsFresh image.now channels rank seat) }
     {
         let Ends { sends, recvs } = ends;
+        let mut rank = Rank::new(alloc, image, rank, plan.budget, sends, recvs)?;
+        rank.state.decode_text(Some(decoded))?;
         Ok(Seat {
-            rank: Rank::new(alloc, image, rank, plan.budget, sends, recvs)?,
+            rank,
             plan,
             next: 0,
             stop: None,

@@ -17,3 +17,4 @@ pub mod Finished
 pub mod Together
 pub mod Live
 pub mod Vain
+pub mod Rising
