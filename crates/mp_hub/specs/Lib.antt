@@ -12,7 +12,6 @@ pub mod Finished
 pub mod Replies
 pub mod Links
 pub mod Vain
-pub mod Rising
 pub mod Live
 pub mod Rows
 pub mod RankRows

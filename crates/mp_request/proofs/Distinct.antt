@@ -1,9 +1,11 @@
 -- A filtered list without its first number.
-use Rattle.std.proofs.Common.{◌≡◌, ℕ, ◌+◌, ◌<◌, Bool, true, false, not, ◌&&◌, List, ◌∷◌, length, get_or, drop, refl, sym, ap, ◌∙◌, add-one, drop-cons}
+use Rattle.std.proofs.Common.{◌≡◌, ℕ, ◌+◌, ◌<◌, Bool, true, false, not, ◌&&◌, List, [], ◌∷◌, length, get_or, drop, refl, sym, ap, ◌∙◌, add-one, drop-cons, arith}
 use Rattle.std.specs.Prelude.{◌==◌, cond, filter}
 use Rattle.std.specs.List.{list_any}
 use Rattle.std.proofs.lemmas.Bool.{eqb-true}
 use Rattle.std.proofs.lemmas.Map.Views.{any-filter_same}
+use Rattle.mp_types.specs.Rising.{AreAbove, AreRising}
+use Rattle.mp_types.proofs.Above.{not_among}
 use Rattle.mp_request.specs.Table.{is_distinct}
 
 -- what equals x passes the filter as x does
@@ -42,3 +44,14 @@ pub distinct_not_at : (p : ℕ → Bool) (xs : List ℕ) (i : ℕ) → i < lengt
 distinct_not_at p xs i low passes twice =
     ap (λ l. is_distinct (filter p l)) (drop_at xs i low)
     ∙ distinct_not p (get_or xs i 0) (drop (i + 1) xs) passes twice
+
+-- of rising numbers each that passes stands once
+above_distinct : (p : ℕ → Bool) (x : ℕ) (xs : List ℕ) → AreAbove x xs → is_distinct (filter p (x ∷ xs)) ≡ true
+above_distinct p x [] above = distinct_behind p x [] (λ passes. refl)
+above_distinct p x (y ∷ xs) above =
+    distinct_behind p x (y ∷ xs) (λ passes. not_among x x (omega arith) (y ∷ xs) above)
+    ∙ above_distinct p y xs above.1
+
+pub rising_distinct : (p : ℕ → Bool) (xs : List ℕ) → AreRising xs → is_distinct (filter p xs) ≡ true
+rising_distinct p [] rising = refl
+rising_distinct p (x ∷ xs) rising = above_distinct p x xs rising

@@ -13,6 +13,7 @@ ghost use Rattle.mp_request.specs.Table.{may_be_tested, no_requests, request_at,
 
 use crate::entries::{OpenRequest, Progress, State};
 use crate::refusals::Refusal;
+use mp_types::are_rising;
 use std::alloc::{AllocError, Global};
 use std::marker::Model;
 
@@ -222,6 +223,9 @@ impl Requests {
     fn names_active_once(&self, handles: &[u64]) -> bool
         ensures { result ≡ is_distinct (filter (has is_active self.now) handles.now) }
     {
+        if are_rising(handles) {
+            return true;
+        }
         for (place, handle) in handles.iter().enumerate() {
             if self.is_active(*handle) && stands_behind(handles, place) {
                 return false;

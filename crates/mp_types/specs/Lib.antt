@@ -1,3 +1,4 @@
 pub mod Carried
 pub mod Codes
 pub mod Lists
+pub mod Rising

@@ -9,9 +9,11 @@ mod lists;
 mod messages;
 mod replies;
 mod requests;
+mod rising;
 
 pub use codes::Code;
 pub use lists::{Bytes, MESSAGE_MAX, Posts, SHORT_MAX};
 pub use messages::{Envelope, Gots, Message, Stamp, Status};
 pub use replies::Reply;
 pub use requests::Request;
+pub use rising::are_rising;

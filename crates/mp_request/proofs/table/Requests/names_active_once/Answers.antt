@@ -1,9 +1,15 @@
 use Rattle.std.proofs.Common.{sym, ◌∙◌}
 use Rattle.mp_request.specs.Entries.{is_active}
 use Rattle.mp_request.specs.Table.{has}
-use Rattle.mp_request.proofs.Distinct.{distinct_behind_at, distinct_not_at}
+use Rattle.mp_request.proofs.Distinct.{distinct_behind_at, distinct_not_at, rising_distinct}
 use Rattle.mp_request.proofs.table.Requests.names_active_once.Goals as goal
 use Rattle.mp_request.proofs.table.Requests.names_active_once.Goals.{else-is_active-via-then-is_active+else-stands_behind, else-is_active-via-else-is_active}
+
+pub returns-then-are_rising : goal.returns-then-are_rising
+returns-then-are_rising c =
+    sym
+    (rising_distinct (has is_active c.args.self.now) c.args.handles.now
+    (c.are_rising.ensures.0 c.if-are_rising.true))
 
 pub returns-then-stands_behind : goal.returns-then-stands_behind
 returns-then-stands_behind c =

@@ -1,4 +1,4 @@
--- Posts in the order of their numbers, as whoever waits for all posts of a loop names them.
+-- Numbers in their order, as those of posts or handles that were made one after another.
 use Rattle.std.specs.Prelude.{ℕ, ◌<◌, List, [], ◌∷◌}
 
 -- each is greater than the one before it, and the first greater than this number
