@@ -282,6 +282,10 @@ impl RankMemory {
         requires { address + 8 ≤ length self.now.bytes }
         ensures { result ≡ value_at self.now.bytes address 8 }
     {
+        // where the address is aligned they are in one page
+        if let Ok(value) = self.load_bytes(address, Width::Double) {
+            return value;
+        }
         let mut bytes = [0; 8];
         pages::copy(
             self.text.as_slice(),
