@@ -1,44 +1,48 @@
 //! The listing of an image's text.
 
-ghost use Rattle.std.specs.Prelude.{◌≡◌, ◌+◌, ◌*◌, ◌<◌, ◌/◌, ◌++◌, ◌≤◌, ◌^◌, IfOk, OnOk, length, string_bytes};
+ghost use Rattle.std.specs.Prelude.{◌≡◌, ◌+◌, ◌*◌, ◌<◌, ◌/◌, ◌++◌, ◌≤◌, ◌^◌, IfOk, OnOk, length};
 ghost use Rattle.std.specs.List.{flat_map};
-ghost use Rattle.rv_decode.specs.Decoded.{decoded};
 ghost use Rattle.rv_memory.specs.Memory.{value_at};
-ghost use Rattle.rvmc_report.specs.Listing.{hex_8, listing, listing_line, name_line, listed_statement, symbols_at};
+ghost use Rattle.rvmc_report.specs.Listing.{hex_8, listed_statement, listing, listing_line, name_line, symbols_at};
+ghost use Rattle.rv_decode.specs.Decoded.{decoded};
 ghost use Rattle.rvmc_report.specs.Listing.{word_lines};
 
-use rv_decode::{decode, print_instr};
+use rv_decode::decode;
 use rv_image::{Image, ImageParts, Symbol};
 use std::alloc::{AllocError, Global};
+use std::io;
+use std::io::Write;
 
-/// Eight hex digits in lower case.
-fn hex_8(alloc: Global, number: u32) -> Result<String, AllocError>
-    ensures { IfOk result (λ text. string_bytes text ≡ hex_8 number) }
+/// Adds eight hex digits in lower case.
+fn put_hex_8(lines: &mut Vec<u8>, number: u32) -> io::Result<()>
+    ensures { OnOk result (lines.new.items ≡ lines.old.items ++ hex_8 number) }
 {
-    format!(in alloc; "{number:08x}")
+    write!(lines, "{number:08x}")
 }
 
-/// The instruction of a word, or `.word 0x` and its digits.
-fn statement(alloc: Global, word: u32) -> Result<String, AllocError>
-    ensures { IfOk result (λ text. string_bytes text ≡ listed_statement (decoded word) word) }
+/// Adds the instruction of a word, or `.word 0x` and its digits.
+fn put_statement(lines: &mut Vec<u8>, word: u32) -> io::Result<()>
+    ensures { OnOk result (lines.new.items ≡ lines.old.items ++ listed_statement (decoded word) word) }
 {
     match decode(word) {
-        Some(instr) => print_instr(alloc, &instr),
+        Some(instr) => write!(lines, "{instr}"),
         None => {
-            let digits = hex_8(alloc, word)?;
-            format!(in alloc; ".word 0x{digits}")
+            lines.write_all(b".word 0x")?;
+            put_hex_8(lines, word)
         }
     }
 }
 
-/// The line of a word.
-fn line(alloc: Global, address: u32, word: u32) -> Result<String, AllocError>
-    ensures { IfOk result (λ text. string_bytes text ≡ listing_line address word) }
+/// Adds the line of a word: its address, its digits, and its instruction or `.word 0x` and the digits once more.
+fn put_line(lines: &mut Vec<u8>, address: u32, word: u32) -> io::Result<()>
+    ensures { OnOk result (lines.new.items ≡ lines.old.items ++ listing_line address word) }
 {
-    let at = hex_8(alloc, address)?;
-    let digits = hex_8(alloc, word)?;
-    let statement = statement(alloc, word)?;
-    format!(in alloc; "{at}: {digits}  {statement}\n")
+    put_hex_8(lines, address)?;
+    lines.write_all(b": ")?;
+    put_hex_8(lines, word)?;
+    lines.write_all(b"  ")?;
+    put_statement(lines, word)?;
+    lines.write_all(b"\n")
 }
 
 /// The word of four bytes, low byte first.
@@ -66,12 +70,7 @@ fn put_names(lines: &mut Vec<u8>, symbols: &[Symbol], address: u32) -> Result<()
 }
 
 /// Adds the word of this number, behind the names of its address.
-fn put_word(
-    alloc: Global,
-    lines: &mut Vec<u8>,
-    parts: &ImageParts,
-    number: usize,
-) -> Result<(), AllocError>
+fn put_word(lines: &mut Vec<u8>, parts: &ImageParts, number: usize) -> Result<(), AllocError>
     requires length { length parts.now.text ≤ 2 ^ 20 }
     requires there { number < length parts.now.text / 4 }
     ensures { OnOk result (lines.new.items ≡ lines.old.items ++ word_lines parts.now number) }
@@ -79,8 +78,11 @@ fn put_word(
     let text = parts.text.as_slice();
     let at = 4 * number;
     put_names(lines, parts.symbols.as_slice(), at as u32)?;
-    let line = line(alloc, at as u32, word_at(text, at))?;
-    lines.extend_from_slice(line.as_bytes())
+    // a vector refuses bytes only where memory is refused
+    match put_line(lines, at as u32, word_at(text, at)) {
+        Ok(()) => Ok(()),
+        Err(_) => Err(AllocError),
+    }
 }
 
 /// The listing of an image, one line a word of its text: its address, its digits, and its instruction. Before it stand
@@ -92,7 +94,7 @@ pub fn listing(alloc: Global, image: &Image) -> Result<Vec<u8>, AllocError>
     let text = parts.text.as_slice();
     let mut lines = Vec::new(alloc);
     for number in 0..text.len() / 4 {
-        put_word(alloc, &mut lines, parts, number)?;
+        put_word(&mut lines, parts, number)?;
     }
     Ok(lines)
 }
