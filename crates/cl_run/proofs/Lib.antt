@@ -13,3 +13,5 @@ pub mod Alone
 pub mod Ends
 pub mod Left
 pub mod Merged
+pub mod Behind
+pub mod AheadSlots

@@ -35,7 +35,7 @@ use Rattle.cl_run.proofs.Joined.{goes_joined, links_stay}
 use Rattle.cl_run.proofs.Seats.{station_at}
 use Rattle.cl_run.proofs.UnderWay.{slot_passed, slot_stopped, slot_taken}
 
-stations_then : (old new : Driver) (r : ℕ) (seat : Seat) → new.seats.items ≡ slice_set old.seats.items r seat
+pub stations_then : (old new : Driver) (r : ℕ) (seat : Seat) → new.seats.items ≡ slice_set old.seats.items r seat
     → stations new ≡ slice_set (stations old) r (station seat)
 stations_then old new r seat e = ap (map station) e ∙ map-set station old.seats.items r seat
 
@@ -81,17 +81,14 @@ module _ (r : ℕ) (old new : Driver) where
         (slot_passed image plans order (stations old) slot old.hub (subst (IsStoppedAt (stations old)) (sym at) h.1) w)
     slot_goes true h w = one_goes h w
 
-  -- each rank stays joined
-  pub seats_joined : (seat later : Seat) → slice_get old.seats.items r ≡ Some seat
-      → GoesOn Answered seat.plan.now (station seat) old.hub (station later) new.hub
-      → AreChannelsOf (station later).rank.site.version old.channels.items (station later).sides
+  -- one seat is another, and each rank is joined
+  pub set_joined : (seat later : Seat) → slice_get old.seats.items r ≡ Some seat
+      → IsJoined old.hub.links old.channels.items r (station later) → new.hub.links ≡ old.hub.links
       → new.seats.items ≡ slice_set old.seats.items r later → new.channels.items ≡ old.channels.items
       → AreJoined old → AreJoined new
-  seats_joined seat later at_seat goes channels seats_are channels_stay j =
+  set_joined seat later at_seat later_joined links_are seats_are channels_stay j =
       let count : length new.seats.items ≡ length old.seats.items =
       ap (λ (xs : List Seat). length xs) seats_are ∙ length-set old.seats.items r later in
-      let links_are : new.hub.links ≡ old.hub.links =
-      links_stay seat.plan.now (station seat) (station later) old.hub new.hub goes in
       let there = station_at old.seats.items r seat at_seat in
       let then_is = stations_then old new r later seats_are in
       record {
@@ -111,15 +108,25 @@ module _ (r : ℕ) (old new : Driver) where
                   ∙ ap (λ ss. slice_get ss q) (sym then_is)
                   ∙ at) in
                   subst (λ k. IsJoined old.hub.links old.channels.items k x) same.1
-                  (subst (IsJoined old.hub.links old.channels.items r) later_is
-                  (goes_joined old.hub.links old.channels.items r seat.plan.now (station seat) (station later) old.hub new.hub
-                  (j.each r (station seat) there) channels goes))
+                  (subst (IsJoined old.hub.links old.channels.items r) later_is later_joined)
               | inr other ↦ j.each q x
                   (sym (get-set_other (stations old) r q (station later) other.1)
                   ∙ ap (λ ss. slice_get ss q) (sym then_is)
                   ∙ at)
             ]));
       }
+
+  -- so each rank stays joined
+  pub seats_joined : (seat later : Seat) → slice_get old.seats.items r ≡ Some seat
+      → GoesOn Answered seat.plan.now (station seat) old.hub (station later) new.hub
+      → AreChannelsOf (station later).rank.site.version old.channels.items (station later).sides
+      → new.seats.items ≡ slice_set old.seats.items r later → new.channels.items ≡ old.channels.items
+      → AreJoined old → AreJoined new
+  seats_joined seat later at_seat goes channels seats_are channels_stay j =
+      set_joined seat later at_seat
+      (goes_joined old.hub.links old.channels.items r seat.plan.now (station seat) (station later) old.hub new.hub
+      (j.each r (station seat) (station_at old.seats.items r seat at_seat)) channels goes)
+      (links_stay seat.plan.now (station seat) (station later) old.hub new.hub goes) seats_are channels_stay j
 
   -- and its seats stay as many
   pub slot_count : (moved : Bool) → SlotGoes r old new moved → length new.seats.items ≡ length old.seats.items
@@ -130,26 +137,33 @@ module _ (r : ℕ) (old new : Driver) where
   slot_joined false h j = subst AreJoined (sym h.0) j
   slot_joined true h j = seats_joined h.seat h.later h.there h.goes h.channels h.seats_are h.channels_stay j
 
+  -- one seat is another at the same plan
+  pub set_seated : (plans : List Plan) (seat later : Seat) → slice_get old.seats.items r ≡ Some seat
+      → later.plan.now ≡ seat.plan.now → new.seats.items ≡ slice_set old.seats.items r later → AreJoined new
+      → AreSeated plans old → AreSeated plans new
+  set_seated plans seat later there plan_stays seats_are joined a = record {
+    one_each = ap (λ (xs : List Seat). length xs) seats_are ∙ length-set old.seats.items r later ∙ a.one_each;
+    each = λ q p x at_plan at. elim (eqb_tells r q) [
+      | inl same ↦
+          let seat_is : later ≡ x = same_Some later x
+          (sym (get-set_same old.seats.items r seat later there)
+          ∙ ap (slice_get (slice_set old.seats.items r later)) same.1
+          ∙ ap (λ xs. slice_get xs q) (sym seats_are)
+          ∙ at) in
+          ap (λ (y : Seat). y.plan.now) (sym seat_is) ∙ plan_stays
+          ∙ a.each r p seat (ap (slice_get plans) same.1 ∙ at_plan) there
+      | inr other ↦ a.each q p x at_plan
+          (sym (get-set_other old.seats.items r q later other.1) ∙ ap (λ xs. slice_get xs q) (sym seats_are) ∙ at)
+    ];
+    joined = joined;
+  }
+
   -- each seat stays at its plan
   pub slot_seated : (plans : List Plan) (moved : Bool) → SlotGoes r old new moved
       → AreSeated plans old → AreSeated plans new
   slot_seated plans false h a = subst (AreSeated plans) (sym h.0) a
-  slot_seated plans true h a = record {
-    one_each = slot_count true h ∙ a.one_each;
-    each = λ q p seat at_plan at. elim (eqb_tells r q) [
-      | inl same ↦
-          let seat_is : h.later ≡ seat = same_Some h.later seat
-          (sym (get-set_same old.seats.items r h.seat h.later h.there)
-          ∙ ap (slice_get (slice_set old.seats.items r h.later)) same.1
-          ∙ ap (λ xs. slice_get xs q) (sym h.seats_are)
-          ∙ at) in
-          ap (λ (x : Seat). x.plan.now) (sym seat_is) ∙ h.plan_stays
-          ∙ a.each r p h.seat (ap (slice_get plans) same.1 ∙ at_plan) h.there
-      | inr other ↦ a.each q p seat at_plan
-          (sym (get-set_other old.seats.items r q h.later other.1) ∙ ap (λ xs. slice_get xs q) (sym h.seats_are) ∙ at)
-    ];
-    joined = slot_joined true h a.joined;
-  }
+  slot_seated plans true h a =
+      set_seated plans h.seat h.later h.there h.plan_stays h.seats_are (slot_joined true h a.joined) a
 
   -- a slot in which something was done leaves less
   less_of : (plan : Plan) (s t : Station) (before after : HubHistory) → s.stop ≡ None → GoesOn Answered plan s before t after

@@ -15,3 +15,4 @@ pub mod Cuts
 pub mod Driver
 pub mod UnderWay
 pub mod Going
+pub mod Ahead

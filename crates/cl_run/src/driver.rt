@@ -159,7 +159,7 @@ impl<'a> Driver<'a> {
 
     /// One slot of the order: a turn of this rank, unless it is stopped. Whether anything was done.
     #[inline(always)]
-    fn slot(&mut self, rank: u8) -> bool
+    pub(crate) fn slot(&mut self, rank: u8) -> bool
         requires there { rank < vec_len self.old.seats }
         requires joined { AreJoined self.old }
         ensures { SlotGoes rank self.old self.new result }
@@ -210,8 +210,8 @@ impl<'a> Driver<'a> {
         self.seats[0].run_plain(u64::MAX);
     }
 
-    /// Round by round, until each rank that the order names is stopped.
-    pub(crate) fn run(&mut self, order: &[u8])
+    /// Round by round, until each rank that the order names is stopped. A rank that is alone goes on by itself.
+    fn run_alone(&mut self, order: &[u8])
         requires joined { AreJoined self.old }
         requires there { All (λ r. r < vec_len self.old.seats) order.now }
         ensures goes { (image : ImageParts) (plans : List Plan) → AreSeated plans self.old
@@ -226,6 +226,24 @@ impl<'a> Driver<'a> {
             if !self.round(order, &mut ()) {
                 return;
             }
+        }
+    }
+
+    /// Round by round, until each rank that the order names is stopped.
+    pub(crate) fn run(&mut self, order: &[u8])
+        requires joined { AreJoined self.old }
+        requires there { All (λ r. r < vec_len self.old.seats) order.now }
+        ensures goes { (image : ImageParts) (plans : List Plan) → AreSeated plans self.old
+            → IsUnderWay image plans order.now (stations self.old) self.old.hub 0
+            → (slot : ℕ) × IsUnderWay image plans order.now (stations self.new) self.new.hub slot }
+        ensures done { (place : ℕ) → place < length order.now
+            → IsStoppedAt (stations self.new) (slice_index order.now place) }
+        ensures seated { (plans : List Plan) → AreSeated plans self.old → AreSeated plans self.new }
+    {
+        if order.len() == 1 && self.seats.len() == 1 {
+            self.run_alone(order);
+        } else {
+            self.run_all(order);
         }
     }
 

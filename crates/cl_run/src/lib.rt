@@ -2,6 +2,7 @@
 //! `cl_machine` with its laws.
 #![tactic(auto)]
 
+mod ahead;
 mod closing;
 mod driver;
 mod ended;

@@ -1,7 +1,7 @@
 use Rattle.std.proofs.Common.{ℕ, ◌≡◌, ◌∙◌, ◌+◌, ◌*◌, ◌<◌, refl, length, subst, sym, arith, All}
 use Rattle.cl_run.specs.Driver.{stations}
 use Rattle.cl_run.specs.UnderWay.{IsUnderWay}
-use Rattle.cl_run.proofs.driver.Driver.run.Goals as goal
+use Rattle.cl_run.proofs.driver.Driver.run_alone.Goals as goal
 
 pub go_on-requires-clause-there : goal.go_on-requires-clause-there
 go_on-requires-clause-there c =

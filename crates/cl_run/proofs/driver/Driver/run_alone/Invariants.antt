@@ -3,7 +3,7 @@ use Rattle.rv_image.specs.declared.images.ImageParts.{ImageParts}
 use Rattle.cl_record.specs.declared.plans.Plan.{Plan}
 use Rattle.cl_run.specs.Driver.{AreJoined, AreSeated, left, stations}
 use Rattle.cl_run.specs.UnderWay.{IsUnderWay}
-use Rattle.cl_run.proofs.driver.Driver.run.Given as goal
+use Rattle.cl_run.proofs.driver.Driver.run_alone.Given as goal
 
 abbrev pub invariant-loop : goal.invariant-loop
 invariant-loop l = record {
