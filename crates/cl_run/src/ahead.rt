@@ -7,7 +7,7 @@ ghost use Rattle.cl_record.specs.declared.plans.Plan.{Plan};
 ghost use Rattle.cl_record.specs.declared.seats.Seat.{Seat};
 ghost use Rattle.cl_run.specs.Ahead.{AreNamed, IsAheadOf, MayRunAhead, SlotGoesAhead, Spends, left_ahead};
 ghost use Rattle.cl_run.specs.Driver.{AreJoined, AreSeated, IsStoppedAt, stations};
-ghost use Rattle.cl_run.specs.UnderWay.{IsUnderWay};
+ghost use Rattle.cl_run.specs.Going.{RunsToEnd};
 
 use crate::driver::Driver;
 use crate::looks::has_running;
@@ -102,12 +102,7 @@ impl<'a> Driver<'a> {
     pub(crate) fn run_all(&mut self, order: &[u8])
         requires joined { AreJoined self.old }
         requires there { All (λ r. r < vec_len self.old.seats) order.now }
-        ensures goes { (image : ImageParts) (plans : List Plan) → AreSeated plans self.old
-            → IsUnderWay image plans order.now (stations self.old) self.old.hub 0
-            → (slot : ℕ) × IsUnderWay image plans order.now (stations self.new) self.new.hub slot }
-        ensures done { (place : ℕ) → place < length order.now
-            → IsStoppedAt (stations self.new) (slice_index order.now place) }
-        ensures seated { (plans : List Plan) → AreSeated plans self.old → AreSeated plans self.new }
+        ensures { RunsToEnd order.now self.old self.new }
     {
         let mut ahead = [0; RANKS];
         loop {

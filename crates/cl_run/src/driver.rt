@@ -15,7 +15,7 @@ ghost use Rattle.cl_record.specs.Seats.{GoesOn, Station, station};
 ghost use Rattle.cl_record.specs.declared.plans.Plan.{Plan};
 ghost use Rattle.cl_run.specs.Driver.{Agree, AreJoined, AreSeated, HaveKeys, IsDriver, IsLeftBy, IsStoppedAt};
 ghost use Rattle.cl_run.specs.Driver.{KeysAgree, SlotGoes, left, stations};
-ghost use Rattle.cl_run.specs.Going.{GoesRounds};
+ghost use Rattle.cl_run.specs.Going.{GoesRounds, RunsToEnd};
 ghost use Rattle.cl_run.specs.UnderWay.{IsUnderWay};
 
 use crate::closing::close;
@@ -214,12 +214,7 @@ impl<'a> Driver<'a> {
     fn run_alone(&mut self, order: &[u8])
         requires joined { AreJoined self.old }
         requires there { All (λ r. r < vec_len self.old.seats) order.now }
-        ensures goes { (image : ImageParts) (plans : List Plan) → AreSeated plans self.old
-            → IsUnderWay image plans order.now (stations self.old) self.old.hub 0
-            → (slot : ℕ) × IsUnderWay image plans order.now (stations self.new) self.new.hub slot }
-        ensures done { (place : ℕ) → place < length order.now
-            → IsStoppedAt (stations self.new) (slice_index order.now place) }
-        ensures seated { (plans : List Plan) → AreSeated plans self.old → AreSeated plans self.new }
+        ensures { RunsToEnd order.now self.old self.new }
     {
         loop {
             self.go_on(order);

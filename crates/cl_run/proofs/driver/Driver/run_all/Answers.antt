@@ -26,19 +26,25 @@ loop-ahead-init c = record {
   named = λ r before. absurd (omega (arith, before, zeros 8 r));
 }
 
-pub returns-then-not-round_ahead-clause-goes : goal.returns-then-not-round_ahead-clause-goes
-returns-then-not-round_ahead-clause-goes c = λ image plans seated start.
+pub returns-then-not-round_ahead : goal.returns-then-not-round_ahead
+returns-then-not-round_ahead c =
     let kept = c.loop-ahead.invariant in
     let order = c.args.order.now in
     let goes = c.round_ahead.ensures in
-    let far = kept.goes image plans seated start in
-    let slot = (far.0 + 1) * length order in (
-      slot,
-      all_at_slots image plans order c.round_ahead.new.ahead c.round_ahead.new.self slot
-          (goes.seated plans (kept.seated plans seated))
-          (nobody_named order c.round_ahead.new.ahead (goes.named kept.named) (goes.at_slots c.if-not-round_ahead.true))
-          (goes.goes image plans far.0 (kept.seated plans seated) far.1),
-    )
+    record {
+      goes = λ image plans seated start.
+          let far = kept.goes image plans seated start in
+          let slot = (far.0 + 1) * length order in (
+            slot,
+            all_at_slots image plans order c.round_ahead.new.ahead c.round_ahead.new.self slot
+                (goes.seated plans (kept.seated plans seated))
+                (nobody_named order c.round_ahead.new.ahead (goes.named kept.named)
+                (goes.at_slots c.if-not-round_ahead.true))
+                (goes.goes image plans far.0 (kept.seated plans seated) far.1),
+          );
+      done = goes.done c.if-not-round_ahead.true;
+      seated = λ plans seated. goes.seated plans (kept.seated plans seated);
+    }
 
 pub loop-ahead-preserved : goal.loop-ahead-preserved
 loop-ahead-preserved c =

@@ -11,18 +11,19 @@ pub round-requires-clause-there : goal.round-requires-clause-there
 round-requires-clause-there c =
     subst (λ n. All (λ r. r < n) c.args.order.now) (sym (c.go_on.ensures.count ∙ c.loop.invariant.count)) c.requires.there
 
-pub returns-then-not-round-clause-goes : goal.returns-then-not-round-clause-goes
-returns-then-not-round-clause-goes c = λ image plans seated start.
+pub returns-then-not-round : goal.returns-then-not-round
+returns-then-not-round c =
     let kept = c.loop.invariant in
-    let far = kept.goes image plans seated start in
-    let on = c.go_on.ensures.goes image plans far.0 (kept.seated plans seated) far.1 in (
-      (on.0 + 1) * length c.args.order.now,
-      c.round.ensures.goes image plans on.0 (c.go_on.ensures.seated plans (kept.seated plans seated)) on.1,
-    )
-
-pub returns-then-not-round-clause-seated : goal.returns-then-not-round-clause-seated
-returns-then-not-round-clause-seated c = λ plans seated.
-    c.round.ensures.seated plans (c.go_on.ensures.seated plans (c.loop.invariant.seated plans seated))
+    record {
+      goes = λ image plans seated start.
+          let far = kept.goes image plans seated start in
+          let on = c.go_on.ensures.goes image plans far.0 (kept.seated plans seated) far.1 in (
+            (on.0 + 1) * length c.args.order.now,
+            c.round.ensures.goes image plans on.0 (c.go_on.ensures.seated plans (kept.seated plans seated)) on.1,
+          );
+      done = c.round.ensures.done c.if-not-round.true;
+      seated = λ plans seated. c.round.ensures.seated plans (c.go_on.ensures.seated plans (kept.seated plans seated));
+    }
 
 pub loop-preserved : goal.loop-preserved
 loop-preserved c =
