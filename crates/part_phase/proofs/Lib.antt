@@ -5,3 +5,4 @@ pub mod Arrivals
 pub mod Ends
 pub mod Sides
 pub mod SideLaws
+pub mod SameMarks

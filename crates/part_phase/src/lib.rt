@@ -11,6 +11,7 @@ mod limits;
 mod marks;
 mod phases;
 mod receiving;
+mod same;
 mod sending;
 mod side_laws;
 mod worked;

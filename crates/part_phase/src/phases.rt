@@ -1,6 +1,6 @@
 //! All of a rank's phases.
 
-ghost use Rattle.std.specs.Prelude.{◌≡◌, ◌≤◌, [], length, slice_get, set, get_or, IfOk, IsOk, IsTrue, not};
+ghost use Rattle.std.specs.Prelude.{◌≡◌, ◌≤◌, ◌↔◌, [], length, slice_get, set, get_or, IfOk, IsOk, IsTrue, not};
 ghost use Rattle.part_phase.specs.Phases.{IsPhase, begun, changed_at, first_phase, first_phases};
 ghost use Rattle.part_phase.specs.Phases.{is_unshaped_receiving, is_unshaped_sending, on_receiving, on_sending};
 ghost use Rattle.part_phase.specs.Phases.{receiving_at, sending_at};
@@ -8,6 +8,7 @@ ghost use Rattle.part_phase.specs.Receiving.{IsRecvPhase, cut_into, one_taken, s
 ghost use Rattle.part_phase.specs.Sending.{IsSendPhase, all_freed, one_freed, readied, shaped_sending};
 
 use crate::receiving::RecvPhase;
+use crate::same::are_same;
 use crate::sending::SendPhase;
 use rv_image::{Link, Links};
 use std::alloc::{AllocError, Global};
@@ -113,6 +114,13 @@ impl Phases {
         let mut list = Vec::with_capacity(alloc, self.list.len())?;
         list.extend_from_slice(self.list.as_slice())?;
         Ok(Phases { list })
+    }
+
+    /// Whether both have the same side of each link, just as far.
+    pub fn is_same(&self, other: &Phases) -> bool
+        ensures { IsTrue result ↔ (self.now ≡ other.now) }
+    {
+        are_same(self.list.as_slice(), other.list.as_slice())
     }
 
     /// The sender's side of a link. Where the rank hasn't it, one without a shape.
