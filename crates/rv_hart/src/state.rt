@@ -1,4 +1,6 @@
 //! A hart: its registers, its pc and its mode.
+ghost use Rattle.std.specs.Prelude.{◌≡◌, ◌↔◌, IsTrue};
+
 use rv_decode::Reg;
 use rv_memory::Cause;
 use std::marker::Model;
@@ -59,8 +61,15 @@ impl Model for Hart {
     ghost invariant = { λ h. slice_index h.regs 0 ≡ 0 };
 }
 
+#[tactic(auto, using(crate::proofs::SameRegisters::same_registers))]
+fn are_same_registers(registers: &[u64; 32], others: &[u64; 32]) -> bool
+    ensures { IsTrue result ↔ (registers.now ≡ others.now) }
+{
+    registers == others
+}
+
 impl Hart {
-    ghost use Rattle.std.specs.Prelude.{◌≡◌, ◌*◌, ◌≤◌};
+    ghost use Rattle.std.specs.Prelude.{◌≡◌, ◌*◌, ◌≤◌, ◌↔◌, IsTrue};
     ghost use Rattle.rv_hart.specs.State.{read, write, at_pc, in_mode, start_state};
 
     /// A hart as its rank is loaded: Running at the program's entry, all registers 0 but x2 = memory size - 4,096 times
@@ -122,6 +131,13 @@ impl Hart {
         ensures { self.new ≡ at_pc self.old pc }
     {
         self.pc = pc;
+    }
+
+    /// Whether both are at the same instruction with the same in all registers, whatever their modes.
+    pub fn is_same_but_mode(&self, other: &Hart) -> bool
+        ensures { IsTrue result ↔ ((self.now.pc ≡ other.now.pc) × (self.now.regs ≡ other.now.regs)) }
+    {
+        self.pc == other.pc && are_same_registers(&self.regs, &other.regs)
     }
 
     /// Changes to another mode.
