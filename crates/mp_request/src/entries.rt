@@ -1,12 +1,12 @@
 //! What the table holds of a request. Ranks are ranks of the cluster, and every range was found right when the request
 //! was made.
 
-ghost use Rattle.std.specs.Prelude.{◌≡◌};
+ghost use Rattle.std.specs.Prelude.{◌≡◌, ◌↔◌, IsTrue};
 ghost use Rattle.mp_request.specs.Entries as entry;
 ghost use Rattle.mp_request.specs.Awaited as awaited;
 
 /// What a request moves, with the arguments of the call that made it.
-#[derive(Clone, Copy, Drop)]
+#[derive(Clone, Copy, PartialEq, Eq, Drop)]
 pub enum Transfer {
     /// A send to the null process, which moves nothing (MPI 4.1, chapter 3.11).
     SendToNull,
@@ -44,7 +44,7 @@ pub enum Transfer {
 }
 
 /// One side of a partitioned transfer (MPI 4.1, chapter 4.2).
-#[derive(Clone, Copy, Drop)]
+#[derive(Clone, Copy, PartialEq, Eq, Drop)]
 pub struct Partitions {
     /// The number of the link that the hub reserved.
     pub link: u8,
@@ -100,6 +100,13 @@ impl Transfer {
             Transfer::SendPartitions(_) | Transfer::ReceivePartitions(_)
         )
     }
+}
+
+/// Whether both move the same, with the same arguments of the calls that made them.
+pub fn is_same_transfer(a: &Transfer, b: &Transfer) -> bool
+    ensures { IsTrue result ↔ (a.now ≡ b.now) }
+{
+    a == b
 }
 
 impl State {

@@ -12,7 +12,7 @@ mod table;
 mod worked;
 
 pub use call_laws::{nothing_law, start_law, states_law, test_law};
-pub use entries::{OpenRequest, Partitions, Progress, State, Transfer};
+pub use entries::{OpenRequest, Partitions, Progress, State, Transfer, is_same_transfer};
 pub use laws::{completion_law, map_law};
 pub use refusals::Refusal;
 pub use table::{HANDLES, Requests};

@@ -179,8 +179,8 @@ impl Requests {
         Ok(handles.iter().all(|handle| self.is_done(*handle)))
     }
 
-    // What each handle names, from handle 1 on.
-    fn slots(&self) -> &[Option<OpenRequest>]
+    /// What each of the 255 handles names, from handle 1 on.
+    pub fn slots(&self) -> &[Option<OpenRequest>]
         ensures value { result.now ≡ self.now }
         ensures length { length self.now ≡ 255 }
     {
