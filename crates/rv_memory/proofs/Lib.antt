@@ -3,5 +3,6 @@ pub mod Values
 pub mod Marked
 pub mod Paged
 pub mod Shown
+pub mod Same
 pub mod Fetches
 mod Touched

@@ -1,5 +1,5 @@
 //! Kept copies of a memory, which share the pages in which they are alike.
-ghost use Rattle.std.specs.Prelude.{◌≡◌, IfOk, IsTrue};
+ghost use Rattle.std.specs.Prelude.{◌≡◌, ◌↔◌, IfOk, IsTrue};
 
 use crate::memory::RankMemory;
 use crate::page::Page;
@@ -44,7 +44,7 @@ impl KeptPage {
 
     /// Whether it has the bytes of a page.
     fn is_of(&self, page: &Page) -> bool
-        ensures { IsTrue result → self.now ≡ page.now }
+        ensures { IsTrue result ↔ (self.now ≡ page.now) }
     {
         self.page.bytes() == page.bytes()
     }
@@ -112,6 +112,36 @@ fn live_pages(kept: &[Option<KeptPage>], alloc: Global) -> Result<Vec<Option<Pag
     Ok(pages)
 }
 
+/// Whether a page is there exactly if one is kept, with the same bytes.
+fn is_same_page(kept: &Option<KeptPage>, page: &Option<Page>) -> bool
+    ensures { IsTrue result ↔ (kept.now ≡ page.now) }
+{
+    match (kept, page) {
+        (None, None) => true,
+        (Some(kept), Some(page)) => kept.is_of(page),
+        _ => false,
+    }
+}
+
+/// Whether all pages are as they were kept.
+fn are_same_pages(kept: &[Option<KeptPage>], pages: &[Option<Page>]) -> bool
+    ensures { IsTrue result ↔ (kept.now ≡ pages.now) }
+{
+    let mut left = kept;
+    let mut right = pages;
+    while let Some((one, after)) = left.split_first() {
+        let Some((page, beyond)) = right.split_first() else {
+            return false;
+        };
+        if !is_same_page(one, page) {
+            return false;
+        }
+        left = after;
+        right = beyond;
+    }
+    right.is_empty()
+}
+
 /// A memory that is kept as it was at one time. It is never written; pages in which it is like another kept memory
 /// stand once for both.
 #[derive(Drop)]
@@ -148,6 +178,20 @@ impl KeptMemory {
             text: self.text.share()?,
             pages: live_pages(self.pages.as_slice(), alloc)?,
         })
+    }
+
+    /// Whether a memory has the same bytes, the same text and the same pages. It takes no memory.
+    pub fn is_of(&self, memory: &RankMemory) -> bool
+        ensures { IsTrue result ↔ (self.now ≡ memory.now) }
+    {
+        if !self.text.is_same(&memory.text) {
+            return false;
+        }
+        // pages that the text fills show it, whether they are held or not
+        let full = self.text.len() / 4096;
+        let (_, kept) = self.pages.as_slice().split_at(full);
+        let (_, pages) = memory.pages.as_slice().split_at(full);
+        are_same_pages(kept, pages)
     }
 }
 

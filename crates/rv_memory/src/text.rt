@@ -1,5 +1,5 @@
 //! A program's text in one piece.
-ghost use Rattle.std.specs.Prelude.{◌≡◌, ◌+◌, if◌then◌else◌, length, nat_le, IfOk, IfSome, None, Some};
+ghost use Rattle.std.specs.Prelude.{◌≡◌, ◌+◌, ◌↔◌, if◌then◌else◌, length, nat_le, IfOk, IfSome, IsTrue, None, Some};
 ghost use Rattle.std.specs.Arc.{arc_slice_items};
 ghost use Rattle.rv_memory.specs.Readings.{AreReadings, IsReading};
 ghost use Rattle.rv_memory.specs.Memory.{value_at};
@@ -73,7 +73,7 @@ impl Text {
     pub(crate) fn decode_as(&mut self, other: &Text) -> Result<(), AllocError>
         ensures { self.new ≡ self.old }
     {
-        if self.bytes.as_slice() == other.bytes.as_slice() {
+        if self.is_same(other) {
             self.readings = other.readings.clone()?;
         }
         Ok(())
@@ -88,6 +88,13 @@ impl Text {
             fetchable: self.fetchable,
             readings: self.readings.clone()?,
         })
+    }
+
+    /// Whether another text has the same bytes.
+    pub(crate) fn is_same(&self, other: &Text) -> bool
+        ensures { IsTrue result ↔ (self.now ≡ other.now) }
+    {
+        self.bytes.as_slice() == other.bytes.as_slice()
     }
 
     /// The bytes.
