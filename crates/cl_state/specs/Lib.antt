@@ -1,4 +1,5 @@
 pub mod Rank
+pub mod Same
 pub mod Transfers
 pub mod Pending
 pub mod Blocking

@@ -1,6 +1,6 @@
 //! A rank that is kept as it was at one time.
 
-ghost use Rattle.std.specs.Prelude.{◌≡◌, IfOk};
+ghost use Rattle.std.specs.Prelude.{◌≡◌, ◌↔◌, IfOk, IsTrue};
 
 use crate::state::{RankParts, RankState};
 use cl_calls::Site;
@@ -43,6 +43,7 @@ impl Model for KeptRank {
 
 impl KeptRank {
     ghost use Rattle.cl_state.specs.Room.{rank_of};
+    ghost use Rattle.cl_state.specs.Same.{IsSameBeside};
 
     /// The same rank in memory of its own, that goes on from here: this one stays as it is. The only error is want of
     /// memory.
@@ -60,6 +61,29 @@ impl KeptRank {
         rank.out = Vec::from_slice(alloc, self.out.as_slice())?;
         rank.clock = self.clock;
         Ok(rank)
+    }
+
+    /// The harts, in order of their numbers.
+    pub fn harts(&self) -> &[Hart]
+        ensures { result.now ≡ self.now.harts }
+    {
+        self.harts.as_slice()
+    }
+
+    /// The requests.
+    pub fn requests(&self) -> &Requests
+        ensures { result.now ≡ self.now.requests }
+    {
+        &self.requests
+    }
+
+    /// Whether a rank has the same memory, the same phases and the same output. It takes no memory.
+    pub fn is_same_beside(&self, rank: &RankState) -> bool
+        ensures { IsTrue result ↔ IsSameBeside self.now (rank_of rank.now) }
+    {
+        self.phases.is_same(&rank.phases)
+            && self.out.as_slice() == rank.out.as_slice()
+            && self.memory.is_of(&rank.memory)
     }
 }
 
