@@ -69,6 +69,20 @@ impl KeptCluster {
             boxes: Vec::from_slice(alloc, self.boxes.as_slice())?,
         })
     }
+
+    /// The ranks, in order of their numbers.
+    pub fn ranks(&self) -> &[KeptRank]
+        ensures { result.now ≡ self.now.ranks }
+    {
+        self.ranks.as_slice()
+    }
+
+    /// The boxes, sixteen a link.
+    pub fn boxes(&self) -> &[[Settled; 16]]
+        ensures { result.now ≡ self.now.boxes }
+    {
+        self.boxes.as_slice()
+    }
 }
 
 impl ClusterState {
