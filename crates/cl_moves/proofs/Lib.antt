@@ -1,4 +1,5 @@
 pub mod Asking
+pub mod Following
 pub mod Ways
 pub mod Going
 pub mod Resting

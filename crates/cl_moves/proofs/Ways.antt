@@ -1,5 +1,5 @@
 -- One turn more on the way to a node.
-use Rattle.std.specs.Prelude.{ℕ, zero, suc, replicate, ◌+◌, ◌≡◌, ◌<◌, ◌≤◌, ◌==◌, List, [], ◌∷◌, ◌++◌, length, slice_get, slice_set, Some}
+use Rattle.std.specs.Prelude.{ℕ, zero, suc, replicate, ◌+◌, ◌≡◌, ◌<◌, ◌≤◌, ◌==◌, List, [], ◌∷◌, ◌++◌, length, slice_get, slice_set, Option, Some}
 use Rattle.std.proofs.Common.{refl, sym, ap, ◌∙◌, subst, arith, inl, inr}
 use Rattle.std.proofs.lemmas.Bool.{cases_eq, eq-eqb, ne_eqb, cond-true, cond-false}
 use Rattle.std.proofs.lemmas.List.{length-append, length-map, length-replicate, length-set}
@@ -17,6 +17,10 @@ use Rattle.cl_state.specs.Room.{rank_of}
 use Rattle.rv_image.specs.Image.{IsImage}
 use Rattle.cl_replay.specs.States.{ClusterStandsFor}
 use Rattle.cl_replay.specs.Steps.{Leads, LeadsNowhere}
+use Rattle.mp_types.specs.declared.requests.Request.{Request}
+use Rattle.mp_hub.specs.Hub.{hub_at_start}
+use Rattle.cl_moves.specs.Whole.{Follows, IsAskedBy}
+use Rattle.cl_moves.proofs.Following.{whole_follows}
 use Rattle.cl_moves.specs.Standing.{HasNoTurn, HaveHad, IsStart, IsWay, Took, node_of}
 use Rattle.cl_moves.specs.declared.standing.Standing.{Standing}
 
@@ -78,15 +82,17 @@ step_many old new e step = case_many old e step.0 e.kind new step.4
 
 -- ---- a standing
 
-pub took : (old new : Standing) (e : Step) (n : ℕ) → slice_get old.had.items e.rank ≡ Some n
-    → Leads old.cluster e new.cluster → new.had.items ≡ slice_set old.had.items e.rank (n + 1)
-    → new.steps.items ≡ old.steps.items ++ e ∷ [] → Took old e new
-took old new e n there leads had steps = λ image plans start here stands way hart.
+pub took : (old new : Standing) (e : Step) (n : ℕ) (q : Option Request) → slice_get old.had.items e.rank ≡ Some n
+    → Leads old.cluster e new.cluster → IsAskedBy old.cluster e q → Follows old.whole e.rank q new.whole
+    → new.had.items ≡ slice_set old.had.items e.rank (n + 1) → new.steps.items ≡ old.steps.items ++ e ∷ [] → Took old e new
+took old new e n q there leads asks follows had steps = λ image plans start here stands way hart.
     let led = leads image here.cluster stands.stands in (
       led.0,
       led.1,
       record {
         stands = led.2;
+        whole = whole_follows image old.cluster here.cluster led.0 e q old.whole new.whole stands.stands led.1 asks follows
+            stands.whole;
         had = subst (λ counts. HaveHad counts (one_more here.had e.rank)) (sym had)
             (had_more old.had.items here.had e.rank n stands.had there);
         each = ap length had ∙ length-set old.had.items e.rank (n + 1) ∙ stands.each
@@ -118,10 +124,10 @@ below_many zero = refl
 below_many (suc n) = length-append (below n) (n ∷ []) ∙ (let same = below_many n in omega (arith, same))
 
 pub starts : (image : ImageParts) (standing : Standing) → IsImage image
-    → ClusterStandsFor image standing.cluster (loaded_cluster image)
+    → ClusterStandsFor image standing.cluster (loaded_cluster image) → standing.whole ≡ hub_at_start image.links
     → standing.had.items ≡ replicate (length standing.cluster.ranks.items) 0 → standing.steps.items ≡ []
     → IsStart image standing
-starts image standing right stands had none =
+starts image standing right stands whole had none =
     let ranks : length (loaded_cluster image).ranks ≡ length standing.cluster.ranks.items =
     ap (λ (rs : List Rank). length rs) stands.ranks_are ∙ length-map standing.cluster.ranks.items rank_of in
     let many : length (loaded_cluster image).ranks ≡ image.ranks =
@@ -129,6 +135,7 @@ starts image standing right stands had none =
     record {
       stands = record {
         stands = stands;
+        whole = whole;
         had = λ r n at. zeros (length standing.cluster.ranks.items) r n
             (subst (λ xs. slice_get xs r ≡ Some n) had at);
         each = ap length had ∙ length-replicate (length standing.cluster.ranks.items) 0 ∙ sym ranks;

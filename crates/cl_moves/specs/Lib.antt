@@ -2,3 +2,4 @@ pub mod Moves
 pub mod Standing
 pub mod Ahead
 pub mod Ends
+pub mod Whole

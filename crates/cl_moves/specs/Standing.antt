@@ -5,6 +5,7 @@ use Rattle.cl_record.specs.Plans.{in_slot}
 use Rattle.cl_machine.specs.Cluster.{Cluster, IsRun, IsStep, loaded_cluster}
 use Rattle.cl_machine.specs.declared.steps.Step.{Step}
 use Rattle.cl_replay.specs.States.{ClusterStandsFor}
+use Rattle.cl_order_laws.specs.Alike.{hub_of}
 use Rattle.cl_order_laws.specs.Closed.{FollowPlans, Node, Plans, Turns, had_after, none_had, one_more}
 use Rattle.cl_moves.specs.declared.standing.Standing.{Standing}
 
@@ -19,9 +20,10 @@ node_of cluster had = record { cluster = cluster; had = had }
 abbrev pub HaveHad : List ℕ → Turns → Type 0
 HaveHad counts had = (r n : ℕ) → slice_get counts r ≡ Some n → had r ≡ n
 
--- the state is the node's cluster, and each rank has had as many turns
+-- the state is the node's cluster, the hub that forgets nothing is its hub, and each rank has had as many turns
 pub record StandsAt (image : ImageParts) (standing : Standing) (node : Node) : Type 0 where
   pub stands : ClusterStandsFor image standing.cluster node.cluster
+  pub whole : standing.whole ≡ hub_of node.cluster.journal
   pub had : HaveHad standing.had.items node.had
   pub each : length standing.had.items ≡ length node.cluster.ranks
   pub few : length node.cluster.ranks < 256

@@ -3,14 +3,17 @@
 ghost use Rattle.std.specs.Prelude.{◌≡◌, ◌<◌, IfOk, OnOk, length, replicate};
 ghost use Rattle.cl_moves.specs.Ahead.{GoesAhead, IsAloneIfSome, IsAloneNext};
 ghost use Rattle.cl_moves.specs.Standing.{IsNextHart, IsStart, Takes};
+ghost use Rattle.cl_moves.specs.Whole.{Follows, IsAskedBy, requested};
 
 use crate::ends::is_done;
 use crate::faults::MoveFault;
 use cl_journal::CLOCK_MAX;
-use cl_machine::Step;
+use cl_machine::{KindRef, Step};
 use cl_replay::{ClusterState, StepFault};
 use cl_state::Ask;
 use cl_trace::Bare;
+use mp_alike::WholeHub;
+use mp_types::Request;
 use rv_image::Image;
 use std::alloc::{AllocError, Global};
 
@@ -19,6 +22,8 @@ use std::alloc::{AllocError, Global};
 #[derive(Drop)]
 pub struct Standing {
     pub cluster: ClusterState,
+    /// The cluster's hub with each post ever made, by which likeness is told: the other hub forgets those that are over.
+    pub whole: WholeHub,
     pub had: Vec<u64>,
     pub steps: Vec<Step>,
 }
@@ -34,6 +39,30 @@ fn alone_kind(ask: &Ask) -> Option<Bare>
         Ask::Idle => Some(Bare::Idle),
         _ => None,
     }
+}
+
+/// What the hub is called for, if it is called.
+fn request_of(ask: Ask) -> Option<Request>
+    ensures { result ≡ requested ask }
+{
+    match ask {
+        Ask::Hub(request) => Some(request),
+        _ => None,
+    }
+}
+
+/// A hub has answered what it was called for, if it was called.
+fn follow(
+    whole: &mut WholeHub,
+    rank: u8,
+    request: Option<Request>,
+) -> Result<(), AllocError>
+    ensures { OnOk result (Follows whole.old rank request whole.new) }
+{
+    if let Some(request) = request {
+        whole.answer(rank, &request)?;
+    }
+    Ok(())
 }
 
 /// So many counts of no turns.
@@ -58,9 +87,28 @@ impl Standing {
         let had = none_had(alloc, cluster.ranks.len())?;
         Ok(Standing {
             cluster,
+            whole: WholeHub::new(alloc, image)?,
             had,
             steps: Vec::new(alloc),
         })
+    }
+
+    /// What the hub is asked by a turn that calls it, if this one does.
+    fn asked_by(&self, turn: &Step) -> Result<Option<Request>, AllocError>
+        ensures { IfOk result (IsAskedBy self.now.cluster turn.now) }
+    {
+        let rank = usize::from(turn.rank());
+        let KindRef::Hub(_) = turn.kind() else {
+            return Ok(None);
+        };
+        if rank >= self.cluster.ranks.len() {
+            return Ok(None);
+        }
+        let own = &self.cluster.ranks[rank];
+        if usize::from(turn.hart()) >= own.harts.len() {
+            return Ok(None);
+        }
+        Ok(request_of(own.ask(turn.hart())?))
     }
 
     /// Takes a turn, and notes it. False where the machine has no such turn, and then the standing may be anything.
@@ -77,11 +125,13 @@ impl Standing {
         if had == u64::MAX {
             return Err(MoveFault::Clock);
         }
+        let request = self.asked_by(&turn)?;
         match self.cluster.step(&turn) {
             Ok(()) => {}
             Err(StepFault::NotAStep) => return Ok(false),
             Err(StepFault::Memory) => return Err(MoveFault::Memory),
         }
+        follow(&mut self.whole, turn.rank(), request)?;
         self.had[rank] = had + 1;
         self.steps.push(turn)?;
         Ok(true)

@@ -1,5 +1,6 @@
 use Rattle.std.proofs.Common.{◌≡◌, ◌+◌, Some, ap, arith, slice_get, slice_set, subst, ◌∙◌}
 use Rattle.std.proofs.lemmas.Option.{slice_get_read}
+use Rattle.cl_moves.specs.Whole.{Follows}
 use Rattle.cl_moves.proofs.Ways.{no_such_rank, no_turn, took}
 use Rattle.cl_moves.proofs.standing.Standing.take.Goals as goal
 
@@ -18,7 +19,10 @@ returns c =
     let had = c.args.self.now.had in
     let here = slice_get_read had.items c.len.result c.from-rank.result c.index-had.result.now
     (c.len.ensures ∙ had.ok.0) c.if-rank-len.false c.index-had.ensures in
-    took c.args.self.now _ c.args.turn c.index-had.result.now
+    took c.args.self.now _ c.args.turn c.index-had.result.now c.in_ok-request.request
     (subst (λ r. slice_get had.items r ≡ Some c.index-had.result.now) (c.from-rank.ensures ∙ c.rank.ensures) here)
-    c.in-Ok.ensures.leads (ap (λ r. slice_set had.items r (c.index-had.result.now + 1)) (c.from-rank.ensures ∙ c.rank.ensures))
+    c.in-Ok.ensures.leads c.in_ok-request.ensures 
+    (subst (λ r. Follows c.args.self.now.whole r c.in_ok-request.request c.follow.new.whole) c.rank-2.ensures
+    c.in_ok-follow.ensures)
+    (ap (λ r. slice_set had.items r (c.index-had.result.now + 1)) (c.from-rank.ensures ∙ c.rank.ensures))
     c.in_ok-push.ensures.items
