@@ -1,6 +1,6 @@
 -- What nodes cover, and lists of them that grow.
-use Rattle.std.specs.Prelude.{ℕ, ◌+◌, ◌%◌, ◌<◌, ◌≡◌, ◌⊎◌, List, [], ◌∷◌, ◌++◌, length, slice_get, slice_index, Some}
-use Rattle.std.proofs.Common.{refl, sym, ap, ◌∙◌, subst, arith, inl, inr}
+use Rattle.std.specs.Prelude.{ℕ, ◌+◌, ◌%◌, ◌<◌, ◌≡◌, List, [], ◌∷◌, ◌++◌, length, slice_get, slice_index, Some}
+use Rattle.std.proofs.Common.{refl, sym, ap, ◌∙◌, subst, inl, inr}
 use Rattle.std.proofs.Math.Nat.{mod-add-mod}
 use Rattle.std.proofs.lemmas.Option.{same_Some, slice_get_within}
 use Rattle.std.proofs.lemmas.List.{length-append}
@@ -8,24 +8,22 @@ use Rattle.rv_image.specs.declared.images.ImageParts.{ImageParts}
 use Rattle.mp_alike_laws.specs.Alike.{AlikeHubs}
 use Rattle.mp_alike_laws.specs.Renaming.{no_renaming}
 use Rattle.cl_record.specs.Plans.{in_slot}
-use Rattle.cl_state.specs.Rank.{Rank}
 use Rattle.cl_machine.specs.Boxes.{Box}
-use Rattle.cl_machine.specs.Cluster.{Cluster}
 use Rattle.cl_machine.specs.Journal.{Journal}
 use Rattle.cl_machine.specs.declared.steps.Step.{Step}
-use Rattle.cl_order_laws.specs.Alike.{AlikeBoxes, AlikeClusters, AreEach, Leads, hub_of}
-use Rattle.cl_order_laws.specs.Closed.{IsCovered, IsDone, IsSamePlace, Node, Plans, one_more}
+use Rattle.cl_order_laws.specs.Alike.{AlikeBoxes, AreEach, hub_of}
+use Rattle.cl_order_laws.specs.Closed.{IsCovered, IsSamePlace, Node, Plans, one_more}
 use Rattle.cl_order_laws.specs.Laws.{AreAlike, IsReached}
 use Rattle.cl_order_laws.proofs.Likeness.{itself}
 use Rattle.cl_moves.specs.Ahead.{WentAhead}
-use Rattle.cl_moves.specs.Standing.{HaveHad, StandsAt, by_order, node_of}
+use Rattle.cl_moves.specs.Standing.{IsWay, StandsAt, by_order, node_of}
 use Rattle.cl_moves.specs.declared.standing.Standing.{Standing}
-use Rattle.cl_explore.specs.Kept.{AreSamePlaces, IsFound, IsKeptOf, KeptStandsAt}
-use Rattle.cl_explore.specs.Covering.{AreAlikeNodes, AreNodes, Grows, IsAlikeOneOf, IsClosedAt, IsCoveredTurn}
-use Rattle.cl_explore.specs.Searching.{Arrives, HasFound, IsFoundIn, Keeps}
+use Rattle.cl_explore.specs.Kept.{AreSamePlaces, IsBefore, IsKeptOf, IsLed, KeptStandsAt}
+use Rattle.cl_explore.specs.Covering.{AreAlikeNodes, AreNodes, Grows, IsClosedAt, IsCoveredTurn}
+use Rattle.cl_explore.specs.Searching.{Arrives, HasFound}
 use Rattle.cl_explore.specs.declared.kept.KeptNode.{KeptNode}
 use Rattle.cl_explore.proofs.Lists.{at_inside, at_last, stays_at, was_or_new}
-use Rattle.cl_explore.proofs.Keeping.{found_reached, kept_stands}
+use Rattle.cl_explore.proofs.Keeping.{found_reached, kept_stands, led_more, node_found, start_found}
 
 -- ---- one that is alike a node, once its ranks went ahead
 
@@ -96,20 +94,29 @@ closed_more order nodes more node r grows closed = λ rank at. elim (closed rank
 ]
 
 pub are_more : (image : ImageParts) (order : List ℕ) (kept : List KeptNode) (nodes : List Node) (k : KeptNode) (node : Node)
-    → AreNodes image order kept nodes → KeptStandsAt image k node → IsFound image order node
+    → AreNodes image order kept nodes → KeptStandsAt image k node → IsLed image order nodes (length nodes) k node
     → AreNodes image order (kept ++ k ∷ []) (nodes ++ node ∷ [])
-are_more image order kept nodes k node are stands found = record {
-  many = length-append nodes (node ∷ []) ∙ (ap (λ n. n + 1) are.many ∙ sym (length-append kept (k ∷ [])));
-  each = λ i x at. elim (was_or_new kept k i x at) [
-    | inl was ↦ let v = are.each i x was in (v.0, stays_at nodes node i v.0 v.1, v.2, v.3)
-    | inr new ↦ (
-      node,
-      subst (λ j. slice_get (nodes ++ node ∷ []) j ≡ Some node) (are.many ∙ sym new.0) (at_last nodes node),
-      subst (λ y. KeptStandsAt image y node) (same_Some k x new.1) stands,
-      found,
-    )
-  ];
-}
+are_more image order kept nodes k node are stands led =
+    let grows : (i : ℕ) (x : Node) → slice_get nodes i ≡ Some x → slice_get (nodes ++ node ∷ []) i ≡ Some x =
+    λ i x at. stays_at nodes node i x at in
+    record {
+      many = length-append nodes (node ∷ []) ∙ (ap (λ n. n + 1) are.many ∙ sym (length-append kept (k ∷ [])));
+      each = λ i x at. elim (was_or_new kept k i x at) [
+        | inl was ↦
+            let v = are.each i x was in
+            (v.0, grows i v.0 v.1, v.2, led_more image order nodes (nodes ++ node ∷ []) i x v.0 grows v.3)
+        | inr new ↦
+            let is : k ≡ x = same_Some k x new.1 in
+            let place : length nodes ≡ i = are.many ∙ sym new.0 in (
+              node,
+              subst (λ j. slice_get (nodes ++ node ∷ []) j ≡ Some node) place (at_last nodes node),
+              subst (λ y. KeptStandsAt image y node) is stands,
+              subst (λ y. IsLed image order (nodes ++ node ∷ []) i y node) is
+                  (subst (λ j. IsLed image order (nodes ++ node ∷ []) j k node) place
+                  (led_more image order nodes (nodes ++ node ∷ []) (length nodes) k node grows led)),
+            )
+      ];
+    }
 
 -- ---- a standing arrives
 
@@ -137,9 +144,9 @@ alike_itself order here reached = record {
 }
 
 -- alike a node that is kept
-pub arrives_found : (order : List ℕ) (kept : List KeptNode) (standing : Standing) → HasFound order kept standing
-    → Arrives order kept standing kept
-arrives_found order kept standing has = λ image nodes here are at found.
+pub arrives_found : (order : List ℕ) (kept : List KeptNode) (parent : ℕ) (standing : Standing) → HasFound order kept standing
+    → Arrives order kept parent standing kept
+arrives_found order kept parent standing has = λ image nodes before here are at from way.
     let i = has.0 in
     let in_it = has.1 in
     let v = are.each i in_it.0 in_it.1 in
@@ -147,22 +154,26 @@ arrives_found order kept standing has = λ image nodes here are at found.
       more = nodes;
       grows = grows_none nodes;
       are = are;
-      holds = (
-        i,
-        v.0,
-        v.1,
-        alike_found image order standing in_it.0 here v.0 at v.2
-            (in_it.2 image here v.0 at v.2 (found_reached image order here found)) in_it.3,
-      );
+      holds = (i, v.0, v.1, alike_found image order standing in_it.0 here v.0 at v.2
+          (in_it.2 image here v.0 at v.2 (start_found image order kept nodes are parent before here standing.steps.items from way)
+          (node_found image order kept nodes are i v.0 v.1)) in_it.3);
     }
 
 -- kept as one more
-pub arrives_new : (order : List ℕ) (kept new : List KeptNode) (standing : Standing) (k : KeptNode) → IsKeptOf standing k
-    → new ≡ kept ++ k ∷ [] → Arrives order kept standing new
-arrives_new order kept new standing k is same = λ image nodes here are at found. record {
-  more = nodes ++ here ∷ [];
-  grows = λ i node there. stays_at nodes here i node there;
-  are = subst (λ ks. AreNodes image order ks (nodes ++ here ∷ [])) (sym same)
-      (are_more image order kept nodes k here are (kept_stands image standing k here is at) found);
-  holds = (length nodes, here, at_last nodes here, alike_itself order here (found_reached image order here found));
-}
+pub arrives_new : (order : List ℕ) (kept new : List KeptNode) (parent : ℕ) (standing : Standing) (k : KeptNode)
+    → IsKeptOf standing parent k → new ≡ kept ++ k ∷ [] → Arrives order kept parent standing new
+arrives_new order kept new parent standing k is same = λ image nodes before here are at from way.
+    let reached = found_reached image order here
+    (start_found image order kept nodes are parent before here standing.steps.items from way) in
+    record {
+      more = nodes ++ here ∷ [];
+      grows = λ i node there. stays_at nodes here i node there;
+      are = subst (λ ks. AreNodes image order ks (nodes ++ here ∷ [])) (sym same)
+          (are_more image order kept nodes k here are (kept_stands image standing parent k here is at)
+          (record {
+        before = before;
+        from = subst (λ p. IsBefore image nodes p (length nodes) before) (sym is.parent_is) from;
+        way = subst (λ es. IsWay (by_order order) before es here) (sym is.turns) way;
+      }));
+      holds = (length nodes, here, at_last nodes here, alike_itself order here reached);
+    }

@@ -1,23 +1,24 @@
 -- The search as a whole.
-use Rattle.std.specs.Prelude.{ℕ, ◌+◌, ◌<◌, ◌≤◌, ◌≡◌, ◌⊎◌, List, [], ◌∷◌, ◌++◌, length, slice_get, Some, Bool, true, false}
+use Rattle.std.specs.Prelude.{ℕ, zero, suc, ◌+◌, ◌<◌, ◌≤◌, ◌≡◌, ◌⊎◌, List, [], ◌∷◌, ◌++◌, length, reverse, slice_get, Some, Bool, true, false, Result, Ok, Err, IfOk}
 use Rattle.std.proofs.Common.{refl, sym, ap, ◌∙◌, subst, arith, inl, inr}
 use Rattle.std.proofs.lemmas.Bool.{cases_eq}
+use Rattle.std.proofs.lemmas.List.{reverse-append, reverse-reverse}
 use Rattle.std.proofs.lemmas.Option.{same_Some, slice_get_within}
 use Rattle.rv_image.specs.declared.images.ImageParts.{ImageParts}
-use Rattle.cl_machine.specs.Cluster.{Cluster}
+use Rattle.cl_machine.specs.declared.steps.Step.{Step}
 use Rattle.cl_order_laws.specs.Closed.{IsClosed, IsCovered, IsEnd, Node}
 use Rattle.cl_order_laws.proofs.Deadlocks.{ends_law}
 use Rattle.cl_order_laws.proofs.Ends.{every_end_law}
 use Rattle.cl_moves.specs.Ahead.{GoesAhead}
-use Rattle.cl_moves.specs.Standing.{IsStart, IsWay, StandsAt, by_order, first_node}
+use Rattle.cl_moves.specs.Standing.{IsStart, IsWay, by_order, first_node}
 use Rattle.cl_moves.specs.declared.standing.Standing.{Standing}
-use Rattle.cl_explore.specs.Kept.{IsFound, KeptStandsAt}
+use Rattle.cl_explore.specs.Kept.{IsBefore, IsLed}
 use Rattle.cl_explore.specs.Covering.{AreNodes, IsClosedAt}
-use Rattle.cl_explore.specs.Ends.{BeginsWell, HasAllEnds, IsKept, Notes, TellsEnds}
+use Rattle.cl_explore.specs.Ends.{AreAllEnds, BeginsWell, Explored, Notes}
 use Rattle.cl_explore.specs.Searching.{Arrives, IsVisited, KeepsOf}
 use Rattle.cl_explore.specs.declared.kept.KeptNode.{KeptNode}
 use Rattle.cl_explore.proofs.Lists.{at_inside, at_last, stays_at, was_or_new}
-use Rattle.cl_explore.proofs.Keeping.{no_way}
+use Rattle.cl_explore.proofs.Keeping.{led_at, no_way, way_on}
 use Rattle.cl_explore.proofs.Covers.{closed_more, covered_by, covered_more}
 
 -- ---- the first node
@@ -26,13 +27,13 @@ no_nodes : (image : ImageParts) (order : List ℕ) → AreNodes image order [] [
 no_nodes image order = record { many = refl; each = λ i k at. absurd (cc) }
 
 pub begins : (image : ImageParts) (order : List ℕ) (none new : List KeptNode) (start there : Standing) → none ≡ []
-    → IsStart image start → GoesAhead order start there → Arrives order none there new → BeginsWell image order new
+    → IsStart image start → GoesAhead order start there → Arrives order none 0 there new → BeginsWell image order new
 begins image order none new start there empty is ahead arrives =
     let first = first_node image in
     let plans = by_order order in
     let far = ahead image first first is.stands (no_way plans first start.steps.items is.steps) in
-    let kept = arrives image [] far.0 (subst (λ ks. AreNodes image order ks []) (sym empty) (no_nodes image order)) far.1
-    (there.steps.items, far.2) in
+    let kept = arrives image [] first far.0 (subst (λ ks. AreNodes image order ks []) (sym empty) (no_nodes image order)) far.1
+    refl far.2 in
     let alike = kept.holds in
     record {
       nodes = kept.more;
@@ -42,7 +43,7 @@ begins image order none new start there empty is ahead arrives =
 
 -- ---- so many nodes were visited
 
-pub record Explored (image : ImageParts) (order : List ℕ) (kept : List KeptNode) (ends : List ℕ) (done : ℕ) : Type 0 where
+pub record SoFar (image : ImageParts) (order : List ℕ) (kept : List KeptNode) (ends : List ℕ) (done : ℕ) : Type 0 where
   pub nodes : List Node
   pub are : AreNodes image order kept nodes
   pub start : IsCovered (by_order order) nodes (first_node image)
@@ -52,9 +53,9 @@ pub record Explored (image : ImageParts) (order : List ℕ) (kept : List KeptNod
   pub all : (i : ℕ) (node : Node) → i < done → slice_get nodes i ≡ Some node → IsEnd (by_order order) node.cluster
       → (k : ℕ) × (slice_get ends k ≡ Some i)
 
-pub none_explored : (image : ImageParts) (order : List ℕ) (kept : List KeptNode) (ends : List ℕ)
-    → BeginsWell image order kept → ends ≡ [] → Explored image order kept ends 0
-none_explored image order kept ends begun none = record {
+pub none_so_far : (image : ImageParts) (order : List ℕ) (kept : List KeptNode) (ends : List ℕ)
+    → BeginsWell image order kept → ends ≡ [] → SoFar image order kept ends 0
+none_so_far image order kept ends begun none = record {
   nodes = begun.nodes;
   are = begun.are;
   start = begun.start;
@@ -65,7 +66,7 @@ none_explored image order kept ends begun none = record {
 }
 
 module _ (image : ImageParts) (order : List ℕ) (old new : List KeptNode) (ends : List ℕ) (done : ℕ)
-    (explored : Explored image order old ends done) (inside : done < length old) (end : Bool)
+    (explored : SoFar image order old ends done) (inside : done < length old) (end : Bool)
     (visit : KeepsOf order old done new (IsVisited order end)) where
   abbrev nodes : List Node
   nodes = explored.nodes
@@ -78,7 +79,7 @@ module _ (image : ImageParts) (order : List ℕ) (old new : List KeptNode) (ends
       → ((k i : ℕ) → slice_get now k ≡ Some i
       → (slice_get ends k ≡ Some i) ⊎ ((i ≡ done) × (end ≡ true)))
       → ((k i : ℕ) → slice_get ends k ≡ Some i → slice_get now k ≡ Some i)
-      → (end ≡ true → (k : ℕ) × (slice_get now k ≡ Some done)) → Explored image order new now (done + 1)
+      → (end ≡ true → (k : ℕ) × (slice_get now k ≡ Some done)) → SoFar image order new now (done + 1)
   more now was stays here =
       let far = visit image nodes node.0 explored.are node.1 in
       let there = far.grows done node.0 node.1 in
@@ -127,8 +128,8 @@ module _ (image : ImageParts) (order : List ℕ) (old new : List KeptNode) (ends
       let far = visit image nodes node.0 explored.are node.1 in
       let low = slice_get_within far.more done node.0 (far.grows done node.0 node.1) in omega (arith, low, (far.are).many)
 
-  pub more_ended : end ≡ true → (now : List ℕ) → now ≡ ends ++ done ∷ [] → Explored image order new now (done + 1)
-  more_ended is now same = subst (λ xs. Explored image order new xs (done + 1)) (sym same)
+  pub more_ended : end ≡ true → (now : List ℕ) → now ≡ ends ++ done ∷ [] → SoFar image order new now (done + 1)
+  more_ended is now same = subst (λ xs. SoFar image order new xs (done + 1)) (sym same)
       (more (ends ++ done ∷ [])
       (λ k i at. elim (was_or_new ends done k i at) [
         | inl before ↦ inl before
@@ -137,44 +138,25 @@ module _ (image : ImageParts) (order : List ℕ) (old new : List KeptNode) (ends
       (λ k i at. stays_at ends done k i at)
       (λ its. (length ends, at_last ends done)))
 
-  pub more_going : end ≡ false → Explored image order new ends (done + 1)
+  pub more_going : end ≡ false → SoFar image order new ends (done + 1)
   more_going not_end = more ends (λ k i at. inl at) (λ k i at. at)
       (λ is. let no : true ≡ false = sym is ∙ not_end in absurd (cc))
 
 pub more_noted : (image : ImageParts) (order : List ℕ) (old new : List KeptNode) (ends now : List ℕ) (done : ℕ)
-    → Explored image order old ends done → done < length old → (end : Bool)
-    → KeepsOf order old done new (IsVisited order end) → Notes ends end done now → Explored image order new now (done + 1)
+    → SoFar image order old ends done → done < length old → (end : Bool)
+    → KeepsOf order old done new (IsVisited order end) → Notes ends end done now → SoFar image order new now (done + 1)
 more_noted image order old new ends now done explored inside true visit notes =
     more_ended image order old new ends done explored inside true visit refl now notes
 more_noted image order old new ends now done explored inside false visit notes =
-    subst (λ xs. Explored image order new xs (done + 1)) (sym notes)
+    subst (λ xs. SoFar image order new xs (done + 1)) (sym notes)
     (more_going image order old new ends done explored inside false visit refl)
 
 -- ---- in the end
 
 module _ (image : ImageParts) (order : List ℕ) (kept : List KeptNode) (ends : List ℕ) (done : ℕ)
-    (explored : Explored image order kept ends done) where
-  -- the node of this number is kept
-  kept_at : (i : ℕ) (node : Node) → slice_get explored.nodes i ≡ Some node → IsKept image kept i node
-  kept_at i node at =
-      let inside = slice_get_within explored.nodes i node at in
-      let k = at_inside kept i (subst (λ c. i < c) (explored.are).many inside) in
-      let v = (explored.are).each i k.0 k.1 in
-      record {
-        what = k.0;
-        there = k.1;
-        stands = subst (KeptStandsAt image k.0) (same_Some v.0 node (sym v.1 ∙ at)) v.2;
-      }
-
-  pub tells_ends : TellsEnds image order kept ends
-  tells_ends = λ k i at.
-      let v = explored.told k i at in
-      let w = kept_at i v.0 v.1 in
-      let x = (explored.are).each i w.what w.there in
-      (v.0, w, subst (λ (y : Node). IsFound image order y) (same_Some x.0 v.0 (sym x.1 ∙ v.1)) x.3, v.2)
-
-  pub has_all_ends : length kept ≤ done → HasAllEnds image order kept ends
-  has_all_ends all = λ steps end run follow ended.
+    (explored : SoFar image order kept ends done) where
+  all_ends : length kept ≤ done → AreAllEnds image order explored.nodes ends
+  all_ends all = λ steps end run follow ended.
       let plans = by_order order in
       let closed : IsClosed plans explored.nodes = record {
         each = λ i r node rank at here.
@@ -185,4 +167,78 @@ module _ (image : ImageParts) (order : List ℕ) (kept : List KeptNode) (ends : 
       let inside = slice_get_within explored.nodes found.0 found.1 found.2 in
       let k = explored.all found.0 found.1 (omega (arith, inside, all, (explored.are).many)) found.2
       (ends_law.ends plans end (found.1).cluster found.3 ended) in
-      (k.0, found.0, found.1, k.1, kept_at found.0 found.1 found.2, found.3)
+      (k.0, found.0, found.1, k.1, found.2, found.3)
+
+  pub tells_all : (left : ℕ) → (left ≡ 0 → length kept ≤ done) → Explored image order kept ends left
+  tells_all left none = record {
+    nodes = explored.nodes;
+    are = explored.are;
+    sound = explored.told;
+    all = λ is. all_ends (none is);
+  }
+
+-- ---- what led to a node
+
+-- turns, the last one first, lead from the node of one number to that of another
+abbrev pub LeadsBack : List KeptNode → ℕ → ℕ → List Step → Type 0
+LeadsBack kept node at back =
+    (image : ImageParts) (order : List ℕ) (nodes : List Node) (here : Node) → AreNodes image order kept nodes
+    → slice_get nodes node ≡ Some here
+    → (there : Node) × (slice_get nodes at ≡ Some there) × IsWay (by_order order) there (reverse back) here
+
+module _ (kept : List KeptNode) (node : ℕ) where
+  pub none_back : (back : List Step) → back ≡ [] → LeadsBack kept node node back
+  none_back back none = λ image order nodes here are at.
+      (here, at, no_way (by_order order) here (reverse back) (ap reverse none))
+
+  -- with the turns that led to that node
+  longer : (image : ImageParts) (order : List ℕ) (nodes : List Node) (here : Node) (at : ℕ) (k : KeptNode)
+      (back more : List Step) → slice_get kept at ≡ Some k → more ≡ back ++ reverse k.turns → LeadsBack kept node at back
+      → AreNodes image order kept nodes → slice_get nodes node ≡ Some here
+      → (before : Node) × IsBefore image nodes k.parent at before × IsWay (by_order order) before (reverse more) here
+  longer image order nodes here at k back more there is leads are last =
+      let v = leads image order nodes here are last in
+      let w = led_at image order kept nodes are at v.0 v.1 in
+      let same : w.0 ≡ k = same_Some w.0 k (sym w.1 ∙ there) in
+      let led = subst (λ x. IsLed image order nodes at x v.0) same w.3 in
+      let steps : k.turns ++ reverse back ≡ reverse more =
+      ap (λ es. es ++ reverse back) (sym (reverse-reverse k.turns))
+      ∙ (sym (reverse-append back (reverse k.turns)) ∙ ap reverse (sym is)) in (
+        led.before,
+        led.from,
+        subst (λ es. IsWay (by_order order) led.before es here) steps
+            (way_on (by_order order) led.before v.0 here k.turns (reverse back) led.way v.2),
+      )
+
+  pub one_back : (at : ℕ) (k : KeptNode) (back more : List Step) → slice_get kept at ≡ Some k
+      → more ≡ back ++ reverse k.turns → (at ≡ 0 → ⊥) → LeadsBack kept node at back → LeadsBack kept node k.parent more
+  one_back zero k back more there is some leads = absurd (some refl)
+  one_back (suc at) k back more there is some leads = λ image order nodes here are last.
+      let v = longer image order nodes here (suc at) k back more there is leads are last in
+      (v.0, (v.1).1, v.2)
+
+  -- of each node but the first the parent is an earlier one
+  pub is_earlier : (at : ℕ) (k : KeptNode) (back : List Step) → slice_get kept at ≡ Some k → (at ≡ 0 → ⊥)
+      → LeadsBack kept node at back → (image : ImageParts) (order : List ℕ) (nodes : List Node) (here : Node)
+      → AreNodes image order kept nodes → slice_get nodes node ≡ Some here → k.parent < at
+  is_earlier zero k back there some leads image order nodes here are last = absurd (some refl)
+  is_earlier (suc at) k back there some leads image order nodes here are last =
+      let v = longer image order nodes here (suc at) k back (back ++ reverse k.turns) there refl leads are last in (v.1).0
+
+  pub all_back : (at : ℕ) (k : KeptNode) (back more : List Step) → slice_get kept at ≡ Some k
+      → more ≡ back ++ reverse k.turns → at ≡ 0 → LeadsBack kept node at back
+      → (image : ImageParts) (order : List ℕ) (nodes : List Node) (here : Node) → AreNodes image order kept nodes
+      → slice_get nodes node ≡ Some here → IsWay (by_order order) (first_node image) (reverse more) here
+  all_back zero k back more there is none leads image order nodes here are last =
+      let v = longer image order nodes here zero k back more there is leads are last in
+      subst (λ x. IsWay (by_order order) x (reverse more) here) v.1 v.2
+  all_back (suc at) k back more there is none leads image order nodes here are last = absurd (cc)
+
+-- the steps that were turned lead there
+pub turned_way : {E : Type 0} {V : Type 0} (image : ImageParts) (order : List ℕ) (here : Node) (r : Result V E)
+    (items : V → List Step) (back : List Step) → IfOk r (λ steps. items steps ≡ reverse back)
+    → IsWay (by_order order) (first_node image) (reverse back) here
+    → IfOk r (λ steps. IsWay (by_order order) (first_node image) (items steps) here)
+turned_way image order here (Ok steps) items back is way =
+    subst (λ es. IsWay (by_order order) (first_node image) es here) (sym is) way
+turned_way image order here (Err e) items back is way = tt

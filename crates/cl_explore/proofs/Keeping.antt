@@ -1,24 +1,29 @@
 -- Nodes that are kept, and standings at them.
-use Rattle.std.specs.Prelude.{ℕ, ◌<◌, ◌≡◌, List, [], ◌∷◌, ◌++◌, length, slice_get, Some}
-use Rattle.std.proofs.Common.{refl, sym, ap, ◌∙◌, subst, inl, inr}
-use Rattle.std.proofs.lemmas.Option.{same_Some}
-use Rattle.std.proofs.lemmas.List.{length-append}
+use Rattle.std.specs.Prelude.{ℕ, zero, suc, ◌<◌, ◌≡◌, List, [], ◌∷◌, ◌++◌, length, slice_get, Some}
+use Rattle.std.proofs.Common.{refl, sym, ap, ◌∙◌, subst, arith}
+use Rattle.std.proofs.lemmas.Option.{same_Some, slice_get_within}
 use Rattle.rv_image.specs.declared.images.ImageParts.{ImageParts}
 use Rattle.cl_machine.specs.Cluster.{Cluster, IsRun}
 use Rattle.cl_machine.specs.declared.steps.Step.{Step}
-use Rattle.cl_replay.specs.declared.states.ClusterState.{ClusterState}
-use Rattle.cl_replay.specs.Kept.{snapshot}
+use Rattle.cl_replay.specs.Kept.{Snapshot}
+use Rattle.cl_record.specs.Keys.{ShowsAll}
 use Rattle.cl_replay.proofs.Same.{same_stands, snapshot_same}
 use Rattle.cl_order_laws.specs.Closed.{FollowPlans, Node, Plans, Turns, had_after, one_more}
 use Rattle.cl_order_laws.specs.Laws.{IsReached}
 use Rattle.cl_moves.specs.Standing.{HaveHad, IsWay, StandsAt, by_order, first_node}
 use Rattle.cl_moves.specs.declared.standing.Standing.{Standing}
-use Rattle.cl_explore.specs.Kept.{IsFound, IsKeptOf, IsLiveOf, KeptStandsAt}
+use Rattle.cl_explore.specs.Kept.{IsBefore, IsFound, IsKeptOf, IsLed, IsLiveOf, KeptStandsAt}
+use Rattle.cl_explore.specs.Covering.{AreNodes}
+use Rattle.cl_explore.proofs.Lists.{at_inside}
 use Rattle.cl_explore.specs.declared.kept.KeptNode.{KeptNode}
 
-pub kept_stands : (image : ImageParts) (standing : Standing) (kept : KeptNode) (node : Node) → IsKeptOf standing kept
-    → StandsAt image standing node → KeptStandsAt image kept node
-kept_stands image standing kept node is at = record {
+pub kept_stands : (image : ImageParts) (standing : Standing) (parent : ℕ) (kept : KeptNode) (node : Node)
+    → IsKeptOf standing parent kept → StandsAt image standing node → KeptStandsAt image kept node
+kept_stands image standing parent kept node is at = record {
+  of = (at.stands).of;
+  ranks_are = (at.stands).ranks_are ∙ sym (ap (λ (k : Snapshot). k.ranks) is.cluster);
+  boxes_show = subst (λ (k : Snapshot). ShowsAll image k.boxes node.cluster.boxes) (sym is.cluster) (at.stands).boxes_show;
+  whole = is.whole ∙ at.whole;
   stands = λ state same.
       same_stands standing.cluster state (snapshot_same standing.cluster state (same ∙ is.cluster)) image node.cluster
       at.stands;
@@ -31,6 +36,7 @@ pub live_stands : (image : ImageParts) (kept : KeptNode) (standing : Standing) (
     → KeptStandsAt image kept node → StandsAt image standing node
 live_stands image kept standing node is at = record {
   stands = at.stands standing.cluster is.cluster;
+  whole = is.whole ∙ at.whole;
   had = subst (λ counts. HaveHad counts node.had) (sym is.had) at.had;
   each = ap length is.had ∙ at.each;
   few = at.few;
@@ -70,3 +76,67 @@ found_on image order here there steps found way =
 
 pub found_reached : (image : ImageParts) (order : List ℕ) (node : Node) → IsFound image order node → IsReached node.cluster
 found_reached image order node found = (image, found.0, (found.1).run)
+
+-- ---- how nodes were found
+
+-- a node of the list has one of which another was found
+pub before_at : (image : ImageParts) (nodes : List Node) (n : ℕ) (node : Node) → slice_get nodes n ≡ Some node
+    → IsBefore image nodes n (length nodes) node
+before_at image [] n node at = absurd (cc)
+before_at image (x ∷ nodes) n node at = (slice_get_within (x ∷ nodes) n node at, at)
+
+before_more : (image : ImageParts) (nodes more : List Node) (parent i : ℕ) (before : Node)
+    → ((j : ℕ) (node : Node) → slice_get nodes j ≡ Some node → slice_get more j ≡ Some node)
+    → IsBefore image nodes parent i before → IsBefore image more parent i before
+before_more image nodes more parent zero before grows is = is
+before_more image nodes more parent (suc i) before grows is = (is.0, grows parent before is.1)
+
+pub led_more : (image : ImageParts) (order : List ℕ) (nodes more : List Node) (i : ℕ) (kept : KeptNode) (node : Node)
+    → ((j : ℕ) (node : Node) → slice_get nodes j ≡ Some node → slice_get more j ≡ Some node)
+    → IsLed image order nodes i kept node → IsLed image order more i kept node
+led_more image order nodes more i kept node grows led = record {
+  before = led.before;
+  from = before_more image nodes more kept.parent i led.before grows led.from;
+  way = led.way;
+}
+
+module _ (image : ImageParts) (order : List ℕ) (kept : List KeptNode) (nodes : List Node)
+    (are : AreNodes image order kept nodes) where
+  -- what is kept of a node, and what led to it
+  pub led_at : (i : ℕ) (node : Node) → slice_get nodes i ≡ Some node
+      → (k : KeptNode) × (slice_get kept i ≡ Some k) × KeptStandsAt image k node × IsLed image order nodes i k node
+  led_at i node at =
+      let inside = slice_get_within nodes i node at in
+      let k = at_inside kept i (subst (λ c. i < c) are.many inside) in
+      let v = are.each i k.0 k.1 in
+      let same : v.0 ≡ node = same_Some v.0 node (sym v.1 ∙ at) in
+      (k.0, k.1, subst (KeptStandsAt image k.0) same v.2, subst (IsLed image order nodes i k.0) same v.3)
+
+  -- that from which a node is found was found, where each earlier node was
+  found_before : (i parent : ℕ) (before : Node) → IsBefore image nodes parent i before
+      → ((node : Node) → parent < i → slice_get nodes parent ≡ Some node → IsFound image order node)
+      → IsFound image order before
+  found_before zero parent before is below =
+      subst (IsFound image order) (sym is) ([], no_way (by_order order) (first_node image) [] refl)
+  found_before (suc i) parent before is below = below before is.0 is.1
+
+  -- below so many each node was found
+  found_below : (n i : ℕ) (node : Node) → i < n → slice_get nodes i ≡ Some node → IsFound image order node
+  found_below zero i node low at = absurd (omega (arith, low))
+  found_below (suc n) i node low at =
+      let v = led_at i node at in
+      let led = v.3 in
+      let start = found_before i (v.0).parent led.before led.from
+      (λ x less there. found_below n (v.0).parent x (omega (arith, less, low)) there) in
+      found_on image order led.before node (v.0).turns start led.way
+
+  pub node_found : (i : ℕ) (node : Node) → slice_get nodes i ≡ Some node → IsFound image order node
+  node_found i node at = found_below (suc i) i node (omega (arith)) at
+
+  -- and so was that from which one more is found
+  pub start_found : (parent : ℕ) (before here : Node) (steps : List Step)
+      → IsBefore image nodes parent (length nodes) before → IsWay (by_order order) before steps here
+      → IsFound image order here
+  start_found parent before here steps is way =
+      let start = found_before (length nodes) parent before is (λ x less there. node_found parent x there) in
+      found_on image order before here steps start way

@@ -1,6 +1,7 @@
 -- Lists that grow at their end.
-use Rattle.std.specs.Prelude.{ℕ, zero, suc, ◌+◌, ◌<◌, ◌≡◌, ◌⊎◌, List, [], ◌∷◌, ◌++◌, length, slice_get, Option, Some, None}
-use Rattle.std.proofs.Common.{refl, sym, ap, ◌∙◌, subst, arith, inl, inr}
+use Rattle.std.specs.Prelude.{ℕ, zero, suc, ◌<◌, ◌≡◌, ◌⊎◌, List, [], ◌∷◌, ◌++◌, length, get_or, slice_get, Some}
+use Rattle.std.proofs.Common.{refl, sym, ap, arith, inl, inr}
+use Rattle.std.proofs.lemmas.Option.{same_Some}
 
 -- what stands at a place inside
 pub at_inside : {A : Type 0} (xs : List A) (i : ℕ) → i < length xs → (x : A) × (slice_get xs i ≡ Some x)
@@ -28,3 +29,14 @@ was_or_new (z ∷ xs) y (suc i) x at = elim (was_or_new xs y i x at) [
   | inl there ↦ inl there
   | inr new ↦ inr (ap suc new.0, new.1)
 ]
+
+-- what is read at a place inside, whatever stands for one outside
+pub read_at : {A : Type 0} (xs : List A) (n : ℕ) (x d : A) → slice_get xs n ≡ Some x → get_or xs n d ≡ x
+read_at [] n x d at = absurd (cc)
+read_at (y ∷ xs) zero x d at = same_Some y x at
+read_at (y ∷ xs) (suc n) x d at = read_at xs n x d at
+
+pub read_of : {A : Type 0} (xs : List A) (n : ℕ) (x : A) → n < length xs → x ≡ get_or xs n x → slice_get xs n ≡ Some x
+read_of [] n x low is = absurd (omega (arith, low))
+read_of (y ∷ xs) zero x low is = ap (λ z. Some z) (sym is)
+read_of (y ∷ xs) (suc n) x low is = read_of xs n x (omega (arith, low)) is

@@ -1,32 +1,30 @@
 -- Moves of a node, one after another.
-use Rattle.std.specs.Prelude.{ℕ, zero, suc, ◌+◌, ◌-◌, ◌<◌, ◌≤◌, ◌^◌, ◌≡◌, ◌⊎◌, ◌↔◌, List, [], ◌∷◌, ◌++◌, length, min, option_map, slice_get, Option, Some, None, Bool, true, false, Result, Ok, Err, OnOk}
+use Rattle.std.specs.Prelude.{ℕ, ◌+◌, ◌≤◌, ◌≡◌, ◌⊎◌, List, [], ◌∷◌, ◌++◌, length, min, option_map, slice_get, Option, Some, None, Bool, Result, Ok, Err, OnOk}
 use Rattle.std.proofs.Common.{refl, sym, ap, ◌∙◌, subst, arith, inl, inr}
 use Rattle.std.proofs.lemmas.Bool.{cases_eq}
 use Rattle.std.proofs.lemmas.List.{length-map}
 use Rattle.std.proofs.lemmas.Option.{same_Some, slice_get-map, slice_get_within}
 use Rattle.rv_image.specs.declared.images.ImageParts.{ImageParts}
 use Rattle.cl_record.specs.Plans.{in_slot}
-use Rattle.cl_machine.specs.Cluster.{Cluster, IsStep}
 use Rattle.cl_machine.specs.declared.steps.Step.{Step}
 use Rattle.cl_machine.proofs.Tables.{step_once}
-use Rattle.cl_order_laws.specs.Alike.{Leads}
-use Rattle.cl_order_laws.specs.Closed.{IsCovered, IsDone, Node, Plans, one_more}
+use Rattle.cl_order_laws.specs.Closed.{IsCovered, IsDone, Node, one_more}
 use Rattle.cl_order_laws.proofs.Steps.{below_law}
 use Rattle.cl_state.specs.declared.state.RankState.{RankState}
 use Rattle.cl_state.specs.Rank.{Rank}
 use Rattle.cl_state.specs.Room.{rank_of}
-use Rattle.cl_moves.specs.Ahead.{GoesAhead, WentAhead}
+use Rattle.cl_moves.specs.Ahead.{GoesAhead}
 use Rattle.cl_moves.specs.Ends.{TellsEnd}
 use Rattle.cl_moves.specs.Moves.{AreTurnsOf, HasAllTurns}
-use Rattle.cl_moves.specs.Standing.{HasNoTurn, IsNextHart, IsWay, StandsAt, Took, by_order, node_of}
+use Rattle.cl_moves.specs.Standing.{HasNoTurn, IsNextHart, StandsAt, Took, by_order, node_of}
 use Rattle.cl_moves.specs.declared.standing.Standing.{Standing}
-use Rattle.cl_explore.specs.Kept.{IsFound, IsLiveOf, KeptStandsAt}
-use Rattle.cl_explore.specs.Covering.{AreAlikeNodes, AreNodes, Grows, IsClosedAt, IsCoveredTurn}
-use Rattle.cl_explore.specs.Searching.{AreClosedBelow, ArePlanned, Arrives, ClosesRank, Goes, GoesEach, IsPlanned, IsVisited, Keeps, KeepsOf}
+use Rattle.cl_explore.specs.Kept.{IsLiveOf, KeptStandsAt}
+use Rattle.cl_explore.specs.Covering.{AreNodes, IsClosedAt, IsCoveredTurn}
+use Rattle.cl_explore.specs.Searching.{AreClosedBelow, ArePlanned, Arrives, ClosesRank, Goes, GoesEach, IsVisited, Keeps, KeepsOf}
 use Rattle.cl_explore.specs.declared.kept.KeptNode.{KeptNode}
-use Rattle.cl_explore.proofs.Covers.{closed_more, covered_by, covered_more, grows_none, grows_on, turn_more}
+use Rattle.cl_explore.proofs.Covers.{closed_more, covered_by, grows_none, grows_on, turn_more}
 use Rattle.cl_explore.proofs.Lists.{at_last, stays_at, was_or_new}
-use Rattle.cl_explore.proofs.Keeping.{found_on, live_stands, no_way}
+use Rattle.cl_explore.proofs.Keeping.{before_at, live_stands, no_way}
 
 -- the state's rank is the cluster's
 by_state : (image : ImageParts) (live : Standing) (node : Node) → StandsAt image live node → (rank : ℕ)
@@ -54,18 +52,12 @@ not_kept order kept n past image nodes node are there =
 module _ (order : List ℕ) (old : List KeptNode) (n : ℕ) (k : KeptNode) (at : slice_get old n ≡ Some k)
     (live : Standing) (is : IsLiveOf k live) where
   -- the node that the standing is
-  at_node : (image : ImageParts) (nodes : List Node) (node : Node) → AreNodes image order old nodes
-      → slice_get nodes n ≡ Some node → StandsAt image live node × IsFound image order node
-  at_node image nodes node are there =
-      let v = are.each n k at in
-      let same : v.0 ≡ node = same_Some v.0 node (sym v.1 ∙ there) in (
-        live_stands image k live node is (subst (KeptStandsAt image k) same v.2),
-        subst (IsFound image order) same v.3,
-      )
-
   pub live_at : (image : ImageParts) (nodes : List Node) (node : Node) → AreNodes image order old nodes
       → slice_get nodes n ≡ Some node → StandsAt image live node
-  live_at image nodes node are there = (at_node image nodes node are there).0
+  live_at image nodes node are there =
+      let v = are.each n k at in
+      let same : v.0 ≡ node = same_Some v.0 node (sym v.1 ∙ there) in
+      live_stands image k live node is (subst (KeptStandsAt image k) same v.2)
 
   -- the machine has no such turn there
   pub goes_nowhere : (e : Step) → HasNoTurn live e → Goes order old n e old
@@ -80,14 +72,14 @@ module _ (order : List ℕ) (old : List KeptNode) (n : ℕ) (k : KeptNode) (at :
 -- it has, and where it leads is kept, or alike a node
 pub goes_on : (order : List ℕ) (old new : List KeptNode) (n : ℕ) (e : Step) (k : KeptNode) → slice_get old n ≡ Some k
     → (live mid there : Standing) → IsLiveOf k live → Took live e mid → GoesAhead order mid there
-    → Arrives order old there new → Goes order old n e new
+    → Arrives order old n there new → Goes order old n e new
 goes_on order old new n e k at live mid there is took ahead arrives = λ image nodes node are here planned.
     let plans = by_order order in
-    let stands = at_node order old n k at live is image nodes node are here in
-    let led = took image plans node node stands.0 (no_way plans node live.steps.items is.steps) planned.0 in
+    let stands = live_at order old n k at live is image nodes node are here in
+    let led = took image plans node node stands (no_way plans node live.steps.items is.steps) planned.0 in
     let mid_node : Node = node_of led.0 (one_more node.had e.rank) in
     let far = ahead image node mid_node led.2 led.3 in
-    let kept = arrives image nodes far.0 are far.1 (found_on image order node far.0 there.steps.items stands.1 far.2) in
+    let kept = arrives image nodes node far.0 are far.1 (before_at image nodes n node here) far.2 in
     record {
       more = kept.more;
       grows = kept.grows;

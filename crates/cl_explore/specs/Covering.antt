@@ -9,18 +9,18 @@ use Rattle.mp_alike_laws.specs.Renaming.{Renaming}
 use Rattle.cl_order_laws.specs.Alike.{AlikeClusters, Leads}
 use Rattle.cl_order_laws.specs.Closed.{IsCovered, IsDone, IsSamePlace, Node, Plans, one_more}
 use Rattle.cl_moves.specs.Standing.{by_order, node_of}
-use Rattle.cl_explore.specs.Kept.{IsFound, KeptStandsAt}
+use Rattle.cl_explore.specs.Kept.{IsLed, KeptStandsAt}
 use Rattle.cl_explore.specs.declared.kept.KeptNode.{KeptNode}
 
 -- each node stands where it stood
 abbrev pub Grows : List Node → List Node → Type 0
 Grows nodes more = (i : ℕ) (node : Node) → slice_get nodes i ≡ Some node → slice_get more i ≡ Some node
 
--- what is kept are these nodes, one by one, and each was found
+-- what is kept are these nodes, one by one, and the turns of each led there from the one before it
 pub record AreNodes (image : ImageParts) (order : List ℕ) (kept : List KeptNode) (nodes : List Node) : Type 0 where
   pub many : length nodes ≡ length kept
   pub each : (i : ℕ) (k : KeptNode) → slice_get kept i ≡ Some k
-      → (node : Node) × (slice_get nodes i ≡ Some node) × KeptStandsAt image k node × IsFound image order node
+      → (node : Node) × (slice_get nodes i ≡ Some node) × KeptStandsAt image k node × IsLed image order nodes i k node
 
 -- their clusters are alike, and in each rank the same harts take turns
 pub record AreAlikeNodes (plans : Plans) (one other : Node) : Type 0 where

@@ -1,31 +1,41 @@
 -- Nodes that are kept, and standings that are alike one.
-use Rattle.std.specs.Prelude.{ℕ, ◌≡◌, ◌<◌, ◌%◌, List, [], length, slice_get, Some}
+use Rattle.std.specs.Prelude.{ℕ, zero, suc, ◌≡◌, ◌<◌, ◌%◌, List, [], length, slice_get, Some}
 use Rattle.rv_image.specs.declared.images.ImageParts.{ImageParts}
 use Rattle.cl_machine.specs.declared.steps.Step.{Step}
 use Rattle.cl_replay.specs.declared.states.ClusterState.{ClusterState}
 use Rattle.cl_replay.specs.Kept.{snapshot}
-use Rattle.cl_replay.specs.States.{ClusterStandsFor}
+use Rattle.cl_replay.specs.States.{ClusterStandsFor, IsClusterOf}
+use Rattle.cl_record.specs.Keys.{ShowsAll}
+use Rattle.cl_order_laws.specs.Alike.{hub_of}
 use Rattle.cl_order_laws.specs.Closed.{Node}
-use Rattle.cl_order_laws.specs.Laws.{AreAlike, IsReached}
+use Rattle.cl_order_laws.specs.Laws.{AreAlike}
 use Rattle.cl_moves.specs.Standing.{HaveHad, IsWay, StandsAt, by_order, first_node}
 use Rattle.cl_moves.specs.declared.standing.Standing.{Standing}
 use Rattle.cl_explore.specs.declared.kept.KeptNode.{KeptNode}
 
--- what is kept is the node: a state that has these parts is its cluster
+-- what is kept is the node: its parts are the node's, and a state that has these parts is its cluster
 pub record KeptStandsAt (image : ImageParts) (kept : KeptNode) (node : Node) : Type 0 where
+  pub of : IsClusterOf image node.cluster
+  pub ranks_are : node.cluster.ranks ≡ kept.cluster.ranks
+  pub boxes_show : ShowsAll image kept.cluster.boxes node.cluster.boxes
+  pub whole : kept.whole ≡ hub_of node.cluster.journal
   pub stands : (state : ClusterState) → snapshot state ≡ kept.cluster → ClusterStandsFor image state node.cluster
   pub had : HaveHad kept.had.items node.had
   pub each : length kept.had.items ≡ length node.cluster.ranks
   pub few : length node.cluster.ranks < 256
 
--- what is kept of a standing
-pub record IsKeptOf (standing : Standing) (kept : KeptNode) : Type 0 where
+-- what is kept of a standing, whose turns led from the node of this number
+pub record IsKeptOf (standing : Standing) (parent : ℕ) (kept : KeptNode) : Type 0 where
   pub cluster : kept.cluster ≡ snapshot standing.cluster
+  pub whole : kept.whole ≡ standing.whole
   pub had : kept.had.items ≡ standing.had.items
+  pub parent_is : kept.parent ≡ parent
+  pub turns : kept.turns ≡ standing.steps.items
 
 -- a standing at a node, of which no turn is noted
 pub record IsLiveOf (kept : KeptNode) (standing : Standing) : Type 0 where
   pub cluster : snapshot standing.cluster ≡ kept.cluster
+  pub whole : standing.whole ≡ kept.whole
   pub had : standing.had.items ≡ kept.had.items
   pub steps : standing.steps.items ≡ []
 
@@ -33,11 +43,24 @@ pub record IsLiveOf (kept : KeptNode) (standing : Standing) : Type 0 where
 abbrev pub IsFound : ImageParts → List ℕ → Node → Type 0
 IsFound image order node = (steps : List Step) × IsWay (by_order order) (first_node image) steps node
 
--- whichever nodes they are, their clusters are alike
-abbrev pub IsAlikeKept : Standing → KeptNode → Type 0
-IsAlikeKept standing kept =
+-- the node from which the one of this number was found, of which the parent is told: an earlier one, or for the first
+-- node the loaded cluster
+abbrev pub IsBefore : ImageParts → List Node → ℕ → ℕ → Node → Type 0
+IsBefore image nodes parent zero before = before ≡ first_node image
+IsBefore image nodes parent (suc i) before = (parent < suc i) × (slice_get nodes parent ≡ Some before)
+
+-- the turns of the kept node led from that one to the node, by the order
+pub record IsLed (image : ImageParts) (order : List ℕ) (nodes : List Node) (i : ℕ) (kept : KeptNode) (node : Node)
+    : Type 0 where
+  pub before : Node
+  pub from : IsBefore image nodes kept.parent i before
+  pub way : IsWay (by_order order) before kept.turns node
+
+-- whichever nodes they are, to which runs led, their clusters are alike
+abbrev pub IsAlikeKept : List ℕ → Standing → KeptNode → Type 0
+IsAlikeKept order standing kept =
     (image : ImageParts) (one other : Node) → StandsAt image standing one → KeptStandsAt image kept other
-    → IsReached one.cluster → AreAlike one.cluster other.cluster
+    → IsFound image order one → IsFound image order other → AreAlike one.cluster other.cluster
 
 -- in each rank it is the turn of harts at the same place of an order of so many
 abbrev pub AreSamePlaces : ℕ → List ℕ → List ℕ → Type 0

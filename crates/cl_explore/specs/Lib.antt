@@ -2,3 +2,5 @@ pub mod Kept
 pub mod Covering
 pub mod Searching
 pub mod Ends
+pub mod Runs
+pub mod Likeness

@@ -4,9 +4,9 @@ use Rattle.rv_image.specs.declared.images.ImageParts.{ImageParts}
 use Rattle.cl_record.specs.Plans.{in_slot}
 use Rattle.cl_machine.specs.declared.steps.Step.{Step}
 use Rattle.cl_order_laws.specs.Closed.{IsEnd, Node}
-use Rattle.cl_moves.specs.Standing.{StandsAt, by_order}
+use Rattle.cl_moves.specs.Standing.{IsWay, StandsAt, by_order}
 use Rattle.cl_moves.specs.declared.standing.Standing.{Standing}
-use Rattle.cl_explore.specs.Kept.{AreSamePlaces, IsAlikeKept, IsFound}
+use Rattle.cl_explore.specs.Kept.{AreSamePlaces, IsAlikeKept, IsBefore}
 use Rattle.cl_explore.specs.Covering.{AreNodes, Grows, IsAlikeOneOf, IsClosedAt, IsCoveredTurn}
 use Rattle.cl_explore.specs.declared.kept.KeptNode.{KeptNode}
 
@@ -21,17 +21,18 @@ pub record Keeps (image : ImageParts) (order : List ℕ) (nodes : List Node) (ne
 -- the node of this number is alike a standing, at the same places
 abbrev pub IsFoundIn : List ℕ → List KeptNode → Standing → ℕ → Type 0
 IsFoundIn order kept standing i =
-    (node : KeptNode) × (slice_get kept i ≡ Some node) × IsAlikeKept standing node
+    (node : KeptNode) × (slice_get kept i ≡ Some node) × IsAlikeKept order standing node
     × AreSamePlaces (length order) standing.had.items node.had.items
 
 abbrev pub HasFound : List ℕ → List KeptNode → Standing → Type 0
 HasFound order kept standing = (i : ℕ) × IsFoundIn order kept standing i
 
--- where a standing came is among the nodes, or alike one of them
-abbrev pub Arrives : List ℕ → List KeptNode → Standing → List KeptNode → Type 0
-Arrives order old standing new =
-    (image : ImageParts) (nodes : List Node) (here : Node) → AreNodes image order old nodes
-    → StandsAt image standing here → IsFound image order here
+-- where a standing came from the node of this number is among the nodes, or alike one of them
+abbrev pub Arrives : List ℕ → List KeptNode → ℕ → Standing → List KeptNode → Type 0
+Arrives order old parent standing new =
+    (image : ImageParts) (nodes : List Node) (before here : Node) → AreNodes image order old nodes
+    → StandsAt image standing here → IsBefore image nodes parent (length nodes) before
+    → IsWay (by_order order) before standing.steps.items here
     → Keeps image order nodes new (λ more. IsAlikeOneOf order more here)
 
 -- of a node of the list something holds then

@@ -3,26 +3,24 @@
 ghost use Rattle.std.specs.Prelude.{IfOk};
 ghost use Rattle.cl_explore.specs.Kept.{IsKeptOf, IsLiveOf};
 
+use crate::runs::Runs;
 use cl_moves::Standing;
 use cl_replay::KeptCluster;
+use mp_alike::WholeHub;
 use std::alloc::{AllocError, Global};
 
-/// How a node was found: from which one, by which rank, and by which of the turns that its hart may take there. The first
-/// node has itself here.
-#[derive(Clone, Copy, Drop)]
-pub struct Way {
-    pub parent: usize,
-    pub rank: u8,
-    pub turn: usize,
-}
-
-/// A node of a search: a cluster, and how many turns each of its ranks has had. Pages that are as in the node from which
-/// it was found stand once.
+/// A node of a search: a cluster, how many turns each of its ranks has had, and how it was found. Pages that are as in the
+/// node from which it was found stand once.
 #[derive(Drop)]
 pub struct KeptNode {
     pub cluster: KeptCluster,
+    /// The cluster's hub with each post ever made, by which likeness is told.
+    pub whole: WholeHub,
     pub had: Vec<u64>,
-    pub way: Way,
+    /// The number of the node from which it was found. The first node has itself here.
+    pub parent: usize,
+    /// The turns that led from there, of the first node from the loaded cluster.
+    pub turns: Runs,
 }
 
 impl KeptNode {
@@ -31,14 +29,16 @@ impl KeptNode {
         alloc: Global,
         standing: &Standing,
         earlier: Option<&KeptCluster>,
-        way: Way,
+        parent: usize,
     ) -> Result<KeptNode, AllocError>
-        ensures { IfOk result (IsKeptOf standing.now) }
+        ensures { IfOk result (IsKeptOf standing.now parent) }
     {
         Ok(KeptNode {
             cluster: standing.cluster.keep(alloc, earlier)?,
+            whole: standing.whole.try_copy(alloc)?,
             had: Vec::from_slice(alloc, standing.had.as_slice())?,
-            way,
+            parent,
+            turns: Runs::of(alloc, standing.steps.as_slice())?,
         })
     }
 
@@ -48,6 +48,7 @@ impl KeptNode {
     {
         Ok(Standing {
             cluster: self.cluster.live(alloc)?,
+            whole: self.whole.try_copy(alloc)?,
             had: Vec::from_slice(alloc, self.had.as_slice())?,
             steps: Vec::new(alloc),
         })

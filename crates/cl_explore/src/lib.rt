@@ -4,13 +4,18 @@
 //! The laws of closed sets are those of `cl_order_laws`; what is done at one cluster is `cl_moves`.
 #![tactic(auto)]
 
+mod alike_boxes;
+mod alike_harts;
 mod candidates;
+mod course;
 mod exploring;
 mod kept;
 mod likeness;
 mod moving;
+mod runs;
 mod search;
 
+pub use course::Course;
 pub use exploring::{Exploration, explore};
-pub use kept::{KeptNode, Way};
-pub use likeness::{Course, Likeness};
+pub use kept::KeptNode;
+pub use runs::Runs;

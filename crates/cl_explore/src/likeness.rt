@@ -1,35 +1,84 @@
-//! What a search goes by.
+//! Whether a standing is alike a node that is kept.
 
-ghost use Rattle.std.specs.Prelude.{◌≡◌, IfOk, true};
+ghost use Rattle.std.specs.Prelude.{◌≡◌, ℕ, IfOk, IsTrue, List, map, true};
+ghost use Rattle.mp_alike_laws.specs.Renaming.{Renaming};
+ghost use Rattle.mp_alike.specs.Names.{IsListed};
+ghost use Rattle.cl_state.specs.Room.{rank_of};
+ghost use Rattle.cl_order_laws.specs.Alike.{AlikeRanks, AreEach};
 ghost use Rattle.cl_explore.specs.Kept.{IsAlikeKept};
+ghost use Rattle.cl_explore.specs.Likeness.{HaveSameSites};
 
+use crate::alike_boxes::are_alike_boxes;
+use crate::alike_harts::{are_alike_harts, are_alike_slots};
 use crate::kept::KeptNode;
 use cl_moves::Standing;
+use cl_state::{KeptRank, RankState};
+use mp_alike::{Names, alike_names};
+use rv_hart::Mode;
 use std::alloc::{AllocError, Global};
 
-/// Tells whether a standing is alike a node that is kept.
-pub trait Likeness {
-    ghost use Rattle.std.specs.Prelude.{◌≡◌, IfOk, true};
-    ghost use Rattle.cl_explore.specs.Kept.{IsAlikeKept};
-
-    /// A number by which nodes are found that may be alike. Nothing depends on it but time.
-    fn key(&self, standing: &Standing) -> u64;
-
-    /// Whether they are alike, places in the order aside. The only error is want of memory.
-    fn is_alike(
-        &self,
-        alloc: Global,
-        standing: &Standing,
-        kept: &KeptNode,
-    ) -> Result<bool, AllocError>
-        ensures { IfOk result (λ alike. alike ≡ true → IsAlikeKept standing.now kept.now) };
+/// A number of a rank that changes with what its harts are at and what it wrote.
+fn key_of_rank(rank: &RankState) -> u64 {
+    let mut key = rank.out.len() as u64;
+    for hart in rank.harts.iter() {
+        let mode = match hart.mode() {
+            Mode::Running => 0,
+            Mode::Waiting(_) => 1,
+            Mode::Ended(_) => 2,
+            Mode::Trapped(_, _) => 3,
+        };
+        key = key.wrapping_mul(31).wrapping_add(hart.pc()).wrapping_mul(4).wrapping_add(mode);
+    }
+    key
 }
 
-/// What a search goes by: the order of the harts of each rank, how many turns a rank takes by itself at once, and what
-/// tells whether nodes are alike.
-pub struct Course<'a, L> {
-    pub alloc: Global,
-    pub order: &'a [u8],
-    pub most: u64,
-    pub likeness: &'a L,
+/// A number by which nodes are found that may be alike: those that are have the same one, and others mostly have another.
+/// Nothing depends on it but time.
+pub(crate) fn key_of(standing: &Standing) -> u64 {
+    let mut key = standing.whole.key();
+    for rank in standing.cluster.ranks.iter() {
+        key = key.wrapping_mul(6364136223846793005).wrapping_add(key_of_rank(rank));
+    }
+    key ^ (key >> 32)
+}
+
+fn is_alike_rank(names: &Names, rank: &RankState, kept: &KeptRank) -> bool
+    ensures { (naming : Renaming) → IsListed naming names.now → IsTrue result
+        → kept.now.site ≡ (rank_of rank.now).site → AlikeRanks naming (rank_of rank.now) kept.now }
+{
+    kept.is_same_beside(rank)
+        && are_alike_harts(names, rank.harts.as_slice(), kept.harts())
+        && are_alike_slots(names, rank.requests.slots(), kept.requests().slots())
+}
+
+fn are_alike_ranks(names: &Names, ranks: &[RankState], kept: &[KeptRank]) -> bool
+    ensures { (naming : Renaming) → IsListed naming names.now → IsTrue result
+        → HaveSameSites (map rank_of ranks.now) kept.now
+        → AreEach (AlikeRanks naming) (map rank_of ranks.now) kept.now }
+{
+    if ranks.len() != kept.len() {
+        return false;
+    }
+    for rank in 0..ranks.len() {
+        if !is_alike_rank(names, &ranks[rank], &kept[rank]) {
+            return false;
+        }
+    }
+    true
+}
+
+/// Whether they are alike, places in the order aside. The only error is want of memory.
+pub(crate) fn is_alike(
+    alloc: Global,
+    standing: &Standing,
+    kept: &KeptNode,
+) -> Result<bool, AllocError>
+    ensures { IfOk result (λ alike. alike ≡ true → (order : List ℕ) → IsAlikeKept order standing.now kept.now) }
+{
+    let Some(names) = alike_names(alloc, &standing.whole, &kept.whole)? else {
+        return Ok(false);
+    };
+    let boxes = standing.cluster.boxes.as_slice();
+    Ok(are_alike_boxes(boxes, kept.cluster.boxes())
+        && are_alike_ranks(&names, standing.cluster.ranks.as_slice(), kept.cluster.ranks()))
 }

@@ -3,8 +3,7 @@
 ghost use Rattle.std.specs.Prelude.{◌<◌, IfOk, OnOk, length};
 ghost use Rattle.cl_explore.specs.Searching.{ClosesRank, Goes, GoesEach, IsVisited, KeepsOf};
 
-use crate::kept::Way;
-use crate::likeness::{Course, Likeness};
+use crate::course::Course;
 use crate::search::Search;
 use cl_machine::Step;
 use cl_moves::{MoveFault, Standing, is_done, is_end, turns_of};
@@ -27,12 +26,11 @@ fn first_of(one: Option<u8>, other: Option<u8>) -> Option<u8> {
 impl Search {
     /// One turn of a node, and behind it the turns that need only their rank: where it leads is kept, unless it is alike a
     /// node. Answers the rank that would take more turns by itself, if one does.
-    fn go<L: Likeness>(
+    fn go(
         &mut self,
-        course: &Course<'_, L>,
+        course: &Course<'_>,
         node: usize,
         turn: Step,
-        number: usize,
     ) -> Result<Option<u8>, MoveFault>
         requires { 0 < length course.now.order.now }
         ensures { OnOk result (Goes course.now.order.now self.old.nodes.items node turn self.new.nodes.items) }
@@ -42,24 +40,18 @@ impl Search {
         }
         let kept = &self.nodes[node];
         let mut standing = kept.live(course.alloc)?;
-        let rank = turn.rank();
         if !standing.take(turn)? {
             return Ok(None);
         }
         let long = standing.settle(course.order, course.most)?;
-        let way = Way {
-            parent: node,
-            rank,
-            turn: number,
-        };
-        self.arrive(course, &standing, way)?;
+        self.arrive(course, &standing, node)?;
         Ok(long)
     }
 
     /// Each of these turns of a node.
-    fn go_each<L: Likeness>(
+    fn go_each(
         &mut self,
-        course: &Course<'_, L>,
+        course: &Course<'_>,
         node: usize,
         mut turns: Vec<Step>,
     ) -> Result<Option<u8>, MoveFault>
@@ -72,8 +64,7 @@ impl Search {
             match turns.pop() {
                 None => return Ok(long),
                 Some(turn) => {
-                    let number = turns.len();
-                    let alone = self.go(course, node, turn, number)?;
+                    let alone = self.go(course, node, turn)?;
                     long = first_of(long, alone);
                 }
             }
@@ -81,9 +72,9 @@ impl Search {
     }
 
     /// All turns that a rank of a node may take next.
-    fn go_rank<L: Likeness>(
+    fn go_rank(
         &mut self,
-        course: &Course<'_, L>,
+        course: &Course<'_>,
         node: usize,
         live: &Standing,
         rank: u8,
@@ -107,9 +98,9 @@ impl Search {
     }
 
     /// All moves of a node. Answers whether nobody goes on there.
-    pub(crate) fn visit<L: Likeness>(
+    pub(crate) fn visit(
         &mut self,
-        course: &Course<'_, L>,
+        course: &Course<'_>,
         node: usize,
     ) -> Result<Visit, MoveFault>
         requires { 0 < length course.now.order.now }

@@ -5,8 +5,9 @@ ghost use Rattle.cl_explore.specs.Kept.{AreSamePlaces};
 ghost use Rattle.cl_explore.specs.Searching.{Arrives, HasFound, IsFoundIn};
 
 use crate::candidates::Candidates;
-use crate::kept::{KeptNode, Way};
-use crate::likeness::{Course, Likeness};
+use crate::course::Course;
+use crate::kept::KeptNode;
+use crate::likeness::{is_alike, key_of};
 use cl_moves::{MoveFault, Standing};
 use cl_replay::KeptCluster;
 use std::alloc::AllocError;
@@ -36,9 +37,9 @@ fn are_same_places(count: u64, had: &[u64], other: &[u64]) -> bool
 
 impl Search {
     /// Whether the node of this number is alike a standing, at the same places.
-    fn is_at<L: Likeness>(
+    fn is_at(
         &self,
-        course: &Course<'_, L>,
+        course: &Course<'_>,
         standing: &Standing,
         node: usize,
     ) -> Result<bool, AllocError>
@@ -53,13 +54,13 @@ impl Search {
         if !are_same_places(count, standing.had.as_slice(), kept.had.as_slice()) {
             return Ok(false);
         }
-        course.likeness.is_alike(course.alloc, standing, kept)
+        is_alike(course.alloc, standing, kept)
     }
 
     /// Whether a node is alike a standing, at the same places: of those that have its key.
-    fn finds<L: Likeness>(
+    fn finds(
         &self,
-        course: &Course<'_, L>,
+        course: &Course<'_>,
         standing: &Standing,
         key: u64,
     ) -> Result<bool, AllocError>
@@ -84,21 +85,23 @@ impl Search {
         Some(&self.nodes.get(node)?.cluster)
     }
 
-    /// A standing is kept as one more node, unless it is alike one, at the same places.
-    pub(crate) fn arrive<L: Likeness>(
+    /// A standing is kept as one more node, unless it is alike one, at the same places. The turns that it notes led to it
+    /// from the node of the number `parent`.
+    pub(crate) fn arrive(
         &mut self,
-        course: &Course<'_, L>,
+        course: &Course<'_>,
         standing: &Standing,
-        way: Way,
+        parent: usize,
     ) -> Result<(), MoveFault>
         requires { 0 < length course.now.order.now }
-        ensures { OnOk result (Arrives course.now.order.now self.old.nodes.items standing.now self.new.nodes.items) }
+        ensures { OnOk result (Arrives course.now.order.now self.old.nodes.items parent standing.now
+            self.new.nodes.items) }
     {
-        let key = course.likeness.key(standing);
+        let key = key_of(standing);
         if self.finds(course, standing, key)? {
             return Ok(());
         }
-        let kept = KeptNode::of(course.alloc, standing, self.cluster_at(way.parent), way)?;
+        let kept = KeptNode::of(course.alloc, standing, self.cluster_at(parent), parent)?;
         self.candidates.add(key)?;
         self.nodes.push(kept)?;
         Ok(())

@@ -5,13 +5,13 @@ use Rattle.cl_explore.proofs.Tries.{goes_nowhere, goes_on, not_kept}
 use Rattle.cl_explore.proofs.search.Search.go.Goals as goal
 
 pub returns-then-node-len : goal.returns-then-node-len
-returns-then-node-len g c = λ image nodes node are there planned.
+returns-then-node-len c = λ image nodes node are there planned.
     let kept = c.args.self.now.nodes in
     absurd (not_kept c.args.course.now.order.now kept.items c.args.node
     (omega (arith, c.if-node-len.true, c.len.ensures, kept.ok.0)) image nodes node are there)
 
 pub returns-then-not-branch : goal.returns-then-not-branch
-returns-then-not-branch g c =
+returns-then-not-branch c =
     let kept = c.args.self.now.nodes in
     let here = slice_get_read kept.items c.len.result c.args.node c.index-kept.result.now
     (c.len.ensures ∙ kept.ok.0) c.if-node-len.false c.index-kept.ensures in
@@ -20,7 +20,7 @@ returns-then-not-branch g c =
     (subst (λ b. Takes c.in_ok-standing.standing c.args.turn c.take.new.self b) c.if-not-branch.true c.in_ok-take.ensures)
 
 pub returns : goal.returns
-returns g c =
+returns c =
     let kept = c.args.self.now.nodes in
     let here = slice_get_read kept.items c.len.result c.args.node c.index-kept.result.now
     (c.len.ensures ∙ kept.ok.0) c.if-node-len.false c.index-kept.ensures in

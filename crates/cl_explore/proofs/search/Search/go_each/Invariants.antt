@@ -4,9 +4,9 @@ use Rattle.cl_explore.proofs.search.Search.go_each.Given as goal
 
 -- those that are left are the first ones, and the others are covered
 abbrev pub invariant-rest : goal.invariant-rest
-invariant-rest g l =
+invariant-rest l =
     Firsts l.turns.items l.fn.turns.items
     × GoneFrom l.course.order.now l.fn.self.nodes.items l.node l.fn.turns.items l.turns.items l.self.nodes.items
 
 abbrev pub decreases-rest : goal.decreases-rest
-decreases-rest g l = length l.turns.items
+decreases-rest l = length l.turns.items

@@ -8,7 +8,7 @@ use Rattle.cl_explore.proofs.Tries.{closed_by, closed_done, closed_none, ok_on}
 use Rattle.cl_explore.proofs.search.Search.go_rank.Goals as goal
 
 pub returns-then-place-len : goal.returns-then-place-len
-returns-then-place-len g c =
+returns-then-place-len c =
     let ranks = c.args.live.now.cluster.ranks in
     closed_done c.args.course.now.order.now c.args.self.now.nodes.items c.args.node c.args.live.now c.args.rank
     (λ own at.
@@ -16,7 +16,7 @@ returns-then-place-len g c =
     absurd (omega (arith, inside, c.if-place-len.true, c.from-place.ensures, c.len.ensures, ranks.ok.0)))
 
 pub returns-then-is_done : goal.returns-then-is_done
-returns-then-is_done g c =
+returns-then-is_done c =
     let order = c.args.course.now.order.now in
     let ranks = c.args.live.now.cluster.ranks in
     let own = c.index-own.result.now in
@@ -28,12 +28,12 @@ returns-then-is_done g c =
     (c.is_done.ensures.0 c.if-is_done.true))
 
 pub returns-in_default : goal.returns-in_default
-returns-in_default g c =
+returns-in_default c =
     closed_none c.args.course.now.order.now c.args.self.now.nodes.items c.args.node c.args.live.now c.args.rank
     c.in_default.ensures
 
 pub returns : goal.returns
-returns g c =
+returns c =
     ok_on c.go_each.result (λ goes.
     closed_by c.args.course.now.order.now c.args.self.now.nodes.items c.go_each.new.self.nodes.items c.args.node
     c.args.live.now c.args.rank c.in-Some.hart c.in_ok-turns.turns.items c.in-Some.ensures c.in_ok-turns.ensures.all

@@ -5,7 +5,7 @@ use Rattle.cl_explore.specs.Kept.{AreSamePlaces}
 use Rattle.cl_explore.proofs.search.Search.is_at.Goals as goal
 
 pub returns : goal.returns
-returns g c =
+returns c =
     let nodes = c.args.self.now.nodes in
     let kept = c.index-kept.result.now in
     let here = slice_get_read nodes.items c.len.result c.args.node kept (c.len.ensures ∙ nodes.ok.0) c.if-node-len.false
@@ -14,4 +14,4 @@ returns g c =
     let places = subst (λ had. AreSamePlaces count had kept.had.items) c.as_slice.ensures.value
     (subst (λ other. AreSamePlaces count c.as_slice.result.now other) c.as_slice-2.ensures.value
     (c.are_same_places.ensures c.if-not-are_same_places.false)) in
-    if_ok_on c.is_alike.result (λ at alike its. (kept, here, alike its, places)) c.is_alike.ensures
+    if_ok_on c.is_alike.result (λ at alike its. (kept, here, alike its c.args.course.now.order.now, places)) c.is_alike.ensures

@@ -1,0 +1,172 @@
+-- Clusters that are alike, from what was compared of them.
+use Rattle.std.specs.Prelude.{ℕ, suc, ◌+◌, ◌/◌, ◌%◌, ◌<◌, ◌≤◌, ◌≡◌, List, [], ◌∷◌, length, map, slice_get, Option, Some, None, true}
+use Rattle.std.proofs.Common.{refl, sym, ap, ◌∙◌, subst, arith, inl, inr}
+use Rattle.std.proofs.lemmas.Bool.{cases_Bool, cases_eq}
+use Rattle.std.proofs.lemmas.Option.{slice_get_within}
+use Rattle.rv_image.specs.declared.images.ImageParts.{ImageParts}
+use Rattle.part_box.specs.declared.settled.Settled.{Settled}
+use Rattle.mp_hub.specs.Hub.{HubView}
+use Rattle.mp_alike_laws.specs.Renaming.{Renaming}
+use Rattle.mp_alike_laws.specs.Alike.{AlikeHubs}
+use Rattle.mp_alike.specs.Names.{AreAlikeBy, IsListed}
+use Rattle.cl_state.specs.Rank.{Rank, loaded}
+use Rattle.cl_state.specs.Room.{rank_of}
+use Rattle.cl_state.specs.Same.{IsSameBeside}
+use Rattle.cl_names_laws.specs.Named.{hart_by, table_by}
+use Rattle.cl_record.specs.Keys.{Shows, bytes_in}
+use Rattle.cl_machine.specs.Boxes.{Box}
+use Rattle.cl_replay.specs.Boxes.{at_part, settled_at}
+use Rattle.cl_replay.proofs.Boxed.{shown_of_box}
+use Rattle.cl_order_laws.specs.Alike.{AlikeBoxes, AlikeRanks, AreEach, IsFull, hub_of}
+use Rattle.cl_order_laws.specs.Closed.{Node}
+use Rattle.cl_order_laws.specs.Laws.{AreAlike}
+use Rattle.cl_deadlock_laws.proofs.Reached.{comes_reached, same_site}
+use Rattle.cl_moves.specs.Standing.{StandsAt}
+use Rattle.cl_moves.specs.declared.standing.Standing.{Standing}
+use Rattle.cl_explore.specs.Kept.{IsAlikeKept, IsFound, KeptStandsAt}
+use Rattle.cl_explore.specs.Likeness.{AreAlikeLinks, HaveSameSites, IsAlikeSettled}
+use Rattle.cl_explore.specs.declared.kept.KeptNode.{KeptNode}
+use Rattle.cl_explore.proofs.Lists.{at_inside}
+
+-- ---- lists
+
+-- what stands at each place is made of what stands there in the other list
+pub mapped_by : {A B : Type 0} (f : A → B) (xs : List A) (ys : List B) → length ys ≡ length xs
+    → ((i : ℕ) (x : A) (y : B) → slice_get xs i ≡ Some x → slice_get ys i ≡ Some y → y ≡ f x) → ys ≡ map f xs
+mapped_by f [] [] many each = refl
+mapped_by f [] (y ∷ ys) many each = absurd (omega (arith, many))
+mapped_by f (x ∷ xs) [] many each = absurd (omega (arith, many))
+mapped_by f (x ∷ xs) (y ∷ ys) many each =
+    let head : y ≡ f x = each 0 x y refl refl in
+    let tail : ys ≡ map f xs = mapped_by f xs ys (omega (arith, many)) (λ i u v at there. each (suc i) u v at there) in
+    λ k. head k ∷ tail k
+
+-- each that stands at a place in the first list corresponds to the one there in the other
+pub each_of : {A : Type 0} (Alike : A → A → Type 0) (xs ys : List A) → length ys ≡ length xs
+    → ((i : ℕ) (x y : A) → slice_get xs i ≡ Some x → slice_get ys i ≡ Some y → Alike x y) → AreEach Alike xs ys
+each_of Alike xs ys many alike = record {
+  many = many;
+  each = λ i x at.
+      let inside = slice_get_within xs i x at in
+      let y = at_inside ys i (omega (arith, inside, many)) in
+      (y.0, y.1, alike i x y.0 at y.1);
+}
+
+-- and so does what stands at one place more
+pub below_more : {A B : Type 0} (P : A → B → Type 0) (xs : List A) (ys : List B) (n : ℕ)
+    → ((i : ℕ) → i < n → (x : A) (y : B) → slice_get xs i ≡ Some x → slice_get ys i ≡ Some y → P x y)
+    → ((x : A) (y : B) → slice_get xs n ≡ Some x → slice_get ys n ≡ Some y → P x y)
+    → (i : ℕ) → i < n + 1 → (x : A) (y : B) → slice_get xs i ≡ Some x → slice_get ys i ≡ Some y → P x y
+below_more P xs ys n before here i low x y at there = elim (cases_eq n i) [
+  | inl same ↦
+      here x y (subst (λ k. slice_get xs k ≡ Some x) (sym same) at) (subst (λ k. slice_get ys k ≡ Some y) (sym same) there)
+  | inr other ↦ before i (omega (arith, low, other)) x y at there
+]
+
+-- ---- ranks
+
+pub rank_alike : (naming : Renaming) (a b : Rank) → b.site ≡ a.site → IsSameBeside b a
+    → b.harts ≡ map (hart_by naming) a.harts → b.requests ≡ table_by naming a.requests → AlikeRanks naming a b
+rank_alike naming a b site same harts requests = (
+  b.clock,
+  λ i. record {
+    site = site i;
+    memory = same.memory i;
+    harts = harts i;
+    requests = requests i;
+    phases = same.phases i;
+    out = same.out i;
+    clock = b.clock;
+  },
+)
+
+-- ---- boxes
+
+parts_at : (boxes others : List (List Settled)) → AreAlikeLinks boxes others → (n : ℕ) (s t : Settled)
+    → (o p : Option (List Settled)) → slice_get boxes (n / 16) ≡ o → slice_get others (n / 16) ≡ p
+    → at_part o (n % 16) ≡ Some s → at_part p (n % 16) ≡ Some t → IsAlikeSettled s t
+parts_at boxes others alike n s t None p is its at there = absurd (cc)
+parts_at boxes others alike n s t (Some xs) None is its at there = absurd (cc)
+parts_at boxes others alike n s t (Some xs) (Some ys) is its at there =
+    (alike (n / 16) xs ys is its).each (n % 16) s t at there
+
+settled_alike : (boxes others : List (List Settled)) → AreAlikeLinks boxes others → (n : ℕ) (s t : Settled)
+    → settled_at boxes n ≡ Some s → settled_at others n ≡ Some t → IsAlikeSettled s t
+settled_alike boxes others alike n s t at there =
+    parts_at boxes others alike n s t (slice_get boxes (n / 16)) (slice_get others (n / 16)) refl refl at there
+
+module _ (image : ImageParts) (s t : Settled) (a b : Box) (mine : Shows image.version s a)
+    (theirs : Shows image.version t b) (alike : IsAlikeSettled s t) where
+  is_full : (u : Settled) (box : Box) → Shows image.version u box → length box.made ≤ box.taken + 1 → u.full ≡ true
+      → IsFull box (bytes_in image.version u.words)
+  is_full u box shows one full =
+      let holds = shows.full full in
+      let inside = slice_get_within box.made box.taken _ holds in
+      record { holds = holds; one = omega (arith, inside, one) }
+
+  box_alike : length a.made ≤ a.taken + 1 → length b.made ≤ b.taken + 1 → AlikeBoxes a b
+  box_alike few few_too = elim (cases_Bool s.full) [
+    | inl full ↦
+        AlikeBoxes.both_full (bytes_in image.version s.words) (is_full s a mine few full)
+        (subst (λ words. IsFull b (bytes_in image.version words)) alike.words
+        (is_full t b theirs few_too (alike.full ∙ full)))
+    | inr none ↦
+        AlikeBoxes.both_empty (mine.empty none).0 (theirs.empty (alike.full ∙ none)).0
+  ]
+
+-- ---- clusters
+
+module _ (image : ImageParts) (order : List ℕ) (standing : Standing) (kept : KeptNode) (one other : Node)
+    (at : StandsAt image standing one) (stands : KeptStandsAt image kept other) (found : IsFound image order one)
+    (too : IsFound image order other) where
+  boxes_alike : AreAlikeLinks standing.cluster.boxes.items kept.cluster.boxes
+      → AreEach AlikeBoxes one.cluster.boxes other.cluster.boxes
+  boxes_alike alike =
+      each_of AlikeBoxes one.cluster.boxes other.cluster.boxes
+      ((stands.of).boxes ∙ sym ((at.stands).of).boxes)
+      (λ n a b here there.
+      let s = shown_of_box image standing.cluster.boxes.items one.cluster.boxes (at.stands).boxes_show
+      ((at.stands).of).boxes n a here in
+      let t = shown_of_box image kept.cluster.boxes other.cluster.boxes stands.boxes_show (stands.of).boxes n b there in
+      box_alike image s.0 t.0 a b s.2 t.2
+      (settled_alike standing.cluster.boxes.items kept.cluster.boxes alike n s.0 t.0 s.1 t.1)
+      (((at.stands).of).one_thing n a here) ((stands.of).one_thing n b there))
+
+  site_at : (node : Node) → IsFound image order node → (r : ℕ) (rank : Rank)
+      → slice_get node.cluster.ranks r ≡ Some rank → rank.site ≡ (loaded image r).site
+  site_at node its r rank here =
+      let comes = comes_reached image its.0 node.cluster (its.1).run in
+      let alone = comes.alone r rank here in same_site image r alone.0 rank alone.1
+
+  same_sites : HaveSameSites (map rank_of standing.cluster.ranks.items) kept.cluster.ranks
+  same_sites = λ r rank rank_too here there.
+      site_at other too r rank_too (ap (λ (rs : List Rank). slice_get rs r) stands.ranks_are ∙ there)
+      ∙ sym (site_at one found r rank (ap (λ (rs : List Rank). slice_get rs r) (at.stands).ranks_are ∙ here))
+
+  pub clusters_alike : (names : List ℕ) → AreAlikeBy names standing.whole kept.whole
+      → AreAlikeLinks standing.cluster.boxes.items kept.cluster.boxes
+      → ((naming : Renaming) → IsListed naming names
+      → HaveSameSites (map rank_of standing.cluster.ranks.items) kept.cluster.ranks
+      → AreEach (AlikeRanks naming) (map rank_of standing.cluster.ranks.items) kept.cluster.ranks)
+      → AreAlike one.cluster other.cluster
+  clusters_alike names hubs boxes ranks = (
+    hubs.names,
+    record {
+      ranks = subst (λ (rs : List Rank). AreEach (AlikeRanks hubs.names) rs other.cluster.ranks) (sym (at.stands).ranks_are)
+          (subst (λ (rs : List Rank). AreEach (AlikeRanks hubs.names) (map rank_of standing.cluster.ranks.items) rs)
+          (sym stands.ranks_are) (ranks hubs.names hubs.listed same_sites));
+      hubs = subst (λ (h : HubView). AlikeHubs hubs.names h (hub_of other.cluster.journal)) at.whole
+          (subst (λ (h : HubView). AlikeHubs hubs.names standing.whole h) stands.whole hubs.alike);
+      boxes = boxes_alike boxes;
+    },
+  )
+
+pub standing_alike : (standing : Standing) (kept : KeptNode) (names : List ℕ)
+    → AreAlikeBy names standing.whole kept.whole
+    → AreAlikeLinks standing.cluster.boxes.items kept.cluster.boxes
+    → ((naming : Renaming) → IsListed naming names
+    → HaveSameSites (map rank_of standing.cluster.ranks.items) kept.cluster.ranks
+    → AreEach (AlikeRanks naming) (map rank_of standing.cluster.ranks.items) kept.cluster.ranks)
+    → (order : List ℕ) → IsAlikeKept order standing kept
+standing_alike standing kept names hubs boxes ranks order = λ image one other at stands found too.
+    clusters_alike image order standing kept one other at stands found too names hubs boxes ranks
