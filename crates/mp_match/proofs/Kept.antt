@@ -24,15 +24,15 @@ use Rattle.mp_match.proofs.OrderKept.{chosen}
 use Rattle.mp_match.proofs.Places.{get_last, get_front, get_within}
 use Rattle.mp_match.proofs.Rows.{slice_set_length}
 
-abbrev Table : Type 0
+abbrev pub Table : Type 0
 Table = ℕ → Option Live
 
 -- ---- one place of a table
 
-set_here : (f : Table) (place : ℕ) (v : Option Live) (k : ℕ) → place ≡ k → set_at f place v k ≡ v
+pub set_here : (f : Table) (place : ℕ) (v : Option Live) (k : ℕ) → place ≡ k → set_at f place v k ≡ v
 set_here f place v k e = ap (λ b. cond b v (f k)) (eq-eqb place k e)
 
-set_there : (f : Table) (place : ℕ) (v : Option Live) (k : ℕ) → (place ≡ k → ⊥) → set_at f place v k ≡ f k
+pub set_there : (f : Table) (place : ℕ) (v : Option Live) (k : ℕ) → (place ≡ k → ⊥) → set_at f place v k ≡ f k
 set_there f place v k n = ap (λ b. cond b v (f k)) (ne_eqb place k n)
 
 -- the same table

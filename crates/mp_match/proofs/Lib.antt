@@ -14,3 +14,4 @@ pub mod Within
 pub mod Partners
 pub mod Kept
 pub mod Asked
+pub mod AtOnce

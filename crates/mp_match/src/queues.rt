@@ -1,12 +1,12 @@
 //! All posts with their pairs. Posts that wait for a partner stand in queues by key.
 
 ghost use Rattle.std.specs.Prelude.{◌≡◌, ◌+◌, ◌<◌, ◌≤◌, ◌^◌, ◌∷◌, ◌↔◌, [], length, not, ◌||◌, is_some, IfOk, IfSome};
-ghost use Rattle.std.specs.Prelude.{IsNone, IsOk, OnErr, OnOk, Err, None, Some, ◌-◌, slice_get, slice_set};
+ghost use Rattle.std.specs.Prelude.{ℕ, Option, IsNone, IsOk, OnErr, OnOk, Err, None, Some, ◌-◌, slice_get, slice_set};
 ghost use Rattle.mp_match.specs.Pairs.{partner_for};
 ghost use Rattle.mp_match.specs.Board.{claim_at, claimed_if, collect, collect_from, compared_after, is_standard};
 ghost use Rattle.mp_match.specs.Claimed.{holds, is_claim_collected, open_claim};
 ghost use Rattle.mp_match.specs.Bodies.{bytes_in};
-ghost use Rattle.mp_match.specs.Board.{envelope_at, held_count, is_collected, is_finished, is_held, is_receive_at};
+ghost use Rattle.mp_match.specs.Board.{envelope_at, envelope_in, held_count, is_collected, is_finished, is_held, is_receive_at};
 ghost use Rattle.mp_match.specs.Board.{is_receive_of, is_send_of, line_of, message_at, message_in, no_posts};
 ghost use Rattle.mp_match.specs.Board.{partner_of, board_with};
 ghost use Rattle.mp_match.specs.Board.{probed, receive_posted, send_posted, without};
@@ -82,6 +82,16 @@ fn message_of(envelope: Option<Envelope>, body: Option<Bytes>) -> Option<Message
 {
     match (envelope, body) {
         (Some(envelope), Some(bytes)) => Some(Message { envelope, bytes }),
+        _ => None,
+    }
+}
+
+// The envelope of a send.
+fn envelope_of(post: Post) -> Option<Envelope>
+    ensures { (partner : Option ℕ) → result ≡ envelope_in (Some (record { post = post; partner = partner })) }
+{
+    match post {
+        Post::Send(sent) => Some(sent.envelope),
         _ => None,
     }
 }
@@ -340,9 +350,40 @@ impl Queues {
         ensures err { OnErr result (self.new ≡ self.old) }
     {
         let found = self.find(Post::Receive(selection));
-        let copy = self.copy_from(alloc, found.partner)?;
-        self.add_to(found, Post::Receive(selection), None)?;
-        Ok((self.collect_from(found.partner), copy))
+        match found.partner {
+            None => {
+                self.add_to(found, Post::Receive(selection), None)?;
+                Ok((None, None))
+            }
+            Some(place) => self.receive_at(alloc, selection, place),
+        }
+    }
+
+    // Posts a receive that finds the send at the place, and takes its message out. Both are over at once: so the receive is
+    // entered nowhere, and all that was kept of the send is let go.
+    fn receive_at(
+        &mut self,
+        alloc: Global,
+        selection: Selection,
+        place: u64,
+    ) -> Result<(Option<Message>, Option<Message>), AllocError>
+        requires few { length self.old.lines < 2 ^ 64 - 1 }
+        requires partner { Some place ≡ partner_for self.old.lines (Post.Receive selection) }
+        ensures messages { IfOk result (λ told. told ≡ (message_at self.old place, message_at self.old place)) }
+        ensures after { OnOk result (self.new ≡ without (receive_posted self.old selection) place) }
+        ensures err { OnErr result (self.new ≡ self.old) }
+    {
+        let copy = self.copy_at(alloc, place)?;
+        self.owners.reserve(1)?;
+        let Some(Live { line, body, .. }) = self.table.take(place) else {
+            unreachable!()
+        };
+        let new = Post::Receive(selection);
+        self.waiting.pair(&self.history, new, line.post);
+        self.owners.push_reserved(owner_of(new));
+        self.held -= count_of(&body);
+        self.history = self.history.with_post(&new, &None).without(&place);
+        Ok((message_of(envelope_of(line.post), body), copy))
     }
 
     // The message of the send at the place once more, if any.

@@ -84,6 +84,14 @@ impl Table {
         }
     }
 
+    /// Takes out the post at the place, if any, and gives it.
+    pub fn take(&mut self, place: u64) -> Option<Live>
+        ensures live { result ≡ kept self.old.map place }
+        ensures after { (k : ℕ) → kept self.new.map k ≡ set_at (kept self.old.map) place None k }
+    {
+        self.map.remove(&place)
+    }
+
     /// Takes out the post at the place, if any.
     pub fn remove(&mut self, place: u64)
         ensures { (k : ℕ) → kept self.new.map k ≡ set_at (kept self.old.map) place None k }

@@ -1,6 +1,6 @@
 //! The posts that wait for a partner, in queues by key.
 
-ghost use Rattle.std.specs.Prelude.{◌≡◌, ◌≤◌, [], length, IfOk, List, OnErr, OnOk};
+ghost use Rattle.std.specs.Prelude.{◌≡◌, ◌≤◌, [], length, IfOk, List, OnErr, OnOk, Some};
 ghost use Rattle.mp_match.specs.declared.posts.Line.{Line};
 ghost use Rattle.mp_match.specs.declared.posts.Post.{Post};
 ghost use Rattle.mp_match.specs.declared.posts.Selection.{Selection};
@@ -151,6 +151,17 @@ impl Waiting {
         }
     }
 
+    /// The partner of the new post doesn't wait any more.
+    pub fn pair(&mut self, _history: &History, _new: Post, partner: Post)
+        requires partner { Some partner ≡ post_at _history.now.board.lines (partner_for _history.now.board.lines _new) }
+        requires messages { AreQueued message_key (queue self.old.messages.map) _history.now.board.lines }
+        requires receives { AreQueued receive_key (queue self.old.receives.map) _history.now.board.lines }
+        ensures messages { AreQueued message_key (queue self.new.messages.map) (add _history.now.board.lines _new) }
+        ensures receives { AreQueued receive_key (queue self.new.receives.map) (add _history.now.board.lines _new) }
+    {
+        self.leave(partner);
+    }
+
     /// The new post, at that place, waits, or else its partner doesn't wait any more. After a refusal for memory all is
     /// as it was.
     pub fn add(
@@ -179,7 +190,7 @@ impl Waiting {
                 Ok(())
             }
             Some(post) => {
-                self.leave(post);
+                self.pair(_history, new, post);
                 Ok(())
             }
         }
