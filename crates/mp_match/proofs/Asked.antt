@@ -8,19 +8,20 @@ use Rattle.std.proofs.lemmas.List.{length-map}
 use Rattle.std.proofs.lemmas.Option.{slice_get-map}
 use Rattle.mp_types.specs.declared.messages.Envelope.{Envelope}
 use Rattle.mp_match.specs.declared.posts.Post.{Post}
+use Rattle.mp_match.specs.declared.posts.Post.TheVariants.{Send, Receive, Claim}
 use Rattle.mp_match.specs.declared.posts.Line.{Line}
 use Rattle.mp_match.specs.declared.live.Live.{Live}
 use Rattle.mp_match.specs.declared.live.Owner.{Owner}
 use Rattle.mp_match.specs.Free.{free_in}
 use Rattle.mp_match.specs.FreePosts.{free_post}
 use Rattle.mp_match.specs.Pairs.{is_free, partner_for, partner_of_line}
-use Rattle.mp_match.specs.Board.{Board, collect, collect_from, envelope_at, envelope_in, is_held}
+use Rattle.mp_match.specs.Board.{Board, collect, collect_from, envelope_at, envelope_in, is_collected, is_gone, is_held}
 use Rattle.mp_match.specs.Bodies.{bytes_in}
 use Rattle.mp_match.specs.Board.{line_of, message_at, message_in, partner_of}
 use Rattle.mp_match.specs.Board.{claim_at, claim_of}
 use Rattle.mp_match.specs.Claimed.{holds, open_claim}
-use Rattle.mp_match.specs.Live.{IsOver, StandFor, owner_of}
-use Rattle.mp_match.specs.InnerLive.{IsPast, body_in, kept_post, line_in, message_of, owner_in}
+use Rattle.mp_match.specs.Live.{IsOver, StandFor, owner_by, owner_of}
+use Rattle.mp_match.specs.InnerLive.{IsPast, awaits, body_in, kept_post, line_in, message_of, owner_in}
 use Rattle.mp_match.specs.Live.{post_in}
 use Rattle.mp_match.specs.InnerLive.{post_at}
 use Rattle.mp_match.proofs.OrderKept.{chosen}
@@ -51,7 +52,7 @@ held_some (Some (Some x)) = refl
 
 -- ---- of a post
 
-owner_line : (o : Option Line) → option_map (λ (line : Line). owner_of line.post) o ≡ owner_in o
+owner_line : (o : Option Line) → option_map owner_of o ≡ owner_in o
 owner_line None = refl
 owner_line (Some line) = refl
 
@@ -59,6 +60,22 @@ pub partner_line : (b : Board) (number : ℕ) (line : Line) → line_of b number
     → partner_of b number ≡ line.partner
 partner_line b zero line h = absurd (cc)
 partner_line b (suc place) line h = ap partner_of_line h
+
+-- a receive that waits has no partner
+unpaired : (p : Post) (o : Option ℕ) → awaits (Some (owner_by p o)) ≡ true → o ≡ None
+unpaired (Send s) o h = absurd (cc)
+unpaired (Receive a) None h = refl
+unpaired (Receive a) (Some q) h = absurd (cc)
+unpaired (Claim a) o h = absurd (cc)
+
+-- so it wasn't collected
+pub not_collected : (b : Board) (number : ℕ) → awaits (owner_in (line_of b number)) ≡ true → false ≡ is_collected b number
+not_collected b zero h = absurd (cc)
+not_collected b (suc place) h = go (slice_get b.lines place) h
+  where
+    go : (o : Option Line) → awaits (owner_in o) ≡ true → false ≡ is_gone b (partner_of_line o)
+    go None h = absurd (cc)
+    go (Some line) h = sym (ap (is_gone b) (unpaired line.post line.partner h))
 
 -- no claim has the message of a post that is over
 pub past_claim : (b : Board) (number : ℕ) → IsPast b number → None ≡ open_claim b number
@@ -120,7 +137,7 @@ module _ (os : List Owner) (f : ℕ → Option Live) (b : Board) (s : StandFor o
   pub owner_at : (place : ℕ) → slice_get os place ≡ owner_in (slice_get b.lines place)
   owner_at place =
       ap (λ (l : List Owner). slice_get l place) s.owners
-      ∙ slice_get-map (λ (line : Line). owner_of line.post) b.lines place ∙ owner_line (slice_get b.lines place)
+      ∙ slice_get-map owner_of b.lines place ∙ owner_line (slice_get b.lines place)
 
   none_body : (place : ℕ) → f place ≡ None → bytes_in (slice_get b.bodies place) ≡ None
   none_body place h = go (slice_get b.bodies place) refl
@@ -185,7 +202,7 @@ module _ (os : List Owner) (f : ℕ → Option Live) (b : Board) (s : StandFor o
   post_waits p (Some q) h = ap post_in (waits p q (sym h))
 
   pub owners_length : length os ≡ length b.lines
-  owners_length = ap length s.owners ∙ length-map b.lines (λ (line : Line). owner_of line.post)
+  owners_length = ap length s.owners ∙ length-map b.lines owner_of
 
   pub owner_numbered : (number : ℕ) → (number ≡ 0 → ⊥)
       → slice_get os (number - 1) ≡ owner_in (line_of b number)

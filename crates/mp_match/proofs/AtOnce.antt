@@ -1,5 +1,5 @@
 -- A receive that finds its message and takes it at once: neither it nor the send is kept.
-use Rattle.std.specs.Prelude.{ℕ, ◌+◌, ◌-◌, ◌<◌, ◌≤◌, ◌≡◌, ◌&&◌, not, Bool, true, false, cond, List, [], ◌∷◌, ◌++◌, length}
+use Rattle.std.specs.Prelude.{ℕ, ◌-◌, ◌≤◌, ◌≡◌, ◌&&◌, not, Bool, true, List, [], ◌∷◌, ◌++◌, length}
 use Rattle.std.specs.Prelude.{Option, Some, None}
 use Rattle.std.specs.List.{slice_get}
 use Rattle.std.specs.Option.{is_some}
@@ -15,8 +15,8 @@ use Rattle.mp_match.specs.declared.live.Owner.{Owner}
 use Rattle.mp_match.specs.Pairs.{may_pair, partner_for}
 use Rattle.mp_match.specs.Board.{Board, held_count, receive_posted, without}
 use Rattle.mp_match.specs.Bodies.{bytes_in}
-use Rattle.mp_match.specs.Live.{StandFor, owner_of, paired}
-use Rattle.mp_match.specs.InnerLive.{emptied, entered, has_taken, set_at, spent_by}
+use Rattle.mp_match.specs.Live.{StandFor, paired}
+use Rattle.mp_match.specs.InnerLive.{emptied, entered, has_taken, owners_with, set_at, spent_by}
 use Rattle.mp_match.proofs.Asked.{next_none}
 use Rattle.mp_match.proofs.Kept.{Table, set_here, set_there, stand_add, stand_forgotten, stand_same, stand_taken}
 use Rattle.mp_match.proofs.OrderKept.{chosen}
@@ -69,7 +69,7 @@ held_at_once b a place body n held here count all =
 
 module _ (os qs : List Owner) (f h : Table) (b : Board) (s : StandFor os f b) (a : Selection) (place : ℕ) (live : Live)
     (found : partner_for b.lines (Receive a) ≡ Some place) (here : f place ≡ Some live)
-    (pair : may_pair (Receive a) live.line.post ≡ true) (more : qs ≡ os ++ owner_of (Receive a) ∷ [])
+    (pair : may_pair (Receive a) live.line.post ≡ true) (more : qs ≡ owners_with os (record { post = Receive a; partner = Some place }))
     (is : (k : ℕ) → h k ≡ set_at f place None k) where
   -- the receive as it would be kept
   abbrev new : Live

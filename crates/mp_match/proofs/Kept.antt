@@ -15,8 +15,8 @@ use Rattle.mp_match.specs.declared.live.Live.{Live}
 use Rattle.mp_match.specs.declared.live.Owner.{Owner}
 use Rattle.mp_match.specs.Pairs.{add, partner_for, partner_set, partners_told}
 use Rattle.mp_match.specs.Board.{Board, board_with, without}
-use Rattle.mp_match.specs.Live.{owner_of, owners_of, paired, are_exchanged}
-use Rattle.mp_match.specs.InnerLive.{set_at, entered, emptied}
+use Rattle.mp_match.specs.Live.{owner_by, owner_of, owners_of, paired, are_exchanged}
+use Rattle.mp_match.specs.InnerLive.{set_at, entered, emptied, owners_with, told_at, told_in, told_owner}
 use Rattle.mp_match.specs.Live.{IsKept, IsOver, StandFor}
 use Rattle.mp_match.specs.InnerLive.{is_partner, spent_by, has_taken}
 use Rattle.mp_match.proofs.Lines.{given, look, is_new, is_old, is_given, add_new, add_old, add_given, add_length}
@@ -144,23 +144,36 @@ stand_taken os f g b i s is = record {
 
 -- ---- one more post
 
-owners_set : (ms : List Line) (q k : ℕ) → owners_of (partner_set ms q k) ≡ owners_of ms
-owners_set [] q k = refl
-owners_set (m ∷ ms) zero k = refl
-owners_set (m ∷ ms) (suc q) k = ap (λ (l : List Owner). owner_of m.post ∷ l) (owners_set ms q k)
+told_line : (p : Post) (o : Option ℕ) (k : ℕ) → owner_by p (Some k) ≡ told_owner (owner_by p o)
+told_line (Send s) o k = refl
+told_line (Receive a) None k = refl
+told_line (Receive a) (Some q) k = refl
+told_line (Claim a) o k = refl
 
-owners_told : (ms : List Line) (o : Option ℕ) → owners_of (partners_told ms o) ≡ owners_of ms
+told_behind : (o : Owner) (os : List Owner) (q : ℕ) (x : Option Owner) → o ∷ told_in os q x ≡ told_in (o ∷ os) (suc q) x
+told_behind o os q None = refl
+told_behind o os q (Some x) = refl
+
+owners_set : (ms : List Line) (q k : ℕ) → owners_of (partner_set ms q k) ≡ told_at (owners_of ms) (Some q)
+owners_set [] q k = refl
+owners_set (m ∷ ms) zero k = ap (λ (o : Owner). o ∷ owners_of ms) (told_line m.post m.partner k)
+owners_set (m ∷ ms) (suc q) k =
+    ap (λ (l : List Owner). owner_of m ∷ l) (owners_set ms q k)
+    ∙ told_behind (owner_of m) (owners_of ms) q (slice_get (owners_of ms) q)
+
+owners_told : (ms : List Line) (o : Option ℕ) → owners_of (partners_told ms o) ≡ told_at (owners_of ms) o
 owners_told ms None = refl
 owners_told ms (Some q) = owners_set ms q (length ms)
 
-owners_snoc : (ms : List Line) (m : Line) → owners_of (ms ++ m ∷ []) ≡ owners_of ms ++ owner_of m.post ∷ []
+owners_snoc : (ms : List Line) (m : Line) → owners_of (ms ++ m ∷ []) ≡ owners_of ms ++ owner_of m ∷ []
 owners_snoc [] m = refl
-owners_snoc (x ∷ ms) m = ap (λ (l : List Owner). owner_of x.post ∷ l) (owners_snoc ms m)
+owners_snoc (x ∷ ms) m = ap (λ (l : List Owner). owner_of x ∷ l) (owners_snoc ms m)
 
-owners_add : (ms : List Line) (p : Post) → owners_of (add ms p) ≡ owners_of ms ++ owner_of p ∷ []
+owners_add : (ms : List Line) (p : Post)
+    → owners_of (add ms p) ≡ told_at (owners_of ms) (partner_for ms p) ++ owner_by p (partner_for ms p) ∷ []
 owners_add ms p =
     owners_snoc (partners_told ms (partner_for ms p)) _
-    ∙ ap (λ (l : List Owner). l ++ owner_of p ∷ []) (owners_told ms (partner_for ms p))
+    ∙ ap (λ (l : List Owner). l ++ owner_by p (partner_for ms p) ∷ []) (owners_told ms (partner_for ms p))
 
 record Same (ms : List Line) (p : Post) (r : ℕ) (other : Line) : Type 0 where
   line : Line
@@ -206,7 +219,7 @@ paired_none None n h = refl
 paired_none (Some x) n h = absurd (cc)
 
 module _ (os qs : List Owner) (f g : Table) (b : Board) (new : Live) (s : StandFor os f b)
-    (found : new.line.partner ≡ partner_for b.lines new.line.post) (more : qs ≡ os ++ owner_of new.line.post ∷ [])
+    (found : new.line.partner ≡ partner_for b.lines new.line.post) (more : qs ≡ owners_with os new.line)
     (is : (k : ℕ) → g k ≡ entered f (length b.lines) new new.line.partner k) where
   abbrev p : Post
   p = new.line.post
@@ -310,7 +323,8 @@ module _ (os qs : List Owner) (f g : Table) (b : Board) (new : Live) (s : StandF
 
   pub stand_add : StandFor qs g (board_with b new.line.post new.body)
   stand_add = record {
-    owners = more ∙ ap (λ (l : List Owner). l ++ owner_of new.line.post ∷ []) s.owners
+    owners = more ∙ ap (λ (l : List Owner). owners_with l new.line) s.owners
+        ∙ ap (λ (o : Option ℕ). told_at (owners_of b.lines) o ++ owner_by new.line.post o ∷ []) found
         ∙ sym (owners_add b.lines new.line.post);
     bodies = length-append b.bodies (new.body ∷ []) ∙ ap (λ m. m + 1) s.bodies ∙ sym (add_length b.lines new.line.post);
     live = λ k e h. elim (cases_eq (length b.lines) k) [

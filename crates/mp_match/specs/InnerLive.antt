@@ -1,43 +1,68 @@
 -- What the table and the owners are asked, and how they change.
-use Rattle.std.specs.Prelude.{ℕ, suc, ◌≡◌, ◌==◌, ◌&&◌, not, Bool, true, false, cond, List}
+use Rattle.std.specs.Prelude.{ℕ, suc, [], ◌∷◌, ◌++◌, ◌≡◌, ◌==◌, ◌&&◌, not, Bool, true, false, cond, List}
 use Rattle.std.specs.Prelude.{Option, Some, None}
-use Rattle.std.specs.List.{slice_get}
+use Rattle.std.specs.List.{slice_get, slice_set}
 use Rattle.std.specs.Option.{is_some}
-use Rattle.std.specs.HashMap as hash
 use Rattle.mp_types.specs.declared.messages.Message.{Message}
 use Rattle.mp_match.specs.declared.posts.Post.{Post}
 use Rattle.mp_match.specs.declared.posts.Post.TheVariants.{Send, Receive, Claim}
 use Rattle.mp_match.specs.declared.posts.Line.{Line}
 use Rattle.mp_match.specs.declared.live.Live.{Live}
 use Rattle.mp_match.specs.declared.live.Owner.{Owner}
-use Rattle.mp_match.specs.declared.live.Owner.TheVariants.{Sends, Receives, Claims}
+use Rattle.mp_match.specs.declared.live.Owner.TheVariants.{Sends, Awaits, Receives, Claims}
 use Rattle.mp_match.specs.Board.{Board, envelope_in, line_of, message_in}
-use Rattle.mp_match.specs.Live.{owner_of, kept, paired, post_in, IsOver}
+use Rattle.mp_match.specs.Live.{owner_of, paired, post_in, IsOver}
 
 -- of a line, if any
 abbrev pub owner_in : Option Line → Option Owner
 owner_in None = None
-owner_in (Some line) = Some (owner_of line.post)
+owner_in (Some line) = Some (owner_of line)
 
 abbrev pub is_sender : ℕ → Option Owner → Bool
 is_sender rank None = false
-is_sender rank (Some owner) = elim owner [ Sends r ↦ r == rank | Receives r ↦ false | Claims r ↦ false ]
+is_sender rank (Some owner) = elim owner [ Sends r ↦ r == rank | Awaits r ↦ false | Receives r ↦ false | Claims r ↦ false ]
 
 abbrev pub is_taker : ℕ → Option Owner → Bool
 is_taker rank None = false
-is_taker rank (Some owner) = elim owner [ Sends r ↦ false | Receives r ↦ r == rank | Claims r ↦ r == rank ]
+is_taker rank (Some owner) =
+    elim owner [ Sends r ↦ false | Awaits r ↦ r == rank | Receives r ↦ r == rank | Claims r ↦ r == rank ]
 
 abbrev pub sends : Option Owner → Bool
 sends None = false
-sends (Some owner) = elim owner [ Sends r ↦ true | Receives r ↦ false | Claims r ↦ false ]
+sends (Some owner) = elim owner [ Sends r ↦ true | Awaits r ↦ false | Receives r ↦ false | Claims r ↦ false ]
 
 abbrev pub receives : Option Owner → Bool
 receives None = false
-receives (Some owner) = elim owner [ Sends r ↦ false | Receives r ↦ true | Claims r ↦ false ]
+receives (Some owner) = elim owner [ Sends r ↦ false | Awaits r ↦ true | Receives r ↦ true | Claims r ↦ false ]
 
 abbrev pub claims : Option Owner → Bool
 claims None = false
-claims (Some owner) = elim owner [ Sends r ↦ false | Receives r ↦ false | Claims r ↦ true ]
+claims (Some owner) = elim owner [ Sends r ↦ false | Awaits r ↦ false | Receives r ↦ false | Claims r ↦ true ]
+
+-- a receive that has no partner
+abbrev pub awaits : Option Owner → Bool
+awaits None = false
+awaits (Some owner) = elim owner [ Sends r ↦ false | Awaits r ↦ true | Receives r ↦ false | Claims r ↦ false ]
+
+-- a post that has a partner from now on
+abbrev pub told_owner : Owner → Owner
+told_owner (Sends r) = Sends r
+told_owner (Awaits r) = Receives r
+told_owner (Receives r) = Receives r
+told_owner (Claims r) = Claims r
+
+-- the one at the place, if any
+abbrev pub told_in : List Owner → ℕ → Option Owner → List Owner
+told_in os place None = os
+told_in os place (Some owner) = slice_set os place (told_owner owner)
+
+abbrev pub told_at : List Owner → Option ℕ → List Owner
+told_at os None = os
+told_at os (Some place) = told_in os place (slice_get os place)
+
+-- one post more, which its partner is told of
+abbrev pub owners_with : List Owner → Line → List Owner
+owners_with os line = told_at os line.partner ++ owner_of line ∷ []
 
 abbrev pub set_at : (ℕ → Option Live) → ℕ → Option Live → ℕ → Option Live
 set_at f place live k = cond (place == k) live (f k)

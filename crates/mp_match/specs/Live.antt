@@ -10,18 +10,23 @@ use Rattle.mp_match.specs.declared.posts.Post.TheVariants.{Send, Receive, Claim}
 use Rattle.mp_match.specs.declared.posts.Line.{Line}
 use Rattle.mp_match.specs.declared.live.Live.{Live}
 use Rattle.mp_match.specs.declared.live.Owner.{Owner}
-use Rattle.mp_match.specs.declared.live.Owner.TheVariants.{Sends, Receives, Claims}
+use Rattle.mp_match.specs.declared.live.Owner.TheVariants.{Sends, Awaits, Receives, Claims}
 use Rattle.mp_match.specs.Board.{Board}
 
 -- ---- whose a post is, and of which kind
 
-abbrev pub owner_of : Post → Owner
-owner_of (Send s) = Sends s.envelope.source
-owner_of (Receive a) = Receives a.rank
-owner_of (Claim a) = Claims a.rank
+-- a receive awaits a message until it has a partner
+abbrev pub owner_by : Post → Option ℕ → Owner
+owner_by (Send s) partner = Sends s.envelope.source
+owner_by (Receive a) None = Awaits a.rank
+owner_by (Receive a) (Some partner) = Receives a.rank
+owner_by (Claim a) partner = Claims a.rank
+
+abbrev pub owner_of : Line → Owner
+owner_of line = owner_by line.post line.partner
 
 abbrev pub owners_of : List Line → List Owner
-owners_of lines = map (λ (line : Line). owner_of line.post) lines
+owners_of lines = map owner_of lines
 
 -- ---- the table of the posts that aren't over, by their places
 

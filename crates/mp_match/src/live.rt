@@ -1,9 +1,9 @@
 //! What is kept of posts: two bytes for each, and the line and the message of each that isn't over.
 
-ghost use Rattle.std.specs.Prelude.{◌≡◌, ◌∷◌, [], ℕ, IfOk, Option, Some, slice_get};
+ghost use Rattle.std.specs.Prelude.{◌≡◌, ◌<◌, ◌∷◌, [], ℕ, IfOk, Option, Some, slice_get, vec_capacity, vec_len};
 ghost use Rattle.mp_match.specs.Board.{held_count, is_standard};
 ghost use Rattle.mp_match.specs.Live.{owner_of};
-ghost use Rattle.mp_match.specs.InnerLive.{is_sender, is_taker, sends};
+ghost use Rattle.mp_match.specs.InnerLive.{awaits, is_sender, is_taker, owners_with, sends, told_at, told_owner};
 
 use crate::posts::{Line, Post};
 use mp_types::Bytes;
@@ -13,19 +13,58 @@ use std::alloc::{AllocError, Global};
 #[derive(Clone, Copy)]
 pub enum Owner {
     Sends(u8),
+    /// A receive that has no partner.
+    Awaits(u8),
+    /// A receive that has one.
     Receives(u8),
     Claims(u8),
 }
 
-/// Which rank the post is of, and what it does.
-pub fn owner_of(post: Post) -> Owner
-    ensures { result ≡ owner_of post }
+/// Which rank the post of a line is of, and what it does.
+fn owner_of(line: Line) -> Owner
+    ensures { result ≡ owner_of line }
 {
-    match post {
+    match line.post {
         Post::Send(sent) => Owner::Sends(sent.envelope.source),
-        Post::Receive(selection) => Owner::Receives(selection.rank),
+        Post::Receive(selection) => match line.partner {
+            None => Owner::Awaits(selection.rank),
+            Some(_) => Owner::Receives(selection.rank),
+        },
         Post::Claim(selection) => Owner::Claims(selection.rank),
     }
+}
+
+// A post that has a partner from now on.
+fn told(owner: Owner) -> Owner
+    ensures { result ≡ told_owner owner }
+{
+    match owner {
+        Owner::Awaits(rank) => Owner::Receives(rank),
+        Owner::Sends(_) => owner,
+        Owner::Receives(_) => owner,
+        Owner::Claims(_) => owner,
+    }
+}
+
+// The post at the place, if any, has a partner from now on.
+fn tell(owners: &mut [Owner], place: Option<u64>)
+    ensures { owners.new ≡ told_at owners.old place }
+{
+    let Some(place) = place else {
+        return;
+    };
+    if let Some(owner) = owner_at(owners, place) {
+        owners[place as usize] = told(owner);
+    }
+}
+
+/// One post more, of this line, for which there is room: its partner, if any, has one from now on.
+pub fn add_owner(owners: &mut Vec<Owner>, line: Line)
+    requires room { vec_len owners.old < vec_capacity owners.old }
+    ensures { owners.new.items ≡ owners_with owners.old.items line }
+{
+    tell(owners.as_mut_slice(), line.partner);
+    owners.push_reserved(owner_of(line));
 }
 
 /// Whose the post at the place is.
@@ -50,6 +89,7 @@ pub fn is_taker(rank: u8, owner: Option<Owner>) -> bool
     ensures { result ≡ is_taker rank owner }
 {
     match owner {
+        Some(Owner::Awaits(of)) => of == rank,
         Some(Owner::Receives(of)) => of == rank,
         Some(Owner::Claims(of)) => of == rank,
         _ => false,
@@ -61,6 +101,13 @@ pub fn sends(owner: Option<Owner>) -> bool
     ensures { result ≡ sends owner }
 {
     matches!(owner, Some(Owner::Sends(_)))
+}
+
+/// Whether it is a receive that has no partner.
+pub fn awaits(owner: Option<Owner>) -> bool
+    ensures { result ≡ awaits owner }
+{
+    matches!(owner, Some(Owner::Awaits(_)))
 }
 
 /// Whether it is a standard send.

@@ -19,7 +19,7 @@ mod live_posts;
 use crate::entering::enter;
 use crate::history::History;
 use crate::live::{
-    Live, Owner, count_of, is_sender, is_standard, is_taker, owner_at, owner_of, sends,
+    Live, Owner, add_owner, awaits, count_of, is_sender, is_standard, is_taker, owner_at, sends,
 };
 use crate::posts::{Line, Post, Selection, Sent};
 use crate::table::Table;
@@ -221,10 +221,7 @@ impl Queues {
             place,
             live,
         )?;
-        match self.owners.push(owner_of(new)) {
-            Ok(()) => {}
-            Err(_) => unreachable!(),
-        }
+        add_owner(&mut self.owners, line);
         self.held += more;
         self.compared = found.compared;
         self.history = history;
@@ -380,7 +377,13 @@ impl Queues {
         };
         let new = Post::Receive(selection);
         self.waiting.pair(&self.history, new, line.post);
-        self.owners.push_reserved(owner_of(new));
+        add_owner(
+            &mut self.owners,
+            Line {
+                post: new,
+                partner: Some(place),
+            },
+        );
         self.held -= count_of(&body);
         self.history = self.history.with_post(&new, &None).without(&place);
         Ok((message_of(envelope_of(line.post), body), copy))
@@ -507,6 +510,10 @@ impl Queues {
     pub fn is_collected(&self, post: u64) -> bool
         ensures { result ≡ is_collected self.now post }
     {
+        // what is asked most: a receive that waits
+        if awaits(self.owner(post)) {
+            return false;
+        }
         match self.kept(post) {
             Some(line) => match line.partner {
                 None => false,
@@ -590,7 +597,12 @@ impl Queues {
     {
         match place {
             None => false,
-            Some(place) => { matches!(self.owners.get(place as usize), Some(Owner::Receives(_))) }
+            Some(place) => {
+                matches!(
+                    self.owners.get(place as usize),
+                    Some(Owner::Awaits(_) | Owner::Receives(_))
+                )
+            }
         }
     }
 

@@ -1,9 +1,9 @@
-use Rattle.std.proofs.Common.{◌≡◌, ◌∷◌, ◌++◌, [], ℕ, length, arith, ap, sym, ◌∙◌}
+use Rattle.std.proofs.Common.{◌≡◌, ℕ, length, arith, ap, sym, ◌∙◌}
 use Rattle.mp_match.specs.declared.live.Live.{Live}
 use Rattle.mp_match.specs.Pairs.{partner_for}
 use Rattle.mp_match.specs.Board.{Board, compared_after}
-use Rattle.mp_match.specs.Live.{kept, owner_of}
-use Rattle.mp_match.specs.InnerLive.{entered}
+use Rattle.mp_match.specs.Live.{kept}
+use Rattle.mp_match.specs.InnerLive.{entered, owners_with}
 use Rattle.mp_match.proofs.Asked.{next_none, owners_length, post_waits}
 use Rattle.mp_match.proofs.Kept.{stand_add}
 use Rattle.mp_match.proofs.Rows.{held_snoc, held_below, one_held}
@@ -46,11 +46,10 @@ invariant_of-self-2 c =
     } in
     let found = c.requires.partner ∙ ap (λ (x : Board). partner_for x.lines c.args.new) (sym c.self.view_is) in
     let h = held_snoc b.bodies c.args.body in
-    let more : c.push.new.self.items ≡ c.self.inside.owners.items ++ owner_of c.args.new ∷ [] =
-    c.in-Ok.ensures.items
-    ∙ (λ j. c.in_ok-reserve.ensures.items j ++ c.owner_of.ensures j ∷ []) in
+    let more : c.add_owner.new.owners.items ≡ owners_with c.self.inside.owners.items new.line =
+    c.add_owner.ensures ∙ (λ j. owners_with (c.in_ok-reserve.ensures.items j) new.line) in
     rw c.with_post-history.ensures (
-      stand_add c.self.inside.owners.items c.push.new.self.items f (kept c.enter.new.table.map) b new i.0 found more
+      stand_add c.self.inside.owners.items c.add_owner.new.owners.items f (kept c.enter.new.table.map) b new i.0 found more
           (λ k. c.in_ok-enter.ensures.table k
           ∙ ap (λ (m : ℕ). entered f m new c.args.found.partner k) place),
       omega (arith, h, c.count_of-more.ensures, i.1),

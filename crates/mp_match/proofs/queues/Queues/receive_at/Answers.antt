@@ -1,8 +1,9 @@
-use Rattle.std.proofs.Common.{◌≡◌, ◌∷◌, ◌++◌, [], Some, ap, sym, ◌∙◌}
+use Rattle.std.proofs.Common.{◌≡◌, Some, ap, sym, ◌∙◌}
+use Rattle.mp_match.specs.declared.posts.Line.{Line}
 use Rattle.mp_match.specs.declared.posts.Post.TheVariants.{Receive}
 use Rattle.mp_match.specs.Board.{Board, message_at, message_in, without}
-use Rattle.mp_match.specs.Live.{kept, owner_of}
-use Rattle.mp_match.specs.InnerLive.{message_of}
+use Rattle.mp_match.specs.Live.{kept}
+use Rattle.mp_match.specs.InnerLive.{message_of, owners_with}
 use Rattle.mp_match.specs.Pairs.{partner_for}
 use Rattle.mp_match.proofs.Asked.{message_is}
 use Rattle.mp_match.proofs.AtOnce.{held_at_once, is_kept, may_have, stand_at_once}
@@ -32,12 +33,12 @@ invariant_of-self-2 c =
     let here = sym c.in-Some.ensures.live in
     let found = ap (λ (x : Board). partner_for x.lines (Receive c.args.selection)) c.self.view_is
     ∙ sym c.requires.partner in
-    let more : c.push_reserved.new.self.items ≡ os ++ owner_of (Receive c.args.selection) ∷ [] =
-    c.push_reserved.ensures.items
-    ∙ (λ j. c.in_ok-reserve.ensures.items j ++ c.owner_of.ensures j ∷ []) in
+    let line : Line = record { post = Receive c.args.selection; partner = Some c.args.place } in
+    let more : c.add_owner.new.owners.items ≡ owners_with os line =
+    c.add_owner.ensures ∙ (λ j. owners_with (c.in_ok-reserve.ensures.items j) line) in
     let after = c.without-self-inside.ensures ∙ ap (λ (x : Board). without x c.args.place) c.with_post.ensures in
     rw after (
-      stand_at_once os c.push_reserved.new.self.items f (kept c.take.new.self.map) b i.0 c.args.selection c.args.place
+      stand_at_once os c.add_owner.new.owners.items f (kept c.take.new.self.map) b i.0 c.args.selection c.args.place
           c.in-Some.field-0 found here
           (may_have os f b i.0 c.args.selection c.args.place c.in-Some.field-0 found here) more c.take.ensures.after,
       (held_at_once b c.args.selection c.args.place c.in-Some.field-0.body _ _
