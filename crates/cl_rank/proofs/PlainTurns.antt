@@ -128,7 +128,7 @@ pub plain_keeps : (r : Running) (hart n : ℕ) (new : RankState) (events : List 
     → Repeats (IsPlainStep hart) n (rank_of r.state) (rank_of new) → new.clock ≡ r.state.clock + n
     → r.state.clock + n < 2 ^ 62 → length r.trace.events + n ≤ r.budget
     → events ≡ r.trace.events ++ bare_events hart bare.Plain r.state.clock n
-    → Keeps new events r.budget (sides_in r.sends.items r.recvs.items) None
+    → Keeps new events r.budget (sides_in r.sends.items r.recvs.items) None r.again
 plain_keeps r hart n new events steps clock low left noted =
     let kept = kept_by hart r.sends.items r.recvs.items n (rank_of r.state) (rank_of new) r.sides r.fit steps in
     let all = ap (λ (es : List Event). length es) noted in

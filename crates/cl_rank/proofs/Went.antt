@@ -64,19 +64,19 @@ pub record Went (r : Running) (hart stamp : ℕ) (act : Act) (new : RankState) (
   pub moved : Moved (rank_of r.state) (rank_of new) (sides_in r.sends.items r.recvs.items) after stamp act
 
 -- what a rank keeps
-abbrev pub Keeps : RankState → List Event → ℕ → Sides → Option ℕ → Type 0
-Keeps new events budget after roomy = record {
+abbrev pub Keeps : RankState → List Event → ℕ → Sides → Option ℕ → Option (List ℕ) → Type 0
+Keeps new events budget after roomy again = record {
   low : new.clock < 2 ^ 62;
   within : length events ≤ budget;
   stamped : last_stamp 0 events ≤ new.clock;
   sides : AreSides new.site.version new.phases new.clock after;
   fit : RequestsFit new.requests new.phases;
-  room : IsRoomy new roomy;
+  room : IsRoomy new roomy again;
 }
 
 -- where no poll was in vain there is no room to be kept
-pub no_room : (new : RankState) {roomy : Option ℕ} → roomy ≡ None → IsRoomy new roomy
-no_room new none = subst (IsRoomy new) (sym none) tt
+pub no_room : (new : RankState) {roomy : Option ℕ} (again : Option (List ℕ)) → roomy ≡ None → IsRoomy new roomy again
+no_room new again none = subst (λ (o : Option ℕ). IsRoomy new o again) (sym none) tt
 
 module _ {r : Running} {hart stamp : ℕ} {act : Act} {new : RankState} {after : Sides}
     (went : Went r hart stamp act new after) where
@@ -86,9 +86,9 @@ module _ {r : Running} {hart stamp : ℕ} {act : Act} {new : RankState} {after :
       let above = stamp_above r.state.clock stamp act went.stamps in
       (omega (arith, above, r.stamped, is), omega (arith, went.low, is))
 
-  pub keeps : {events : List Event} (roomy : Option ℕ) (e : Event) → length r.trace.events < r.budget → e.stamp ≡ stamp
-      → events ≡ r.trace.events ++ e ∷ [] → IsRoomy new roomy → Keeps new events r.budget after roomy
-  keeps {events} roomy e left is event room =
+  pub keeps : {events : List Event} (roomy : Option ℕ) (again : Option (List ℕ)) (e : Event) → length r.trace.events < r.budget → e.stamp ≡ stamp
+      → events ≡ r.trace.events ++ e ∷ [] → IsRoomy new roomy again → Keeps new events r.budget after roomy again
+  keeps {events} roomy again e left is event room =
       let clock : new.clock ≡ stamp =
       clock_told (rank_of r.state) (rank_of new) hart (answer_of act) stamp went.tells in
       let last = stamped_by r.trace.events events e event in

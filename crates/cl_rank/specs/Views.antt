@@ -2,13 +2,19 @@
 use Rattle.std.specs.Prelude.{ℕ, ◌≡◌, ◌<◌, ◌+◌, ◌^◌, List, [], ◌∷◌, ◌++◌, length, Option, Some, None, vec_len}
 use Rattle.std.specs.Prelude.{Result, IfErr, OnErr, OnOk}
 use Rattle.mp_types.specs.declared.replies.Reply.{Reply}
+use Rattle.mp_types.specs.declared.replies.Reply.TheVariants as reply
 use Rattle.mp_types.specs.declared.requests.Request.{Request}
 use Rattle.part_channel.specs.Channels.{ChannelView}
-use Rattle.cl_state.specs.Polls.{Polls}
+use Rattle.cl_state.specs.Asked.{asked}
 use Rattle.cl_state.specs.Room.{rank_of}
 use Rattle.cl_state.specs.TurnRoom.{HasRoom, IsNext}
+use Rattle.cl_state.specs.Told.{told}
+use Rattle.cl_state.specs.Rank.{Rank as RankAlone}
 use Rattle.cl_state.specs.declared.asking.Ask.{Ask}
+use Rattle.cl_state.specs.declared.asking.Ask.TheVariants as ask
 use Rattle.cl_state.specs.declared.asking.Answer.TheVariants.{Alone}
+use Rattle.cl_state.specs.declared.asking.Answer.TheVariants as answer
+use Rattle.cl_state.specs.declared.state.RankState.{RankState}
 use Rattle.cl_trace.specs.declared.events.Kind.{Kind}
 use Rattle.cl_rank.specs.declared.ranks.Rank.{Rank}
 use Rattle.cl_rank.specs.declared.sides.BoxId.{BoxId}
@@ -37,6 +43,10 @@ view_of r = record {
 abbrev pub IsOver : Rank → List ChannelView → Type 0
 IsOver r channels = AreChannelsOf r.state.site.version channels (view_of r).sides
 
+-- a rank at another clock
+abbrev pub at_clock : RankAlone → ℕ → RankAlone
+at_clock rank clock = record rank { clock = clock }
+
 -- ---- what a turn leans on
 
 -- a rank that has this hart and a turn left, a stamp for it, and room for its event
@@ -53,10 +63,15 @@ pub record MayTurn (r : Rank) (t : Turn) : Type 0 where
   pub next : IsNext r.state t.hart t.doing
   pub room : HasRoom r.state t.hart
 
--- such a rank, where the turn of a hart polls a post and asks the hub this
+-- the turn of a hart asks the hub this, and where nothing is there yet only the clock moves
+pub record Stays (s : RankState) (hart : ℕ) (request : Request) : Type 0 where
+  pub asks : asked (rank_of s) hart ≡ ask.Hub request
+  pub stays : (stamp : ℕ) → told (rank_of s) hart (answer.Reply reply.NotYet) stamp ≡ at_clock (rank_of s) stamp
+
+-- such a rank, where the turn of a hart asks this and may leave all but the clock as it is
 pub record MayWait (r : Rank) (hart : ℕ) (request : Request) : Type 0 where
   pub has : HasTurn r hart
-  pub polls : Polls r.state hart request
+  pub turn : Stays r.state hart request
   pub room : HasRoom r.state hart
 
 -- a turn that asks nobody is an act of this kind

@@ -18,6 +18,7 @@ use crate::turning::{all_stopped, step_plain};
 use cl_journal::{CLOCK_MAX, Hub};
 use cl_state::RankState;
 use cl_trace::Trace;
+use mp_types::Posts;
 use part_channel::{Channel, RecvSide, SendSide};
 use rv_image::Image;
 use std::alloc::{AllocError, Global};
@@ -39,6 +40,8 @@ pub struct Rank {
     /// The hart whose poll was just answered that nothing is there yet. The room that its turn wants is made, so that
     /// the next poll needn't work the turn out.
     pub(crate) roomy: Option<u8>,
+    /// The posts for which that hart asks, where its call waits for several requests and is made anew.
+    pub(crate) again: Option<Posts>,
     ghost low: { state.clock < 2 ^ 62 },
     ghost within: { length trace.events ≤ budget },
     ghost stamped: { last_stamp 0 trace.events ≤ state.clock },
@@ -46,7 +49,7 @@ pub struct Rank {
         (sides_in sends.items recvs.items) } by { are_sides_fact state.site.version state.phases state.clock
             (sides_in sends.items recvs.items) },
     ghost fit: { RequestsFit state.requests state.phases },
-    ghost room: { IsRoomy state roomy } by { is_roomy_fact state roomy },
+    ghost room: { IsRoomy state roomy again } by { is_roomy_fact state roomy again },
 }
 
 impl Rank {
@@ -81,6 +84,7 @@ impl Rank {
             recvs,
             asked_box: None,
             roomy: None,
+            again: None,
         })
     }
 
@@ -155,6 +159,7 @@ impl Rank {
             recvs,
             asked_box: _,
             roomy: _,
+            again: _,
         } = self;
         (state, trace, sends, recvs)
     }

@@ -1,6 +1,6 @@
 //! What a turn does to a rank.
 
-ghost use Rattle.std.specs.Prelude.{◌≡◌, ◌<◌, ◌+◌, ◌^◌, ◌++◌, ◌∷◌, [], List, length, vec_len, IfErr, IfOk, Ok};
+ghost use Rattle.std.specs.Prelude.{◌≡◌, ◌<◌, ◌+◌, ◌^◌, ◌++◌, ◌∷◌, [], List, length, vec_len, IfErr, IfOk, IfSome, Ok};
 ghost use Rattle.std.specs.Prelude.{IsTrue, IsFalse, None, Some, slice_get, false, true};
 ghost use Rattle.rv_hart.specs.State.{State};
 ghost use Rattle.rv_hart.specs.Stepped.{stepped};
@@ -16,11 +16,12 @@ ghost use Rattle.cl_state.specs.Asked.{asked, is_ecall as is_ecall_of};
 ghost use Rattle.cl_state.specs.Room.{rank_of};
 ghost use Rattle.cl_state.specs.Told.{told};
 ghost use Rattle.cl_rank.specs.Follows.{named_link as named_link_in, started_link};
+ghost use Rattle.cl_rank.specs.Roomy.{IsAgain};
 ghost use Rattle.cl_rank.specs.Tidings.{HasLooked, TakeTells, TestTells};
 ghost use Rattle.cl_rank.specs.Turns.{AllStopped, IsActive};
 ghost use Rattle.cl_rank.specs.Turning.{StopHolds};
 ghost use Rattle.cl_rank.specs.Turns.{all_stopped as all_stopped_of, is_stopped as is_stopped_of};
-ghost use Rattle.cl_rank.specs.Views.{AsksNobody, HasTurn, IsHubTurn, IsOver, IsQuietTurn, MayTurn, MayWait, TurnEnds};
+ghost use Rattle.cl_rank.specs.Views.{AsksNobody, HasTurn, IsHubTurn, IsOver, IsQuietTurn, MayTurn, MayWait, Stays, TurnEnds};
 ghost use Rattle.cl_trace.specs.declared.events.Kind.TheVariants.{Hub};
 ghost use Rattle.cl_trace.specs.Rising.{last_stamp};
 
@@ -32,10 +33,10 @@ use cl_calls::Call;
 use cl_state::{Answer, Ask, Doing, RankState};
 use cl_trace::{Event, Kind, Trace};
 use mp_request::{OpenRequest, Requests, Transfer};
-use mp_types::{Reply, Request, Stamp};
+use mp_types::{Posts, Reply, Request, Stamp};
 use part_channel::{Channel, Progress, Take};
 use part_phase::{Contents, box_words};
-use rv_hart::{Did, Hart, Mode, step};
+use rv_hart::{Did, Hart, Mode, Wait, step};
 use rv_image::ImageVersion;
 use rv_memory::RankMemory;
 
@@ -257,6 +258,7 @@ impl Rank {
     /// A turn of any kind, of a rank that has a turn left and room for its event. A poll that was just in vain is made again
     /// before anything is laid out for turns of other kinds.
     #[inline(never)]
+    #[tactic(auto, using(crate::proofs::Stayed::polls_stay))]
     pub(crate) fn other_turn<R, D: Desk<R>>(
         &mut self,
         rt: &R,
@@ -270,6 +272,9 @@ impl Rank {
     {
         if self.roomy == Some(hart) && !all_stopped(&self.state) {
             if let Some(request) = self.state.poll(hart) {
+                return self.poll_again(rt, desk, hart, request);
+            }
+            if let Some(request) = self.known(hart) {
                 return self.poll_again(rt, desk, hart, request);
             }
         }
@@ -293,6 +298,7 @@ impl Rank {
             return Err(Stop::AllEnded);
         }
         self.roomy = None;
+        self.again = None;
         let doing = self.state.next(hart);
         let known = self.trace.posts_of(hart);
         let Ok(ask) = self.state.ask_again(hart, &doing, known) else {
@@ -372,15 +378,73 @@ impl Rank {
         requires may { MayTurn self.old turn }
         requires asked { asked (rank_of self.old.state) turn.hart ≡ ask.Hub request }
         requires active { ¬ (AllStopped (rank_of self.old.state)) }
+        requires fresh { self.old.again ≡ None }
         ensures { (channels : List ChannelView) → IsOver self.old channels
             → TurnEnds D.gives turn.hart channels self.old desk.old result self.new desk.new }
     {
         let (request, reply, stamp) = self.ask_hub(rt, desk, turn.hart, request)?;
         match (reply, turn.doing) {
             (Reply::NotYet, Doing::Poll(..)) => self.wait_on(turn.hart, request, stamp),
+            (Reply::NotYet, _) => self.put_off(turn, request, stamp),
             (reply, _) => self.tell_reply(turn, request, reply, stamp),
         }
         Ok(())
+    }
+
+    /// What a hart asks that makes a call anew, where the posts are known for which it asks.
+    fn known(&self, hart: u8) -> Option<Request>
+        requires { IsAgain self.now.state hart self.now.again }
+        ensures { IfSome result (λ request. Stays self.now.state hart request) }
+    {
+        match &self.again {
+            None => None,
+            Some(posts) => match posts.try_copy(self.alloc) {
+                Ok(posts) => Some(Request::All { posts }),
+                Err(_) => None,
+            },
+        }
+    }
+
+    /// The posts for which a call asks that waits for several requests, where the hart made it before and waits.
+    fn awaited(&self, turn: &Turn, request: &Request) -> Option<Posts>
+        requires may { MayTurn self.now turn.now }
+        requires asked { asked (rank_of self.now.state) turn.now.hart ≡ ask.Hub request.now }
+        ensures { IsAgain self.now.state turn.now.hart result }
+    {
+        let Doing::Go(call) = turn.doing else {
+            return None;
+        };
+        let Call::Waitall(_) = call else {
+            return None;
+        };
+        let Mode::Waiting(Wait::Again) = self.state.harts[turn.hart as usize].mode() else {
+            return None;
+        };
+        match request {
+            Request::All { posts } => match posts.try_copy(self.alloc) {
+                Ok(posts) => Some(posts),
+                Err(_) => None,
+            },
+            _ => None,
+        }
+    }
+
+    /// Tells the rank that nothing is there yet of what a call asked for. Where the call was made before, and waits for
+    /// several requests, only the clock moves, and it is known what the hart asks next.
+    fn put_off(&mut self, turn: Turn, request: Request, stamp: Stamp)
+        requires may { MayTurn self.old turn }
+        requires asked { asked (rank_of self.old.state) turn.hart ≡ ask.Hub request }
+        requires stamp { (self.old.state.clock < stamp) × (stamp < 2 ^ 62) }
+        ensures { IsHubTurn turn.hart request NotYet stamp self.old self.new }
+    {
+        match self.awaited(&turn, &request) {
+            None => self.tell_reply(turn, request, Reply::NotYet, stamp),
+            Some(posts) => {
+                self.roomy = None;
+                self.again = Some(posts);
+                self.wait_on(turn.hart, request, stamp);
+            }
+        }
     }
 
     /// Polls a post anew, of which the last turn was told that nothing is there yet. Only the desk's answer counts: what
@@ -393,6 +457,7 @@ impl Rank {
         request: Request,
     ) -> Result<(), Stop>
         requires may { MayWait self.old hart request }
+        requires again { IsAgain self.old.state hart self.old.again }
         requires active { ¬ (AllStopped (rank_of self.old.state)) }
         ensures { (channels : List ChannelView) → IsOver self.old channels
             → TurnEnds D.gives hart channels self.old desk.old result self.new desk.new }
@@ -411,6 +476,7 @@ impl Rank {
     /// made for the turn is there still.
     fn wait_on(&mut self, hart: u8, request: Request, stamp: Stamp)
         requires may { MayWait self.old hart request }
+        requires again { IsAgain self.old.state hart self.old.again }
         requires stamp { (self.old.state.clock < stamp) × (stamp < 2 ^ 62) }
         ensures { IsHubTurn hart request NotYet stamp self.old self.new }
     {

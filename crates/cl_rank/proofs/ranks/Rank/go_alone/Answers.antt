@@ -14,8 +14,8 @@ pub invariant_of-self : goal.invariant_of-self
 invariant_of-self c =
     let went = went_alone c.args.self.now c.args.turn c.tell_next.new.self c.requires.may c.requires.asked
     c.tell_next.ensures.told c.started-link.ensures c.begin.ensures.sends c.begin.ensures.recvs in
-    keeps went c.note.new.roomy _ c.requires.may.has.left (ap (λ (e : Event). e.stamp) c.uncalled-noted.ensures.event)
-    c.note.ensures.event (no_room c.tell_next.new.self (c.note.ensures.waits ∙ c.uncalled-noted.ensures.waits))
+    keeps went c.note.new.roomy c.args.self.now.again _ c.requires.may.has.left (ap (λ (e : Event). e.stamp) c.uncalled-noted.ensures.event)
+    c.note.ensures.event (no_room c.tell_next.new.self c.args.self.now.again (c.note.ensures.waits ∙ c.uncalled-noted.ensures.waits))
 
 pub returns : goal.returns
 returns c =

@@ -31,8 +31,8 @@ invariant_of-self c =
     let went = went_ready c.args.self.now c.args.turn c.requires.own c.requires.asked
     (ap (λ (p : SendPhase). p.size) c.sending-size.ensures.phase) c.as_slice.ensures c.tell_next.new.self c.requires.may
     c.make_ready-stamp.ensures.stamp c.tell_next.ensures.told c.make_ready-stamp.ensures.made in
-    keeps went c.note.new.roomy _ c.requires.may.has.left (ap (λ (e : Event). e.stamp) c.uncalled-noted.ensures.event)
-    c.note.ensures.event (no_room c.tell_next.new.self (c.note.ensures.waits ∙ c.uncalled-noted.ensures.waits))
+    keeps went c.note.new.roomy c.args.self.now.again _ c.requires.may.has.left (ap (λ (e : Event). e.stamp) c.uncalled-noted.ensures.event)
+    c.note.ensures.event (no_room c.tell_next.new.self c.args.self.now.again (c.note.ensures.waits ∙ c.uncalled-noted.ensures.waits))
 
 pub returns : goal.returns
 returns c =

@@ -21,9 +21,9 @@ invariant_of-self c =
     c.tell_next.ensures.told c.named_link-link.ensures c.requires.may.has.there c.requires.stamp
     c.sending-sending.ensures.phase c.sending.ensures.phase c.receiving-receiving.ensures.phase
     c.receiving.ensures.phase c.follow_sender.ensures c.follow_receiver.ensures in
-    keeps went c.note.new.roomy _ c.requires.may.has.left (ap (λ (e : Event). e.stamp) c.called-noted.ensures.event)
+    keeps went c.note.new.roomy c.args.self.now.again _ c.requires.may.has.left (ap (λ (e : Event). e.stamp) c.called-noted.ensures.event)
     c.note.ensures.event
-    (no_room c.tell_next.new.self (c.note.ensures.waits ∙ c.called-noted.ensures.waits))
+    (no_room c.tell_next.new.self c.args.self.now.again (c.note.ensures.waits ∙ c.called-noted.ensures.waits))
 
 pub returns : goal.returns
 returns c =

@@ -22,8 +22,8 @@ invariant_of-self c =
     let turn = test_turn c.args.self.now c.args.turn c.requires.own c.requires.asked c.test-progress.ensures.tested
     c.tell_next.new.self c.told_of_test-answer.result c.told_of_test-answer.ensures c.tell_next.ensures.told in
     let went = went_box turn c.requires.may c.tell_next.ensures.told in
-    keeps went c.note.new.roomy _ c.requires.may.has.left (ap (λ (e : Event). e.stamp) c.uncalled-noted.ensures.event)
-    c.note.ensures.event (no_room c.tell_next.new.self (c.note.ensures.waits ∙ c.uncalled-noted.ensures.waits))
+    keeps went c.note.new.roomy c.args.self.now.again _ c.requires.may.has.left (ap (λ (e : Event). e.stamp) c.uncalled-noted.ensures.event)
+    c.note.ensures.event (no_room c.tell_next.new.self c.args.self.now.again (c.note.ensures.waits ∙ c.uncalled-noted.ensures.waits))
 
 pub returns : goal.returns
 returns c =

@@ -22,7 +22,7 @@ invariant_of-self-then-step_plain g c =
     keeps
     (went_plain c.args.self.now c.args.hart c.step_plain.new.state c.requires.hart
     (omega (arith, c.if-self-ge-CLOCK_MAX.false)) (stepped.asked c.if-step_plain.true) (stepped.told c.if-step_plain.true))
-    None _ (omega (arith, c.len.ensures, c.if-len-self.false)) refl noted tt
+    None c.args.self.now.again _ (omega (arith, c.len.ensures, c.if-len-self.false)) refl noted tt
 
 pub returns-then-step_plain : goal.returns-then-step_plain
 returns-then-step_plain g c =
