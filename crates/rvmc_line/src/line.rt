@@ -75,6 +75,17 @@ pub enum ImageCommand {
         order: Option<Numbers>,
         written: Written,
     },
+    /// All ends are told, over all orders of the ranks' turns, of at most `states` states (1 to 16,777,216), where a rank
+    /// takes at most `turns` turns (1 to 16,777,216) alone between two meetings; with `record` the record of the end of
+    /// this number (1 to 18,446,744,073,709,551,615) is written, in place of the text. The harts of a rank take turns in
+    /// the order of `plan`, round and round; without it all take turns in order. Whether a hart or such an end is there is
+    /// not known here.
+    Explore {
+        plan: Option<Numbers>,
+        states: u64,
+        turns: u64,
+        record: Option<u64>,
+    },
 }
 
 /// What is done with the image and the steps of a record.
