@@ -10,7 +10,8 @@ use Rattle.rvmc_words.specs.Debug.{debug_words_in}
 use Rattle.rvmc_line.specs.declared.line.CommandLine.{CommandLine}
 use Rattle.rvmc_line.specs.declared.line.CommandLine.TheVariants.{OfImage, OfRecord, Session}
 use Rattle.rvmc_line.specs.declared.line.ImageCommand.{ImageCommand}
-use Rattle.rvmc_line.specs.declared.line.ImageCommand.TheVariants.{Asm, Dis, One, OneUntilStuck, Run, RunUntilStuck}
+use Rattle.rvmc_line.specs.declared.line.ImageCommand.TheVariants.{Asm, Dis, Explore, One, OneUntilStuck, Run}
+use Rattle.rvmc_line.specs.declared.line.ImageCommand.TheVariants.{RunUntilStuck}
 use Rattle.rvmc_line.specs.declared.line.RecordCommand.TheVariants.{Check, Debug, Draw, List as ListSteps, Page, Report}
 use Rattle.rvmc_line.specs.declared.line.RecordCommand.TheVariants.{Stats, Why}
 use Rattle.rvmc_line.specs.declared.line.RecordCommand.{RecordCommand}
@@ -96,6 +97,31 @@ one_row =
           option_and_then (λ budget. option_and_then (λ written. option_and_then (λ plan. option_map (λ order.
           OfImage (flag_in (codes "source") rows) (one_by (flag_in (codes "until-stuck") rows) budget plan order written))
           (list_option (codes "order") rows)) (list_option (codes "plan") rows)) (written_in rows)) (budget_in rows);
+    }
+
+-- `--states N`, from 1 to 2^24; without it 1,000,000
+abbrev pub states_in : List Row → Option ℕ
+states_in rows = number_option (codes "states") 1 16777216 1000000 rows
+
+-- `--turns N`, from 1 to 2^24; without it 1,000,000
+abbrev pub turns_alone_in : List Row → Option ℕ
+turns_alone_in rows = number_option (codes "turns") 1 16777216 1000000 rows
+
+-- `--record K`, which has a number here: that of an end, from 1 and below 2^64
+abbrev pub end_in : List Row → Option (Option ℕ)
+end_in rows = optional_number (codes "record") 1 18446744073709551615 rows
+
+-- `explore [--source] [--plan HARTS] [--states N] [--turns N] [--record K]`
+abbrev pub explore_row : CommandRow
+explore_row =
+    record {
+      name = codes "explore";
+      rules = flag (codes "source") ∷ option (codes "plan") ∷ option (codes "states") ∷ option (codes "turns")
+          ∷ option (codes "record") ∷ [];
+      meaning = λ rows.
+          option_and_then (λ states. option_and_then (λ turns. option_and_then (λ end. option_map (λ plan.
+          OfImage (flag_in (codes "source") rows) (Explore plan states turns end))
+          (list_option (codes "plan") rows)) (end_in rows)) (turns_alone_in rows)) (states_in rows);
     }
 
 -- ---- commands of a record
@@ -204,7 +230,7 @@ why_row =
 -- in the order in which help lists them
 abbrev pub commands : List CommandRow
 commands = asm_row ∷ dis_row ∷ run_row ∷ one_row ∷ check_row ∷ report_row ∷ list_row ∷ draw_row ∷ page_row ∷ debug_row
-    ∷ gdb_row ∷ why_row ∷ []
+    ∷ gdb_row ∷ why_row ∷ explore_row ∷ []
 
 -- what clap reads of a command
 abbrev pub app_of : CommandRow → App

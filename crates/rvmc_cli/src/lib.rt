@@ -9,6 +9,7 @@ mod check;
 mod debug;
 mod dis;
 mod draw;
+mod explore;
 mod gdb;
 mod list;
 mod one;

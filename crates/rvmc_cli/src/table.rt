@@ -11,7 +11,7 @@ ghost use Rattle.rvmc_cli.specs.Parsing.{Finds};
 
 use crate::parts::command as new_command;
 use crate::wrong::Wrong;
-use crate::{asm, check, debug, dis, draw, gdb, list, one, page, report, run, why};
+use crate::{asm, check, debug, dis, draw, explore, gdb, list, one, page, report, run, why};
 use clap::{ArgMatches, Command};
 use rvmc_line::CommandLine;
 use std::alloc::{AllocError, Global};
@@ -20,7 +20,7 @@ use std::alloc::{AllocError, Global};
 /// module that builds and reads it too.
 macro_rules! commands {
     ($made:ident($($given:tt)*)) => {
-        $made!($($given)*; asm, dis, run, one, check, report, list, draw, page, debug, gdb, why)
+        $made!($($given)*; asm, dis, run, one, check, report, list, draw, page, debug, gdb, why, explore)
     };
 }
 
@@ -72,6 +72,7 @@ Examples:
                               shows the registers after two steps
   rvmc one --source --why <hi.s
                               tells behind the report what each hart waits for
+  rvmc explore <hi.image      tells all ends that some order of turns leads to
 
 Status:
   0 done, 1 fault of the input, 2 fault of the command line, 3 a hart trapped,
