@@ -11,6 +11,7 @@ pub mod SpelledSteps
 pub mod SpelledWhole
 pub mod Gots
 pub mod Loop
+pub mod Blocks
 pub mod OrderFollows
 pub mod OrderSteps
 pub mod Order
