@@ -25,10 +25,17 @@ pub enum Front<'a> {
     Piece(Token<'a>, usize),
 }
 
+/// For each byte that may stand in names itself, and for each other one `-`.
+static NAME_BYTES: [u8; 256] = *b"------------------------------------$---------.-0123456789------\
+    -ABCDEFGHIJKLMNOPQRSTUVWXYZ----_-abcdefghijklmnopqrstuvwxyz-----\
+    ----------------------------------------------------------------\
+    ----------------------------------------------------------------";
+
+#[inline(always)]
 fn may_stand_in_name(b: u8) -> bool
     ensures { result ≡ is_name_byte b }
 {
-    matches!(b, b'a'..=b'z' | b'A'..=b'Z' | b'0'..=b'9' | b'_' | b'.' | b'$')
+    NAME_BYTES[usize::from(b)] != b'-'
 }
 
 fn length_of_word(bytes: &[u8]) -> usize
