@@ -9,6 +9,7 @@ mod filled;
 pub mod laws;
 mod limited;
 mod mnemonics;
+mod names;
 mod operand_list;
 mod registers;
 mod rows;

@@ -1,21 +1,25 @@
 //! An instruction by its mnemonic and operands.
 
-ghost use Rattle.std.specs.Prelude.{◌≡◌, map, is_some, IsTrue, Err};
+ghost use Rattle.std.specs.Prelude.{◌≡◌, List, map, is_some, IsTrue, Err};
 ghost use Rattle.rv_asm_tokens.specs.declared.fault.AsmFaultKind.TheVariants as kinds;
 ghost use Rattle.rv_asm_tokens.specs.Returned.{Gives};
 ghost use Rattle.std.specs.Option.{option_map};
 ghost use Rattle.rv_asm_statements.specs.CodeViews.{argument_view};
 ghost use Rattle.rv_asm_statements.specs.Walk.{first_given};
 ghost use Rattle.rv_asm_statements.specs.RowView.{row_view};
-ghost use Rattle.rv_asm_statements.specs.Rows.{rows};
+ghost use Rattle.rv_asm_statements.specs.Arguments.{Argument};
 ghost use Rattle.rv_asm_statements.specs.Read.{read_use};
 ghost use Rattle.rv_asm_statements.specs.Mnemonics.{row_use, row_named, instruction_of, use_of as use_meant};
 ghost use Rattle.rv_asm_statements.specs.Kept.{has_label};
 ghost use Rattle.rv_asm_statements.specs.Mnemonics.{is_mnemonic as is_mnemonic_meant};
 
 use crate::filled::{Filled, FilledRef};
+use crate::names::is_same_name;
 use crate::operand_list::{Operand, Operands};
-use crate::rows::{ROWS, Row, Template};
+use crate::rows::{
+    A_ROWS, B_ROWS, D_ROWS, E_ROWS, F_ROWS, J_ROWS, L_ROWS, M_ROWS, N_ROWS, O_ROWS, R_ROWS, Row,
+    S_ROWS, SL_ROWS, SR_ROWS, Template, X_ROWS,
+};
 use crate::shapes::filled_for;
 use rv_asm_tokens::AsmFaultKind;
 use std::alloc::Global;
@@ -39,7 +43,7 @@ pub struct UseRef<'a> {
 fn use_of_row<'a>(name: &[u8], operands: &[Operand<'a>], row: &Row) -> Option<UseRef<'a>>
     ensures { option_map read_use result ≡ row_use name.now (map argument_view operands.now) (row_view row.now) }
 {
-    if row.name == name {
+    if is_same_name(row.name, name) {
         match filled_for(row.shape, operands) {
             None => None,
             Some(filled) => Some(UseRef {
@@ -68,18 +72,38 @@ fn has_row(table: &[Row], name: &[u8]) -> bool
     ensures { result ≡ is_some (first_given (row_named name.now) (map row_view table.now)) }
 {
     for row in table {
-        if row.name == name {
+        if is_same_name(row.name, name) {
             return true;
         }
     }
     false
 }
 
-/// The table of rows.
-fn table() -> &'static [Row]
-    ensures { map row_view result.now ≡ rows }
+/// The rows of the names that begin as a name does. No other row has the name.
+#[tactic(auto, unfolding(crate::specs::Mnemonics::row_use))]
+fn rows_like(name: &[u8]) -> &'static [Row]
+    ensures uses { (xs : List Argument)
+        → first_given (row_use name.now xs) (map row_view result.now) ≡ use_meant name.now xs }
+    ensures named { is_some (first_given (row_named name.now) (map row_view result.now)) ≡ is_mnemonic_meant name.now }
 {
-    &ROWS
+    match name {
+        [b'a', ..] => &A_ROWS,
+        [b'b', ..] => &B_ROWS,
+        [b'd', ..] => &D_ROWS,
+        [b'e', ..] => &E_ROWS,
+        [b'f', ..] => &F_ROWS,
+        [b'j', ..] => &J_ROWS,
+        [b'l', ..] => &L_ROWS,
+        [b'm', ..] => &M_ROWS,
+        [b'n', ..] => &N_ROWS,
+        [b'o', ..] => &O_ROWS,
+        [b'r', ..] => &R_ROWS,
+        [b's', b'l', ..] => &SL_ROWS,
+        [b's', b'r', ..] => &SR_ROWS,
+        [b's', ..] => &S_ROWS,
+        [b'x', ..] => &X_ROWS,
+        _ => &[],
+    }
 }
 
 /// What the first row that takes the operands makes of them. No row takes more than three.
@@ -87,27 +111,28 @@ fn table() -> &'static [Row]
 fn use_of<'a>(name: &[u8], operands: &Operands<'a>) -> Option<UseRef<'a>>
     ensures { option_map read_use result ≡ use_meant name.now operands.now }
 {
+    let rows = rows_like(name);
     let mut rest = operands.again();
     let Some(first) = rest.next() else {
-        return use_in(table(), name, &[]);
+        return use_in(rows, name, &[]);
     };
     let Some(second) = rest.next() else {
-        return use_in(table(), name, &[first]);
+        return use_in(rows, name, &[first]);
     };
     let Some(third) = rest.next() else {
-        return use_in(table(), name, &[first, second]);
+        return use_in(rows, name, &[first, second]);
     };
     if rest.next().is_some() {
         return None;
     }
-    use_in(table(), name, &[first, second, third])
+    use_in(rows, name, &[first, second, third])
 }
 
 /// Whether a row has the name.
 fn is_mnemonic(name: &[u8]) -> bool
     ensures { result ≡ is_mnemonic_meant name.now }
 {
-    has_row(table(), name)
+    has_row(rows_like(name), name)
 }
 
 /// The instruction of a mnemonic and its operands, which are None where no operands stand there.

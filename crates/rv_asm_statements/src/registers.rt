@@ -1,10 +1,11 @@
 //! The names of the integer registers.
 
-ghost use Rattle.std.specs.Prelude.{◌≡◌, map};
+ghost use Rattle.std.specs.Prelude.{◌≡◌, map, IfSome, Some};
 ghost use Rattle.rv_asm_statements.specs.Registers.{register_named};
 ghost use Rattle.rv_asm_statements.specs.CodeViews.{register_view};
 ghost use Rattle.rv_asm_statements.specs.Walk.{beside, first_given};
 
+use crate::names::is_same_name;
 use rv_decode::Reg;
 
 /// A name of a register, and its number.
@@ -20,8 +21,9 @@ macro_rules! registers {
     };
 }
 
-// x0 to x31, and the names of the calling convention
-static REGISTERS: [RegisterName; 65] = registers! {
+// The names by their first letters: x0 to x31, and those of the calling convention.
+
+static X_NAMES: [RegisterName; 32] = registers! {
     b"x0" 0;
     b"x1" 1;
     b"x2" 2;
@@ -54,17 +56,9 @@ static REGISTERS: [RegisterName; 65] = registers! {
     b"x29" 29;
     b"x30" 30;
     b"x31" 31;
-    b"zero" 0;
-    b"ra" 1;
-    b"sp" 2;
-    b"gp" 3;
-    b"tp" 4;
-    b"t0" 5;
-    b"t1" 6;
-    b"t2" 7;
-    b"s0" 8;
-    b"fp" 8;
-    b"s1" 9;
+};
+
+static A_NAMES: [RegisterName; 8] = registers! {
     b"a0" 10;
     b"a1" 11;
     b"a2" 12;
@@ -73,6 +67,12 @@ static REGISTERS: [RegisterName; 65] = registers! {
     b"a5" 15;
     b"a6" 16;
     b"a7" 17;
+};
+
+static S_NAMES: [RegisterName; 13] = registers! {
+    b"sp" 2;
+    b"s0" 8;
+    b"s1" 9;
     b"s2" 18;
     b"s3" 19;
     b"s4" 20;
@@ -83,27 +83,72 @@ static REGISTERS: [RegisterName; 65] = registers! {
     b"s9" 25;
     b"s10" 26;
     b"s11" 27;
+};
+
+static T_NAMES: [RegisterName; 8] = registers! {
+    b"tp" 4;
+    b"t0" 5;
+    b"t1" 6;
+    b"t2" 7;
     b"t3" 28;
     b"t4" 29;
     b"t5" 30;
     b"t6" 31;
 };
 
+static OTHER_NAMES: [RegisterName; 4] = registers! {
+    b"zero" 0;
+    b"ra" 1;
+    b"gp" 3;
+    b"fp" 8;
+};
+
+/// The names that begin as a name does. No other register has the name.
+fn names_like(name: &[u8]) -> &'static [RegisterName]
+    ensures { first_given (beside name.now) (map register_view result.now) ≡ register_named name.now }
+{
+    match name {
+        [b'x', ..] => &X_NAMES,
+        [b'a', ..] => &A_NAMES,
+        [b's', ..] => &S_NAMES,
+        [b't', ..] => &T_NAMES,
+        _ => &OTHER_NAMES,
+    }
+}
+
 fn number_in(table: &[RegisterName], name: &[u8]) -> Option<u8>
     ensures { result ≡ first_given (beside name.now) (map register_view table.now) }
 {
     for row in table {
-        if row.name == name {
+        if is_same_name(row.name, name) {
             return Some(row.number);
         }
     }
     None
 }
 
+/// The number in a name from `x0` to `x29`, which most sources use.
+#[inline(always)]
+#[tactic(auto, using(crate::proofs::RegisterNumbers::one_digit, crate::proofs::RegisterNumbers::two_digits))]
+fn number_behind_x(name: &[u8]) -> Option<u8>
+    ensures { IfSome result (λ number. register_named name.now ≡ Some number) }
+{
+    match name {
+        [b'x', ones @ b'0'..=b'9'] => Some(*ones - b'0'),
+        [b'x', tens @ b'1'..=b'2', ones @ b'0'..=b'9'] => {
+            Some((*tens - b'0') * 10 + (*ones - b'0'))
+        }
+        _ => None,
+    }
+}
+
 fn number_of(name: &[u8]) -> Option<u8>
     ensures { result ≡ register_named name.now }
 {
-    number_in(&REGISTERS, name)
+    match number_behind_x(name) {
+        Some(number) => Some(number),
+        None => number_in(names_like(name), name),
+    }
 }
 
 /// The register of a name: `x0` to `x31`, or `zero`, `ra`, `sp`, `gp`, `tp`, `t0` to `t6`, `s0` to `s11`, `fp`, `a0` to
