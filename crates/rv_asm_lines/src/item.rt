@@ -1,16 +1,20 @@
 //! What stands where, as the first pass keeps it.
 
-ghost use Rattle.std.specs.Prelude.{◌≡◌, IfOk};
+ghost use Rattle.std.specs.Prelude.{◌≡◌, IfOk, IfSome};
+ghost use Rattle.rv_asm_tokens.specs.Lexeme.{number_value};
 ghost use Rattle.rv_asm_lines.specs.Layout.{item_at};
-ghost use Rattle.rv_asm_statements.specs.declared.statements.Statement.TheVariants.{Label};
+ghost use Rattle.rv_asm_lines.specs.ItemView.{unlabelled};
+ghost use Rattle.rv_asm_statements.specs.declared.statements.Statement.TheVariants.{Instruction, Label};
 
 use crate::parts::{Part, Place};
-use rv_asm_statements::{Directive, Statement};
+use rv_asm_statements::{Directive, Filled, Integer, Statement, Target, Template, Use};
+use rv_asm_tokens::Number;
+use rv_decode::Reg;
 use std::alloc::{AllocError, Global};
 use std::marker::Model;
 
 /// A label or a statement, its line, and where it stands: contracts see these three. It takes 32 bytes, since a label's
-/// name is that in the source, and statements have blocks of their own.
+/// name is that in the source, and directives and what names a label have blocks of their own.
 #[derive(Drop)]
 pub struct Item<'a> {
     pub(crate) kept: Kept<'a>,
@@ -21,10 +25,47 @@ pub struct Item<'a> {
 pub(crate) enum Kept<'a> {
     Label(Part, u32, u64, &'a [u8]),
     Directive(Part, u32, u64, Box<Directive>),
+    /// An instruction that names no label stands in the item itself. The fields are in the order that leaves no gaps.
+    Plain {
+        part: Part,
+        template: Template,
+        at: u32,
+        first: Reg,
+        second: Reg,
+        third: Reg,
+        negative: bool,
+        line: u64,
+        magnitude: u64,
+    },
     Other(Part, u32, u64, Box<Statement>),
 }
 
 const _: () = prove!(size_of::<Item<'static>>() == 32);
+
+/// An instruction that names no label.
+#[inline(always)]
+pub(crate) fn plain_use(
+    template: Template,
+    first: Reg,
+    second: Reg,
+    third: Reg,
+    number: Number,
+) -> Use
+    ensures { result ≡ unlabelled template first second third (number_value number) }
+{
+    Use {
+        template,
+        filled: Filled {
+            first,
+            second,
+            third,
+            target: Target {
+                label: None,
+                number: Integer::from_number(number),
+            },
+        },
+    }
+}
 
 impl<'a> Model for Item<'a> {
     ghost use Rattle.rv_asm_lines.specs.Item.{Item};
@@ -46,7 +87,43 @@ impl<'a> Item<'a> {
         }
     }
 
-    /// A statement, in a block of its own.
+    /// An instruction in the item itself, unless it names a label.
+    fn plain(line: u64, place: Place, found: &Use) -> Option<Item<'a>>
+        ensures { IfSome result (λ item. item ≡ item_at line place (Instruction found.now)) }
+    {
+        if found.filled.target.label.is_some() {
+            return None;
+        }
+        let number = found.filled.target.number.number();
+        Some(Item {
+            kept: Kept::Plain {
+                part: place.part,
+                template: found.template,
+                at: place.at,
+                first: found.filled.first,
+                second: found.filled.second,
+                third: found.filled.third,
+                negative: number.negative,
+                line,
+                magnitude: number.magnitude,
+            },
+        })
+    }
+
+    /// An instruction, in a block of its own where it names a label.
+    fn used(alloc: Global, line: u64, place: Place, found: Use) -> Result<Item<'a>, AllocError>
+        ensures { IfOk result (λ item. item ≡ item_at line place (Instruction found)) }
+    {
+        if let Some(item) = Item::plain(line, place, &found) {
+            return Ok(item);
+        }
+        let stated = Box::new(alloc, Statement::Instruction(found))?;
+        Ok(Item {
+            kept: Kept::Other(place.part, place.at, line, stated),
+        })
+    }
+
+    /// A statement, in a block of its own unless it is an instruction that names no label.
     pub fn stated(
         alloc: Global,
         line: u64,
@@ -56,6 +133,7 @@ impl<'a> Item<'a> {
         ensures { IfOk result (λ item. item ≡ item_at line place statement) }
     {
         let kept = match statement {
+            Statement::Instruction(found) => return Item::used(alloc, line, place, found),
             Statement::Directive(directive) => {
                 Kept::Directive(place.part, place.at, line, Box::new(alloc, directive)?)
             }
@@ -70,6 +148,7 @@ impl<'a> Item<'a> {
     {
         match &self.kept {
             Kept::Label(_, _, line, _) => *line,
+            Kept::Plain { line, .. } => *line,
             Kept::Directive(_, _, line, _) => *line,
             Kept::Other(_, _, line, _) => *line,
         }
@@ -81,6 +160,7 @@ impl<'a> Item<'a> {
     {
         let (part, at) = match &self.kept {
             Kept::Label(part, at, _, _) => (*part, *at),
+            Kept::Plain { part, at, .. } => (*part, *at),
             Kept::Directive(part, at, _, _) => (*part, *at),
             Kept::Other(part, at, _, _) => (*part, *at),
         };

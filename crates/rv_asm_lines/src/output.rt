@@ -11,12 +11,12 @@ use crate::cluster::{link_of, members_of};
 use crate::data::put_directive;
 use crate::encoded::put_use;
 use crate::fields::ranks_of;
-use crate::item::{Item, Kept};
+use crate::item::{Item, Kept, plain_use};
 use crate::labels::find_label;
 use crate::layout::Layout;
 use crate::parts::{Part, Place, address_of};
 use rv_asm_statements::{Directive, Statement};
-use rv_asm_tokens::AsmFaultKind;
+use rv_asm_tokens::{AsmFaultKind, Number};
 use rv_image::{Link, Members};
 use std::alloc::Global;
 
@@ -146,6 +146,23 @@ pub fn take_item(
         Kept::Label(_, _, _, name) => take_label(layout, name, item.place(), output),
         Kept::Directive(_, _, _, directive) => {
             take_directive(alloc, layout, item.place(), directive, output)
+        }
+        Kept::Plain {
+            template,
+            at,
+            first,
+            second,
+            third,
+            negative,
+            magnitude,
+            ..
+        } => {
+            let number = Number {
+                negative: *negative,
+                magnitude: *magnitude,
+            };
+            let found = plain_use(*template, *first, *second, *third, number);
+            put_use(layout, u64::from(*at), &found, &mut output.text)
         }
         Kept::Other(_, _, _, statement) => {
             take_statement(alloc, layout, item.place(), statement, output)

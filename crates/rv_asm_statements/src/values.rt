@@ -63,6 +63,13 @@ impl Integer {
         Integer { number }
     }
 
+    /// The integer as a number in the source.
+    pub fn number(&self) -> Number
+        ensures { number_value result ≡ self.now }
+    {
+        self.number
+    }
+
     /// The integer as a machine number.
     pub fn value(&self) -> i128
         ensures value { result ≡ self.now }
