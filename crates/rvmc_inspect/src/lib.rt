@@ -24,7 +24,7 @@ pub use calls::call_name;
 pub use finding::waits;
 pub use frames::{Frame, frame_above, own_frame};
 pub use harts::put_harts;
-pub use places::nearest;
+pub use places::{nearest, put_place};
 pub use telling::why;
 pub use unreceived::put_unreceived;
 pub use word_texts::{bytes_text, place_text, regs_text};

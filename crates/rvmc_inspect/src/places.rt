@@ -59,7 +59,7 @@ fn put_name(alloc: Global, text: &mut Vec<u8>, symbol: &Symbol, at: u64) -> Resu
 
 /// Adds an address and the symbol nearest before it, as `0x1c (go+0x4)`.
 #[tactic(auto, unfolding(crate::specs::Places::named_address_text))]
-pub(crate) fn put_place(
+pub fn put_place(
     alloc: Global,
     text: &mut Vec<u8>,
     symbols: &[Symbol],

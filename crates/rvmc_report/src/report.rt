@@ -92,7 +92,7 @@ pub fn put_output(
 }
 
 /// Adds the lines of a rank's harts.
-pub(crate) fn put_harts(
+pub fn put_harts(
     alloc: Global,
     report: &mut Vec<u8>,
     rank: usize,
