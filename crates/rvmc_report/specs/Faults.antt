@@ -9,7 +9,7 @@ use Rattle.rv_image.specs.declared.faults.ImageFault.{ImageFault}
 use Rattle.rv_image.specs.declared.faults.ImageFault.TheVariants as image
 use Rattle.rvmc_report.specs.declared.faults.Fault.{Fault}
 use Rattle.rvmc_report.specs.declared.faults.Fault.TheVariants.{Source, Image, Record, Plans, Unlike, Debug, Memory}
-use Rattle.rvmc_report.specs.declared.faults.Fault.TheVariants.{Draw, List as ListFaulty, Page, Report, Spawn, Read}
+use Rattle.rvmc_report.specs.declared.faults.Fault.TheVariants.{Draw, Explore, List as ListFaulty, Page, Report, Spawn, Read}
 use Rattle.rvmc_report.specs.declared.faults.Fault.TheVariants.{Why, Write}
 
 -- 1 for a fault of the input, 5 for memory or a thread, 6 for reads and writes
@@ -25,6 +25,7 @@ fault_status (Report n) = 1
 fault_status (ListFaulty fault) = 1
 fault_status (Draw fault) = 1
 fault_status (Page fault) = 1
+fault_status (Explore fault) = 1
 fault_status Memory = 5
 fault_status Spawn = 5
 fault_status Read = 6

@@ -55,6 +55,17 @@ pub enum DrawRefusal {
     TooMany(u64),
 }
 
+/// Why the ends of all orders aren't told.
+#[derive(Clone, Copy, Debug, Drop, Error)]
+pub enum ExploreRefusal {
+    /// There are fewer ends. Carries the number of the end whose record was asked for.
+    #[error("NoEnd {0}")]
+    NoEnd(u64),
+    /// A clock, or the count of a rank's turns, came to its end.
+    #[error("Clock")]
+    Clock,
+}
+
 /// Why there is no answer. It prints as the fault's line on standard error, behind `rvmc: `.
 #[derive(Clone, Copy, Debug, Drop, Error)]
 pub enum Fault {
@@ -92,6 +103,9 @@ pub enum Fault {
     /// Why there is no page of a record.
     #[error("page: {0}")]
     Page(DrawRefusal),
+    /// Why the ends of all orders aren't told.
+    #[error("explore: {0}")]
+    Explore(ExploreRefusal),
     /// Memory was refused.
     #[error("memory")]
     Memory,
@@ -123,7 +137,8 @@ impl Fault {
             | Fault::Report(_)
             | Fault::List(_)
             | Fault::Draw(_)
-            | Fault::Page(_) => 1,
+            | Fault::Page(_)
+            | Fault::Explore(_) => 1,
             Fault::Memory | Fault::Spawn => 5,
             Fault::Read | Fault::Write => 6,
         }
