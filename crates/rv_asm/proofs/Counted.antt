@@ -15,7 +15,7 @@ use Rattle.rv_asm_lines.specs.declared.fields.Fields.{Fields}
 use Rattle.rv_asm_lines.specs.Item.{Item}
 use Rattle.rv_asm_lines.specs.declared.parts.Part.{Part}
 use Rattle.rv_asm_lines.specs.declared.parts.Part.TheVariants.{Text, Data}
-use Rattle.rv_asm_lines.specs.Fields.{fields_after, fields_behind, once, one_more}
+use Rattle.rv_asm_lines.specs.Fields.{fields_after, fields_behind, once, counted_on}
 use Rattle.rv_asm_lines.specs.Layout.{Layout, added, at_end, item_at, next_place}
 use Rattle.rv_asm_lines.specs.Parts.{length_of, may_stand}
 use Rattle.rv_asm_lines.specs.Resolved.{use_length}
@@ -72,8 +72,8 @@ field_counts r f g set same h =
     let a = bind_ok r (λ x. ok (set x)) g h in
     subst (Counts 0 0 f) (ok_is (set a.value) g a.second) (same a.value)
 
-one_more-is : (most n m : ℕ) → one_more most n ≡ Ok m → (m ≡ n + 1) × (m ≤ most)
-one_more-is most n m h =
+counted_on-is : (most n m : ℕ) → counted_on most n ≡ Ok m → (m ≡ n + 1) × (m ≤ most)
+counted_on-is most n m h =
     let a = then_ok (nat_lt n most) kinds.Limit (Ok (n + 1)) m h in
     let e : n + 1 ≡ m = ok_is (n + 1) m a.1 in
     (sym e, omega (arith, ltb-true n most a.0, e))
@@ -87,12 +87,12 @@ directive_counts (directive.Entry w) f g h =
     let e = ok_is (record f { has_entry = true }) g (if_ok f.has_entry kinds.Directive (ok (record f { has_entry = true })) g h) in
     subst (Counts 0 0 f) e (same_counts f (record f { has_entry = true }) refl refl)
 directive_counts (directive.Comm zs) f g h =
-    let a = bind_ok (one_more 7 f.comms) (λ n. ok (record f { comms = n })) g h in
-    let b = one_more-is 7 f.comms a.value a.first in
+    let a = bind_ok (counted_on 7 f.comms) (λ n. ok (record f { comms = n })) g h in
+    let b = counted_on-is 7 f.comms a.value a.first in
     subst (Counts 1 0 f) (ok_is (record f { comms = a.value }) g a.second) (record { comms = b.0; few_comms = λ _. b.1; links = sym (add-zero f.links); few_links = λ x. x })
 directive_counts (directive.Link from to) f g h =
-    let a = bind_ok (one_more 32 f.links) (λ n. ok (record f { links = n })) g h in
-    let b = one_more-is 32 f.links a.value a.first in
+    let a = bind_ok (counted_on 32 f.links) (λ n. ok (record f { links = n })) g h in
+    let b = counted_on-is 32 f.links a.value a.first in
     subst (Counts 0 1 f) (ok_is (record f { links = a.value }) g a.second) (record { comms = sym (add-zero f.comms); few_comms = λ x. x; links = b.0; few_links = λ _. b.1 })
 directive_counts directive.Text f g h = kept_counts f g h
 directive_counts directive.Data f g h = kept_counts f g h

@@ -10,7 +10,7 @@ use Rattle.rv_asm_statements.specs.declared.statements.Statement.{Statement}
 use Rattle.rv_asm_statements.specs.declared.statements.Statement.TheVariants.{Label, Instruction, Directive as Directed}
 use Rattle.rv_asm_lines.specs.declared.fields.Fields.{Fields}
 use Rattle.rv_asm_lines.specs.Item.{Item}
-use Rattle.rv_asm_lines.specs.Fields.{fields_after, fields_behind, once, one_more}
+use Rattle.rv_asm_lines.specs.Fields.{fields_after, fields_behind, once, counted_on}
 use Rattle.rv_asm_lines.specs.Layout.{Layout, empty_layout, item_at, layout_of, next_place}
 use Rattle.rv_asm.specs.Directed.{entry_said, harts_said, if_directed, memory_said, ranks_said, said_by}
 use Rattle.rv_asm.proofs.Kept.{IsKept, lines_from-keeps}
@@ -75,10 +75,10 @@ directive_adds (directive.Entry w) f g h =
     let a = else_ok f.has_entry kinds.Directive (ok (record f { has_entry = true })) g h in
     subst (Adds (directive.Entry w) f) (ok_is (record f { has_entry = true }) g a.1) (record { ranks = with_none _; harts = with_none _; memory = with_none _; entries = λ entries is. entry_added w f.has_entry entries a.0 is })
 directive_adds (directive.Comm zs) f g h =
-    let a = bind_ok (one_more 7 f.comms) (λ n. ok (record f { comms = n })) g h in
+    let a = bind_ok (counted_on 7 f.comms) (λ n. ok (record f { comms = n })) g h in
     subst (Adds (directive.Comm zs) f) (ok_is (record f { comms = a.value }) g a.second) (nothing_added (directive.Comm zs) f (record f { comms = a.value }) refl refl refl refl refl refl refl refl)
 directive_adds (directive.Link from to) f g h =
-    let a = bind_ok (one_more 32 f.links) (λ n. ok (record f { links = n })) g h in
+    let a = bind_ok (counted_on 32 f.links) (λ n. ok (record f { links = n })) g h in
     subst (Adds (directive.Link from to) f) (ok_is (record f { links = a.value }) g a.second) (nothing_added (directive.Link from to) f (record f { links = a.value }) refl refl refl refl refl refl refl refl)
 directive_adds directive.Text f g h = subst (Adds directive.Text f) (ok_is f g h) (nothing_added directive.Text f f refl refl refl refl refl refl refl refl)
 directive_adds directive.Data f g h = subst (Adds directive.Data f) (ok_is f g h) (nothing_added directive.Data f f refl refl refl refl refl refl refl refl)

@@ -29,8 +29,8 @@ once None x = Ok (Some x)
 once (Some y) x = Err kinds.Directive
 
 -- one more of at most so many
-abbrev pub one_more : ℕ → ℕ → Result ℕ AsmFaultKind
-one_more most n = if nat_lt n most then Ok (n + 1) else Err kinds.Limit
+abbrev pub counted_on : ℕ → ℕ → Result ℕ AsmFaultKind
+counted_on most n = if nat_lt n most then Ok (n + 1) else Err kinds.Limit
 
 -- the fields behind a directive
 unfoldable pub fields_after : Directive → Fields → Result Fields AsmFaultKind
@@ -38,8 +38,8 @@ fields_after (directive.Ranks n) f = once f.ranks n >>= λ x. Ok (record f { ran
 fields_after (directive.Harts n) f = once f.harts n >>= λ x. Ok (record f { harts = x })
 fields_after (directive.Memory n) f = once f.memory n >>= λ x. Ok (record f { memory = x })
 fields_after (directive.Entry w) f = if f.has_entry then Err kinds.Directive else Ok (record f { has_entry = true })
-fields_after (directive.Comm ranks) f = one_more 7 f.comms >>= λ n. Ok (record f { comms = n })
-fields_after (directive.Link from to) f = one_more 32 f.links >>= λ n. Ok (record f { links = n })
+fields_after (directive.Comm ranks) f = counted_on 7 f.comms >>= λ n. Ok (record f { comms = n })
+fields_after (directive.Link from to) f = counted_on 32 f.links >>= λ n. Ok (record f { links = n })
 fields_after _ f = Ok f
 
 -- the fields behind a statement

@@ -3,7 +3,7 @@
 ghost use Rattle.std.specs.Prelude.{◌≡◌, ◌≤◌, ◌%◌, MatchResult, Ok, Err};
 ghost use Rattle.rv_asm_tokens.specs.Returned.{Is};
 ghost use Rattle.rv_asm_lines.specs.Fields.{ranks_of as ranks_meant, harts_of as harts_meant};
-ghost use Rattle.rv_asm_lines.specs.Fields.{memory_of as memory_meant, one_more as counted, fields_after};
+ghost use Rattle.rv_asm_lines.specs.Fields.{memory_of as memory_meant, counted_on as counted, fields_after};
 ghost use Rattle.rv_asm_lines.specs.Fields.{fields_behind};
 
 use rv_asm_statements::{Directive, Limited, Statement};

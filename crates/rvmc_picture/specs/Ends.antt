@@ -108,6 +108,6 @@ pub record AreRows (image : ImageParts) (state : ClusterState) (rows : List Row)
   pub are : AreRowsOf image state found rows
 
 -- what is told of a state
-pub record IsEnd (image : ImageParts) (state : ClusterState) (rows : List Row) (told : List ℕ) : Type 0 where
+pub record IsToldEnd (image : ImageParts) (state : ClusterState) (rows : List Row) (told : List ℕ) : Type 0 where
   pub rows_are : AreRows image state rows
   pub told_is : IsToldOf image state rows told

@@ -26,7 +26,7 @@ use Rattle.rvmc_draw.specs.declared.walks.Walk.{Walk}
 use Rattle.rvmc_list.specs.Lines.{Sight, hart_of, sight_text}
 use Rattle.rvmc_list.specs.List.{IsSightAt}
 use Rattle.rvmc_picture.specs.Deeds.{IsDeedBy, ask_met}
-use Rattle.rvmc_picture.specs.Ends.{IsEnd}
+use Rattle.rvmc_picture.specs.Ends.{IsToldEnd}
 use Rattle.rvmc_picture.specs.declared.pictures.DrawFault.{DrawFault}
 use Rattle.rvmc_picture.specs.declared.pictures.DrawFault.TheVariants as fault
 
@@ -68,7 +68,7 @@ scope_in image view =
 pub record IsEndAt (image : ImageParts) (steps : List Step) (to : ℕ) (rows : List Row) (told : List ℕ) : Type 0 where
   pub state : ClusterState
   pub reached : IsReached image steps to state
-  pub end : IsEnd image state rows told
+  pub end : IsToldEnd image state rows told
 
 -- the bars that a step ended, and those that none did
 pub record AreBars (scope : Scope) (deeds : List Deed) (view : View) (bars : List Bar) : Type 0 where

@@ -3,7 +3,7 @@
 ghost use Rattle.std.specs.Prelude.{◌≡◌, ◌==◌, ◌++◌, IfOk, OnOk, map, slice_get};
 ghost use Rattle.std.specs.List.{list_any};
 ghost use Rattle.std.specs.Option.{option_map};
-ghost use Rattle.rvmc_picture.specs.Ends.{AreRows, AreRowsOf, IsEnd, IsToldOf, awaited_if, awaited_of as awaited_in, awaits_of};
+ghost use Rattle.rvmc_picture.specs.Ends.{AreRows, AreRowsOf, IsToldEnd, IsToldOf, awaited_if, awaited_of as awaited_in, awaits_of};
 ghost use Rattle.rvmc_picture.specs.Ends.{could_bring as could_bring_of, hart_row, is_awaited as is_awaited_of};
 ghost use Rattle.rvmc_picture.specs.Ends.{is_stuck as is_stuck_in, rank_rows, row_if, waits_at, waits_if};
 
@@ -247,7 +247,7 @@ pub(crate) struct End {
 
 /// What is told of a state. The only error is want of memory.
 pub(crate) fn end_of(alloc: Global, image: &Image, state: &ClusterState) -> Result<End, AllocError>
-    ensures { IfOk result (λ end. IsEnd image.now state.now end.rows.items end.told.items) }
+    ensures { IfOk result (λ end. IsToldEnd image.now state.now end.rows.items end.told.items) }
 {
     let parts = image.parts();
     let rows = rows_of(alloc, state, parts)?;
