@@ -6,3 +6,4 @@ pub mod Covers
 pub mod Tries
 pub mod Finds
 pub mod Alike
+pub mod Ordering

@@ -4,3 +4,4 @@ pub mod Searching
 pub mod Ends
 pub mod Runs
 pub mod Likeness
+pub mod Sorting

@@ -14,8 +14,10 @@ mod likeness;
 mod moving;
 mod runs;
 mod search;
+mod sorting;
 
 pub use course::Course;
 pub use exploring::{Exploration, explore};
 pub use kept::KeptNode;
 pub use runs::Runs;
+pub use sorting::in_order;

@@ -33,7 +33,7 @@ impl Model for Runs {
 }
 
 /// The same turn at another stamp. The only error is want of memory, for a reply.
-fn at_stamp(alloc: Global, turn: &Step, stamp: Stamp) -> Result<Step, AllocError>
+pub(crate) fn at_stamp(alloc: Global, turn: &Step, stamp: Stamp) -> Result<Step, AllocError>
     ensures { IfOk result (λ step. step ≡ at_stamp turn.now stamp) }
 {
     let (rank, hart) = (turn.rank(), turn.hart());
