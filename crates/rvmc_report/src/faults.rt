@@ -55,15 +55,12 @@ pub enum DrawRefusal {
     TooMany(u64),
 }
 
-/// Why the ends of all orders aren't told.
+/// Why there is no record of an end.
 #[derive(Clone, Copy, Debug, Drop, Error)]
 pub enum ExploreRefusal {
     /// There are fewer ends. Carries the number of the end whose record was asked for.
     #[error("NoEnd {0}")]
     NoEnd(u64),
-    /// A clock, or the count of a rank's turns, came to its end.
-    #[error("Clock")]
-    Clock,
 }
 
 /// Why there is no answer. It prints as the fault's line on standard error, behind `rvmc: `.
@@ -103,7 +100,7 @@ pub enum Fault {
     /// Why there is no page of a record.
     #[error("page: {0}")]
     Page(DrawRefusal),
-    /// Why the ends of all orders aren't told.
+    /// Why there is no record of an end.
     #[error("explore: {0}")]
     Explore(ExploreRefusal),
     /// Memory was refused.
