@@ -1,0 +1,2 @@
+pub mod AllEnds
+pub mod ToEnds

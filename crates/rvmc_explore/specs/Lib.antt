@@ -1,0 +1,5 @@
+pub mod Ends
+pub mod Telling
+pub mod There
+pub mod Recorded
+pub mod InnerRecorded

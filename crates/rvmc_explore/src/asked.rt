@@ -1,0 +1,10 @@
+//! What a search is asked for.
+
+/// What a search is asked for: the order of the harts of each rank, of how many states it makes the moves at most, and how
+/// many turns a rank takes by itself at once.
+#[derive(Clone, Copy, Drop)]
+pub struct Asked<'a> {
+    pub order: &'a [u8],
+    pub states: usize,
+    pub turns: u64,
+}

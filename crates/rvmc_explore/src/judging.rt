@@ -1,0 +1,87 @@
+//! The status of a search.
+
+ghost use Rattle.std.specs.Prelude.{◌≡◌, slice_get};
+ghost use Rattle.std.specs.List.{list_any};
+ghost use Rattle.rvmc_report.specs.Report.{has_trapped, is_trapped};
+ghost use Rattle.rvmc_explore.specs.Ends.{one_waits};
+ghost use Rattle.rvmc_explore.specs.Telling.{any_end, holds_of, search_status, trapped_in, waits_in};
+
+use crate::ends::waits;
+use cl_explore::{Exploration, KeptNode};
+use cl_state::KeptRank;
+use rv_hart::{Hart, Mode};
+
+fn is_trapped(hart: &Hart) -> bool
+    ensures { result ≡ is_trapped hart.now.mode }
+{
+    matches!(hart.mode(), Mode::Trapped(_, _))
+}
+
+fn has_trapped(rank: &KeptRank) -> bool
+    ensures { result ≡ has_trapped rank.now.harts }
+{
+    rank.harts().iter().any(|hart| is_trapped(hart))
+}
+
+/// Whether a hart trapped in one of these ranks.
+fn any_rank_trapped(ranks: &[KeptRank]) -> bool
+    ensures { result ≡ list_any (λ rank. has_trapped rank.harts) ranks.now }
+{
+    ranks.iter().any(|rank| has_trapped(rank))
+}
+
+/// Whether a hart that takes turns waits in one of them.
+fn any_rank_waits(ranks: &[KeptRank], order: &[u8]) -> bool
+    ensures { result ≡ list_any (λ rank. one_waits order.now rank.harts) ranks.now }
+{
+    ranks.iter().any(|rank| waits(rank.harts(), order))
+}
+
+/// Whether a hart trapped in the node of this number.
+fn trapped_in(nodes: &[KeptNode], node: usize) -> bool
+    ensures { result ≡ holds_of trapped_in (slice_get nodes.now node) }
+{
+    match nodes.get(node) {
+        None => false,
+        Some(kept) => any_rank_trapped(kept.cluster.ranks()),
+    }
+}
+
+/// Whether a hart that takes turns waits there.
+fn waits_in(nodes: &[KeptNode], order: &[u8], node: usize) -> bool
+    ensures { result ≡ holds_of (waits_in order.now) (slice_get nodes.now node) }
+{
+    match nodes.get(node) {
+        None => false,
+        Some(kept) => any_rank_waits(kept.cluster.ranks(), order),
+    }
+}
+
+fn any_trapped(nodes: &[KeptNode], ends: &[usize]) -> bool
+    ensures { result ≡ any_end trapped_in nodes.now ends.now }
+{
+    ends.iter().any(|node| trapped_in(nodes, *node))
+}
+
+fn any_waits(nodes: &[KeptNode], order: &[u8], ends: &[usize]) -> bool
+    ensures { result ≡ any_end (waits_in order.now) nodes.now ends.now }
+{
+    ends.iter().any(|node| waits_in(nodes, order, *node))
+}
+
+/// The status of a search: 4 where not all ends are told, else 3 where a hart trapped at one, else 7 where a hart that
+/// takes turns waits at one, else 0.
+pub(crate) fn search_status(found: &Exploration, order: &[u8]) -> u8
+    ensures { result ≡ search_status found.now.left (any_end trapped_in found.now.nodes.items found.now.ends.items)
+        (any_end (waits_in order.now) found.now.nodes.items found.now.ends.items) }
+{
+    if found.left > 0 {
+        return 4;
+    }
+    let nodes = found.nodes.as_slice();
+    let ends = found.ends.as_slice();
+    if any_trapped(nodes, ends) {
+        return 3;
+    }
+    if any_waits(nodes, order, ends) { 7 } else { 0 }
+}
