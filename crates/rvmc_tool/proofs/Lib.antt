@@ -1,3 +1,4 @@
+pub mod Fitting
 pub mod Lists
 pub mod Places
 pub mod Reading

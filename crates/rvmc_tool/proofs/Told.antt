@@ -9,17 +9,21 @@ use Rattle.rv_image.specs.declared.images.ImageParts.{ImageParts}
 use Rattle.rvmc_line.specs.declared.line.CommandLine.{CommandLine}
 use Rattle.rvmc_line.specs.declared.line.CommandLine.TheVariants.{OfImage, OfRecord, Session}
 use Rattle.rvmc_line.specs.declared.line.ImageCommand.{ImageCommand}
-use Rattle.rvmc_line.specs.declared.line.ImageCommand.TheVariants.{One, OneUntilStuck, Run, RunUntilStuck}
+use Rattle.rvmc_line.specs.declared.line.ImageCommand.TheVariants.{Explore, One, OneUntilStuck, Run, RunUntilStuck}
 use Rattle.rvmc_line.specs.declared.line.RecordCommand.{RecordCommand}
 use Rattle.rvmc_list.specs.declared.folding.Wanted.{Wanted}
 use Rattle.rvmc_report.specs.Faults.{fault_status}
+use Rattle.rvmc_report.specs.declared.faults.ExploreRefusal.{ExploreRefusal}
+use Rattle.rvmc_report.specs.declared.faults.ExploreRefusal.TheVariants as refusals
 use Rattle.rvmc_report.specs.declared.faults.Fault.{Fault}
 use Rattle.rvmc_report.specs.declared.faults.Fault.TheVariants as faults
 use Rattle.rvmc_tool.specs.Answers.{HasThreads, Makes, Says}
 use Rattle.rvmc_tool.specs.Ends.{IsFaulty, end_status}
+use Rattle.rvmc_tool.specs.Exploring.{IsToldOfSearch}
 use Rattle.rvmc_tool.specs.Images.{image_in}
-use Rattle.rvmc_tool.specs.Making.{IsFaultOf, IsMisplanned, IsReadFault, RefusesImage}
+use Rattle.rvmc_tool.specs.Making.{IsFaultOf, IsMisplanned, IsReadFault, IsUnexplored, RefusesImage}
 use Rattle.rvmc_tool.specs.Outputs.{output_bytes}
+use Rattle.rvmc_tool.specs.Plans.{listed}
 use Rattle.rvmc_tool.specs.Records.{SaysOfSteps}
 use Rattle.rvmc_tool.specs.Taking.{IsFaultIn}
 use Rattle.rvmc_tool.specs.declared.answers.Answer.{Answer}
@@ -37,7 +41,22 @@ misplanned (One budget plan order written) image (plans, of, wrong) =
     (plans, of, record { told = λ right. absurd (wrong right); refused = λ _. (refl, refl) })
 misplanned (OneUntilStuck budget plan order written) image (plans, of, wrong) =
     (plans, of, record { told = λ right. absurd (wrong right); refused = λ _. (refl, refl) })
+misplanned (Explore plan states turns number) image (plans, of, wrong) =
+    (plans, of, record { told = λ right. absurd (wrong right); refused = λ _. (refl, refl) })
 misplanned other image wrong = absurd wrong
+
+-- and so is the record of an end that isn't there
+unexplored : (command : ImageCommand) (image : ImageParts) (refusal : ExploreRefusal) → IsUnexplored command image refusal
+    → Makes command image [] 1
+unexplored (Explore plan states turns asked) image (refusals.NoEnd number) (plans, of, right, is, none) = (
+  plans,
+  of,
+  record {
+    told = λ _. subst (λ o. IsToldOfSearch image (listed plan image.harts) turns o [] 1) (sym is) (inr (none, (refl, refl)));
+    refused = λ wrong. absurd (wrong right);
+  },
+)
+unexplored other image refusal unexplored_is = absurd unexplored_is
 
 -- what a fault leaves: nothing, as the command line says, or for want of memory or of a thread
 abbrev Leaves : ImageCommand → Result ImageParts Fault → Fault → Type 0
@@ -51,6 +70,7 @@ leaves : (command : ImageCommand) (meant : Result ImageParts Fault) (fault : Fau
     → Leaves command meant fault
 leaves command (Ok image) faults.Plans is = inl (inl (misplanned command image is))
 leaves command (Ok image) (faults.Unlike rank place) is = inl (inr ((refl, refl), is))
+leaves command (Ok image) (faults.Explore refusal) is = inl (inl (unexplored command image refusal is))
 leaves command (Ok image) faults.Memory is = inr (refl, refl)
 leaves command (Ok image) faults.Spawn is = inr (refl, refl)
 leaves command (Ok image) other is = absurd is

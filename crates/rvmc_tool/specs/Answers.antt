@@ -19,13 +19,14 @@ use Rattle.rv_image.specs.declared.images.ImageParts.{ImageParts}
 use Rattle.rvmc_line.specs.declared.line.CommandLine.{CommandLine}
 use Rattle.rvmc_line.specs.declared.line.CommandLine.TheVariants.{OfImage, OfRecord, Session}
 use Rattle.rvmc_line.specs.declared.line.ImageCommand.{ImageCommand}
-use Rattle.rvmc_line.specs.declared.line.ImageCommand.TheVariants.{Asm, Dis, One, OneUntilStuck, Run, RunUntilStuck}
+use Rattle.rvmc_line.specs.declared.line.ImageCommand.TheVariants.{Asm, Dis, Explore, One, OneUntilStuck, Run, RunUntilStuck}
 use Rattle.rvmc_line.specs.declared.line.Written.{Written}
 use Rattle.rvmc_line.specs.declared.line.Written.TheVariants as written
 use Rattle.rvmc_report.specs.Listing.{listing}
 use Rattle.rvmc_report.specs.Report.{rank_ends, report, status_of}
 use Rattle.rvmc_report.specs.Stuck.{told_report}
 use Rattle.rvmc_tool.specs.Ends.{IsDone, IsFaulty}
+use Rattle.rvmc_tool.specs.Exploring.{IsToldOfSearch}
 use Rattle.rvmc_tool.specs.Images.{image_in}
 use Rattle.rvmc_tool.specs.Plans.{ArePlansOf, listed}
 use Rattle.rvmc_tool.specs.Records.{IsWhyAt, SaysOfRecord}
@@ -172,6 +173,19 @@ abbrev pub IsThreadsUntilStuck : ImageParts → ℕ → Option (List ℕ) → Wr
 IsThreadsUntilStuck image budget harts written text status =
     ByPlans image budget harts (λ plans. IsThreadsUntilStuckBy image budget plans written text status)
 
+-- ---- all orders
+
+-- the ends of all orders of ranks' turns, if the plan is right: else there is a fault
+pub record IsExploredBy (image : ImageParts) (order : List ℕ) (turns : ℕ) (number : Option ℕ) (plans : List Plan)
+    (text : List ℕ) (status : ℕ) : Type 0 where
+  pub told : HasPlans image plans → IsToldOfSearch image order turns number text status
+  pub refused : ¬ HasPlans image plans → IsFaulty text status
+
+-- `explore`: each rank's harts take turns in this order
+abbrev pub IsExplored : ImageParts → Option (List ℕ) → ℕ → Option ℕ → List ℕ → ℕ → Type 0
+IsExplored image harts turns number text status =
+    ByPlans image turns harts (λ plans. IsExploredBy image (listed harts image.harts) turns number plans text status)
+
 -- ---- the commands
 
 -- one case a command, of the image that it takes
@@ -185,6 +199,7 @@ Makes (RunUntilStuck budget plan lead written) image text status =
 Makes (One budget plan order written) image text status = IsOne image budget plan order written text status
 Makes (OneUntilStuck budget plan order written) image text status =
     IsOneUntilStuck image budget plan order written text status
+Makes (Explore plan states turns number) image text status = IsExplored image plan turns number text status
 
 -- what a command says that takes an image from the bytes, or with `source` a source
 abbrev pub SaysOfImage : Bool → ImageCommand → List ℕ → List ℕ → ℕ → Type 0

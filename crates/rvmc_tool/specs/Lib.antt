@@ -12,3 +12,5 @@ pub mod Lists
 pub mod Tool
 pub mod Plain
 pub mod Hints
+pub mod Exploring
+pub mod Unexplored

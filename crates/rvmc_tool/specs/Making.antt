@@ -11,12 +11,13 @@ use Rattle.rv_image.specs.declared.images.ImageParts.{ImageParts}
 use Rattle.rvmc_line.specs.declared.line.CommandLine.{CommandLine}
 use Rattle.rvmc_line.specs.declared.line.CommandLine.TheVariants.{OfImage, OfRecord, Session}
 use Rattle.rvmc_line.specs.declared.line.ImageCommand.{ImageCommand}
-use Rattle.rvmc_line.specs.declared.line.ImageCommand.TheVariants.{One, OneUntilStuck, Run, RunUntilStuck}
+use Rattle.rvmc_line.specs.declared.line.ImageCommand.TheVariants.{Explore, One, OneUntilStuck, Run, RunUntilStuck}
 use Rattle.rvmc_line.specs.declared.line.RecordCommand.{RecordCommand}
 use Rattle.rvmc_line.specs.declared.line.Written.{Written}
 use Rattle.rvmc_list.specs.declared.walk.ListFault.{ListFault}
 use Rattle.rvmc_list.specs.declared.walk.ListFault.TheVariants as list
 use Rattle.rvmc_report.specs.WholeRecord.{HasEachRank}
+use Rattle.rvmc_report.specs.declared.faults.ExploreRefusal.{ExploreRefusal}
 use Rattle.rvmc_report.specs.declared.faults.Fault.{Fault}
 use Rattle.rvmc_report.specs.declared.faults.Fault.TheVariants as faults
 use Rattle.rvmc_report.specs.declared.faults.ListRefusal.TheVariants as refusal
@@ -25,6 +26,7 @@ use Rattle.rvmc_tool.specs.Images.{image_in}
 use Rattle.rvmc_tool.specs.Plans.{listed}
 use Rattle.rvmc_tool.specs.Records.{RefusesSteps, TellsOfSteps}
 use Rattle.rvmc_tool.specs.Taking.{IsFaultIn}
+use Rattle.rvmc_tool.specs.Unexplored.{IsNoEnd}
 use Rattle.rvmc_tool.specs.declared.answers.End.{End}
 use Rattle.rvmc_tool.specs.declared.answers.End.TheVariants.{Cut, Status}
 
@@ -83,20 +85,34 @@ IsMisplanned (One budget plan order written) image =
     ByPlans image budget plan (λ plans. ¬ (ArePlans image plans (listed order image.ranks)))
 IsMisplanned (OneUntilStuck budget plan order written) image =
     ByPlans image budget plan (λ plans. ¬ (ArePlans image plans (listed order image.ranks)))
+IsMisplanned (Explore plan states turns number) image =
+    ByPlans image turns plan (λ plans. ¬ (HasPlans image plans))
 IsMisplanned other image = ⊥
 
+-- by a right plan there is no such end
+abbrev pub IsUnexplored : ImageCommand → ImageParts → ExploreRefusal → Type 0
+IsUnexplored (Explore plan states turns number) image refusal =
+    ByPlans image turns plan (λ plans. HasPlans image plans × IsNoEnd image (listed plan image.harts) number refusal)
+IsUnexplored other image refusal = ⊥
+
 -- Plans where they are wrong; of threads that were started, that one was refused, or that what they left doesn't fit
--- together; and whatever it is, that memory was refused
+-- together; of a search, that there is no such end; and whatever it is, that memory was refused
+abbrev pub IsMakingFault : (Misplanned Threads : Type 0) (Unexplored : ExploreRefusal → Type 0) → Fault → Type 0
+IsMakingFault Misplanned Threads Unexplored faults.Plans = Misplanned
+IsMakingFault Misplanned Threads Unexplored (faults.Unlike rank place) = Threads
+IsMakingFault Misplanned Threads Unexplored faults.Spawn = Threads
+IsMakingFault Misplanned Threads Unexplored (faults.Explore refusal) = Unexplored refusal
+IsMakingFault Misplanned Threads Unexplored faults.Memory = ⊤
+IsMakingFault Misplanned Threads Unexplored other = ⊥
+
+-- of a run
 abbrev pub IsRunFault : (Misplanned Threads : Type 0) → Fault → Type 0
-IsRunFault Misplanned Threads faults.Plans = Misplanned
-IsRunFault Misplanned Threads (faults.Unlike rank place) = Threads
-IsRunFault Misplanned Threads faults.Spawn = Threads
-IsRunFault Misplanned Threads faults.Memory = ⊤
-IsRunFault Misplanned Threads other = ⊥
+IsRunFault Misplanned Threads fault = IsMakingFault Misplanned Threads (λ _. ⊥) fault
 
 -- of an image
 abbrev pub RefusesImage : ImageCommand → ImageParts → Fault → Type 0
-RefusesImage command image fault = IsRunFault (IsMisplanned command image) (HasThreads command image) fault
+RefusesImage command image fault =
+    IsMakingFault (IsMisplanned command image) (HasThreads command image) (IsUnexplored command image) fault
 
 -- of the bytes that are read: their own fault, or else one of their image
 abbrev pub IsImageFault : Bool → ImageCommand → List ℕ → Fault → Type 0

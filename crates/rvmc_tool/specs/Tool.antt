@@ -54,6 +54,7 @@ ShowsFault (parse.Refused text) status old new = (status ≡ 2) × Keeps old new
 abbrev pub RefusesWords : List (List ℕ) → ℕ → Option (List ℕ) → Option (List ℕ) → Type 0
 RefusesWords words status old new = (fault : ParseFault) × Parses words (Err fault) × ShowsFault fault status old new
 
--- the statuses of which standard error has no line: all is done, a hart trapped, or a rank was cut short
+-- the statuses of which standard error has no line: all is done, a hart trapped, a rank or a search was cut short, or some
+-- order leads to a deadlock
 abbrev pub is_quiet : ℕ → Bool
-is_quiet status = status == 0 || (status == 3 || status == 4)
+is_quiet status = status == 0 || (status == 3 || (status == 4 || status == 7))

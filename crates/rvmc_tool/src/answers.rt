@@ -11,6 +11,7 @@ ghost use Rattle.rvmc_tool.specs.Lists.{is_written_as_made};
 ghost use Rattle.rvmc_tool.specs.Outputs.{output_bytes};
 ghost use Rattle.rvmc_tool.specs.declared.answers.End.TheVariants.{Status};
 
+use crate::exploring::explore;
 use crate::images::image_in;
 use crate::outputs::Output;
 use crate::records::answer_of_record;
@@ -108,6 +109,12 @@ fn made(alloc: Global, command: &ImageCommand, image: Image) -> Result<Answer, F
             order,
             written,
         } => one(alloc, &image, *budget, plan, order, true, *written),
+        ImageCommand::Explore {
+            plan,
+            states,
+            turns,
+            record,
+        } => explore(alloc, &image, plan, *states, *turns, *record),
         ImageCommand::Run { .. } | ImageCommand::RunUntilStuck { .. } => unreachable!(),
     }
 }

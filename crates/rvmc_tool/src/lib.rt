@@ -6,6 +6,7 @@ mod checks;
 mod debugging;
 mod drawing;
 mod explaining;
+mod exploring;
 mod hints;
 mod images;
 mod listing;

@@ -1,0 +1,34 @@
+-- Records of ends are inside the limits of a record, and a right plan names a hart.
+use Rattle.std.specs.Prelude.{ℕ, ◌≡◌, ◌≤◌, ◌<◌, List, [], ◌∷◌, length, Option, Some, None, All}
+use Rattle.std.proofs.Common.{refl, sym, ap, ◌∙◌, subst, arith}
+use Rattle.std.proofs.lemmas.Option.{slice_get_within}
+use Rattle.cl_record.specs.Plans.{HasPlans, IsPlan}
+use Rattle.cl_record.specs.declared.plans.Plan.{Plan}
+use Rattle.rv_image.specs.Image.{IsImage}
+use Rattle.rv_image.specs.declared.images.ImageParts.{ImageParts}
+use Rattle.cl_machine.specs.declared.steps.Step.{Step}
+use Rattle.cl_order_laws.specs.Closed.{Node}
+use Rattle.cl_text.specs.Limits.{FitsStep}
+use Rattle.cl_text_laws.proofs.Runs.{runs_fit}
+use Rattle.rvmc_explore.specs.Recorded.{Leads, RecordsEnd}
+use Rattle.rvmc_tool.specs.Plans.{ArePlansOf, IsPlanOf}
+
+fit_by : (image : ImageParts) (order : List ℕ) (nodes : List Node) (steps : List Step) (found : Option ℕ) → IsImage image
+    → Leads image order nodes found (Some steps) → All (FitsStep image) steps
+fit_by image order nodes steps None is leads = absurd leads
+fit_by image order nodes steps (Some at) is leads = runs_fit image steps leads.node.cluster is leads.run
+
+pub ends_fit : (image : ImageParts) (order : List ℕ) (number : ℕ) (steps : List Step) → IsImage image
+    → RecordsEnd image order number (Some steps) → All (FitsStep image) steps
+ends_fit image order number steps is recorded =
+    fit_by image order (recorded.explored).nodes steps _ is recorded.leads
+
+-- the harts of right plans are some
+pub names_one : (image : ImageParts) (order : List ℕ) (budget : ℕ) (plans : List Plan) → 1 ≤ image.ranks
+    → HasPlans image plans → ArePlansOf image.ranks order budget plans → 0 < length order
+names_one image order budget [] some has are = omega (arith, some, has.one_each)
+names_one image order budget (plan ∷ plans) some has are =
+    let here : 0 < length (plan ∷ plans) = slice_get_within (plan ∷ plans) 0 plan refl in
+    let of : IsPlanOf order budget plan = are.same 0 plan here in
+    let is : IsPlan image.harts plan = has.are_plans 0 plan here in
+    subst (λ o. 0 < length o) of.harts_are (is.is_order).named

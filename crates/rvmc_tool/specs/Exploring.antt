@@ -1,0 +1,27 @@
+-- What `explore` answers.
+use Rattle.std.specs.Prelude.{ℕ, ◌≡◌, ◌⊎◌, List, Option, Some, None}
+use Rattle.rv_image.specs.declared.images.ImageParts.{ImageParts}
+use Rattle.cl_machine.specs.declared.steps.Step.{Step}
+use Rattle.cl_text.specs.Text.{record_text}
+use Rattle.cl_text.specs.Whole.{IsRecord}
+use Rattle.rvmc_explore.specs.Recorded.{RecordsEnd}
+use Rattle.rvmc_explore.specs.Telling.{Tells}
+use Rattle.rvmc_tool.specs.Ends.{IsFaulty}
+
+-- the text of the record of the end of this number: of a run by the order to a cluster where nobody goes on
+pub record IsEndRecord (image : ImageParts) (order : List ℕ) (number : ℕ) (text : List ℕ) : Type 0 where
+  pub steps : List Step
+  pub recorded : RecordsEnd image order number (Some steps)
+  pub inside : IsRecord image steps
+  pub spelled : text ≡ record_text image steps
+
+-- that, or a fault where there is no such end
+abbrev pub IsRecordOfEnd : ImageParts → List ℕ → ℕ → List ℕ → ℕ → Type 0
+IsRecordOfEnd image order number text status =
+    (IsEndRecord image order number text × (status ≡ 0))
+    ⊎ (RecordsEnd image order number None × IsFaulty text status)
+
+-- what is told of all ends, or the record of the end of this number
+abbrev pub IsToldOfSearch : ImageParts → List ℕ → ℕ → Option ℕ → List ℕ → ℕ → Type 0
+IsToldOfSearch image order turns None text status = Tells image order turns text status
+IsToldOfSearch image order turns (Some number) text status = IsRecordOfEnd image order number text status
