@@ -1,0 +1,435 @@
+"""All ends of all orders of the ranks' turns, as docs/EXPLORE.md has them: found by taking every turn of every rank
+from every state, where states count as one only if they are equal but for clocks and stamps. And what is told of them."""
+
+import re
+
+import cluster
+import why
+from formats import FREED, HELD, HUB, IDLE, LOCAL, MISS, PLAIN, TAKE
+from hub import NOT_YET
+from machine import RUNNING, WAITING, is_at_call
+from ranks import messages_of
+
+# turns that need only their rank, and leave nobody waiting
+ALONE = (PLAIN, LOCAL, IDLE)
+
+# how many turns a rank takes by itself before a search is given up
+LONGEST = 3_000
+
+CLOSING = re.compile(
+    rb"(\d+) ends? of (\d+) states?: "
+    rb"(no other end|not all: \d+ states are left|not all: rank \d takes more than \d+ turns alone)\n"
+)
+
+
+class TooMany(Exception):
+    """A search that is given up."""
+
+
+class Meeting(Exception):
+    """A turn that needs others than its rank."""
+
+
+class Nobody:
+    """A hub and boxes that nobody may meet."""
+
+    def __getattr__(self, name):
+        raise Meeting
+
+    def __getitem__(self, link):
+        raise Meeting
+
+
+class Around:
+    """What a rank sees of its cluster."""
+
+    def __init__(self, image, hub, boxes, ranks=()):
+        self.image, self.hub, self.boxes, self.ranks = image, hub, boxes, ranks
+        self.width = 64 if image.version == 1 else 128
+        self.comms = [list(range(image.ranks)), *image.comms]
+
+
+def copied(thing, **fields):
+    """A copy of a thing, some of whose fields are others."""
+    new = object.__new__(type(thing))
+    new.__dict__.update(thing.__dict__)
+    new.__dict__.update(fields)
+    return new
+
+
+def copy_of_request(request):
+    """A copy of a request, which shares what never changes."""
+    side = request.side
+    if side is not None:
+        side = copied(side, ready=set(side.ready), taken=set(side.taken))
+    return copied(request, side=side)
+
+
+def copy_of_rank(rank, around):
+    """A copy of a rank, in a cluster."""
+    return copied(
+        rank,
+        cluster=around,
+        memory=copied(rank.memory, bytes=bytearray(rank.memory.bytes)),
+        harts=[copied(hart, regs=list(hart.regs)) for hart in rank.harts],
+        requests={handle: copy_of_request(request) for handle, request in rank.requests.items()},
+        out=bytearray(rank.out),
+        must_miss=False,
+        hart=None,
+        most_calls=1 << 60,
+    )
+
+
+def copy_of_hub(hub):
+    """A copy of a hub, whose posts are partners of one another as they were."""
+    posts = {id(post): copied(post) for post in hub.posts}
+    for post in posts.values():
+        post.partner = post.partner and posts[id(post.partner)]
+    return copied(hub, posts=list(posts.values()), sides=list(hub.sides))
+
+
+def copy_of_boxes(boxes):
+    """A copy of all boxes."""
+    return [[copied(box) for box in link] for link in boxes]
+
+
+# ---- keys: equal where all is, but clocks and stamps
+
+
+def key_of_request(request, named):
+    """A request's fields, with the number of its post or whether it has one."""
+    transfer, side = request.transfer, request.side
+    fields = (transfer.at, transfer.count, transfer.peer, transfer.tag, transfer.comm, transfer.parts)
+    phase = side and (side.link, side.parts, side.size, tuple(sorted(side.ready)), side.freed, side.cut)
+    taken = side and tuple(sorted(side.taken))
+    post = request.post if named else request.post is not None
+    return request.kind, request.persistent, request.active, fields, phase, taken, post
+
+
+def key_of_rank(rank, named=True):
+    """A rank's memory, harts, requests and output, with the numbers of posts or without."""
+    harts = tuple(
+        (hart.pc, hart.mode, hart.why if named or hart.mode != WAITING else None, tuple(hart.regs)) for hart in rank.harts
+    )
+    requests = tuple((handle, key_of_request(rank.requests[handle], named)) for handle in sorted(rank.requests))
+    return bytes(rank.memory.bytes), harts, requests, bytes(rank.out)
+
+
+def key_of_hub(hub):
+    """All posts in their order, each with the place of its partner, and all sides."""
+    places = {id(post): place for place, post in enumerate(hub.posts)}
+    posts = tuple(
+        (post.kind, post.rank, post.partner and places[id(post.partner)], post.sync, post.dest, post.envelope, post.text)
+        + (post.comm, post.source, post.tag, post.collected, post.received)
+        for post in hub.posts
+    )
+    return posts, tuple((side.sends, side.key, side.parts, side.size, side.link) for side in hub.sides)
+
+
+def key_of_boxes(boxes):
+    """What stands in each box."""
+    return tuple(box.text for link in boxes for box in link)
+
+
+class State:
+    """Ranks, of which each is shared with other states, a hub and boxes; and a number for each of these by which equal
+    ones are known."""
+
+    def __init__(self, ranks, hub, boxes, key):
+        self.ranks, self.hub, self.boxes, self.key = ranks, hub, boxes, key
+
+
+class Search:
+    """All states that some order of turns leads to. Where `each` is set, each turn is one of its own; else turns that
+    need only their rank are taken at once, for they can be exchanged with those of others."""
+
+    def __init__(self, image, plan, each, most):
+        self.image, self.plan, self.each, self.most = image, plan, each, most
+        self.numbers, self.turns = {}, {}
+        # how many states were found, and whether these are all
+        self.count, self.is_whole = 0, True
+
+    def number(self, key):
+        """The number of a key: the same for equal ones."""
+        return self.numbers.setdefault(key, len(self.numbers))
+
+    def is_done(self, rank):
+        """Whether each hart that takes turns is stopped."""
+        return all(rank.harts[hart].is_stopped() for hart in self.plan)
+
+    def next_hart(self, rank):
+        """The hart whose turn is next."""
+        return self.plan[rank.turns % len(self.plan)]
+
+    def settled(self, rank):
+        """A rank behind the turns that it takes by itself."""
+        taken = 0
+        while not self.each and not self.is_done(rank):
+            if self.meets(rank, self.next_hart(rank)):
+                after = copy_of_rank(rank, Around(self.image, Nobody(), Nobody()))
+                try:
+                    if after.turn(self.next_hart(after)).kind not in ALONE:
+                        return rank
+                except Meeting:
+                    return rank
+                rank = after
+            else:
+                rank.turn(self.next_hart(rank))
+            taken += 1
+            if taken > LONGEST:
+                raise TooMany
+        return rank
+
+    def key(self, rank):
+        """A number by which equal ranks are known."""
+        place = 0 if self.is_done(rank) else rank.turns % len(self.plan)
+        return self.number((rank.number, place, key_of_rank(rank)))
+
+    def first(self):
+        """The state that the image begins as."""
+        loaded = cluster.loaded(self.image)
+        around = Around(self.image, loaded.hub, loaded.boxes)
+        ranks = [self.settled(copy_of_rank(rank, around)) for rank in loaded.ranks]
+        keys = [*map(self.key, ranks), self.number(key_of_hub(loaded.hub)), self.number(key_of_boxes(loaded.boxes))]
+        return State(ranks, loaded.hub, loaded.boxes, tuple(keys))
+
+    @staticmethod
+    def meets(rank, hart):
+        """Whether a hart may meet others in its next turn."""
+        mode = rank.harts[hart].mode
+        return mode == WAITING or (mode == RUNNING and is_at_call(rank.harts[hart], rank.memory))
+
+    def turn(self, state, number, hart, must_miss=False):
+        """A rank behind a turn of a hart, the cluster around it, and the step."""
+        around = Around(self.image, state.hub, state.boxes)
+        if self.meets(state.ranks[number], hart):
+            around = Around(self.image, copy_of_hub(state.hub), copy_of_boxes(state.boxes))
+        rank = copy_of_rank(state.ranks[number], around)
+        rank.must_miss = must_miss
+        step = rank.turn(hart)
+        return rank, around, step
+
+    def behind(self, state, number, must_miss=False):
+        """The state behind a rank's next turn, and the turn's kind. What a turn does hangs on what is met alone, so each is
+        taken once."""
+        hart = self.next_hart(state.ranks[number])
+        known = state.key[number], must_miss, state.key[-2:] if self.meets(state.ranks[number], hart) else None
+        if known not in self.turns:
+            rank, around, step = self.turn(state, number, hart, must_miss)
+            rank, hub, boxes = self.settled(rank), around.hub, around.boxes
+            keys = [self.key(rank)]
+            keys += [self.number(key_of_hub(hub)), self.number(key_of_boxes(boxes))] if known[2] else []
+            self.turns[known] = rank, hub, boxes, keys, step.kind
+        rank, hub, boxes, keys, kind = self.turns[known]
+        if not known[2]:
+            hub, boxes = state.hub, state.boxes
+        ranks, key = list(state.ranks), list(state.key)
+        ranks[number], key[number] = rank, keys[0]
+        key[-2:] = keys[1:] or key[-2:]
+        return State(ranks, hub, boxes, tuple(key)), kind
+
+    def moves(self, state):
+        """The states that one turn leads to, also a look that misses what is there."""
+        for number, rank in enumerate(state.ranks):
+            if self.is_done(rank):
+                continue
+            after, kind = self.behind(state, number)
+            yield after
+            if kind in (TAKE, FREED):
+                yield self.behind(state, number, True)[0]
+
+    def rests(self, state, number, hart):
+        """Whether a hart is stopped, or waits for what isn't there."""
+        mode = state.ranks[number].harts[hart].mode
+        if mode == RUNNING:
+            return False
+        if mode != WAITING:
+            return True
+        step = self.turn(state, number, hart)[2]
+        return step.kind in (HELD, MISS) or (step.kind == HUB and step.reply == NOT_YET)
+
+    def is_end(self, state):
+        """Whether nobody goes on."""
+        return all(self.rests(state, rank.number, hart) for rank in state.ranks for hart in set(self.plan))
+
+    def ends(self):
+        """The ends that were found, each as what is known of its ranks, and its text."""
+        try:
+            todo = [self.first()]
+        except TooMany:
+            self.is_whole = False
+            return {}
+        seen, ends = {todo[0].key}, {}
+        while todo:
+            state = todo.pop()
+            if self.is_end(state):
+                ends[what_is_known(state.ranks)] = text_of(state.ranks, self.plan)
+                continue
+            try:
+                for after in self.moves(state):
+                    if after.key not in seen:
+                        seen.add(after.key)
+                        todo.append(after)
+            except TooMany:
+                self.is_whole = False
+            if len(seen) > self.most:
+                self.is_whole = False
+                break
+        self.count = len(seen)
+        return ends
+
+    def walked(self, random, most):
+        """The end that an order at random leads to, in so many turns at most, or None."""
+        try:
+            state = self.first()
+            for _ in range(most):
+                if self.is_end(state):
+                    return what_is_known(state.ranks), text_of(state.ranks, self.plan)
+                number = random.choice([rank.number for rank in state.ranks if not self.is_done(rank)])
+                state = self.behind(state, number, random.random() < 0.25)[0]
+        except TooMany:
+            pass
+        return None
+
+
+# ---- what is told
+
+
+def what_is_known(ranks):
+    """All that alike ends have in common: memory, registers, modes, requests and output of each rank."""
+    return tuple(key_of_rank(rank, False) for rank in ranks)
+
+
+def waits(rank, plan):
+    """Whether a hart that takes turns waits."""
+    return any(rank.harts[hart].mode == WAITING for hart in plan)
+
+
+def text_of(ranks, plan):
+    """What is told of the ranks of an end."""
+    lines = []
+    for rank in ranks:
+        stop = "stuck" if waits(rank, plan) else "all-ended"
+        lines.append(rank.told() + f"rank {rank.number} stop {stop}\n".encode())
+    return b"".join(lines)
+
+
+class Recorded:
+    """The end that a record leads to."""
+
+    def __init__(self, image, steps, plan):
+        self.image, self.steps, self.plan = image, steps, plan
+        self.walk = cluster.Walk(image, len(steps))
+        # what each rank got or saw, in order: where its hart was before, whether it got it, and whose it was
+        self.messages = [[] for _ in range(image.ranks)]
+        self.bad = next((at for at, step in enumerate(steps) if not self.takes(step)), None)
+        self.ranks = self.walk.cluster.ranks
+
+    def takes(self, step):
+        """Takes a step, where the machine has it, and it is its hart's turn by the plan."""
+        rank = self.walk.cluster.ranks[step.rank]
+        place, turn = rank.harts[step.hart].pc, self.plan[rank.turns % len(self.plan)]
+        if step.hart != turn or not self.walk.takes(step):
+            return False
+        if step.kind == HUB:
+            self.messages[step.rank] += [(place, *whose) for whose in sources_of(step.reply)]
+        return True
+
+    def is_end(self):
+        """Whether nobody goes on."""
+        now = self.walk.cluster
+        return Search(self.image, self.plan, True, 0).is_end(State(now.ranks, now.hub, now.boxes, None))
+
+    def text(self):
+        """What is told of the end behind its first line."""
+        whys = why.told(self.walk.cluster) if any(waits(rank, self.plan) for rank in self.ranks) else b""
+        return text_of(self.ranks, self.plan) + whys
+
+    def wrong(self, told, number, first):
+        """What is wrong with it as the end of this number, or None."""
+        if self.bad is not None:
+            return f"no turn by the plan at step {self.bad}"
+        if not self.is_end():
+            return "no end"
+        if told.bodies[number - 1] + told.whys[number - 1] != self.text():
+            return f"an end at which is told {self.text()}"
+        head = f"end {number}{self.difference(first)}\n".encode()
+        return None if told.heads[number - 1] == head else f"an end whose first line is {head}"
+
+    def difference(self, first):
+        """By which message it differs from the first end."""
+        for number, (mine, theirs) in enumerate(zip(self.messages, first.messages)):
+            for (at, got, source), (_, _, other) in zip(mine, theirs):
+                if source != other:
+                    where, how = why.place(self.image, at), "got" if got else "saw"
+                    return f": rank {number} at {where} {how} rank {source}'s message, in end 1 rank {other}'s"
+        return ""
+
+
+def sources_of(reply):
+    """Of each message in a reply whether it was received, and whose it is."""
+    at = {2: 2, 5: 2, 6: 10}.get(reply[0])
+    if at is not None:
+        return [(reply[0] == 2, reply[at])]
+    return [(True, message[1]) for message in messages_of(reply) if message] if reply[0] == 7 else []
+
+
+class Told:
+    """What `explore` told, taken apart."""
+
+    def __init__(self, text, image):
+        self.heads, self.bodies, self.whys = [], [], []
+        at = 0
+        while text[at : at + 4] == b"end ":
+            stop = text.index(b"\n", at) + 1
+            self.heads.append(text[at:stop])
+            at, start = stop, stop
+            for _ in range(image.ranks):
+                first = text.index(b"\n", at) + 1
+                at = first + int(text[at:first].split()[3]) + 1
+                for _ in range(image.harts + 1):
+                    at = text.index(b"\n", at) + 1
+            self.bodies.append(text[start:at])
+            start = at
+            while re.match(rb"rank |  from |deadlock|no deadlock", text[at:]):
+                at = text.index(b"\n", at) + 1
+            self.whys.append(text[start:at])
+        closing = CLOSING.fullmatch(text[at:])
+        self.is_whole = None
+        if closing and int(closing[1]) == len(self.heads):
+            self.count, self.is_whole = int(closing[2]), closing[3] == b"no other end"
+            spelled = b"%d end%s of %d state%s: %s\n"
+            ends, states = (b"" if number == 1 else b"s" for number in (len(self.heads), self.count))
+            if text[at:] != spelled % (len(self.heads), ends, self.count, states, closing[3]):
+                self.is_whole = None
+
+    def wrong(self, found, is_whole):
+        """What is wrong with it by ends that were found, which may be all: None where nothing is."""
+        if self.is_whole and found - set(self.bodies):
+            return f"{self.bodies}, not {found - set(self.bodies)}"
+        if is_whole and set(self.bodies) - found:
+            return f"too many: {set(self.bodies) - found}"
+        return None
+
+    def status(self):
+        """The status that goes with it."""
+        if not self.is_whole:
+            return 4
+        lines = b"".join(self.bodies)
+        if re.search(rb"^rank \d hart \d trapped ", lines, re.MULTILINE):
+            return 3
+        return 7 if re.search(rb"^rank \d stop stuck$", lines, re.MULTILINE) else 0
+
+
+def body_of(report, image):
+    """What a run's report tells, as it is told of an end, or None where a rank didn't come to one."""
+    lines = re.compile(rb"^rank (\d) stop (all-ended|stuck) turns \d+$", re.MULTILINE)
+    if len(lines.findall(report)) != image.ranks:
+        return None
+    body = lines.sub(rb"rank \1 stop \2", report)
+    return Told(b"end 1\n" + body, image).bodies[0]
+
+
+def without_stops(text):
+    """What is told of ranks without why they stopped."""
+    return re.sub(rb"^rank \d stop .*\n", b"", text, flags=re.MULTILINE)
