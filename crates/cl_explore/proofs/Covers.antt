@@ -154,9 +154,14 @@ arrives_found order kept parent standing has = λ image nodes before here are at
       more = nodes;
       grows = grows_none nodes;
       are = are;
-      holds = (i, v.0, v.1, alike_found image order standing in_it.0 here v.0 at v.2
-          (in_it.2 image here v.0 at v.2 (start_found image order kept nodes are parent before here standing.steps.items from way)
-          (node_found image order kept nodes are i v.0 v.1)) in_it.3);
+      holds = (
+        i,
+        v.0,
+        v.1,
+        alike_found image order standing in_it.0 here v.0 at v.2
+            (in_it.2 image here v.0 at v.2 (start_found image order kept nodes are parent before here standing.steps.items from way)
+            (node_found image order kept nodes are i v.0 v.1)) in_it.3,
+      );
     }
 
 -- kept as one more
@@ -171,9 +176,9 @@ arrives_new order kept new parent standing k is same = λ image nodes before her
       are = subst (λ ks. AreNodes image order ks (nodes ++ here ∷ [])) (sym same)
           (are_more image order kept nodes k here are (kept_stands image standing parent k here is at)
           (record {
-        before = before;
-        from = subst (λ p. IsBefore image nodes p (length nodes) before) (sym is.parent_is) from;
-        way = subst (λ es. IsWay (by_order order) before es here) (sym is.turns) way;
-      }));
+            before = before;
+            from = subst (λ p. IsBefore image nodes p (length nodes) before) (sym is.parent_is) from;
+            way = subst (λ es. IsWay (by_order order) before es here) (sym is.turns) way;
+          }));
       holds = (length nodes, here, at_last nodes here, alike_itself order here reached);
     }

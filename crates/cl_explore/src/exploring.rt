@@ -30,10 +30,7 @@ pub struct Exploration {
 }
 
 /// The loaded cluster, once each rank took its turns that need only itself.
-fn begin(
-    course: &Course<'_>,
-    image: &Image,
-) -> Result<(Search, Option<u8>), MoveFault>
+fn begin(course: &Course<'_>, image: &Image) -> Result<(Search, Option<u8>), MoveFault>
     requires { 0 < length course.now.order.now }
     ensures { IfOk result (λ begun. BeginsWell image.now course.now.order.now begun.0.nodes.items) }
 {
@@ -63,11 +60,7 @@ fn note(ends: &mut Vec<usize>, end: bool, node: usize) -> Result<(), AllocError>
 /// have been made.
 ///
 /// Refusals: Clock, Memory.
-pub fn explore(
-    course: &Course<'_>,
-    image: &Image,
-    states: usize,
-) -> Result<Exploration, MoveFault>
+pub fn explore(course: &Course<'_>, image: &Image, states: usize) -> Result<Exploration, MoveFault>
     requires { 0 < length course.now.order.now }
     ensures ends { IfOk result (λ found. Explored image.now course.now.order.now found.nodes.items found.ends.items found.left) }
     ensures most { IfOk result (λ found. (found.left ≡ 0) ⊎ (length found.nodes.items ≡ states + found.left)) }

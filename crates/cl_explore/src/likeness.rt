@@ -27,7 +27,11 @@ fn key_of_rank(rank: &RankState) -> u64 {
             Mode::Ended(_) => 2,
             Mode::Trapped(_, _) => 3,
         };
-        key = key.wrapping_mul(31).wrapping_add(hart.pc()).wrapping_mul(4).wrapping_add(mode);
+        key = key
+            .wrapping_mul(31)
+            .wrapping_add(hart.pc())
+            .wrapping_mul(4)
+            .wrapping_add(mode);
     }
     key
 }
@@ -37,7 +41,9 @@ fn key_of_rank(rank: &RankState) -> u64 {
 pub(crate) fn key_of(standing: &Standing) -> u64 {
     let mut key = standing.whole.key();
     for rank in standing.cluster.ranks.iter() {
-        key = key.wrapping_mul(6364136223846793005).wrapping_add(key_of_rank(rank));
+        key = key
+            .wrapping_mul(6364136223846793005)
+            .wrapping_add(key_of_rank(rank));
     }
     key ^ (key >> 32)
 }
@@ -79,6 +85,12 @@ pub(crate) fn is_alike(
         return Ok(false);
     };
     let boxes = standing.cluster.boxes.as_slice();
-    Ok(are_alike_boxes(boxes, kept.cluster.boxes())
-        && are_alike_ranks(&names, standing.cluster.ranks.as_slice(), kept.cluster.ranks()))
+    Ok(
+        are_alike_boxes(boxes, kept.cluster.boxes())
+            && are_alike_ranks(
+                &names,
+                standing.cluster.ranks.as_slice(),
+                kept.cluster.ranks(),
+            ),
+    )
 }

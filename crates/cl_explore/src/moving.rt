@@ -26,12 +26,7 @@ fn first_of(one: Option<u8>, other: Option<u8>) -> Option<u8> {
 impl Search {
     /// One turn of a node, and behind it the turns that need only their rank: where it leads is kept, unless it is alike a
     /// node. Answers the rank that would take more turns by itself, if one does.
-    fn go(
-        &mut self,
-        course: &Course<'_>,
-        node: usize,
-        turn: Step,
-    ) -> Result<Option<u8>, MoveFault>
+    fn go(&mut self, course: &Course<'_>, node: usize, turn: Step) -> Result<Option<u8>, MoveFault>
         requires { 0 < length course.now.order.now }
         ensures { OnOk result (Goes course.now.order.now self.old.nodes.items node turn self.new.nodes.items) }
     {
@@ -98,11 +93,7 @@ impl Search {
     }
 
     /// All moves of a node. Answers whether nobody goes on there.
-    pub(crate) fn visit(
-        &mut self,
-        course: &Course<'_>,
-        node: usize,
-    ) -> Result<Visit, MoveFault>
+    pub(crate) fn visit(&mut self, course: &Course<'_>, node: usize) -> Result<Visit, MoveFault>
         requires { 0 < length course.now.order.now }
         ensures { IfOk result (λ visit. KeepsOf course.now.order.now self.old.nodes.items node self.new.nodes.items
             (IsVisited course.now.order.now visit.end)) }

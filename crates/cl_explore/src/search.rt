@@ -58,12 +58,7 @@ impl Search {
     }
 
     /// Whether a node is alike a standing, at the same places: of those that have its key.
-    fn finds(
-        &self,
-        course: &Course<'_>,
-        standing: &Standing,
-        key: u64,
-    ) -> Result<bool, AllocError>
+    fn finds(&self, course: &Course<'_>, standing: &Standing, key: u64) -> Result<bool, AllocError>
         requires { 0 < length course.now.order.now }
         ensures { IfOk result (λ found. found ≡ true → HasFound course.now.order.now self.now.nodes.items standing.now) }
     {

@@ -52,11 +52,7 @@ fn request_of(ask: Ask) -> Option<Request>
 }
 
 /// A hub has answered what it was called for, if it was called.
-fn follow(
-    whole: &mut WholeHub,
-    rank: u8,
-    request: Option<Request>,
-) -> Result<(), AllocError>
+fn follow(whole: &mut WholeHub, rank: u8, request: Option<Request>) -> Result<(), AllocError>
     ensures { OnOk result (Follows whole.old rank request whole.new) }
 {
     if let Some(request) = request {

@@ -17,6 +17,6 @@ loop-slot-preserved c = λ naming listed.
     below_more (λ x y. y ≡ option_map (open_by naming) x) c.args.slots.now c.args.others.now c.loop-slot.slot
     (c.loop-slot.invariant naming listed)
     (λ x y at there.
-    let its = c.is_alike_slot.ensures naming listed c.if-not-is_alike_slot.false in 
+    let its = c.is_alike_slot.ensures naming listed c.if-not-is_alike_slot.false in
     sym (read_at c.args.others.now c.loop-slot.slot y None there)
     ∙ (its ∙ ap (option_map (open_by naming)) (read_at c.args.slots.now c.loop-slot.slot x None at)))

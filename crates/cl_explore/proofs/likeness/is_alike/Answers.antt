@@ -9,7 +9,7 @@ use Rattle.cl_explore.proofs.likeness.is_alike.Goals.{then-are_alike_boxes, else
 
 pub returns : goal.returns
 returns c = λ its. elim c.if-are_alike_boxes.branch [
-  | then-are_alike_boxes w ↦ 
+  | then-are_alike_boxes w ↦
       let names = c.in-Some.names in
       let kept = c.args.kept.now in
       let standing = c.args.standing.now in

@@ -15,8 +15,7 @@ returns-in_ok-new-in-Ok-Some-clause-says c =
     let steps = c.in-Ok-Some.steps.items in
     let few : length steps < 2 ^ 64 = search rules in
     let each = ends_fit c.args.image.now c.args.asked.now.order.now c.args.number steps c.requires.image
-            c.in-Ok-Some.ensures in
-    (
+    c.in-Ok-Some.ensures in (
       record {
         steps = steps;
         recorded = c.in-Ok-Some.ensures;

@@ -21,7 +21,7 @@ returns c =
     (c.len.ensures ∙ had.ok.0) c.if-rank-len.false c.index-had.ensures in
     took c.args.self.now _ c.args.turn c.index-had.result.now c.in_ok-request.request
     (subst (λ r. slice_get had.items r ≡ Some c.index-had.result.now) (c.from-rank.ensures ∙ c.rank.ensures) here)
-    c.in-Ok.ensures.leads c.in_ok-request.ensures 
+    c.in-Ok.ensures.leads c.in_ok-request.ensures
     (subst (λ r. Follows c.args.self.now.whole r c.in_ok-request.request c.follow.new.whole) c.rank-2.ensures
     c.in_ok-follow.ensures)
     (ap (λ r. slice_set had.items r (c.index-had.result.now + 1)) (c.from-rank.ensures ∙ c.rank.ensures))
