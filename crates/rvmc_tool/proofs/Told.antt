@@ -48,7 +48,7 @@ misplanned other image wrong = absurd wrong
 -- and so is the record of an end that isn't there
 unexplored : (command : ImageCommand) (image : ImageParts) (refusal : ExploreRefusal) → IsUnexplored command image refusal
     → Makes command image [] 1
-unexplored (Explore plan states turns asked) image (refusals.NoEnd number) (plans, of, right, is, none) = (
+unexplored (Explore plan states turns asked) image (refusals.NoEnd number) (plans, of, (right, (is, none))) = (
   plans,
   of,
   record {

@@ -1,9 +1,16 @@
-use Rattle.std.proofs.Common.{rules}
+use Rattle.std.proofs.Common.{rules, ◌≡◌, ◌<◌, length, subst, sym}
+use Rattle.cl_record.specs.Plans.{HasPlans}
+use Rattle.rvmc_tool.specs.Plans.{listed}
 use Rattle.rvmc_tool.proofs.Fitting.{names_one}
 use Rattle.rvmc_tool.proofs.exploring.explore.Goals as goal
 
 -- an image has a rank, and its plan names a hart
 pub answered-requires-clause-order : goal.answered-requires-clause-order
 answered-requires-clause-order c =
-    names_one c.args.image.now c.as_slice-2.result.now c.args.turns c.in_ok-plans.plans.items c.parts.ensures.limits.has_ranks
-    (c.has_plans.ensures.0 (search rules)) c.in_ok-plans.ensures
+    let image = c.args.image.now in
+    let harts = listed c.args.harts.now image.harts in
+    let plans_are : c.as_slice.result.now ≡ c.in_ok-plans.plans.items = (cc (c.as_slice.ensures.value)) in
+    let order_is : c.as_slice-2.result.now ≡ harts = (cc (c.as_slice-2.ensures.value, c.in_ok-order.ensures, c.parts.ensures.parts)) in
+    let has = subst (HasPlans image) plans_are (c.has_plans.ensures.0 (search rules)) in
+    subst (λ o. 0 < length o) (sym order_is)
+    (names_one image harts c.args.turns c.in_ok-plans.plans.items c.parts.ensures.limits.has_ranks has c.in_ok-plans.ensures)
