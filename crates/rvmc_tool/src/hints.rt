@@ -5,7 +5,7 @@ ghost use Rattle.rvmc_hints.specs.HintLines.{AppendsHint};
 ghost use Rattle.rvmc_tool.specs.Hints.{wanted_by};
 
 use crate::images::image_in;
-use crate::outputs::{Output, length_of};
+use crate::outputs::Output;
 use cl_debug::DebugFault;
 use cl_text::RecordFault;
 use rv_image::{Image, Symbol, read_image};
@@ -286,7 +286,7 @@ fn run_hint(output: &Output) -> Option<RunHint> {
     match output {
         Output::Text(_) => None,
         Output::Waiting(_) => Some(RunHint::Waits),
-        Output::Record(text) => length_hint(length_of(text)),
+        Output::Record(text) => length_hint(text.len()?),
     }
 }
 
