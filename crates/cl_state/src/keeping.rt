@@ -2,6 +2,7 @@
 
 ghost use Rattle.std.specs.Prelude.{◌≡◌, ◌↔◌, IfOk, IsTrue};
 
+use crate::same_requests::are_same_requests;
 use crate::state::{RankParts, RankState};
 use cl_calls::Site;
 use mp_request::Requests;
@@ -11,15 +12,16 @@ use rv_hart::Hart;
 use rv_memory::KeptMemory;
 use std::alloc::{AllocError, Global};
 use std::marker::Model;
+use std::sync::Arc;
 
-/// A rank that is kept as it was at one time: its pages stand once for all kept ranks in which they are alike.
-/// Contracts see the rank.
+/// A rank that is kept as it was at one time: its pages and its requests stand once for all kept ranks in which they are
+/// alike. Contracts see the rank.
 #[derive(Drop)]
 pub struct KeptRank {
     site: Site,
     memory: KeptMemory,
     harts: Vec<Hart>,
-    requests: Requests,
+    requests: Arc<Requests>,
     phases: Phases,
     out: Vec<u8>,
     clock: Stamp,
@@ -34,11 +36,28 @@ impl Model for KeptRank {
       site = k.site;
       memory = k.memory;
       harts = k.harts.items;
-      requests = k.requests;
+      requests = k.requests.value;
       phases = k.phases;
       out = k.out.items;
       clock = k.clock;
     } };
+}
+
+/// Requests are kept: as the earlier ones, where those are the same, and else as a copy.
+fn keep_requests(
+    alloc: Global,
+    requests: &Requests,
+    earlier: Option<&KeptRank>,
+) -> Result<Arc<Requests>, AllocError>
+    ensures { IfOk result (λ kept. kept.value ≡ requests.now) }
+{
+    if let Some(before) = earlier {
+        if are_same_requests(&before.requests, requests) {
+            return Arc::try_clone(&before.requests);
+        }
+    }
+    let copy = requests.try_copy(alloc)?;
+    Ok(Arc::new(alloc, copy)?)
 }
 
 impl KeptRank {
@@ -91,7 +110,8 @@ impl RankState {
     ghost use Rattle.cl_state.specs.Room.{rank_of};
 
     /// The rank as it is now, kept: its parts, output and clock, and no room for the next turn. A page that is as in
-    /// the earlier one stands once for both. The only error is want of memory.
+    /// the earlier one stands once for both, and so do the requests, if all of them are. The only error is want of
+    /// memory.
     pub fn keep(&self, alloc: Global, earlier: Option<&KeptRank>) -> Result<KeptRank, AllocError>
         ensures { IfOk result (λ kept. kept ≡ rank_of self.now) }
     {
@@ -103,7 +123,7 @@ impl RankState {
             site: self.site.try_copy(alloc)?,
             memory: self.memory.keep(alloc, before)?,
             harts: Vec::from_slice(alloc, self.harts.as_slice())?,
-            requests: self.requests.try_copy(alloc)?,
+            requests: keep_requests(alloc, &self.requests, earlier)?,
             phases: self.phases.try_copy(alloc)?,
             out: Vec::from_slice(alloc, self.out.as_slice())?,
             clock: self.clock,

@@ -11,6 +11,7 @@ mod loading;
 mod partitions;
 mod pending;
 mod row;
+mod same_requests;
 mod several;
 mod sides;
 mod state;
