@@ -48,10 +48,10 @@ each_on xs ys zs f g = record {
       (z.0, z.1, boxes_on x y.0 z.0 y.2 z.2);
 }
 
-had_here : (had : Turns) (r : ℕ) → one_more had r r ≡ had r + 1
+pub had_here : (had : Turns) (r : ℕ) → one_more had r r ≡ had r + 1
 had_here had r = cond-true (r == r) (had r + 1) (had r) (eq-eqb r r refl)
 
-had_other : (had : Turns) (r s : ℕ) → (r ≡ s → ⊥) → one_more had r s ≡ had s
+pub had_other : (had : Turns) (r s : ℕ) → (r ≡ s → ⊥) → one_more had r s ≡ had s
 had_other had r s other = cond-false (s == r) (had s + 1) (had s) (ne_eqb s r (λ e. other (sym e)))
 
 -- a turn that needs only its rank changes nothing else
