@@ -169,7 +169,9 @@ impl Standing {
     }
 
     /// Takes turns of a rank that need only the rank, at most so many. Answers whether it took fewer.
-    fn go_ahead(&mut self, rank: u8, order: &[u8], most: u64) -> Result<bool, MoveFault>
+    ///
+    /// Refusals: Clock, Memory. Then the standing may be anything.
+    pub fn go_ahead(&mut self, rank: u8, order: &[u8], most: u64) -> Result<bool, MoveFault>
         requires { 0 < length order.now }
         ensures { OnOk result (GoesAhead order.now self.old self.new) }
     {

@@ -1,8 +1,8 @@
 //! A cluster that is kept as it was at one time.
 
-ghost use Rattle.std.specs.Prelude.{◌≡◌, IfOk, map};
+ghost use Rattle.std.specs.Prelude.{◌≡◌, ◌<◌, IfOk, OnErr, OnOk, length, map};
 ghost use Rattle.cl_state.specs.Room.{rank_of};
-ghost use Rattle.cl_replay.specs.Kept.{snapshot};
+ghost use Rattle.cl_replay.specs.Kept.{IsBeside, IsRestored, snapshot};
 
 use crate::states::ClusterState;
 use cl_state::{KeptRank, RankState};
@@ -11,12 +11,53 @@ use mp_types::Stamp;
 use part_box::Settled;
 use std::alloc::{AllocError, Global};
 use std::marker::Model;
+use std::sync::Arc;
 
-/// A cluster that is kept as it was at one time: pages of its ranks stand once for all kept clusters in which they are
-/// alike. Contracts see what the cluster was.
+/// A kept rank, which all kept clusters own together in which it is the same. Contracts see the rank.
+#[derive(Drop)]
+pub struct SharedRank {
+    rank: Arc<KeptRank>,
+}
+
+impl Model for SharedRank {
+    ghost use Rattle.cl_state.specs.Rank.{Rank};
+
+    ghost Value = { Rank };
+
+    ghost view = { λ s. s.rank.value };
+}
+
+impl SharedRank {
+    fn of(alloc: Global, rank: KeptRank) -> Result<SharedRank, AllocError>
+        ensures { IfOk result (λ shared. shared ≡ rank) }
+    {
+        Ok(SharedRank {
+            rank: Arc::new(alloc, rank)?,
+        })
+    }
+
+    /// The same rank once more, which takes no memory.
+    fn share(&self) -> Result<SharedRank, AllocError>
+        ensures { IfOk result (λ shared. shared ≡ self.now) }
+    {
+        Ok(SharedRank {
+            rank: Arc::try_clone(&self.rank)?,
+        })
+    }
+
+    /// The rank.
+    pub fn rank(&self) -> &KeptRank
+        ensures { result.now ≡ self.now }
+    {
+        &self.rank
+    }
+}
+
+/// A cluster that is kept as it was at one time: its ranks, and their pages, stand once for all kept clusters in which
+/// they are alike. Contracts see what the cluster was.
 #[derive(Drop)]
 pub struct KeptCluster {
-    ranks: Vec<KeptRank>,
+    ranks: Vec<SharedRank>,
     hub: HubState,
     clock: Stamp,
     boxes: Vec<[Settled; 16]>,
@@ -30,28 +71,54 @@ impl Model for KeptCluster {
     ghost view = { λ k. record { ranks = k.ranks.items; hub = k.hub; clock = k.clock; boxes = k.boxes.items } };
 }
 
+/// A rank is kept, beside an earlier one: what is alike in both stands once.
+fn keep_rank(
+    alloc: Global,
+    rank: &RankState,
+    earlier: Option<&SharedRank>,
+) -> Result<SharedRank, AllocError>
+    ensures { IfOk result (λ kept. kept ≡ rank_of rank.now) }
+{
+    let kept = match earlier {
+        Some(earlier) => rank.keep(alloc, Some(earlier.rank()))?,
+        None => rank.keep(alloc, None)?,
+    };
+    SharedRank::of(alloc, kept)
+}
+
 /// All ranks are kept, each beside the earlier one of its number.
 fn keep_ranks(
     alloc: Global,
     ranks: &[RankState],
-    earlier: &[KeptRank],
-) -> Result<Vec<KeptRank>, AllocError>
+    earlier: &[SharedRank],
+) -> Result<Vec<SharedRank>, AllocError>
     ensures { IfOk result (λ kept. kept.items ≡ map rank_of ranks.now) }
 {
     let mut kept = Vec::with_capacity(alloc, ranks.len())?;
     for (n, rank) in ranks.iter().enumerate() {
-        kept.push(rank.keep(alloc, earlier.get(n))?)?;
+        kept.push(keep_rank(alloc, rank, earlier.get(n))?)?;
     }
     Ok(kept)
 }
 
+/// The same ranks once more.
+fn share_ranks(alloc: Global, kept: &[SharedRank]) -> Result<Vec<SharedRank>, AllocError>
+    ensures { IfOk result (λ shared. shared.items ≡ kept.now) }
+{
+    let mut shared = Vec::with_capacity(alloc, kept.len())?;
+    for rank in kept {
+        shared.push(rank.share()?)?;
+    }
+    Ok(shared)
+}
+
 /// The same ranks in memory of their own.
-fn live_ranks(alloc: Global, kept: &[KeptRank]) -> Result<Vec<RankState>, AllocError>
+fn live_ranks(alloc: Global, kept: &[SharedRank]) -> Result<Vec<RankState>, AllocError>
     ensures { IfOk result (λ ranks. map rank_of ranks.items ≡ kept.now) }
 {
     let mut ranks = Vec::with_capacity(alloc, kept.len())?;
     for rank in kept {
-        ranks.push(rank.live(alloc)?)?;
+        ranks.push(rank.rank().live(alloc)?)?;
     }
     Ok(ranks)
 }
@@ -70,8 +137,32 @@ impl KeptCluster {
         })
     }
 
+    /// The rank of this number, the hub, its clock and the boxes of a state are again what they were here, and its other
+    /// ranks stay. So a state that came from here by turns of that rank alone is as it was here. The only error is want
+    /// of memory, and then nothing changes.
+    pub fn restore(
+        &self,
+        alloc: Global,
+        state: &mut ClusterState,
+        rank: usize,
+    ) -> Result<(), AllocError>
+        requires here { rank < length self.now.ranks }
+        requires there { rank < length state.old.ranks.items }
+        ensures restored { OnOk result (IsRestored self.now state.old rank state.new) }
+        ensures refused { OnErr result (state.new ≡ state.old) }
+    {
+        let own = self.ranks[rank].rank().live(alloc)?;
+        let hub = self.hub.try_copy(alloc)?;
+        let boxes = Vec::from_slice(alloc, self.boxes.as_slice())?;
+        state.ranks[rank] = own;
+        state.hub = hub;
+        state.clock = self.clock;
+        state.boxes = boxes;
+        Ok(())
+    }
+
     /// The ranks, in order of their numbers.
-    pub fn ranks(&self) -> &[KeptRank]
+    pub fn ranks(&self) -> &[SharedRank]
         ensures { result.now ≡ self.now.ranks }
     {
         self.ranks.as_slice()
@@ -99,6 +190,30 @@ impl ClusterState {
             Some(earlier) => keep_ranks(alloc, self.ranks.as_slice(), earlier.ranks.as_slice())?,
             None => keep_ranks(alloc, self.ranks.as_slice(), &[])?,
         };
+        Ok(KeptCluster {
+            ranks,
+            hub: self.hub.try_copy(alloc)?,
+            clock: self.clock,
+            boxes: Vec::from_slice(alloc, self.boxes.as_slice())?,
+        })
+    }
+
+    /// The cluster as it is now, kept beside an earlier one, of which only the rank of this number has changed: all other
+    /// ranks are the earlier ones, and stand once for both. Pages of that rank stand once for it and for the rank
+    /// `near`, if one is given, where they are alike. The only error is want of memory.
+    pub fn keep_beside(
+        &self,
+        alloc: Global,
+        earlier: &KeptCluster,
+        rank: usize,
+        near: Option<&SharedRank>,
+    ) -> Result<KeptCluster, AllocError>
+        requires here { rank < length self.now.ranks.items }
+        requires there { rank < length earlier.now.ranks }
+        ensures { IfOk result (IsBeside self.now earlier.now.ranks rank) }
+    {
+        let mut ranks = share_ranks(alloc, earlier.ranks.as_slice())?;
+        ranks[rank] = keep_rank(alloc, &self.ranks[rank], near)?;
         Ok(KeptCluster {
             ranks,
             hub: self.hub.try_copy(alloc)?,

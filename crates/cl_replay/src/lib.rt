@@ -21,7 +21,7 @@ mod words;
 pub use checking::{Verdict, check};
 pub use cl_machine::{KindRef, Step};
 pub use faults::{StepFault, WalkFault};
-pub use kept::KeptCluster;
+pub use kept::{KeptCluster, SharedRank};
 pub use laws::{merged_is_good_law, merged_replays_law, one_verdict_law, run_law};
 pub use replaying::{ReplayFault, replay};
 pub use states::ClusterState;
