@@ -1,8 +1,8 @@
 -- What nodes cover, and lists of them that grow.
-use Rattle.std.specs.Prelude.{ℕ, ◌+◌, ◌%◌, ◌<◌, ◌≡◌, List, [], ◌∷◌, ◌++◌, length, slice_get, slice_index, Some}
-use Rattle.std.proofs.Common.{refl, sym, ap, ◌∙◌, subst, inl, inr}
+use Rattle.std.specs.Prelude.{ℕ, ◌+◌, ◌%◌, ◌<◌, ◌≡◌, List, [], ◌∷◌, ◌++◌, length, option_map, slice_get, slice_index, Option, Some, None}
+use Rattle.std.proofs.Common.{refl, sym, ap, ◌∙◌, subst, arith, inl, inr}
 use Rattle.std.proofs.Math.Nat.{mod-add-mod}
-use Rattle.std.proofs.lemmas.Option.{same_Some, slice_get_within}
+use Rattle.std.proofs.lemmas.Option.{same_Some, slice_get-map, slice_get_within}
 use Rattle.std.proofs.lemmas.List.{length-append}
 use Rattle.rv_image.specs.declared.images.ImageParts.{ImageParts}
 use Rattle.mp_alike_laws.specs.Alike.{AlikeHubs}
@@ -12,18 +12,23 @@ use Rattle.cl_machine.specs.Boxes.{Box}
 use Rattle.cl_machine.specs.Journal.{Journal}
 use Rattle.cl_machine.specs.declared.steps.Step.{Step}
 use Rattle.cl_order_laws.specs.Alike.{AlikeBoxes, AreEach, hub_of}
-use Rattle.cl_order_laws.specs.Closed.{IsCovered, IsSamePlace, Node, Plans, one_more}
+use Rattle.cl_replay.specs.Kept.{Snapshot, snapshot}
+use Rattle.cl_state.specs.Rank.{Rank}
+use Rattle.cl_state.specs.Room.{rank_of}
+use Rattle.cl_state.specs.declared.state.RankState.{RankState}
+use Rattle.cl_order_laws.specs.Closed.{IsCovered, IsDone, IsSamePlace, Node, Plans, one_more}
 use Rattle.cl_order_laws.specs.Laws.{AreAlike, IsReached}
 use Rattle.cl_order_laws.proofs.Likeness.{itself}
 use Rattle.cl_moves.specs.Ahead.{WentAhead}
 use Rattle.cl_moves.specs.Standing.{IsWay, StandsAt, by_order, node_of}
 use Rattle.cl_moves.specs.declared.standing.Standing.{Standing}
-use Rattle.cl_explore.specs.Kept.{AreSamePlaces, IsBefore, IsKeptOf, IsLed, KeptStandsAt}
+use Rattle.cl_explore.specs.Kept.{AreSamePlaces, HaveStayedSince, IsBefore, IsKeptAs, IsKeptOf, IsLed, KeptStandsAt}
 use Rattle.cl_explore.specs.Covering.{AreAlikeNodes, AreNodes, Grows, IsClosedAt, IsCoveredTurn}
-use Rattle.cl_explore.specs.Searching.{Arrives, HasFound}
+use Rattle.cl_explore.specs.Searching.{Arrives, IsFoundIn}
 use Rattle.cl_explore.specs.declared.kept.KeptNode.{KeptNode}
 use Rattle.cl_explore.proofs.Lists.{at_inside, at_last, stays_at, was_or_new}
 use Rattle.cl_explore.proofs.Keeping.{found_reached, kept_stands, led_more, node_found, start_found}
+use Rattle.cl_explore.proofs.Staying.{have_stayed}
 
 -- ---- one that is alike a node, once its ranks went ahead
 
@@ -46,7 +51,7 @@ covered_by plans nodes here there other i went alike at = record {
           after = there.had r;
           ahead = v.2.1;
           alike = w.2;
-          place = inl (alike.places r v.0 v.1);
+          place = alike.places r v.0 v.1;
         },
       );
   hubs = subst (λ (j : Journal). AlikeHubs alike.names (hub_of j) (hub_of other.cluster.journal)) went.journal
@@ -120,9 +125,24 @@ are_more image order kept nodes k node are stands led =
 
 -- ---- a standing arrives
 
+-- the state's rank is the cluster's
+pub by_state : (image : ImageParts) (live : Standing) (node : Node) → StandsAt image live node → (rank : ℕ)
+    → (P : Rank → Type 0)
+    → ((own : RankState) → slice_get live.cluster.ranks.items rank ≡ Some own → P (rank_of own))
+    → (x : Rank) → slice_get node.cluster.ranks rank ≡ Some x → P x
+by_state image live node at rank P each x here =
+    let mapped : option_map rank_of (slice_get live.cluster.ranks.items rank) ≡ Some x =
+    sym (slice_get-map rank_of live.cluster.ranks.items rank)
+    ∙ (sym (ap (λ (rs : List Rank). slice_get rs rank) (at.stands).ranks_are) ∙ here) in
+    of (slice_get live.cluster.ranks.items rank) refl mapped
+  where
+    of : (o : Option RankState) → slice_get live.cluster.ranks.items rank ≡ o → option_map rank_of o ≡ Some x → P x
+    of None is mapped = absurd (cc)
+    of (Some own) is mapped = subst P (same_Some (rank_of own) x mapped) (each own is)
+
 pub alike_found : (image : ImageParts) (order : List ℕ) (standing : Standing) (k : KeptNode) (here node : Node)
     → StandsAt image standing here → KeptStandsAt image k node → AreAlike here.cluster node.cluster
-    → AreSamePlaces (length order) standing.had.items k.had.items → AreAlikeNodes (by_order order) here node
+    → AreSamePlaces order standing k.had.items → AreAlikeNodes (by_order order) here node
 alike_found image order standing k here node at kept alike same = record {
   names = alike.0;
   alike = alike.1;
@@ -131,24 +151,25 @@ alike_found image order standing k here node at kept alike same = record {
       let n = at_inside standing.had.items r (subst (λ c. r < c) (sym at.each) inside) in
       let m = at_inside k.had.items r
       (subst (λ c. r < c) (sym (kept.each ∙ ((alike.1).ranks).many)) inside) in
-      same_place order (here.had r) (node.had r)
-      (ap (λ c. c % length order) (at.had r n.0 n.1)
-      ∙ (same r n.0 m.0 n.1 m.1 ∙ ap (λ c. c % length order) (sym (kept.had r m.0 m.1))));
+      elim (same r n.0 m.0 n.1 m.1) [
+        | inl place ↦ inl (same_place order (here.had r) (node.had r)
+            (ap (λ c. c % length order) (at.had r n.0 n.1)
+            ∙ (place ∙ ap (λ c. c % length order) (sym (kept.had r m.0 m.1)))))
+        | inr done ↦ inr (by_state image standing here at r (IsDone (in_slot order)) done rank there)
+      ];
 }
 
 pub alike_itself : (order : List ℕ) (here : Node) → IsReached here.cluster → AreAlikeNodes (by_order order) here here
 alike_itself order here reached = record {
   names = no_renaming;
   alike = itself here.cluster reached;
-  places = λ r rank there k. refl;
+  places = λ r rank there. inl (λ k. refl);
 }
 
 -- alike a node that is kept
-pub arrives_found : (order : List ℕ) (kept : List KeptNode) (parent : ℕ) (standing : Standing) → HasFound order kept standing
-    → Arrives order kept parent standing kept
-arrives_found order kept parent standing has = λ image nodes before here are at from way.
-    let i = has.0 in
-    let in_it = has.1 in
+pub arrives_found : (order : List ℕ) (kept : List KeptNode) (parent i : ℕ) (standing : Standing)
+    → IsFoundIn order kept standing i → Arrives order kept parent standing kept
+arrives_found order kept parent i standing in_it = λ image nodes before here are at from way.
     let v = are.each i in_it.0 in_it.1 in
     record {
       more = nodes;
@@ -164,10 +185,36 @@ arrives_found order kept parent standing has = λ image nodes before here are at
       );
     }
 
+-- with the cluster that a standing is
+kept_of : (standing : Standing) (parent : ℕ) (k : KeptNode) (cluster : Snapshot) → IsKeptAs standing cluster parent k
+    → cluster ≡ snapshot standing.cluster → IsKeptOf standing parent k
+kept_of standing parent k cluster keeps is = record {
+  cluster = keeps.cluster_is ∙ is;
+  whole = keeps.whole;
+  had = keeps.had;
+  parent_is = keeps.parent_is;
+  turns = keeps.turns;
+}
+
+-- the node from which it was found is that of the number that is told
+stayed_since : (image : ImageParts) (order : List ℕ) (kept : List KeptNode) (nodes : List Node) (parent : ℕ)
+    (standing : Standing) (before here : Node) → AreNodes image order kept nodes → StandsAt image standing here
+    → IsBefore image nodes parent (length nodes) before → IsWay (by_order order) before standing.steps.items here
+    → HaveStayedSince kept parent standing
+stayed_since image order kept [] parent standing before here are at from way = λ k there.
+    let inside = slice_get_within kept parent k there in absurd (omega (arith, inside, are.many))
+stayed_since image order kept (x ∷ nodes) parent standing before here are at from way = λ k there.
+    let v = are.each parent k there in
+    let same : v.0 ≡ before = same_Some v.0 before (sym v.1 ∙ from.1) in
+    have_stayed image order k standing before here (subst (KeptStandsAt image k) same v.2) at way
+
 -- kept as one more
 pub arrives_new : (order : List ℕ) (kept new : List KeptNode) (parent : ℕ) (standing : Standing) (k : KeptNode)
-    → IsKeptOf standing parent k → new ≡ kept ++ k ∷ [] → Arrives order kept parent standing new
-arrives_new order kept new parent standing k is same = λ image nodes before here are at from way.
+    (cluster : Snapshot) → (HaveStayedSince kept parent standing → cluster ≡ snapshot standing.cluster)
+    → IsKeptAs standing cluster parent k → new ≡ kept ++ k ∷ [] → Arrives order kept parent standing new
+arrives_new order kept new parent standing k cluster beside keeps same = λ image nodes before here are at from way.
+    let is = kept_of standing parent k cluster keeps
+    (beside (stayed_since image order kept nodes parent standing before here are at from way)) in
     let reached = found_reached image order here
     (start_found image order kept nodes are parent before here standing.steps.items from way) in
     record {

@@ -2,6 +2,7 @@ pub mod Lists
 pub mod Same
 pub mod Winding
 pub mod Keeping
+pub mod Staying
 pub mod Covers
 pub mod Tries
 pub mod Finds

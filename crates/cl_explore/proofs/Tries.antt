@@ -1,9 +1,9 @@
 -- Moves of a node, one after another.
-use Rattle.std.specs.Prelude.{ℕ, ◌+◌, ◌≤◌, ◌≡◌, ◌⊎◌, List, [], ◌∷◌, ◌++◌, length, min, option_map, slice_get, Option, Some, None, Bool, Result, Ok, Err, OnOk}
-use Rattle.std.proofs.Common.{refl, sym, ap, ◌∙◌, subst, arith, inl, inr}
+use Rattle.std.specs.Prelude.{ℕ, ◌+◌, ◌<◌, ◌≤◌, ◌≡◌, ◌⊎◌, List, [], ◌∷◌, ◌++◌, length, min, slice_get, Some, Bool}
+use Rattle.std.proofs.Common.{sym, ap, ◌∙◌, subst, arith, inl, inr}
 use Rattle.std.proofs.lemmas.Bool.{cases_eq}
 use Rattle.std.proofs.lemmas.List.{length-map}
-use Rattle.std.proofs.lemmas.Option.{same_Some, slice_get-map, slice_get_within}
+use Rattle.std.proofs.lemmas.Option.{same_Some, slice_get_within}
 use Rattle.rv_image.specs.declared.images.ImageParts.{ImageParts}
 use Rattle.cl_record.specs.Plans.{in_slot}
 use Rattle.cl_machine.specs.declared.steps.Step.{Step}
@@ -16,30 +16,16 @@ use Rattle.cl_state.specs.Room.{rank_of}
 use Rattle.cl_moves.specs.Ahead.{GoesAhead}
 use Rattle.cl_moves.specs.Ends.{TellsEnd}
 use Rattle.cl_moves.specs.Moves.{AreTurnsOf, HasAllTurns}
-use Rattle.cl_moves.specs.Standing.{HasNoTurn, IsNextHart, StandsAt, Took, by_order, node_of}
+use Rattle.cl_moves.specs.Standing.{HasNoTurn, IsNextHart, Took, by_order, node_of}
 use Rattle.cl_moves.specs.declared.standing.Standing.{Standing}
-use Rattle.cl_explore.specs.Kept.{IsLiveOf, KeptStandsAt}
+use Rattle.cl_explore.specs.Kept.{HaveStayed, IsLiveAt, IsLiveOf, KeptStandsAt}
 use Rattle.cl_explore.specs.Covering.{AreNodes, IsClosedAt, IsCoveredTurn}
-use Rattle.cl_explore.specs.Searching.{AreClosedBelow, ArePlanned, Arrives, ClosesRank, Goes, GoesEach, IsVisited, Keeps, KeepsOf}
+use Rattle.cl_explore.specs.Searching.{AreClosedBelow, ArePlanned, Arrives, ClosesRank, Goes, GoesEach, IsVisited, KeepsAt, KeepsOf}
 use Rattle.cl_explore.specs.declared.kept.KeptNode.{KeptNode}
-use Rattle.cl_explore.proofs.Covers.{closed_more, covered_by, grows_none, grows_on, turn_more}
-use Rattle.cl_explore.proofs.Lists.{at_last, stays_at, was_or_new}
+use Rattle.cl_explore.proofs.Covers.{by_state, closed_more, covered_by, grows_none, grows_on, turn_more}
+use Rattle.cl_explore.proofs.Lists.{at_inside, at_last, stays_at, was_or_new}
+use Rattle.cl_explore.proofs.Staying.{have_stayed}
 use Rattle.cl_explore.proofs.Keeping.{before_at, live_stands, no_way}
-
--- the state's rank is the cluster's
-by_state : (image : ImageParts) (live : Standing) (node : Node) → StandsAt image live node → (rank : ℕ)
-    → (P : Rank → Type 0)
-    → ((own : RankState) → slice_get live.cluster.ranks.items rank ≡ Some own → P (rank_of own))
-    → (x : Rank) → slice_get node.cluster.ranks rank ≡ Some x → P x
-by_state image live node at rank P each x here =
-    let mapped : option_map rank_of (slice_get live.cluster.ranks.items rank) ≡ Some x =
-    sym (slice_get-map rank_of live.cluster.ranks.items rank)
-    ∙ (sym (ap (λ (rs : List Rank). slice_get rs rank) (at.stands).ranks_are) ∙ here) in
-    of (slice_get live.cluster.ranks.items rank) refl mapped
-  where
-    of : (o : Option RankState) → slice_get live.cluster.ranks.items rank ≡ o → option_map rank_of o ≡ Some x → P x
-    of None is mapped = absurd (cc)
-    of (Some own) is mapped = subst P (same_Some (rank_of own) x mapped) (each own is)
 
 -- ---- one turn
 
@@ -49,195 +35,250 @@ pub not_kept : (order : List ℕ) (kept : List KeptNode) (n : ℕ) → length ke
 not_kept order kept n past image nodes node are there =
     let inside = slice_get_within nodes n node there in omega (arith, past, inside, are.many)
 
-module _ (order : List ℕ) (old : List KeptNode) (n : ℕ) (k : KeptNode) (at : slice_get old n ≡ Some k)
-    (live : Standing) (is : IsLiveOf k live) where
-  -- the node that the standing is
-  pub live_at : (image : ImageParts) (nodes : List Node) (node : Node) → AreNodes image order old nodes
-      → slice_get nodes n ≡ Some node → StandsAt image live node
-  live_at image nodes node are there =
+module _ (order : List ℕ) (old : List KeptNode) (n : ℕ) (k : KeptNode) (at : slice_get old n ≡ Some k) where
+  -- what is kept is that node
+  pub kept_at : (image : ImageParts) (nodes : List Node) (node : Node) → AreNodes image order old nodes
+      → slice_get nodes n ≡ Some node → KeptStandsAt image k node
+  kept_at image nodes node are there =
       let v = are.each n k at in
-      let same : v.0 ≡ node = same_Some v.0 node (sym v.1 ∙ there) in
-      live_stands image k live node is (subst (KeptStandsAt image k) same v.2)
+      let same : v.0 ≡ node = same_Some v.0 node (sym v.1 ∙ there) in subst (KeptStandsAt image k) same v.2
 
-  -- the machine has no such turn there
-  pub goes_nowhere : (e : Step) → HasNoTurn live e → Goes order old n e old
-  goes_nowhere e none = λ image nodes node are there planned. record {
-    more = nodes;
-    grows = grows_none nodes;
-    are = are;
-    holds = λ new leads.
-        absurd (none image node new (live_at image nodes node are there) (below_law node.cluster new e leads planned.1));
+  -- a standing that was made of it is there
+  pub live_at : (live : Standing) → IsLiveOf k live → (image : ImageParts) (nodes : List Node) (node : Node)
+      → AreNodes image order old nodes → slice_get nodes n ≡ Some node → IsLiveAt image live node
+  live_at live is image nodes node are there = record {
+    stands = live_stands image k live node is (kept_at image nodes node are there);
+    steps = is.steps;
   }
 
--- it has, and where it leads is kept, or alike a node
-pub goes_on : (order : List ℕ) (old new : List KeptNode) (n : ℕ) (e : Step) (k : KeptNode) → slice_get old n ≡ Some k
-    → (live mid there : Standing) → IsLiveOf k live → Took live e mid → GoesAhead order mid there
-    → Arrives order old n there new → Goes order old n e new
-goes_on order old new n e k at live mid there is took ahead arrives = λ image nodes node are here planned.
+  -- the machine has no such turn there
+  pub goes_nowhere : (live after : Standing) (e : Step) → HasNoTurn live e → IsLiveOf k after
+      → Goes order old n live e old after
+  goes_nowhere live after e none is = λ image nodes node are there at planned. (
+    record {
+      more = nodes;
+      grows = grows_none nodes;
+      are = are;
+      holds = λ new leads. absurd (none image node new at.stands (below_law node.cluster new e leads planned.1));
+    },
+    live_at after is image nodes node are there,
+  )
+
+-- it has: where it leads is kept, or alike a node, and then the standing is at the node again
+pub goes_on : (order : List ℕ) (old new : List KeptNode) (n : ℕ) (e : Step) (live mid there after : Standing)
+    → Took live e mid → GoesAhead order mid there → Arrives order old n there new
+    → ((k : KeptNode) → slice_get new n ≡ Some k → HaveStayed k there → IsLiveOf k after) → Goes order old n live e new after
+goes_on order old new n e live mid there after took ahead arrives back = λ image nodes node are here at planned.
     let plans = by_order order in
-    let stands = live_at order old n k at live is image nodes node are here in
-    let led = took image plans node node stands (no_way plans node live.steps.items is.steps) planned.0 in
+    let led = took image plans node node at.stands (no_way plans node live.steps.items at.steps) planned.0 in
     let mid_node : Node = node_of led.0 (one_more node.had e.rank) in
     let far = ahead image node mid_node led.2 led.3 in
     let kept = arrives image nodes node far.0 are far.1 (before_at image nodes n node here) far.2 in
-    record {
-      more = kept.more;
-      grows = kept.grows;
-      are = kept.are;
-      holds = λ new_cluster leads.
-          let same : led.0 ≡ new_cluster = step_once node.cluster e led.0 new_cluster led.1
-          (below_law node.cluster new_cluster e leads planned.1) in
-          let alike = kept.holds in
-          subst (λ c. IsCovered plans kept.more (node_of c (one_more node.had e.rank))) same
-          (covered_by plans kept.more mid_node far.0 alike.1 alike.0 far.3 alike.3 alike.2);
-    }
+    let still = kept.grows n node here in
+    let inside = slice_get_within kept.more n node still in
+    let k = at_inside new n (subst (λ c. n < c) (kept.are).many inside) in
+    let stands = kept_at order new n k.0 k.1 image kept.more node kept.are still in (
+      record {
+        more = kept.more;
+        grows = kept.grows;
+        are = kept.are;
+        holds = λ new_cluster leads.
+            let same : led.0 ≡ new_cluster = step_once node.cluster e led.0 new_cluster led.1
+            (below_law node.cluster new_cluster e leads planned.1) in
+            let alike = kept.holds in
+            subst (λ c. IsCovered plans kept.more (node_of c (one_more node.had e.rank))) same
+            (covered_by plans kept.more mid_node far.0 alike.1 alike.0 far.3 alike.3 alike.2);
+      },
+      live_at order new n k.0 k.1 after (back k.0 k.1 (have_stayed image order k.0 there node far.0 stands far.1 far.2))
+          image kept.more node kept.are still,
+    )
+
+-- no such node is kept then either
+pub goes_past : (order : List ℕ) (old new : List KeptNode) (n : ℕ) (e : Step) (live mid there after : Standing)
+    → Took live e mid → GoesAhead order mid there → Arrives order old n there new → length new ≤ n
+    → Goes order old n live e new after
+goes_past order old new n e live mid there after took ahead arrives past = λ image nodes node are here at planned.
+    let plans = by_order order in
+    let led = took image plans node node at.stands (no_way plans node live.steps.items at.steps) planned.0 in
+    let mid_node : Node = node_of led.0 (one_more node.had e.rank) in
+    let far = ahead image node mid_node led.2 led.3 in
+    let kept = arrives image nodes node far.0 are far.1 (before_at image nodes n node here) far.2 in
+    absurd (not_kept order new n past image kept.more node kept.are (kept.grows n node here))
 
 -- ---- each turn of a list, from its end on
 
 -- of those that are left nothing is said yet, and the others are covered
-abbrev pub GoneFrom : List ℕ → List KeptNode → ℕ → List Step → List Step → List KeptNode → Type 0
-GoneFrom order old n turns left new =
-    (image : ImageParts) (nodes : List Node) (node : Node) → AreNodes image order old nodes
-    → slice_get nodes n ≡ Some node → ArePlanned order node turns
-    → Keeps image order nodes new (λ more. (i : ℕ) (e : Step) → slice_get turns i ≡ Some e
+abbrev pub GoneFrom : List ℕ → List KeptNode → ℕ → Standing → List Step → List Step → List KeptNode → Standing → Type 0
+GoneFrom order old n live turns left new after =
+    KeepsAt order old n live new after (λ node. ArePlanned order node turns)
+    (λ more node. (i : ℕ) (e : Step) → slice_get turns i ≡ Some e
     → (slice_get left i ≡ Some e) ⊎ IsCoveredTurn order more node e)
 
-pub none_gone : (order : List ℕ) (old : List KeptNode) (n : ℕ) (turns : List Step) → GoneFrom order old n turns turns old
-none_gone order old n turns = λ image nodes node are there planned. record {
-  more = nodes;
-  grows = grows_none nodes;
-  are = are;
-  holds = λ i e at. inl at;
-}
+pub none_gone : (order : List ℕ) (old : List KeptNode) (n : ℕ) (live : Standing) (turns : List Step)
+    → GoneFrom order old n live turns turns old live
+none_gone order old n live turns = λ image nodes node are there at planned. (
+  record {
+    more = nodes;
+    grows = grows_none nodes;
+    are = are;
+    holds = λ i e has. inl has;
+  },
+  at,
+)
 
 -- those that are left are the first ones
 abbrev pub Firsts : List Step → List Step → Type 0
 Firsts left turns = (i : ℕ) (e : Step) → slice_get left i ≡ Some e → slice_get turns i ≡ Some e
 
-pub one_gone : (order : List ℕ) (old mid new : List KeptNode) (n : ℕ) (turns left rest : List Step) (e : Step)
-    → Firsts left turns → left ≡ rest ++ e ∷ [] → GoneFrom order old n turns left mid → Goes order mid n e new
-    → Firsts rest turns × GoneFrom order old n turns rest new
-one_gone order old mid new n turns left rest e firsts is gone goes = (
+pub one_gone : (order : List ℕ) (old mid new : List KeptNode) (n : ℕ) (live between after : Standing)
+    (turns left rest : List Step) (e : Step) → Firsts left turns → left ≡ rest ++ e ∷ []
+    → GoneFrom order old n live turns left mid between → Goes order mid n between e new after
+    → Firsts rest turns × GoneFrom order old n live turns rest new after
+one_gone order old mid new n live between after turns left rest e firsts is gone goes = (
   λ i x at. firsts i x (subst (λ xs. slice_get xs i ≡ Some x) (sym is) (stays_at rest e i x at)),
-  λ image nodes node are there planned.
+  λ image nodes node are there at planned.
       let end : slice_get turns (length rest) ≡ Some e =
       firsts (length rest) e (subst (λ xs. slice_get xs (length rest) ≡ Some e) (sym is) (at_last rest e)) in
-      let first = gone image nodes node are there planned in
-      let second = goes image first.more node first.are (first.grows n node there) (planned (length rest) e end) in
-      record {
-        more = second.more;
-        grows = grows_on nodes first.more second.more first.grows second.grows;
-        are = second.are;
-        holds = λ i x at. elim (first.holds i x at) [
-          | inr covered ↦ inr (turn_more order first.more second.more node x second.grows covered)
-          | inl was ↦ elim (was_or_new rest e i x (subst (λ xs. slice_get xs i ≡ Some x) is was)) [
-            | inl still ↦ inl still
-            | inr last ↦ inr (subst (λ y. IsCoveredTurn order second.more node y) (same_Some e x last.1) second.holds)
-          ]
-        ];
-      },
+      let before = gone image nodes node are there at planned in
+      let first = before.0 in
+      let later = goes image first.more node first.are (first.grows n node there) before.1 (planned (length rest) e end) in
+      let second = later.0 in (
+        record {
+          more = second.more;
+          grows = grows_on nodes first.more second.more first.grows second.grows;
+          are = second.are;
+          holds = λ i x has. elim (first.holds i x has) [
+            | inr covered ↦ inr (turn_more order first.more second.more node x second.grows covered)
+            | inl was ↦ elim (was_or_new rest e i x (subst (λ xs. slice_get xs i ≡ Some x) is was)) [
+              | inl still ↦ inl still
+              | inr last ↦ inr (subst (λ y. IsCoveredTurn order second.more node y) (same_Some e x last.1) second.holds)
+            ]
+          ];
+        },
+        later.1,
+      ),
 )
 
-pub all_gone : (order : List ℕ) (old new : List KeptNode) (n : ℕ) (turns left : List Step)
-    → length left ≡ 0 → GoneFrom order old n turns left new → GoesEach order old n turns new
-all_gone order old new n turns left none gone = λ image nodes node are there planned.
-    let far = gone image nodes node are there planned in
-    record {
-      more = far.more;
-      grows = far.grows;
-      are = far.are;
-      holds = λ i e at. elim (far.holds i e at) [
-        | inl still ↦ let inside = slice_get_within left i e still in absurd (omega (arith, inside, none))
-        | inr covered ↦ covered
-      ];
-    }
+pub all_gone : (order : List ℕ) (old new : List KeptNode) (n : ℕ) (live after : Standing) (turns left : List Step)
+    → length left ≡ 0 → GoneFrom order old n live turns left new after → GoesEach order old n live turns new after
+all_gone order old new n live after turns left none gone = λ image nodes node are there at planned.
+    let both = gone image nodes node are there at planned in
+    let far = both.0 in (
+      record {
+        more = far.more;
+        grows = far.grows;
+        are = far.are;
+        holds = λ i e has. elim (far.holds i e has) [
+          | inl still ↦ let inside = slice_get_within left i e still in absurd (omega (arith, inside, none))
+          | inr covered ↦ covered
+        ];
+      },
+      both.1,
+    )
 
 -- ---- a rank
 
 -- the rank isn't there, or all its harts are stopped
 pub closed_done : (order : List ℕ) (old : List KeptNode) (n : ℕ) (live : Standing) (rank : ℕ)
     → ((own : RankState) → slice_get live.cluster.ranks.items rank ≡ Some own → IsDone (in_slot order) (rank_of own))
-    → ClosesRank order old n live rank old
-closed_done order old n live rank done = λ image nodes node are there at. record {
-  more = nodes;
-  grows = grows_none nodes;
-  are = are;
-  holds = λ x here. inl (by_state image live node at rank (IsDone (in_slot order)) done x here);
-}
+    → ClosesRank order old n live rank old live
+closed_done order old n live rank done = λ image nodes node are there at needs. (
+  record {
+    more = nodes;
+    grows = grows_none nodes;
+    are = are;
+    holds = λ x here. inl (by_state image live node at.stands rank (IsDone (in_slot order)) done x here);
+  },
+  at,
+)
 
 -- no rank of that number has had turns
 pub closed_none : (order : List ℕ) (old : List KeptNode) (n : ℕ) (live : Standing) (rank : ℕ)
-    → length live.had.items ≤ rank → ClosesRank order old n live rank old
-closed_none order old n live rank past = λ image nodes node are there at. record {
-  more = nodes;
-  grows = grows_none nodes;
-  are = are;
-  holds = λ x here.
-      let inside = slice_get_within node.cluster.ranks rank x here in absurd (omega (arith, inside, past, at.each));
-}
+    → length live.had.items ≤ rank → ClosesRank order old n live rank old live
+closed_none order old n live rank past = λ image nodes node are there at needs. (
+  record {
+    more = nodes;
+    grows = grows_none nodes;
+    are = are;
+    holds = λ x here.
+        let inside = slice_get_within node.cluster.ranks rank x here in
+        absurd (omega (arith, inside, past, (at.stands).each));
+  },
+  at,
+)
 
 -- all its turns were taken
-pub closed_by : (order : List ℕ) (old new : List KeptNode) (n : ℕ) (live : Standing) (rank hart : ℕ) (turns : List Step)
-    → IsNextHart order live rank (Some hart) → HasAllTurns live.cluster rank hart turns → AreTurnsOf rank hart turns
-    → GoesEach order old n turns new → ClosesRank order old n live rank new
-closed_by order old new n live rank hart turns next all own goes = λ image nodes node are there at.
+pub closed_by : (order : List ℕ) (old new : List KeptNode) (n : ℕ) (live after : Standing) (rank hart : ℕ)
+    (turns : List Step) → IsNextHart order live rank (Some hart) → HasAllTurns live.cluster rank hart turns
+    → AreTurnsOf rank hart turns → GoesEach order old n live turns new after → ClosesRank order old n live rank new after
+closed_by order old new n live after rank hart turns next all own goes = λ image nodes node are there at needs.
     let hart_is : hart ≡ in_slot order (node.had rank) =
-    next.2 ∙ ap (in_slot order) (sym (at.had rank next.0 next.1)) in
-    let far = goes image nodes node are there (λ i e has.
+    next.2 ∙ ap (in_slot order) (sym ((at.stands).had rank next.0 next.1)) in
+    let both = goes image nodes node are there at (λ i e has.
     let of = own i e has in
     (of.hart_is ∙ (hart_is ∙ ap (λ r. in_slot order (node.had r)) (sym of.rank_is)), of.low)) in
-    record {
-      more = far.more;
-      grows = far.grows;
-      are = far.are;
-      holds = λ x here. inr (λ e new_cluster is its leads.
-          let found = all image node.cluster new_cluster e at.stands is (its ∙ sym hart_is) leads in
-          subst (λ r. IsCovered (by_order order) far.more (node_of new_cluster (one_more node.had r))) is
-          (far.holds found.0 e found.1 new_cluster leads));
-    }
+    let far = both.0 in (
+      record {
+        more = far.more;
+        grows = far.grows;
+        are = far.are;
+        holds = λ x here. inr (λ e new_cluster is its leads.
+            let found = all image node.cluster new_cluster e (at.stands).stands is (its ∙ sym hart_is) leads in
+            subst (λ r. IsCovered (by_order order) far.more (node_of new_cluster (one_more node.had r))) is
+            (far.holds found.0 e found.1 new_cluster leads));
+      },
+      both.1,
+    )
 
 -- ---- all ranks
 
 -- where a standing is the node, its first so many ranks are closed
-abbrev pub ClosesBelow : List ℕ → List KeptNode → ℕ → Standing → ℕ → List KeptNode → Type 0
-ClosesBelow order old n live count new =
-    (image : ImageParts) (nodes : List Node) (node : Node) → AreNodes image order old nodes
-    → slice_get nodes n ≡ Some node → StandsAt image live node
-    → Keeps image order nodes new (λ more. AreClosedBelow order count more node)
+abbrev pub ClosesBelow : List ℕ → List KeptNode → ℕ → Standing → ℕ → List KeptNode → Standing → Type 0
+ClosesBelow order old n live count new after =
+    KeepsAt order old n live new after (λ node. Unit {0}) (λ more node. AreClosedBelow order count more node)
 
-pub none_closed : (order : List ℕ) (old : List KeptNode) (n : ℕ) (live : Standing) → ClosesBelow order old n live 0 old
-none_closed order old n live = λ image nodes node are there at. record {
-  more = nodes;
-  grows = grows_none nodes;
-  are = are;
-  holds = λ r low. absurd (omega (arith, low));
-}
+pub none_closed : (order : List ℕ) (old : List KeptNode) (n : ℕ) (live : Standing)
+    → ClosesBelow order old n live 0 old live
+none_closed order old n live = λ image nodes node are there at needs. (
+  record {
+    more = nodes;
+    grows = grows_none nodes;
+    are = are;
+    holds = λ r low. absurd (omega (arith, low));
+  },
+  at,
+)
 
-pub one_closed : (order : List ℕ) (old mid new : List KeptNode) (n : ℕ) (live : Standing) (count : ℕ)
-    → ClosesBelow order old n live count mid → ClosesRank order mid n live count new
-    → ClosesBelow order old n live (count + 1) new
-one_closed order old mid new n live count below one = λ image nodes node are there at.
-    let first = below image nodes node are there at in
-    let second = one image first.more node first.are (first.grows n node there) at in
-    record {
-      more = second.more;
-      grows = grows_on nodes first.more second.more first.grows second.grows;
-      are = second.are;
-      holds = λ r low. elim (cases_eq count r) [
-        | inl same ↦ subst (IsClosedAt order second.more node) same second.holds
-        | inr other ↦ closed_more order first.more second.more node r second.grows
-            (first.holds r (omega (arith, low, other)))
-      ];
-    }
+pub one_closed : (order : List ℕ) (old mid new : List KeptNode) (n : ℕ) (live between after : Standing) (count : ℕ)
+    → ClosesBelow order old n live count mid between → ClosesRank order mid n between count new after
+    → ClosesBelow order old n live (count + 1) new after
+one_closed order old mid new n live between after count below one = λ image nodes node are there at needs.
+    let before = below image nodes node are there at tt in
+    let first = before.0 in
+    let later = one image first.more node first.are (first.grows n node there) before.1 tt in
+    let second = later.0 in (
+      record {
+        more = second.more;
+        grows = grows_on nodes first.more second.more first.grows second.grows;
+        are = second.are;
+        holds = λ r low. elim (cases_eq count r) [
+          | inl same ↦ subst (IsClosedAt order second.more node) same second.holds
+          | inr other ↦ closed_more order first.more second.more node r second.grows
+              (first.holds r (omega (arith, low, other)))
+        ];
+      },
+      later.1,
+    )
 
 -- each rank is closed, and it was told whether nobody goes on
 pub visited : (order : List ℕ) (old new : List KeptNode) (n : ℕ) (k : KeptNode) → slice_get old n ≡ Some k
-    → (live : Standing) → IsLiveOf k live → (count : ℕ) (end : Bool) → min (length live.cluster.ranks.items) 255 ≤ count
-    → TellsEnd live.cluster order end → ClosesBelow order old n live count new
-    → KeepsOf order old n new (IsVisited order end)
-visited order old new n k at live is count end enough tells below = λ image nodes node are there.
-    let stands = live_at order old n k at live is image nodes node are there in
-    let far = below image nodes node are there stands in
+    → (live after : Standing) → IsLiveOf k live → (count : ℕ) (end : Bool)
+    → min (length live.cluster.ranks.items) 255 ≤ count → TellsEnd live.cluster order end
+    → ClosesBelow order old n live count new after → KeepsOf order old n new (IsVisited order end)
+visited order old new n k at live after is count end enough tells below = λ image nodes node are there.
+    let here = live_at order old n k at live is image nodes node are there in
+    let stands = here.stands in
+    let far = (below image nodes node are there here tt).0 in
     let many : length node.cluster.ranks ≡ length live.cluster.ranks.items =
     ap (λ (rs : List Rank). length rs) (stands.stands).ranks_are ∙ length-map live.cluster.ranks.items rank_of in
     record {
@@ -251,8 +292,3 @@ visited order old new n k at live is count end enough tells below = λ image nod
         tells image node.cluster stands.stands stands.few,
       );
     }
-
--- what was told, if anything
-pub ok_on : {A E : Type 0} {P Q : Type 0} (r : Result A E) → (P → Q) → OnOk r P → OnOk r Q
-ok_on (Ok x) on holds = on holds
-ok_on (Err e) on holds = tt

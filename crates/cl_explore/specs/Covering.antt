@@ -22,11 +22,12 @@ pub record AreNodes (image : ImageParts) (order : List ℕ) (kept : List KeptNod
   pub each : (i : ℕ) (k : KeptNode) → slice_get kept i ≡ Some k
       → (node : Node) × (slice_get nodes i ≡ Some node) × KeptStandsAt image k node × IsLed image order nodes i k node
 
--- their clusters are alike, and in each rank the same harts take turns
+-- their clusters are alike, and in each rank the same harts take turns, unless all are stopped
 pub record AreAlikeNodes (plans : Plans) (one other : Node) : Type 0 where
   pub names : Renaming
   pub alike : AlikeClusters names one.cluster other.cluster
-  pub places : (r : ℕ) (rank : Rank) → slice_get one.cluster.ranks r ≡ Some rank → IsSamePlace (plans r) (one.had r) (other.had r)
+  pub places : (r : ℕ) (rank : Rank) → slice_get one.cluster.ranks r ≡ Some rank
+      → IsSamePlace (plans r) (one.had r) (other.had r) ⊎ IsDone (plans r) rank
 
 -- one of the nodes is alike this one
 abbrev pub IsAlikeOneOf : List ℕ → List Node → Node → Type 0

@@ -1,13 +1,16 @@
 -- Nodes that are kept, and standings that are alike one.
-use Rattle.std.specs.Prelude.{ℕ, zero, suc, ◌≡◌, ◌<◌, ◌%◌, List, [], length, slice_get, Some}
+use Rattle.std.specs.Prelude.{ℕ, zero, suc, ◌≡◌, ◌<◌, ◌%◌, ◌⊎◌, List, [], length, map, slice_get, Some}
 use Rattle.rv_image.specs.declared.images.ImageParts.{ImageParts}
 use Rattle.cl_machine.specs.declared.steps.Step.{Step}
+use Rattle.cl_record.specs.Plans.{in_slot}
+use Rattle.cl_state.specs.Room.{rank_of}
+use Rattle.cl_state.specs.declared.state.RankState.{RankState}
 use Rattle.cl_replay.specs.declared.states.ClusterState.{ClusterState}
-use Rattle.cl_replay.specs.Kept.{snapshot}
+use Rattle.cl_replay.specs.Kept.{Snapshot, snapshot}
 use Rattle.cl_replay.specs.States.{ClusterStandsFor, IsClusterOf}
 use Rattle.cl_record.specs.Keys.{ShowsAll}
 use Rattle.cl_order_laws.specs.Alike.{hub_of}
-use Rattle.cl_order_laws.specs.Closed.{Node}
+use Rattle.cl_order_laws.specs.Closed.{IsDone, Node}
 use Rattle.cl_order_laws.specs.Laws.{AreAlike}
 use Rattle.cl_moves.specs.Standing.{HaveHad, IsWay, StandsAt, by_order, first_node}
 use Rattle.cl_moves.specs.declared.standing.Standing.{Standing}
@@ -23,6 +26,19 @@ pub record KeptStandsAt (image : ImageParts) (kept : KeptNode) (node : Node) : T
   pub had : HaveHad kept.had.items node.had
   pub each : length kept.had.items ≡ length node.cluster.ranks
   pub few : length node.cluster.ranks < 256
+
+-- a standing is at the node, and no turn is noted
+pub record IsLiveAt (image : ImageParts) (standing : Standing) (node : Node) : Type 0 where
+  pub stands : StandsAt image standing node
+  pub steps : standing.steps.items ≡ []
+
+-- what is kept of a standing beside its cluster, which was kept as this
+pub record IsKeptAs (standing : Standing) (cluster : Snapshot) (parent : ℕ) (kept : KeptNode) : Type 0 where
+  pub cluster_is : kept.cluster ≡ cluster
+  pub whole : kept.whole ≡ standing.whole
+  pub had : kept.had.items ≡ standing.had.items
+  pub parent_is : kept.parent ≡ parent
+  pub turns : kept.turns ≡ standing.steps.items
 
 -- what is kept of a standing, whose turns led from the node of this number
 pub record IsKeptOf (standing : Standing) (parent : ℕ) (kept : KeptNode) : Type 0 where
@@ -62,7 +78,31 @@ IsAlikeKept order standing kept =
     (image : ImageParts) (one other : Node) → StandsAt image standing one → KeptStandsAt image kept other
     → IsFound image order one → IsFound image order other → AreAlike one.cluster other.cluster
 
--- in each rank it is the turn of harts at the same place of an order of so many
-abbrev pub AreSamePlaces : ℕ → List ℕ → List ℕ → Type 0
-AreSamePlaces count had other =
-    (r n m : ℕ) → slice_get had r ≡ Some n → slice_get other r ≡ Some m → n % count ≡ m % count
+-- all harts of the rank of this number are stopped
+abbrev pub IsDoneAt : List ℕ → Standing → ℕ → Type 0
+IsDoneAt order standing r =
+    (own : RankState) → slice_get standing.cluster.ranks.items r ≡ Some own → IsDone (in_slot order) (rank_of own)
+
+-- in each rank it is the turn of harts at the same place of the order, unless all its harts are stopped
+abbrev pub AreSamePlaces : List ℕ → Standing → List ℕ → Type 0
+AreSamePlaces order standing other =
+    (r n m : ℕ) → slice_get standing.had.items r ≡ Some n → slice_get other r ≡ Some m
+    → (n % length order ≡ m % length order) ⊎ IsDoneAt order standing r
+
+-- ---- what stays
+
+-- of two lists of counts all but that of this rank are the same
+pub record AreSameBeside (had before : List ℕ) (rank : ℕ) : Type 0 where
+  pub many : length had ≡ length before
+  pub each : (r : ℕ) → (r ≡ rank → ⊥) → slice_get had r ≡ slice_get before r
+
+-- each rank that has had as many turns as when the node was kept is as it was then
+pub record HaveStayed (kept : KeptNode) (standing : Standing) : Type 0 where
+  pub counted : length kept.had.items ≡ length kept.cluster.ranks
+  pub many : length standing.had.items ≡ length standing.cluster.ranks.items
+  pub each : (r n : ℕ) → slice_get kept.had.items r ≡ Some n → slice_get standing.had.items r ≡ Some n
+      → slice_get kept.cluster.ranks r ≡ slice_get (map rank_of standing.cluster.ranks.items) r
+
+-- since the node of this number, if there is one
+abbrev pub HaveStayedSince : List KeptNode → ℕ → Standing → Type 0
+HaveStayedSince nodes parent standing = (k : KeptNode) → slice_get nodes parent ≡ Some k → HaveStayed k standing

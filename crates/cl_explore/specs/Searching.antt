@@ -6,7 +6,7 @@ use Rattle.cl_machine.specs.declared.steps.Step.{Step}
 use Rattle.cl_order_laws.specs.Closed.{IsEnd, Node}
 use Rattle.cl_moves.specs.Standing.{IsWay, StandsAt, by_order}
 use Rattle.cl_moves.specs.declared.standing.Standing.{Standing}
-use Rattle.cl_explore.specs.Kept.{AreSamePlaces, IsAlikeKept, IsBefore}
+use Rattle.cl_explore.specs.Kept.{AreSamePlaces, IsAlikeKept, IsBefore, IsLiveAt}
 use Rattle.cl_explore.specs.Covering.{AreNodes, Grows, IsAlikeOneOf, IsClosedAt, IsCoveredTurn}
 use Rattle.cl_explore.specs.declared.kept.KeptNode.{KeptNode}
 
@@ -22,10 +22,7 @@ pub record Keeps (image : ImageParts) (order : List ℕ) (nodes : List Node) (ne
 abbrev pub IsFoundIn : List ℕ → List KeptNode → Standing → ℕ → Type 0
 IsFoundIn order kept standing i =
     (node : KeptNode) × (slice_get kept i ≡ Some node) × IsAlikeKept order standing node
-    × AreSamePlaces (length order) standing.had.items node.had.items
-
-abbrev pub HasFound : List ℕ → List KeptNode → Standing → Type 0
-HasFound order kept standing = (i : ℕ) × IsFoundIn order kept standing i
+    × AreSamePlaces order standing node.had.items
 
 -- where a standing came from the node of this number is among the nodes, or alike one of them
 abbrev pub Arrives : List ℕ → List KeptNode → ℕ → Standing → List KeptNode → Type 0
@@ -46,12 +43,18 @@ KeepsOf order old n new P =
 abbrev pub IsPlanned : List ℕ → Node → Step → Type 0
 IsPlanned order node e = (e.hart ≡ in_slot order (node.had e.rank)) × (e.stamp < 2 ^ 62)
 
--- where it is one, wherever it leads is covered then
-abbrev pub Goes : List ℕ → List KeptNode → ℕ → Step → List KeptNode → Type 0
-Goes order old n e new =
+-- of a node of the list at which a standing is something holds then, and the standing is there again
+abbrev pub KeepsAt : List ℕ → List KeptNode → ℕ → Standing → List KeptNode → Standing → (Node → Type 0)
+    → (List Node → Node → Type 0) → Type 0
+KeepsAt order old n live new after Needs P =
     (image : ImageParts) (nodes : List Node) (node : Node) → AreNodes image order old nodes
-    → slice_get nodes n ≡ Some node → IsPlanned order node e
-    → Keeps image order nodes new (λ more. IsCoveredTurn order more node e)
+    → slice_get nodes n ≡ Some node → IsLiveAt image live node → Needs node
+    → Keeps image order nodes new (λ more. P more node) × IsLiveAt image after node
+
+-- where it is one, wherever it leads is covered then
+abbrev pub Goes : List ℕ → List KeptNode → ℕ → Standing → Step → List KeptNode → Standing → Type 0
+Goes order old n live e new after =
+    KeepsAt order old n live new after (λ node. IsPlanned order node e) (λ more node. IsCoveredTurn order more node e)
 
 abbrev pub ArePlanned : List ℕ → Node → List Step → Type 0
 ArePlanned order node turns = (i : ℕ) (e : Step) → slice_get turns i ≡ Some e → IsPlanned order node e
@@ -60,11 +63,10 @@ abbrev pub AreCovered : List ℕ → List Step → List Node → Node → Type 0
 AreCovered order turns nodes node = (i : ℕ) (e : Step) → slice_get turns i ≡ Some e → IsCoveredTurn order nodes node e
 
 -- and so of each of these turns
-abbrev pub GoesEach : List ℕ → List KeptNode → ℕ → List Step → List KeptNode → Type 0
-GoesEach order old n turns new =
-    (image : ImageParts) (nodes : List Node) (node : Node) → AreNodes image order old nodes
-    → slice_get nodes n ≡ Some node → ArePlanned order node turns
-    → Keeps image order nodes new (λ more. AreCovered order turns more node)
+abbrev pub GoesEach : List ℕ → List KeptNode → ℕ → Standing → List Step → List KeptNode → Standing → Type 0
+GoesEach order old n live turns new after =
+    KeepsAt order old n live new after (λ node. ArePlanned order node turns)
+    (λ more node. AreCovered order turns more node)
 
 -- the first so many ranks of a node are closed
 abbrev pub AreClosedBelow : List ℕ → ℕ → List Node → Node → Type 0
@@ -75,8 +77,6 @@ abbrev pub IsVisited : List ℕ → Bool → List Node → Node → Type 0
 IsVisited order end nodes node = ((r : ℕ) → IsClosedAt order nodes node r) × ((end ≡ true) ↔ IsEnd (by_order order) node.cluster)
 
 -- where a standing is the node, the rank is closed
-abbrev pub ClosesRank : List ℕ → List KeptNode → ℕ → Standing → ℕ → List KeptNode → Type 0
-ClosesRank order old n live rank new =
-    (image : ImageParts) (nodes : List Node) (node : Node) → AreNodes image order old nodes
-    → slice_get nodes n ≡ Some node → StandsAt image live node
-    → Keeps image order nodes new (λ more. IsClosedAt order more node rank)
+abbrev pub ClosesRank : List ℕ → List KeptNode → ℕ → Standing → ℕ → List KeptNode → Standing → Type 0
+ClosesRank order old n live rank new after =
+    KeepsAt order old n live new after (λ node. Unit {0}) (λ more node. IsClosedAt order more node rank)

@@ -10,6 +10,7 @@ ghost use Rattle.cl_explore.specs.Ends.{BeginsWell, Explored, Notes};
 use crate::candidates::Candidates;
 use crate::course::Course;
 use crate::kept::KeptNode;
+use crate::leads::Lead;
 use crate::search::Search;
 use cl_machine::Step;
 use cl_moves::{MoveFault, Standing};
@@ -27,6 +28,8 @@ pub struct Exploration {
     pub left: usize,
     /// The first rank that takes more turns by itself than it was let at once, if there is one.
     pub long: Option<u8>,
+    /// From which node to which each move led.
+    pub leads: Vec<Lead>,
 }
 
 /// The loaded cluster, once each rank took its turns that need only itself.
@@ -37,10 +40,12 @@ fn begin(course: &Course<'_>, image: &Image) -> Result<(Search, Option<u8>), Mov
     let mut search = Search {
         nodes: Vec::new(course.alloc),
         candidates: Candidates::new(course.alloc)?,
+        moved: Candidates::new(course.alloc)?,
+        leads: Vec::new(course.alloc),
     };
     let mut standing = Standing::load(course.alloc, image)?;
     let long = standing.settle(course.order, course.most)?;
-    search.arrive(course, &standing, 0)?;
+    search.arrive(course, &standing, 0, 0)?;
     Ok((search, long))
 }
 
@@ -82,6 +87,7 @@ pub fn explore(course: &Course<'_>, image: &Image, states: usize) -> Result<Expl
         ends,
         left,
         long,
+        leads: search.leads,
     })
 }
 

@@ -1,15 +1,16 @@
 //! Nodes that are kept.
 
-ghost use Rattle.std.specs.Prelude.{IfOk};
-ghost use Rattle.cl_explore.specs.Kept.{IsKeptOf, IsLiveOf};
+ghost use Rattle.std.specs.Prelude.{◌≡◌, ◌<◌, [], IfOk, IsTrue, OnOk, length, slice_get};
+ghost use Rattle.cl_replay.specs.Kept.{snapshot};
+ghost use Rattle.cl_explore.specs.Kept.{AreSameBeside, HaveStayed, IsKeptAs, IsLiveOf};
 
 use crate::runs::Runs;
 use cl_moves::Standing;
-use cl_replay::KeptCluster;
+use cl_replay::{KeptCluster, SharedRank};
 use mp_alike::WholeHub;
 use std::alloc::{AllocError, Global};
 
-/// A node of a search: a cluster, how many turns each of its ranks has had, and how it was found. Pages that are as in the
+/// A node of a search: a cluster, how many turns each of its ranks has had, and how it was found. Ranks that are as in the
 /// node from which it was found stand once.
 #[derive(Drop)]
 pub struct KeptNode {
@@ -23,18 +24,63 @@ pub struct KeptNode {
     pub turns: Runs,
 }
 
+/// Whether a count is the same in both lists, or that of this rank.
+fn is_same_at(had: &[u64], before: &[u64], rank: usize, other: usize) -> bool
+    requires had { other < length had.now }
+    requires before { other < length before.now }
+    ensures { IsTrue result → (other ≡ rank → ⊥) → slice_get had.now other ≡ slice_get before.now other }
+{
+    other == rank || had[other] == before[other]
+}
+
+/// Whether all counts but that of this rank are the same in both lists.
+fn are_same_beside(had: &[u64], before: &[u64], rank: usize) -> bool
+    ensures { IsTrue result → AreSameBeside had.now before.now rank }
+{
+    if had.len() != before.len() {
+        return false;
+    }
+    for other in 0..had.len() {
+        if !is_same_at(had, before, rank, other) {
+            return false;
+        }
+    }
+    true
+}
+
+/// The cluster of a standing, kept beside an earlier node. Where only the rank of this number has had turns since then, all
+/// other ranks stand once for both, and pages of that rank once for it and for the rank `near`.
+pub(crate) fn keep_moved(
+    alloc: Global,
+    standing: &Standing,
+    earlier: &KeptNode,
+    rank: usize,
+    near: Option<&SharedRank>,
+) -> Result<KeptCluster, AllocError>
+    ensures { IfOk result (λ kept. HaveStayed earlier.now standing.now → kept ≡ snapshot standing.now.cluster) }
+{
+    let is_one = are_same_beside(standing.had.as_slice(), earlier.had.as_slice(), rank);
+    if !is_one || rank >= standing.cluster.ranks.len() || rank >= earlier.cluster.ranks().len() {
+        return standing.cluster.keep(alloc, Some(&earlier.cluster));
+    }
+    standing
+        .cluster
+        .keep_beside(alloc, &earlier.cluster, rank, near)
+}
+
 impl KeptNode {
-    /// What a standing is now, kept beside an earlier cluster. The only error is want of memory.
+    /// A standing whose cluster was kept, as a node that was found from the one of the number `parent`. The only error is
+    /// want of memory.
     pub(crate) fn of(
         alloc: Global,
         standing: &Standing,
-        earlier: Option<&KeptCluster>,
+        cluster: KeptCluster,
         parent: usize,
     ) -> Result<KeptNode, AllocError>
-        ensures { IfOk result (IsKeptOf standing.now parent) }
+        ensures { IfOk result (IsKeptAs standing.now cluster parent) }
     {
         Ok(KeptNode {
-            cluster: standing.cluster.keep(alloc, earlier)?,
+            cluster,
             whole: standing.whole.try_copy(alloc)?,
             had: Vec::from_slice(alloc, standing.had.as_slice())?,
             parent,
@@ -52,5 +98,27 @@ impl KeptNode {
             had: Vec::from_slice(alloc, self.had.as_slice())?,
             steps: Vec::new(alloc),
         })
+    }
+
+    /// A standing that came from here is here again, and no turn is noted. Where only the rank of this number has had
+    /// turns, the others stay where they are. The only error is want of memory, and then the standing may be anything.
+    pub(crate) fn restore(
+        &self,
+        alloc: Global,
+        standing: &mut Standing,
+        rank: usize,
+    ) -> Result<(), AllocError>
+        ensures { OnOk result (HaveStayed self.now standing.old → IsLiveOf self.now standing.new) }
+    {
+        let is_one = are_same_beside(standing.had.as_slice(), self.had.as_slice(), rank);
+        if !is_one || rank >= standing.cluster.ranks.len() || rank >= self.cluster.ranks().len() {
+            *standing = self.live(alloc)?;
+            return Ok(());
+        }
+        self.cluster.restore(alloc, &mut standing.cluster, rank)?;
+        standing.whole = self.whole.try_copy(alloc)?;
+        standing.had = Vec::from_slice(alloc, self.had.as_slice())?;
+        standing.steps = Vec::new(alloc);
+        Ok(())
     }
 }

@@ -12,28 +12,49 @@ use crate::alike_boxes::are_alike_boxes;
 use crate::alike_harts::{are_alike_harts, are_alike_slots};
 use crate::kept::KeptNode;
 use cl_moves::Standing;
+use cl_replay::SharedRank;
 use cl_state::{KeptRank, RankState};
 use mp_alike::{Names, alike_names};
-use rv_hart::Mode;
+use rv_decode::Reg;
+use rv_hart::{Hart, Mode};
 use std::alloc::{AllocError, Global};
 
-/// A number of a rank that changes with what its harts are at and what it wrote.
-fn key_of_rank(rank: &RankState) -> u64 {
-    let mut key = rank.out.len() as u64;
-    for hart in rank.harts.iter() {
-        let mode = match hart.mode() {
-            Mode::Running => 0,
-            Mode::Waiting(_) => 1,
-            Mode::Ended(_) => 2,
-            Mode::Trapped(_, _) => 3,
-        };
-        key = key
-            .wrapping_mul(31)
-            .wrapping_add(hart.pc())
-            .wrapping_mul(4)
-            .wrapping_add(mode);
+/// What a key is with one more number.
+fn mixed(key: u64, number: u64) -> u64 {
+    let sum = (key ^ number).wrapping_mul(0x9e37_79b9_7f4a_7c15);
+    sum ^ (sum >> 29)
+}
+
+/// A number of a hart that changes with its registers and what it is at.
+fn key_of_hart(hart: &Hart) -> u64 {
+    let mode = match hart.mode() {
+        Mode::Running => 0,
+        Mode::Waiting(_) => 1,
+        Mode::Ended(_) => 2,
+        Mode::Trapped(_, _) => 3,
+    };
+    let mut key = mixed(hart.pc(), mode);
+    for register in 1..32u8 {
+        key = mixed(key, hart.get(Reg::new(register)));
     }
     key
+}
+
+/// A number of a rank that changes with its harts and how much it wrote.
+fn key_of_state(rank: &RankState) -> u64 {
+    let mut key = rank.out.len() as u64;
+    for hart in rank.harts.iter() {
+        key = mixed(key, key_of_hart(hart));
+    }
+    key
+}
+
+/// The same of the rank of this number, with its number. Nothing depends on it but time and memory.
+pub(crate) fn key_of_rank(standing: &Standing, rank: usize) -> u64 {
+    match standing.cluster.ranks.get(rank) {
+        Some(state) => mixed(rank as u64, key_of_state(state)),
+        None => 0,
+    }
 }
 
 /// A number by which nodes are found that may be alike: those that are have the same one, and others mostly have another.
@@ -41,11 +62,9 @@ fn key_of_rank(rank: &RankState) -> u64 {
 pub(crate) fn key_of(standing: &Standing) -> u64 {
     let mut key = standing.whole.key();
     for rank in standing.cluster.ranks.iter() {
-        key = key
-            .wrapping_mul(6364136223846793005)
-            .wrapping_add(key_of_rank(rank));
+        key = mixed(key, key_of_state(rank));
     }
-    key ^ (key >> 32)
+    key
 }
 
 fn is_alike_rank(names: &Names, rank: &RankState, kept: &KeptRank) -> bool
@@ -57,7 +76,7 @@ fn is_alike_rank(names: &Names, rank: &RankState, kept: &KeptRank) -> bool
         && are_alike_slots(names, rank.requests.slots(), kept.requests().slots())
 }
 
-fn are_alike_ranks(names: &Names, ranks: &[RankState], kept: &[KeptRank]) -> bool
+fn are_alike_ranks(names: &Names, ranks: &[RankState], kept: &[SharedRank]) -> bool
     ensures { (naming : Renaming) → IsListed naming names.now → IsTrue result
         → HaveSameSites (map rank_of ranks.now) kept.now
         → AreEach (AlikeRanks naming) (map rank_of ranks.now) kept.now }
@@ -66,7 +85,7 @@ fn are_alike_ranks(names: &Names, ranks: &[RankState], kept: &[KeptRank]) -> boo
         return false;
     }
     for rank in 0..ranks.len() {
-        if !is_alike_rank(names, &ranks[rank], &kept[rank]) {
+        if !is_alike_rank(names, &ranks[rank], kept[rank].rank()) {
             return false;
         }
     }

@@ -4,6 +4,7 @@ ghost use Rattle.std.specs.Prelude.{◌<◌, IfOk, OnOk, length};
 ghost use Rattle.cl_explore.specs.Searching.{ClosesRank, Goes, GoesEach, IsVisited, KeepsOf};
 
 use crate::course::Course;
+use crate::leads::Lead;
 use crate::search::Search;
 use cl_machine::Step;
 use cl_moves::{MoveFault, Standing, is_done, is_end, turns_of};
@@ -23,59 +24,87 @@ fn first_of(one: Option<u8>, other: Option<u8>) -> Option<u8> {
     }
 }
 
+/// Whether one of the two is.
+fn either(one: bool, other: bool) -> bool {
+    one || other
+}
+
+/// The rank, where it would take more turns by itself.
+fn if_long(rank: u8, long: bool) -> Option<u8> {
+    if long { Some(rank) } else { None }
+}
+
 impl Search {
-    /// One turn of a node, and behind it the turns that need only their rank: where it leads is kept, unless it is alike a
-    /// node. Answers the rank that would take more turns by itself, if one does.
-    fn go(&mut self, course: &Course<'_>, node: usize, turn: Step) -> Result<Option<u8>, MoveFault>
+    /// One turn of a node at which a standing is, and behind it the turns that need only its rank: where it leads is kept,
+    /// unless it is alike a node. Then the standing is at the node again. Answers whether the rank would take more turns
+    /// by itself.
+    fn go(
+        &mut self,
+        course: &Course<'_>,
+        node: usize,
+        live: &mut Standing,
+        turn: Step,
+    ) -> Result<bool, MoveFault>
         requires { 0 < length course.now.order.now }
-        ensures { OnOk result (Goes course.now.order.now self.old.nodes.items node turn self.new.nodes.items) }
+        ensures { OnOk result (Goes course.now.order.now self.old.nodes.items node live.old turn self.new.nodes.items
+            live.new) }
     {
         if node >= self.nodes.len() {
-            return Ok(None);
+            return Ok(false);
         }
-        let kept = &self.nodes[node];
-        let mut standing = kept.live(course.alloc)?;
-        if !standing.take(turn)? {
-            return Ok(None);
+        let rank = turn.rank();
+        if !live.take(turn)? {
+            let kept = &self.nodes[node];
+            *live = kept.live(course.alloc)?;
+            return Ok(false);
         }
-        let long = standing.settle(course.order, course.most)?;
-        self.arrive(course, &standing, node)?;
-        Ok(long)
+        let fewer = live.go_ahead(rank, course.order, course.most)?;
+        let to = self.arrive(course, live, node, usize::from(rank))?;
+        self.leads.push(Lead { from: node, to })?;
+        if node >= self.nodes.len() {
+            return Ok(false);
+        }
+        let again = &self.nodes[node];
+        again.restore(course.alloc, live, usize::from(rank))?;
+        Ok(!fewer)
     }
 
-    /// Each of these turns of a node.
+    /// Each of these turns of a node at which a standing is. Answers whether the rank would take more turns by itself behind
+    /// one of them.
     fn go_each(
         &mut self,
         course: &Course<'_>,
         node: usize,
+        live: &mut Standing,
         mut turns: Vec<Step>,
-    ) -> Result<Option<u8>, MoveFault>
+    ) -> Result<bool, MoveFault>
         requires { 0 < length course.now.order.now }
-        ensures { OnOk result (GoesEach course.now.order.now self.old.nodes.items node turns.items
-            self.new.nodes.items) }
+        ensures { OnOk result (GoesEach course.now.order.now self.old.nodes.items node live.old turns.items
+            self.new.nodes.items live.new) }
     {
-        let mut long = None;
+        let mut long = false;
         'rest: loop {
             match turns.pop() {
                 None => return Ok(long),
                 Some(turn) => {
-                    let alone = self.go(course, node, turn)?;
-                    long = first_of(long, alone);
+                    let more = self.go(course, node, live, turn)?;
+                    long = either(long, more);
                 }
             }
         }
     }
 
-    /// All turns that a rank of a node may take next.
+    /// All turns that a rank of a node may take next. Answers the rank if it would take more turns by itself behind one.
     fn go_rank(
         &mut self,
         course: &Course<'_>,
         node: usize,
-        live: &Standing,
+        live: &mut Standing,
         rank: u8,
     ) -> Result<Option<u8>, MoveFault>
         requires { 0 < length course.now.order.now }
-        ensures { OnOk result (ClosesRank course.now.order.now self.old.nodes.items node live.now rank self.new.nodes.items) }
+        ensures { OnOk result (ClosesRank course.now.order.now self.old.nodes.items node live.old rank self.new.nodes.items
+            live.new) }
     {
         let place = usize::from(rank);
         if place >= live.cluster.ranks.len() {
@@ -89,7 +118,8 @@ impl Search {
             return Ok(None);
         };
         let turns = turns_of(course.alloc, &live.cluster, rank, hart)?;
-        self.go_each(course, node, turns)
+        let long = self.go_each(course, node, live, turns)?;
+        Ok(if_long(rank, long))
     }
 
     /// All moves of a node. Answers whether nobody goes on there.
@@ -105,13 +135,13 @@ impl Search {
             });
         }
         let kept = &self.nodes[node];
-        let live = kept.live(course.alloc)?;
+        let mut live = kept.live(course.alloc)?;
         let end = is_end(&live.cluster, course.order)?;
         let mut long = None;
         // an image has at most 8 ranks
         let count = live.cluster.ranks.len().min(255) as u8;
         for rank in 0..count {
-            let alone = self.go_rank(course, node, &live, rank)?;
+            let alone = self.go_rank(course, node, &mut live, rank)?;
             long = first_of(long, alone);
         }
         Ok(Visit { end, long })

@@ -1,15 +1,21 @@
 //! Nodes that were found, and one more.
 
-ghost use Rattle.std.specs.Prelude.{◌≡◌, ◌<◌, IfOk, OnOk, true, length};
-ghost use Rattle.cl_explore.specs.Kept.{AreSamePlaces};
-ghost use Rattle.cl_explore.specs.Searching.{Arrives, HasFound, IsFoundIn};
+ghost use Rattle.std.specs.Prelude.{◌≡◌, ◌<◌, ◌%◌, ◌⊎◌, IfOk, IfSome, OnOk, true, length};
+ghost use Rattle.cl_record.specs.Plans.{in_slot};
+ghost use Rattle.cl_state.specs.Room.{rank_of};
+ghost use Rattle.cl_replay.specs.Kept.{snapshot};
+ghost use Rattle.cl_order_laws.specs.Closed.{IsDone};
+ghost use Rattle.cl_explore.specs.Kept.{AreSamePlaces, HaveStayedSince};
+ghost use Rattle.cl_explore.specs.Searching.{Arrives, IsFoundIn};
 
 use crate::candidates::Candidates;
 use crate::course::Course;
-use crate::kept::KeptNode;
-use crate::likeness::{is_alike, key_of};
-use cl_moves::{MoveFault, Standing};
-use cl_replay::KeptCluster;
+use crate::kept::{KeptNode, keep_moved};
+use crate::leads::Lead;
+use crate::likeness::{is_alike, key_of, key_of_rank};
+use cl_moves::{MoveFault, Standing, is_done};
+use cl_replay::{KeptCluster, SharedRank};
+use cl_state::RankState;
 use std::alloc::AllocError;
 
 /// The nodes that a search found, and by which keys.
@@ -17,18 +23,33 @@ use std::alloc::AllocError;
 pub(crate) struct Search {
     pub nodes: Vec<KeptNode>,
     pub candidates: Candidates,
+    /// For each node and the rank that moved to it, by a key of that rank: whose pages may be the same.
+    pub moved: Candidates,
+    /// From which node to which each move led.
+    pub leads: Vec<Lead>,
 }
 
-/// Whether in each rank it is the turn of harts at the same place of an order of so many.
-fn are_same_places(count: u64, had: &[u64], other: &[u64]) -> bool
-    requires { 0 < count }
-    ensures { result ≡ true → AreSamePlaces count had.now other.now }
+/// Whether a rank that has had so many turns is at the same place of the order, or all its harts are stopped.
+fn is_same_place(order: &[u8], mine: u64, theirs: u64, rank: &RankState) -> bool
+    requires { 0 < length order.now }
+    ensures { result ≡ true → (mine % length order.now ≡ theirs % length order.now)
+        ⊎ IsDone (in_slot order.now) (rank_of rank.now) }
 {
-    if had.len() != other.len() {
+    let count = order.len() as u64;
+    mine % count == theirs % count || is_done(rank, order)
+}
+
+/// Whether in each rank it is the turn of harts at the same place of the order, unless all its harts are stopped.
+fn are_same_places(order: &[u8], standing: &Standing, other: &[u64]) -> bool
+    requires { 0 < length order.now }
+    ensures { result ≡ true → AreSamePlaces order.now standing.now other.now }
+{
+    let ranks = standing.cluster.ranks.as_slice();
+    if standing.had.len() != other.len() || ranks.len() != other.len() {
         return false;
     }
-    for rank in 0..had.len() {
-        if had[rank] % count != other[rank] % count {
+    for rank in 0..other.len() {
+        if !is_same_place(order, standing.had[rank], other[rank], &ranks[rank]) {
             return false;
         }
     }
@@ -50,55 +71,91 @@ impl Search {
             return Ok(false);
         }
         let kept = &self.nodes[node];
-        let count = course.order.len() as u64;
-        if !are_same_places(count, standing.had.as_slice(), kept.had.as_slice()) {
+        if !are_same_places(course.order, standing, kept.had.as_slice()) {
             return Ok(false);
         }
         is_alike(course.alloc, standing, kept)
     }
 
-    /// Whether a node is alike a standing, at the same places: of those that have its key.
-    fn finds(&self, course: &Course<'_>, standing: &Standing, key: u64) -> Result<bool, AllocError>
+    /// A node that is alike a standing, at the same places: of those that have its key.
+    fn finds(
+        &self,
+        course: &Course<'_>,
+        standing: &Standing,
+        key: u64,
+    ) -> Result<Option<usize>, AllocError>
         requires { 0 < length course.now.order.now }
-        ensures { IfOk result (λ found. found ≡ true → HasFound course.now.order.now self.now.nodes.items standing.now) }
+        ensures { IfOk result (λ found. IfSome found
+            (IsFoundIn course.now.order.now self.now.nodes.items standing.now)) }
     {
         let mut next = self.candidates.last(key);
         for _node in 0..self.nodes.len() {
             let Some(node) = next else {
-                return Ok(false);
+                return Ok(None);
             };
             if self.candidates.has_key(node, key) && self.is_at(course, standing, node)? {
-                return Ok(true);
+                return Ok(Some(node));
             }
             next = self.candidates.earlier(node);
         }
-        Ok(false)
+        Ok(None)
     }
 
-    /// The cluster of the node of this number, if there is one.
-    fn cluster_at(&self, node: usize) -> Option<&KeptCluster> {
-        Some(&self.nodes.get(node)?.cluster)
+    /// The rank of this number in the node that was last found by a move of a rank with this key, or else in the node of
+    /// the number `parent`.
+    fn near(&self, parent: usize, rank: usize, key: u64) -> Option<&SharedRank> {
+        let node = match self.moved.last(key) {
+            Some(node) if self.moved.has_key(node, key) => node,
+            _ => parent,
+        };
+        self.nodes.get(node)?.cluster.ranks().get(rank)
     }
 
-    /// A standing is kept as one more node, unless it is alike one, at the same places. The turns that it notes led to it
-    /// from the node of the number `parent`.
+    /// The cluster of a standing that came from the node of the number `parent` by turns of this rank, kept.
+    fn keep(
+        &self,
+        course: &Course<'_>,
+        standing: &Standing,
+        parent: usize,
+        rank: usize,
+        key: u64,
+    ) -> Result<KeptCluster, AllocError>
+        ensures { IfOk result (λ kept. HaveStayedSince self.now.nodes.items parent standing.now
+            → kept ≡ snapshot standing.now.cluster) }
+    {
+        if parent >= self.nodes.len() {
+            return standing.cluster.keep(course.alloc, None);
+        }
+        let near = self.near(parent, rank, key);
+        let earlier = &self.nodes[parent];
+        keep_moved(course.alloc, standing, earlier, rank, near)
+    }
+
+    /// A standing is kept as one more node, unless it is alike one, at the same places. The turns that it notes, of this
+    /// rank, led to it from the node of the number `parent`. Answers the number of the node.
     pub(crate) fn arrive(
         &mut self,
         course: &Course<'_>,
         standing: &Standing,
         parent: usize,
-    ) -> Result<(), MoveFault>
+        rank: usize,
+    ) -> Result<usize, MoveFault>
         requires { 0 < length course.now.order.now }
         ensures { OnOk result (Arrives course.now.order.now self.old.nodes.items parent standing.now
             self.new.nodes.items) }
     {
         let key = key_of(standing);
-        if self.finds(course, standing, key)? {
-            return Ok(());
+        let found = self.finds(course, standing, key)?;
+        if let Some(node) = found {
+            return Ok(node);
         }
-        let kept = KeptNode::of(course.alloc, standing, self.cluster_at(parent), parent)?;
+        let own = key_of_rank(standing, rank);
+        let cluster = self.keep(course, standing, parent, rank, own)?;
+        let kept = KeptNode::of(course.alloc, standing, cluster, parent)?;
+        let number = self.nodes.len();
         self.candidates.add(key)?;
+        self.moved.add(own)?;
         self.nodes.push(kept)?;
-        Ok(())
+        Ok(number)
     }
 }

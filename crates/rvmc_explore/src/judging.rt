@@ -8,6 +8,7 @@ ghost use Rattle.rvmc_explore.specs.Telling.{any_end, holds_of, search_status, t
 
 use crate::ends::waits;
 use cl_explore::{Exploration, KeptNode};
+use cl_replay::SharedRank;
 use cl_state::KeptRank;
 use rv_hart::{Hart, Mode};
 
@@ -24,17 +25,17 @@ fn has_trapped(rank: &KeptRank) -> bool
 }
 
 /// Whether a hart trapped in one of these ranks.
-fn any_rank_trapped(ranks: &[KeptRank]) -> bool
+fn any_rank_trapped(ranks: &[SharedRank]) -> bool
     ensures { result ≡ list_any (λ rank. has_trapped rank.harts) ranks.now }
 {
-    ranks.iter().any(|rank| has_trapped(rank))
+    ranks.iter().any(|rank| has_trapped(rank.rank()))
 }
 
 /// Whether a hart that takes turns waits in one of them.
-fn any_rank_waits(ranks: &[KeptRank], order: &[u8]) -> bool
+fn any_rank_waits(ranks: &[SharedRank], order: &[u8]) -> bool
     ensures { result ≡ list_any (λ rank. one_waits order.now rank.harts) ranks.now }
 {
-    ranks.iter().any(|rank| waits(rank.harts(), order))
+    ranks.iter().any(|rank| waits(rank.rank().harts(), order))
 }
 
 /// Whether a hart trapped in the node of this number.

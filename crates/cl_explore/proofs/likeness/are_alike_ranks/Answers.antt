@@ -1,6 +1,7 @@
 use Rattle.std.proofs.Common.{◌≡◌, Some, ap, arith, map, option_map, slice_get, subst, sym, ◌∙◌}
 use Rattle.std.proofs.lemmas.List.{length-map}
 use Rattle.std.proofs.lemmas.Option.{same_Some, slice_get-map, slice_get_within}
+use Rattle.cl_state.specs.Rank.{Rank}
 use Rattle.cl_state.specs.Room.{rank_of}
 use Rattle.cl_order_laws.specs.Alike.{AlikeRanks}
 use Rattle.cl_explore.proofs.Lists.{read_at, read_of}
@@ -30,6 +31,8 @@ loop-rank-preserved c = λ naming listed sites.
     slice_get-map rank_of c.args.ranks.now n ∙ ap (option_map rank_of) inside in
     let kept : theirs ≡ y = c.index-kept-rank.is ∙ read_at c.args.kept.now n y theirs there in
     let site = sites n (rank_of mine) theirs mapped (there ∙ ap (λ z. Some z) (sym kept)) in
-    subst (λ z. AlikeRanks naming x z) kept
-    (subst (λ z. AlikeRanks naming z theirs) (same_Some (rank_of mine) x (sym mapped ∙ at))
-    (c.is_alike_rank.ensures naming listed c.if-not-is_alike_rank.false site)))
+    let lent : c.rank.result.now ≡ theirs = c.rank.ensures in
+    subst (λ z. AlikeRanks naming x z) (lent ∙ kept)
+    (subst (λ z. AlikeRanks naming z c.rank.result.now) (same_Some (rank_of mine) x (sym mapped ∙ at))
+    (c.is_alike_rank.ensures naming listed c.if-not-is_alike_rank.false
+    (subst (λ (z : Rank). z.site ≡ (rank_of mine).site) (sym lent) site))))

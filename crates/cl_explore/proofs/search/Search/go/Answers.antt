@@ -1,11 +1,13 @@
-use Rattle.std.proofs.Common.{arith, subst, ◌∙◌}
-use Rattle.std.proofs.lemmas.Option.{slice_get_read}
+use Rattle.std.proofs.Common.{arith, subst, sym, ◌∙◌}
+use Rattle.std.proofs.lemmas.Option.{same_Some, slice_get_read}
 use Rattle.cl_moves.specs.Standing.{Takes}
-use Rattle.cl_explore.proofs.Tries.{goes_nowhere, goes_on, not_kept}
+use Rattle.cl_explore.specs.Kept.{HaveStayed, IsLiveOf}
+use Rattle.cl_explore.specs.declared.kept.KeptNode.{KeptNode}
+use Rattle.cl_explore.proofs.Tries.{goes_nowhere, goes_on, goes_past, not_kept}
 use Rattle.cl_explore.proofs.search.Search.go.Goals as goal
 
 pub returns-then-node-len : goal.returns-then-node-len
-returns-then-node-len c = λ image nodes node are there planned.
+returns-then-node-len c = λ image nodes node are there at planned.
     let kept = c.args.self.now.nodes in
     absurd (not_kept c.args.course.now.order.now kept.items c.args.node
     (omega (arith, c.if-node-len.true, c.len.ensures, kept.ok.0)) image nodes node are there)
@@ -15,16 +17,30 @@ returns-then-not-branch c =
     let kept = c.args.self.now.nodes in
     let here = slice_get_read kept.items c.len.result c.args.node c.index-kept.result.now
     (c.len.ensures ∙ kept.ok.0) c.if-node-len.false c.index-kept.ensures in
-    goes_nowhere c.args.course.now.order.now kept.items c.args.node c.index-kept.result.now here
-    c.in_ok-standing.standing c.in_ok-standing.ensures c.args.turn
-    (subst (λ b. Takes c.in_ok-standing.standing c.args.turn c.take.new.self b) c.if-not-branch.true c.in_ok-take.ensures)
+    goes_nowhere c.args.course.now.order.now kept.items c.args.node c.index-kept.result.now here c.args.live.now
+    c.in_ok-live.field-0 c.args.turn
+    (subst (λ b. Takes c.args.live.now c.args.turn c.take.new.self b) c.if-not-branch.true c.in_ok-take.ensures)
+    c.in_ok-live.ensures
+
+pub returns-then-node-len-2 : goal.returns-then-node-len-2
+returns-then-node-len-2 c =
+    let new = c.arrive.new.self.nodes in
+    goes_past c.args.course.now.order.now c.args.self.now.nodes.items new.items c.args.node c.args.turn c.args.live.now
+    c.take.new.self c.go_ahead.new.self _
+    (subst (λ b. Takes c.args.live.now c.args.turn c.take.new.self b) c.if-not-branch.false c.in_ok-take.ensures)
+    c.in_ok-fewer.ensures c.in_ok-to.ensures (omega (arith, c.if-node-len-2.true, c.len-2.ensures, new.ok.0))
 
 pub returns : goal.returns
 returns c =
-    let kept = c.args.self.now.nodes in
-    let here = slice_get_read kept.items c.len.result c.args.node c.index-kept.result.now
-    (c.len.ensures ∙ kept.ok.0) c.if-node-len.false c.index-kept.ensures in
-    goes_on c.args.course.now.order.now kept.items c.arrive.new.self.nodes.items c.args.node c.args.turn
-    c.index-kept.result.now here c.in_ok-standing.standing c.take.new.self c.settle.new.self c.in_ok-standing.ensures
-    (subst (λ b. Takes c.in_ok-standing.standing c.args.turn c.take.new.self b) c.if-not-branch.false c.in_ok-take.ensures)
-    c.in_ok-long.ensures c.in_ok-arrive.ensures
+    let new = c.arrive.new.self.nodes in
+    let again = c.index-again.result.now in
+    let here = slice_get_read new.items c.len-2.result c.args.node again (c.len-2.ensures ∙ new.ok.0)
+    c.if-node-len-2.false c.index-again.ensures in
+    goes_on c.args.course.now.order.now c.args.self.now.nodes.items new.items c.args.node c.args.turn c.args.live.now
+    c.take.new.self c.go_ahead.new.self c.restore.new.standing
+    (subst (λ b. Takes c.args.live.now c.args.turn c.take.new.self b) c.if-not-branch.false c.in_ok-take.ensures)
+    c.in_ok-fewer.ensures c.in_ok-to.ensures
+    (λ k at stayed.
+    let same = same_Some again k (sym here ∙ at) in
+    subst (λ (x : KeptNode). IsLiveOf x c.restore.new.standing) same
+    (c.in_ok-restore.ensures (subst (λ (x : KeptNode). HaveStayed x c.go_ahead.new.self) (sym same) stayed)))

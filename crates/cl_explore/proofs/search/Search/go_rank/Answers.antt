@@ -4,7 +4,7 @@ use Rattle.cl_record.specs.Plans.{in_slot}
 use Rattle.cl_state.specs.Room.{rank_of}
 use Rattle.cl_state.specs.declared.state.RankState.{RankState}
 use Rattle.cl_order_laws.specs.Closed.{IsDone}
-use Rattle.cl_explore.proofs.Tries.{closed_by, closed_done, closed_none, ok_on}
+use Rattle.cl_explore.proofs.Tries.{closed_by, closed_done, closed_none}
 use Rattle.cl_explore.proofs.search.Search.go_rank.Goals as goal
 
 pub returns-then-place-len : goal.returns-then-place-len
@@ -34,7 +34,6 @@ returns-in_default c =
 
 pub returns : goal.returns
 returns c =
-    ok_on c.go_each.result (λ goes.
     closed_by c.args.course.now.order.now c.args.self.now.nodes.items c.go_each.new.self.nodes.items c.args.node
-    c.args.live.now c.args.rank c.in-Some.hart c.in_ok-turns.turns.items c.in-Some.ensures c.in_ok-turns.ensures.all
-    c.in_ok-turns.ensures.own goes) c.go_each.ensures
+    c.args.live.now c.go_each.new.live c.args.rank c.in-Some.hart c.in_ok-turns.turns.items c.in-Some.ensures
+    c.in_ok-turns.ensures.all c.in_ok-turns.ensures.own c.in_ok-long.ensures

@@ -15,8 +15,8 @@ loop-rank-init c = none_closed c.args.course.now.order.now c.args.self.now.nodes
 pub loop-rank-preserved : goal.loop-rank-preserved
 loop-rank-preserved c =
     one_closed c.args.course.now.order.now c.args.self.now.nodes.items c.loop-rank.self.nodes.items
-    c.go_rank.new.self.nodes.items c.args.node c.in_ok-live.live c.loop-rank.rank c.loop-rank.invariant
-    c.in_ok-alone.ensures
+    c.go_rank.new.self.nodes.items c.args.node c.in_ok-live.live c.loop-rank.live c.go_rank.new.live c.loop-rank.rank
+    c.loop-rank.invariant c.in_ok-alone.ensures
 
 pub returns : goal.returns
 returns c =
@@ -24,4 +24,4 @@ returns c =
     let here = slice_get_read kept.items c.len.result c.args.node c.index-kept.result.now
     (c.len.ensures ∙ kept.ok.0) c.if-node-len.false c.index-kept.ensures in
     visited c.args.course.now.order.now kept.items c.loop-rank.self.nodes.items c.args.node c.index-kept.result.now here
-    c.in_ok-live.live c.in_ok-live.ensures c.loop-rank.rank _ (omega (arith, c.loop-rank-test.false, c.min-count.ensures, c.len-2.ensures)) c.in_ok-end.ensures c.loop-rank.invariant
+    c.in_ok-live.live c.loop-rank.live c.in_ok-live.ensures c.loop-rank.rank _ (omega (arith, c.loop-rank-test.false, c.min-count.ensures, c.len-2.ensures)) c.in_ok-end.ensures c.loop-rank.invariant
