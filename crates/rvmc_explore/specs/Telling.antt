@@ -1,5 +1,5 @@
 -- What is told of a search.
-use Rattle.std.specs.Prelude.{ℕ, ◌+◌, ◌≡◌, ◌++◌, ◌==◌, ◌<◌, List, [], ◌∷◌, Bool, false, Option, Some, None, codes, if◌then◌else◌, length, slice_get}
+use Rattle.std.specs.Prelude.{ℕ, ◌+◌, ◌≡◌, ◌⊎◌, ◌++◌, ◌==◌, ◌<◌, List, [], ◌∷◌, Bool, false, Option, Some, None, codes, if◌then◌else◌, length, slice_get}
 use Rattle.std.specs.Fmt.{decimal}
 use Rattle.std.specs.List.{list_any}
 use Rattle.rv_image.specs.declared.images.ImageParts.{ImageParts}
@@ -59,6 +59,10 @@ want left None turns = codes "not all: " ++ (decimal left ++ codes " states are 
 abbrev pub verdict : ℕ → Option ℕ → ℕ → List ℕ
 verdict left long turns = if (left == 0) then codes "no other end" else want left long turns
 
+-- where some state leads to no end
+abbrev pub unending_line : Bool → List ℕ
+unending_line unending = if unending then codes "some runs go on for ever" ++ newline else []
+
 -- `2 ends of 20 states: no other end`
 abbrev pub last_line : ℕ → ℕ → ℕ → Option ℕ → ℕ → List ℕ
 last_line ends states left long turns =
@@ -90,14 +94,17 @@ search_status left trapped stuck =
 
 -- ---- the whole
 
--- each end that is told is one to which a run by the order leads, and they are all where it says so
-pub record Tells (image : ImageParts) (order : List ℕ) (turns : ℕ) (text : List ℕ) (status : ℕ) : Type 0 where
+-- each end that is told is one to which a run by the order leads, and they are all where it says so, as it does unless the
+-- moves of as many states as are allowed were made
+pub record Tells (image : ImageParts) (order : List ℕ) (states turns : ℕ) (text : List ℕ) (status : ℕ) : Type 0 where
   pub kept : List KeptNode
   pub ends : List ℕ
   pub left : ℕ
   pub long : Option ℕ
   pub explored : Explored image order kept ends left
+  pub most : (left ≡ 0) ⊎ (length kept ≡ states + left)
+  pub unending : Bool
   pub body : List ℕ
   pub told : AddsEnds order image kept 1 ends [] body
-  pub spelled : text ≡ body ++ last_line (length ends) (length kept) left long turns
+  pub spelled : text ≡ body ++ (unending_line unending ++ last_line (length ends) (length kept) left long turns)
   pub status_is : status ≡ search_status left (any_end trapped_in kept ends) (any_end (waits_in order) kept ends)

@@ -10,6 +10,7 @@ mod heads;
 mod judging;
 mod recording;
 mod telling;
+mod unending;
 
 pub use asked::Asked;
 pub use recording::recorded;

@@ -9,6 +9,7 @@ use crate::closing::last_line;
 use crate::ends::put_end;
 use crate::heads::put_head;
 use crate::judging::search_status;
+use crate::unending::{is_unending, unending_line};
 use cl_explore::{Course, Exploration, explore};
 use cl_moves::MoveFault;
 use cl_replay::ClusterState;
@@ -70,13 +71,15 @@ fn put_ends(
 }
 
 /// What a search tells: of each end its ranks, and what each waits for that waits there, and the first message by which
-/// it differs from the first one; in the last line whether these are all. The status is 4 where they aren't, else 3 where
+/// it differs from the first one; whether some runs go on for ever, to no end; in the last line whether these are all.
+/// The status is 4 where they aren't, else 3 where
 /// a hart trapped at one, else 7 where a hart that takes turns waits at one, else 0.
 ///
 /// Refusals: Clock, Memory.
 pub fn explored(alloc: Global, image: &Image, asked: &Asked<'_>) -> Result<Told, MoveFault>
     requires { 0 < length asked.now.order.now }
-    ensures { IfOk result (λ told. Tells image.now asked.now.order.now asked.now.turns told.text.items told.status) }
+    ensures { IfOk result (λ told. Tells image.now asked.now.order.now asked.now.states asked.now.turns told.text.items
+        told.status) }
 {
     let course = Course {
         alloc,
@@ -86,6 +89,9 @@ pub fn explored(alloc: Global, image: &Image, asked: &Asked<'_>) -> Result<Told,
     let found = explore(&course, image, asked.states)?;
     let mut text = Vec::new(alloc);
     put_ends(alloc, &mut text, image, asked.order, &found)?;
+    let unending = is_unending(alloc, &found)?;
+    let line = unending_line(alloc, unending)?;
+    text.extend_from_slice(line.as_bytes())?;
     let last = last_line(alloc, &found, asked.turns)?;
     text.extend_from_slice(last.as_bytes())?;
     let status = search_status(&found, asked.order);

@@ -52,7 +52,7 @@ unexplored (Explore plan states turns asked) image (refusals.NoEnd number) (plan
   plans,
   of,
   record {
-    told = λ _. subst (λ o. IsToldOfSearch image (listed plan image.harts) turns o [] 1) (sym is) (inr (none, (refl, refl)));
+    told = λ _. subst (λ o. IsToldOfSearch image (listed plan image.harts) states turns o [] 1) (sym is) (inr (none, (refl, refl)));
     refused = λ wrong. absurd (wrong right);
   },
 )

@@ -176,15 +176,16 @@ IsThreadsUntilStuck image budget harts written text status =
 -- ---- all orders
 
 -- the ends of all orders of ranks' turns, if the plan is right: else there is a fault
-pub record IsExploredBy (image : ImageParts) (order : List ℕ) (turns : ℕ) (number : Option ℕ) (plans : List Plan)
+pub record IsExploredBy (image : ImageParts) (order : List ℕ) (states turns : ℕ) (number : Option ℕ) (plans : List Plan)
     (text : List ℕ) (status : ℕ) : Type 0 where
-  pub told : HasPlans image plans → IsToldOfSearch image order turns number text status
+  pub told : HasPlans image plans → IsToldOfSearch image order states turns number text status
   pub refused : ¬ HasPlans image plans → IsFaulty text status
 
 -- `explore`: each rank's harts take turns in this order
-abbrev pub IsExplored : ImageParts → Option (List ℕ) → ℕ → Option ℕ → List ℕ → ℕ → Type 0
-IsExplored image harts turns number text status =
-    ByPlans image turns harts (λ plans. IsExploredBy image (listed harts image.harts) turns number plans text status)
+abbrev pub IsExplored : ImageParts → Option (List ℕ) → (states turns : ℕ) → Option ℕ → List ℕ → ℕ → Type 0
+IsExplored image harts states turns number text status =
+    ByPlans image turns harts
+    (λ plans. IsExploredBy image (listed harts image.harts) states turns number plans text status)
 
 -- ---- the commands
 
@@ -199,7 +200,7 @@ Makes (RunUntilStuck budget plan lead written) image text status =
 Makes (One budget plan order written) image text status = IsOne image budget plan order written text status
 Makes (OneUntilStuck budget plan order written) image text status =
     IsOneUntilStuck image budget plan order written text status
-Makes (Explore plan states turns number) image text status = IsExplored image plan turns number text status
+Makes (Explore plan states turns number) image text status = IsExplored image plan states turns number text status
 
 -- what a command says that takes an image from the bytes, or with `source` a source
 abbrev pub SaysOfImage : Bool → ImageCommand → List ℕ → List ℕ → ℕ → Type 0

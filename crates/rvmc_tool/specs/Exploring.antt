@@ -22,6 +22,6 @@ IsRecordOfEnd image order number text status =
     ⊎ (RecordsEnd image order number None × IsFaulty text status)
 
 -- what is told of all ends, or the record of the end of this number
-abbrev pub IsToldOfSearch : ImageParts → List ℕ → ℕ → Option ℕ → List ℕ → ℕ → Type 0
-IsToldOfSearch image order turns None text status = Tells image order turns text status
-IsToldOfSearch image order turns (Some number) text status = IsRecordOfEnd image order number text status
+abbrev pub IsToldOfSearch : ImageParts → List ℕ → (states turns : ℕ) → Option ℕ → List ℕ → ℕ → Type 0
+IsToldOfSearch image order states turns None text status = Tells image order states turns text status
+IsToldOfSearch image order states turns (Some number) text status = IsRecordOfEnd image order number text status

@@ -26,7 +26,7 @@ use std::alloc::Global;
 /// What is told of all ends, and its status.
 fn told(alloc: Global, image: &Image, asked: &Asked<'_>) -> Result<Answer, Fault>
     requires { 0 < length asked.now.order.now }
-    ensures says { IfOk result (λ answer. Tells image.now asked.now.order.now asked.now.turns
+    ensures says { IfOk result (λ answer. Tells image.now asked.now.order.now asked.now.states asked.now.turns
         (output_bytes answer.output) (end_status answer.end)) }
     ensures whole { IfOk result (λ answer. IsWhole answer.end) }
     ensures fault { IfErr result (IsRunFault ⊥ ⊥) }
@@ -75,7 +75,7 @@ fn answered(
 ) -> Result<Answer, Fault>
     requires order { 0 < length asked.now.order.now }
     requires image { IsImage image.now }
-    ensures says { IfOk result (λ answer. IsToldOfSearch image.now asked.now.order.now asked.now.turns number
+    ensures says { IfOk result (λ answer. IsToldOfSearch image.now asked.now.order.now asked.now.states asked.now.turns number
         (output_bytes answer.output) (end_status answer.end)) }
     ensures whole { IfOk result (λ answer. IsWhole answer.end) }
     ensures fault { IfErr result (IsMakingFault ⊥ ⊥ (IsNoEnd image.now asked.now.order.now number)) }
@@ -97,7 +97,7 @@ pub(crate) fn explore(
     number: Option<u64>,
 ) -> Result<Answer, Fault>
     ensures says { IfOk result (λ answer.
-        IsExplored image.now harts.now turns number (output_bytes answer.output) (end_status answer.end)) }
+        IsExplored image.now harts.now states turns number (output_bytes answer.output) (end_status answer.end)) }
     ensures whole { IfOk result (λ answer. IsWhole answer.end) }
     ensures fault { IfErr result (IsMakingFault
         (ByPlans image.now turns harts.now (λ plans. ¬ (HasPlans image.now plans))) ⊥
