@@ -21,6 +21,8 @@ CLOSING = re.compile(
     rb"(no other end|not all: \d+ states are left|not all: rank \d takes more than \d+ turns alone)\n"
 )
 
+UNENDING = b"some runs go on for ever\n"
+
 
 class TooMany(Exception):
     """A search that is given up."""
@@ -146,8 +148,8 @@ class Search:
     def __init__(self, image, plan, each, most):
         self.image, self.plan, self.each, self.most = image, plan, each, most
         self.numbers, self.turns = {}, {}
-        # how many states were found, and whether these are all
-        self.count, self.is_whole = 0, True
+        # how many states were found, whether these are all, and whether one of them leads to no end
+        self.count, self.is_whole, self.is_unending = 0, True, False
 
     def number(self, key):
         """The number of a key: the same for equal ones."""
@@ -259,23 +261,27 @@ class Search:
         except TooMany:
             self.is_whole = False
             return {}
-        seen, ends = {todo[0].key}, {}
+        # from which states each was come to, and those that are ends
+        before, ends, stops = {todo[0].key: []}, {}, []
         while todo:
             state = todo.pop()
             if self.is_end(state):
                 ends[what_is_known(state.ranks)] = text_of(state.ranks, self.plan)
+                stops.append(state.key)
                 continue
             try:
                 for after in self.moves(state):
-                    if after.key not in seen:
-                        seen.add(after.key)
+                    if after.key not in before:
+                        before[after.key] = []
                         todo.append(after)
+                    before[after.key].append(state.key)
             except TooMany:
                 self.is_whole = False
-            if len(seen) > self.most:
+            if len(before) > self.most:
                 self.is_whole = False
                 break
-        self.count = len(seen)
+        self.count = len(before)
+        self.is_unending = self.is_whole and len(led_to(stops, before)) < len(before)
         return ends
 
     def walked(self, random, most):
@@ -290,6 +296,17 @@ class Search:
         except TooMany:
             pass
         return None
+
+
+def led_to(stops, before):
+    """The states that lead to one of these, by those from which each was come to."""
+    found, todo = set(stops), list(stops)
+    while todo:
+        for key in before[todo.pop()]:
+            if key not in found:
+                found.add(key)
+                todo.append(key)
+    return found
 
 
 # ---- what is told
@@ -394,6 +411,8 @@ class Told:
             while re.match(rb"rank |  from |deadlock|no deadlock", text[at:]):
                 at = text.index(b"\n", at) + 1
             self.whys.append(text[start:at])
+        self.is_unending = text[at:].startswith(UNENDING)
+        at += len(UNENDING) if self.is_unending else 0
         closing = CLOSING.fullmatch(text[at:])
         self.is_whole = None
         if closing and int(closing[1]) == len(self.heads):
