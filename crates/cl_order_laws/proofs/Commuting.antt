@@ -1,5 +1,5 @@
 -- A turn that needs only its rank and a turn of another rank, exchanged.
-use Rattle.std.proofs.Common.{◌≡◌, ℕ, zero, suc, inl, inr, List, [], ◌∷◌, Some, refl, sym, ap, ◌∙◌, subst}
+use Rattle.std.proofs.Common.{◌≡◌, ℕ, zero, suc, ◌⊎◌, inl, inr, List, [], ◌∷◌, Some, refl, sym, ap, ◌∙◌, subst}
 use Rattle.std.specs.Prelude.{◌≢◌}
 use Rattle.std.specs.List.{slice_get, slice_set}
 use Rattle.mp_wait_laws.proofs.Sets.{get-set_other}
@@ -8,15 +8,16 @@ use Rattle.cl_state.specs.Rank.{Rank}
 use Rattle.cl_state.specs.Told.{told}
 use Rattle.cl_trace.specs.declared.events.Kind.{Kind}
 use Rattle.cl_machine.specs.declared.steps.Step.{Step}
-use Rattle.cl_machine.specs.Cluster.{CaseOf, Cluster, IsStep, only_told}
+use Rattle.cl_machine.specs.Cluster.{CaseOf, Cluster, only_told}
+use Rattle.cl_order_laws.specs.Alike.{Leads}
 use Rattle.cl_order_laws.specs.Laws.{CommuteLaw, IsAlone}
-use Rattle.cl_order_laws.proofs.Covered.{alone}
+use Rattle.cl_order_laws.proofs.Steps.{below_law, step_leads}
 
 -- the cluster with these ranks
 abbrev with_ranks : Cluster → List Rank → Cluster
 with_ranks c ranks = record { ranks = ranks; journal = c.journal; boxes = c.boxes }
 
-set_apart : {A : Type 0} (xs : List A) (i j : ℕ) (x y : A) → i ≢ j
+pub set_apart : {A : Type 0} (xs : List A) (i j : ℕ) (x y : A) → i ≢ j
     → slice_set (slice_set xs i x) j y ≡ slice_set (slice_set xs j y) i x
 set_apart [] i j x y apart = refl
 set_apart (z ∷ xs) zero zero x y apart = absurd (apart refl)
@@ -25,13 +26,13 @@ set_apart (z ∷ xs) (suc i) zero x y apart = refl
 set_apart (z ∷ xs) (suc i) (suc j) x y apart = ap (λ l. z ∷ l) (set_apart xs i j x y (λ e. apart (ap suc e)))
 
 -- what a step does to the ranks is to one, and what it does beside them doesn't hang on the others
-record Moved (c new : Cluster) (e : Step) (x : Rank) : Type 0 where
-  then : Rank
-  ranks : new.ranks ≡ slice_set c.ranks e.rank then
+pub record Moved (c new : Cluster) (e : Step) (x : Rank) : Type 0 where
+  pub then : Rank
+  pub ranks : new.ranks ≡ slice_set c.ranks e.rank then
   does : (others : List Rank)
       → CaseOf (with_ranks c others) e x e.kind (with_ranks new (slice_set others e.rank then))
 
-moved : (c new : Cluster) (e : Step) (x : Rank) (kind : Kind) → e.kind ≡ kind → CaseOf c e x kind new → Moved c new e x
+pub moved : (c new : Cluster) (e : Step) (x : Rank) (kind : Kind) → e.kind ≡ kind → CaseOf c e x kind new → Moved c new e x
 moved c new e x kind is goes = record {
   then = (by kind goes).0;
   ranks = (by kind goes).1;
@@ -135,14 +136,14 @@ alone_case old new e x Kind.Take is c = absurd is
 alone_case old new e x Kind.Miss is c = absurd is
 alone_case old new e x Kind.Freed is c = absurd is
 
-first_alone : (old mid new : Cluster) (e f : Step) → e.rank ≢ f.rank → IsAlone e.kind → IsStep old e mid
-    → IsStep mid f new → (other : Cluster) × IsStep old f other × IsStep other e new
+first_alone : (old mid new : Cluster) (e f : Step) → e.rank ≢ f.rank → IsAlone e.kind → Leads old e mid
+    → Leads mid f new → (other : Cluster) × Leads old f other × Leads other e new
 first_alone old mid new e f apart is one two =
     let x = one.0 in
     let y = two.0 in
-    let a = alone_case old mid e x e.kind is one.4 in
+    let a = alone_case old mid e x e.kind is one.3 in
     let z = told x e.hart Answer.Alone e.stamp in
-    let m = moved mid new f y f.kind refl two.4 in
+    let m = moved mid new f y f.kind refl two.3 in
     let other = with_ranks new (slice_set old.ranks f.rank m.then) in
     let there : slice_get old.ranks f.rank ≡ Some y =
     sym (get-set_other old.ranks e.rank f.rank z apart) ∙ sym (ap (λ (c : Cluster). slice_get c.ranks f.rank) a.0) ∙ two.1 in
@@ -153,18 +154,18 @@ first_alone old mid new e f apart is one two =
     ap (with_ranks new) (set_apart old.ranks f.rank e.rank m.then z (λ s. apart (sym s))
     ∙ sym (m.ranks ∙ ap (λ (c : Cluster). slice_set c.ranks f.rank m.then) a.0)) in (
       other,
-      (y, there, two.2, two.3, subst (λ c. CaseOf c f y f.kind other) back (m.does old.ranks)),
-      (x, here, one.2, one.3, subst (λ c. CaseOf other e x e.kind c) end (a.1 other)),
+      (y, there, two.2, subst (λ c. CaseOf c f y f.kind other) back (m.does old.ranks)),
+      (x, here, one.2, subst (λ c. CaseOf other e x e.kind c) end (a.1 other)),
     )
 
-second_alone : (old mid new : Cluster) (e f : Step) → e.rank ≢ f.rank → IsAlone f.kind → IsStep old e mid
-    → IsStep mid f new → (other : Cluster) × IsStep old f other × IsStep other e new
+pub second_alone : (old mid new : Cluster) (e f : Step) → e.rank ≢ f.rank → IsAlone f.kind → Leads old e mid
+    → Leads mid f new → (other : Cluster) × Leads old f other × Leads other e new
 second_alone old mid new e f apart is one two =
     let x = one.0 in
     let y = two.0 in
-    let b = alone_case mid new f y f.kind is two.4 in
+    let b = alone_case mid new f y f.kind is two.3 in
     let w = told y f.hart Answer.Alone f.stamp in
-    let m = moved old mid e x e.kind refl one.4 in
+    let m = moved old mid e x e.kind refl one.3 in
     let other = only_told old f y Answer.Alone in
     let there : slice_get old.ranks f.rank ≡ Some y =
     sym (get-set_other old.ranks e.rank f.rank m.then apart) ∙ sym (ap (λ xs. slice_get xs f.rank) m.ranks) ∙ two.1 in
@@ -175,12 +176,16 @@ second_alone old mid new e f apart is one two =
     ∙ sym (ap (λ xs. slice_set xs f.rank w) m.ranks))
     ∙ sym b.0 in (
       other,
-      (y, there, two.2, two.3, b.1 old),
-      (x, here, one.2, one.3, subst (λ c. CaseOf other e x e.kind c) end (m.does other.ranks)),
+      (y, there, two.2, b.1 old),
+      (x, here, one.2, subst (λ c. CaseOf other e x e.kind c) end (m.does other.ranks)),
     )
 
 pub commute_law : CommuteLaw
-commute_law old mid new e f apart is one two = elim is [
-  | inl alone ↦ first_alone old mid new e f apart alone one two
-  | inr alone ↦ second_alone old mid new e f apart alone one two
-]
+commute_law old mid new e f apart is one two =
+    let v = either (step_leads old mid e one) (step_leads mid new f two) is in
+    (v.0, below_law old v.0 f v.1 two.3, below_law v.0 new e v.2 one.3)
+  where
+    either : Leads old e mid → Leads mid f new → IsAlone e.kind ⊎ IsAlone f.kind
+        → (other : Cluster) × Leads old f other × Leads other e new
+    either one two (inl alone) = first_alone old mid new e f apart alone one two
+    either one two (inr alone) = second_alone old mid new e f apart alone one two

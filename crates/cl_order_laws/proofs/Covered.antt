@@ -3,6 +3,7 @@ use Rattle.std.proofs.Common.{◌≡◌, ℕ, zero, suc, ◌+◌, ◌⊎◌, inl
 use Rattle.std.specs.Prelude.{◌==◌}
 use Rattle.std.specs.List.{slice_get, slice_set}
 use Rattle.std.proofs.lemmas.Bool.{cases_eq, eq-eqb, ne_eqb, cond-true, cond-false}
+use Rattle.std.proofs.lemmas.Option.{same_Some}
 use Rattle.mp_hub.specs.Hub.{HubView}
 use Rattle.mp_wait_laws.proofs.Sets.{get-set_other}
 use Rattle.mp_alike_laws.specs.Renaming.{Renaming, followed_by}
@@ -22,6 +23,7 @@ use Rattle.cl_machine.specs.Cluster.{CaseOf, Cluster, IsRun, only_told}
 use Rattle.cl_order_laws.specs.Alike.{AlikeBoxes, AlikeRanks, AreEach, Leads, at_stamp, hub_of}
 use Rattle.cl_order_laws.specs.Closed.{FollowPlans, IsAhead, IsBehind, IsClosed, IsCovered, IsDone, IsSamePlace, NeedsOnlyRank, Node, Plans, Turns, had_after, one_more}
 use Rattle.cl_order_laws.specs.Laws.{CoveredLaw}
+use Rattle.cl_order_laws.specs.Sure.{Goes, LeadsTo}
 use Rattle.cl_order_laws.proofs.Ahead.{behind_on, done_back, one_on, same_hart}
 use Rattle.cl_order_laws.proofs.Boxes.{boxes_on}
 use Rattle.cl_order_laws.proofs.Each.{set_here, set_length, was_there}
@@ -48,6 +50,54 @@ each_on xs ys zs f g = record {
       (z.0, z.1, boxes_on x y.0 z.0 y.2 z.2);
 }
 
+-- ---- what covers
+
+abbrev pub IsOne : List Node → Node → Type 0
+IsOne nodes node = (i : ℕ) × (slice_get nodes i ≡ Some node)
+
+module _ (plans : Plans) (nodes more : List Node) (here : Node) (cov : IsCovered plans nodes here) where
+  -- where the node that covers is one of others, one of these covers too
+  pub covered_among : IsOne more cov.node → IsCovered plans more here
+  covered_among one = record {
+    index = one.0;
+    node = cov.node;
+    there = one.1;
+    names = cov.names;
+    many = cov.many;
+    ranks = cov.ranks;
+    hubs = cov.hubs;
+    boxes = cov.boxes;
+  }
+
+  -- and where the node that covers is itself covered by others, these cover too
+  pub covered_on : IsCovered plans more cov.node → IsCovered plans more here
+  covered_on next = record {
+    index = next.index;
+    node = next.node;
+    there = next.there;
+    names = followed_by cov.names next.names;
+    many = next.many ∙ cov.many;
+    ranks = λ r rank is.
+        let v = cov.ranks r rank is in
+        let w = next.ranks r v.0 v.1 in (
+          w.0,
+          w.1,
+          behind_on (plans r) cov.names next.names rank (here.had r) v.0 ((cov.node).had r) w.0 ((next.node).had r) v.2
+              w.2,
+        );
+    hubs =
+        hubs_on cov.names next.names (hub_of here.cluster.journal) (hub_of cov.node.cluster.journal)
+        (hub_of next.node.cluster.journal) cov.hubs next.hubs;
+    boxes = each_on here.cluster.boxes cov.node.cluster.boxes next.node.cluster.boxes cov.boxes next.boxes;
+  }
+
+-- the one of a list
+pub only_one : (n m : Node) (i : ℕ) → slice_get (n ∷ []) i ≡ Some m → n ≡ m
+only_one n m zero is = same_Some n m is
+only_one n m (suc i) is = absurd (cc)
+
+-- ---- one turn
+
 pub had_here : (had : Turns) (r : ℕ) → one_more had r r ≡ had r + 1
 had_here had r = cond-true (r == r) (had r + 1) (had r) (eq-eqb r r refl)
 
@@ -70,10 +120,16 @@ alone old new e x Kind.Miss c needs = elim c.2 [
   | inr freed ↦ absurd (subst NeedsOnlyRank freed needs)
 ]
 
-abbrev node_of : Cluster → Turns → Node
+abbrev pub node_of : Cluster → Turns → Node
 node_of cluster had = record { cluster = cluster; had = had }
 
-module _ (plans : Plans) (nodes : List Node) (closed : IsClosed plans nodes) (c new : Cluster) (had : Turns) (e : Step)
+-- the node goes by a turn of the rank, to one that covers
+pub record GoesToo (plans : Plans) (node here : Node) (r : ℕ) : Type 0 where
+  pub next : Node
+  pub goes : Goes plans r node next
+  pub covers : IsCovered plans (next ∷ []) here
+
+module _ (plans : Plans) (nodes : List Node) (c new : Cluster) (had : Turns) (e : Step)
     (leads : Leads c e new) (hart : e.hart ≡ plans e.rank (had e.rank)) (cov : IsCovered plans nodes (node_of c had)) where
   abbrev x : Rank
   x = leads.0
@@ -144,120 +200,133 @@ module _ (plans : Plans) (nodes : List Node) (closed : IsClosed plans nodes) (c 
         place = inr done;
       }))
 
-  abbrev Goal : Node → Renaming → ℕ → Rank → Type 0
-  Goal node names s rank = (o : Rank) × (slice_get node.cluster.ranks s ≡ Some o)
-      × IsBehind (plans s) names rank (one_more had e.rank s) o (node.had s)
+  abbrev Here : Node
+  Here = node_of new (one_more had e.rank)
 
-  -- the node goes by the same turn, and where that leads is covered
+  abbrev Along : Type 0
+  Along = Went cov.names c cov.node.cluster new e
+
+  abbrev next_of : Along → Node
+  next_of went = node_of went.then (one_more cov.node.had e.rank)
+
+  abbrev Goal : Node → ℕ → Rank → Type 0
+  Goal next s rank = (o : Rank) × (slice_get next.cluster.ranks s ≡ Some o)
+      × IsBehind (plans s) cov.names rank (one_more had e.rank s) o (next.had s)
+
+  -- the node goes by the same turn
   both_go : (other : Rank) → slice_get cov.node.cluster.ranks e.rank ≡ Some other → AlikeRanks cov.names x other
-      → IsSamePlace (plans e.rank) (had e.rank) (cov.node.had e.rank)
-      → ((f : Step) (next : Cluster) → f.rank ≡ e.rank → f.hart ≡ plans e.rank (cov.node.had e.rank)
-      → Leads cov.node.cluster f next
-      → IsCovered plans nodes (node_of next (one_more cov.node.had e.rank)))
-      → IsCovered plans nodes (node_of new (one_more had e.rank))
-  both_go other there alike same moves = record {
-    index = more.index;
-    node = more.node;
-    there = more.there;
-    names = followed_by cov.names more.names;
-    many =
-        more.many ∙ ap length went.others ∙ set_length cov.node.cluster.ranks e.rank went.right ∙ cov.many
-        ∙ sym (ap length went.ranks ∙ set_length c.ranks e.rank went.left);
-    ranks = λ s rank here. elim (cases_eq e.rank s) [
-      | inl same ↦ subst (λ k. Goal more.node (followed_by cov.names more.names) k rank) same
-          (turned rank (subst (λ k. slice_get new.ranks k ≡ Some rank) (sym same) here))
-      | inr apart ↦ beside s rank apart here
-    ];
-    hubs =
-        hubs_on cov.names more.names (hub_of new.journal) (hub_of went.then.journal) (hub_of more.node.cluster.journal)
-        went.hubs more.hubs;
-    boxes = each_on new.boxes went.then.boxes more.node.cluster.boxes went.boxes more.boxes;
+      → IsSamePlace (plans e.rank) (had e.rank) (cov.node.had e.rank) → GoesToo plans cov.node Here e.rank
+  both_go other there alike same = record {
+    next = next_of went;
+    goes = record {
+      step = at_stamp e went.stamp;
+      rank = refl;
+      hart = hart ∙ same_hart (plans e.rank) (had e.rank) (cov.node.had e.rank) same;
+      leads = went.leads;
+      had = refl;
+    };
+    covers = record {
+      index = 0;
+      node = next_of went;
+      there = refl;
+      names = cov.names;
+      many =
+          ap length went.others ∙ set_length cov.node.cluster.ranks e.rank went.right ∙ cov.many
+          ∙ sym (ap length went.ranks ∙ set_length c.ranks e.rank went.left);
+      ranks = λ s rank here. elim (cases_eq e.rank s) [
+        | inl same ↦ subst (λ k. Goal (next_of went) k rank) same
+            (turned rank (subst (λ k. slice_get new.ranks k ≡ Some rank) (sym same) here))
+        | inr apart ↦ beside s rank apart here
+      ];
+      hubs = went.hubs;
+      boxes = went.boxes;
+    };
   }
     where
-      went : Went cov.names c cov.node.cluster new e
+      went : Along
       went =
           goes cov.names c cov.node.cluster e cov.hubs cov.boxes x other there alike leads.2 e.kind refl new leads.3
 
-      more : IsCovered plans nodes (node_of went.then (one_more cov.node.had e.rank))
-      more =
-          moves (at_stamp e went.stamp) went.then refl
-          (hart ∙ same_hart (plans e.rank) (had e.rank) (cov.node.had e.rank) same) went.leads
-
-      turned : (rank : Rank) → slice_get new.ranks e.rank ≡ Some rank
-          → Goal more.node (followed_by cov.names more.names) e.rank rank
+      turned : (rank : Rank) → slice_get new.ranks e.rank ≡ Some rank → Goal (next_of went) e.rank rank
       turned rank here =
-          let w = was_there c.ranks e.rank went.left rank (subst (λ xs. slice_get xs e.rank ≡ Some rank) went.ranks here) in
-          let right : slice_get went.then.ranks e.rank ≡ Some went.right =
-          ap (λ xs. slice_get xs e.rank) went.others
-          ∙ set_here cov.node.cluster.ranks e.rank went.right other there in
-          let v = more.ranks e.rank went.right right in
-          let first : IsBehind (plans e.rank) cov.names rank (one_more had e.rank e.rank) went.right
-          (one_more cov.node.had e.rank e.rank) = record {
-            turns = 0;
-            then = rank;
-            after = one_more had e.rank e.rank;
-            ahead = (refl, refl);
-            alike = subst (λ q. AlikeRanks cov.names q went.right) w.0 went.alike;
-            place = inl
-                (subst (λ n. IsSamePlace (plans e.rank) n (one_more cov.node.had e.rank e.rank)) (sym (had_here had e.rank))
-                (subst (λ n. IsSamePlace (plans e.rank) (had e.rank + 1) n) (sym (had_here cov.node.had e.rank))
-                (one_on (plans e.rank) (had e.rank) (cov.node.had e.rank) same)));
-          } in (
-            v.0,
-            v.1,
-            behind_on (plans e.rank) cov.names more.names rank (one_more had e.rank e.rank) went.right
-                (one_more cov.node.had e.rank e.rank) v.0 (more.node.had e.rank) first v.2,
+          let w = was_there c.ranks e.rank went.left rank (subst (λ xs. slice_get xs e.rank ≡ Some rank) went.ranks here) in (
+            went.right,
+            ap (λ xs. slice_get xs e.rank) went.others ∙ set_here cov.node.cluster.ranks e.rank went.right other there,
+            record {
+              turns = 0;
+              then = rank;
+              after = one_more had e.rank e.rank;
+              ahead = (refl, refl);
+              alike = subst (λ q. AlikeRanks cov.names q went.right) w.0 went.alike;
+              place = inl
+                  (subst (λ n. IsSamePlace (plans e.rank) n (one_more cov.node.had e.rank e.rank)) (sym (had_here had e.rank))
+                  (subst (λ n. IsSamePlace (plans e.rank) (had e.rank + 1) n) (sym (had_here cov.node.had e.rank))
+                  (one_on (plans e.rank) (had e.rank) (cov.node.had e.rank) same)));
+            },
           )
 
-      beside : (s : ℕ) (rank : Rank) → (e.rank ≡ s → ⊥) → slice_get new.ranks s ≡ Some rank
-          → Goal more.node (followed_by cov.names more.names) s rank
+      beside : (s : ℕ) (rank : Rank) → (e.rank ≡ s → ⊥) → slice_get new.ranks s ≡ Some rank → Goal (next_of went) s rank
       beside s rank apart here =
           let old : slice_get c.ranks s ≡ Some rank =
           sym (get-set_other c.ranks e.rank s went.left apart) ∙ sym (ap (λ xs. slice_get xs s) went.ranks) ∙ here in
-          let v = cov.ranks s rank old in
-          let still : slice_get went.then.ranks s ≡ Some v.0 =
-          ap (λ xs. slice_get xs s) went.others
-          ∙ get-set_other cov.node.cluster.ranks e.rank s went.right apart ∙ v.1 in
-          let w = more.ranks s v.0 still in
-          let first : IsBehind (plans s) cov.names rank (one_more had e.rank s) v.0 (one_more cov.node.had e.rank s) =
-          subst (λ n. IsBehind (plans s) cov.names rank n v.0 (one_more cov.node.had e.rank s))
-          (sym (had_other had e.rank s apart))
-          (subst (λ n. IsBehind (plans s) cov.names rank (had s) v.0 n) (sym (had_other cov.node.had e.rank s apart)) v.2) in (
-            w.0,
-            w.1,
-            behind_on (plans s) cov.names more.names rank (one_more had e.rank s) v.0
-                (one_more cov.node.had e.rank s) w.0 (more.node.had s) first w.2,
+          let v = cov.ranks s rank old in (
+            v.0,
+            ap (λ xs. slice_get xs s) went.others
+                ∙ get-set_other cov.node.cluster.ranks e.rank s went.right apart ∙ v.1,
+            subst (λ n. IsBehind (plans s) cov.names rank n v.0 (one_more cov.node.had e.rank s))
+                (sym (had_other had e.rank s apart))
+                (subst (λ n. IsBehind (plans s) cov.names rank (had s) v.0 n)
+                (sym (had_other cov.node.had e.rank s apart)) v.2),
           )
 
-  -- the rank stands as the node's does
-  stands : (other : Rank) → slice_get cov.node.cluster.ranks e.rank ≡ Some other → AlikeRanks cov.names x other
-      → IsSamePlace (plans e.rank) (had e.rank) (cov.node.had e.rank) ⊎ IsDone (plans e.rank) x
-      → IsCovered plans nodes (node_of new (one_more had e.rank))
-  stands other there alike (inr done) = idles other there alike done
-  stands other there alike (inl same) = elim (closed.each cov.index e.rank cov.node other cov.there there) [
-    | inl done ↦ idles other there alike (done_back cov.names x other alike (plans e.rank) done)
-    | inr moves ↦ both_go other there alike same moves
-  ]
+  module _ (A : Type 0)
+      (what : (other : Rank) → slice_get cov.node.cluster.ranks e.rank ≡ Some other → IsDone (plans e.rank) other ⊎ A) where
+    -- the rank stands as the node's does
+    stands : (other : Rank) → slice_get cov.node.cluster.ranks e.rank ≡ Some other → AlikeRanks cov.names x other
+        → IsSamePlace (plans e.rank) (had e.rank) (cov.node.had e.rank) ⊎ IsDone (plans e.rank) x
+        → IsCovered plans nodes Here ⊎ (A × GoesToo plans cov.node Here e.rank)
+    stands other there alike (inr done) = inl (idles other there alike done)
+    stands other there alike (inl same) = elim (what other there) [
+      | inl done ↦ inl (idles other there alike (done_back cov.names x other alike (plans e.rank) done))
+      | inr a ↦ inr (a, both_go other there alike same)
+    ]
 
-  pub step_covered : IsCovered plans nodes (node_of new (one_more had e.rank))
-  step_covered =
-      let v = cov.ranks e.rank x leads.1 in
-      let b = v.2 in
-      go v.0 v.1 b.turns b.then b.after b.ahead b.alike b.place
+    -- the same node covers still, or the node goes too
+    pub step_goes : IsCovered plans nodes Here ⊎ (A × GoesToo plans cov.node Here e.rank)
+    step_goes =
+        let v = cov.ranks e.rank x leads.1 in
+        let b = v.2 in
+        go v.0 v.1 b.turns b.then b.after b.ahead b.alike b.place
+      where
+        go : (other : Rank) → slice_get cov.node.cluster.ranks e.rank ≡ Some other → (n : ℕ) (then : Rank) (after : ℕ)
+            → IsAhead (plans e.rank) n x (had e.rank) then after → AlikeRanks cov.names then other
+            → IsSamePlace (plans e.rank) after (cov.node.had e.rank) ⊎ IsDone (plans e.rank) then
+            → IsCovered plans nodes Here ⊎ (A × GoesToo plans cov.node Here e.rank)
+        go other there zero then after ahead alike place =
+            stands other there (subst (λ q. AlikeRanks cov.names q other) ahead.0 alike)
+            (subst (λ q. IsSamePlace (plans e.rank) (had e.rank) (cov.node.had e.rank) ⊎ IsDone (plans e.rank) q) ahead.0
+            (subst (λ n. IsSamePlace (plans e.rank) n (cov.node.had e.rank) ⊎ IsDone (plans e.rank) then) ahead.1 place))
+        go other there (suc n) then after ahead alike place =
+            inl (needed (subst (λ h. NeedsOnlyRank (asked x h)) (sym hart) ahead.0) other there
+            (subst (λ h. IsBehind (plans e.rank) cov.names (told x h Answer.Alone (x.clock + 1)) (had e.rank + 1) other
+            (cov.node.had e.rank)) (sym hart)
+            (record { turns = n; then = then; after = after; ahead = ahead.1; alike = alike; place = place })))
+
+  -- where the node that covers is closed in the rank, the list covers again
+  pub step_covered : ((other : Rank) → slice_get cov.node.cluster.ranks e.rank ≡ Some other
+      → IsDone (plans e.rank) other ⊎ LeadsTo plans cov.node e.rank (IsCovered plans nodes)) → IsCovered plans nodes Here
+  step_covered what = elim (step_goes (LeadsTo plans cov.node e.rank (IsCovered plans nodes)) what) [
+    | inl same ↦ same
+    | inr v ↦ on (v.1).next (v.1).goes v.0 (v.1).covers
+  ]
     where
-      go : (other : Rank) → slice_get cov.node.cluster.ranks e.rank ≡ Some other → (n : ℕ) (then : Rank) (after : ℕ)
-          → IsAhead (plans e.rank) n x (had e.rank) then after → AlikeRanks cov.names then other
-          → IsSamePlace (plans e.rank) after (cov.node.had e.rank) ⊎ IsDone (plans e.rank) then
-          → IsCovered plans nodes (node_of new (one_more had e.rank))
-      go other there zero then after ahead alike place =
-          stands other there (subst (λ q. AlikeRanks cov.names q other) ahead.0 alike)
-          (subst (λ q. IsSamePlace (plans e.rank) (had e.rank) (cov.node.had e.rank) ⊎ IsDone (plans e.rank) q) ahead.0
-          (subst (λ n. IsSamePlace (plans e.rank) n (cov.node.had e.rank) ⊎ IsDone (plans e.rank) then) ahead.1 place))
-      go other there (suc n) then after ahead alike place =
-          needed (subst (λ h. NeedsOnlyRank (asked x h)) (sym hart) ahead.0) other there
-          (subst (λ h. IsBehind (plans e.rank) cov.names (told x h Answer.Alone (x.clock + 1)) (had e.rank + 1) other
-          (cov.node.had e.rank)) (sym hart)
-          (record { turns = n; then = then; after = after; ahead = ahead.1; alike = alike; place = place }))
+      on : (next : Node) → Goes plans e.rank cov.node next → LeadsTo plans cov.node e.rank (IsCovered plans nodes)
+          → IsCovered plans (next ∷ []) Here → IsCovered plans nodes Here
+      on next goes moves covers =
+          covered_on plans (next ∷ []) nodes Here covers
+          (subst (λ n. IsCovered plans nodes n) (only_one next covers.node covers.index covers.there)
+          (subst (λ had. IsCovered plans nodes (node_of next.cluster had)) (sym goes.had)
+          (moves goes.step next.cluster goes.rank goes.hart goes.leads)))
 
 run_covered : (plans : Plans) (nodes : List Node) → IsClosed plans nodes → (steps : List Step) (c end : Cluster)
     (had : Turns) → IsCovered plans nodes (node_of c had) → IsRun c steps end → FollowPlans plans had steps
@@ -266,7 +335,8 @@ run_covered plans nodes closed [] c end had cov run follow =
     subst (λ (x : Cluster). IsCovered plans nodes (node_of x had)) (sym run) cov
 run_covered plans nodes closed (e ∷ steps) c end had cov run follow =
     run_covered plans nodes closed steps run.0 end (one_more had e.rank)
-    (step_covered plans nodes closed c run.0 had e (step_leads c run.0 e run.1) follow.0 cov) run.2 follow.1
+    (step_covered plans nodes c run.0 had e (step_leads c run.0 e run.1) follow.0 cov
+    (λ other there. closed.each cov.index e.rank cov.node other cov.there there)) run.2 follow.1
 
 pub covered_law : CoveredLaw
 covered_law plans nodes start cov closed steps end run follow =

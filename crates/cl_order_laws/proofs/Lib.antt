@@ -15,4 +15,15 @@ pub mod Deadlocks
 pub mod SelfClosed
 pub mod Rows
 pub mod Race
+pub mod RaceAtOnce
 pub mod Stays
+pub mod Splits
+pub mod Orders
+pub mod Walks
+pub mod Sure
+pub mod AtOnce
+pub mod Bodies
+pub mod Seen
+pub mod Ready
+pub mod SureAlone
+pub mod SureHub

@@ -93,10 +93,10 @@ box_back a b (both_empty e f) = both_empty f e
 box_back a b (both_full bytes f g) = both_full bytes g f
 
 -- each box is empty, or one thing lies in it
-abbrev IsSound : Box → Type 0
+abbrev pub IsSound : Box → Type 0
 IsSound box = AlikeBoxes box box
 
-abbrev AreSound : List Box → Type 0
+abbrev pub AreSound : List Box → Type 0
 AreSound boxes = (i : ℕ) (box : Box) → slice_get boxes i ≡ Some box → IsSound box
 
 sound_set : (boxes : List Box) (n : ℕ) (new : Box) → AreSound boxes → IsSound new → AreSound (slice_set boxes n new)
@@ -124,7 +124,7 @@ sound_taken box stamp bytes holds (both_empty e f) = absurd (not_held box bytes 
         (let w = within box.made box.taken _ holds in absurd (omega (arith, w, empty)))
 sound_taken box stamp bytes holds (both_full others f g) = both_empty f.one f.one
 
-sound_case : (old new : Cluster) (e : Step) (rank : Rank) (kind : Kind) → CaseOf old e rank kind new
+pub sound_case : (old new : Cluster) (e : Step) (rank : Rank) (kind : Kind) → CaseOf old e rank kind new
     → AreSound old.boxes → AreSound new.boxes
 sound_case old new e rank Kind.Plain c sound = subst (λ (x : Cluster). AreSound x.boxes) (sym c.2) sound
 sound_case old new e rank Kind.Local c sound = subst (λ (x : Cluster). AreSound x.boxes) (sym c.2) sound
@@ -162,12 +162,26 @@ reached_sound a reached = record {
 
 -- ---- clusters
 
-pub itself : (a : Cluster) → IsReached a → AlikeClusters no_renaming a a
-itself a reached = record {
+clusters_itself : (a : Cluster) → AreEach AlikeBoxes a.boxes a.boxes → AlikeClusters no_renaming a a
+clusters_itself a boxes = record {
   ranks = record { many = refl; each = λ r rank here. (rank, here, rank_itself rank rank.clock) };
   hubs = hub_itself (hub_of a.journal);
-  boxes = reached_sound a reached;
+  boxes = boxes;
 }
+
+pub itself : (a : Cluster) → IsReached a → AlikeClusters no_renaming a a
+itself a reached = clusters_itself a (reached_sound a reached)
+
+-- where it is alike itself its boxes are sound
+pub sound_of : (a : Cluster) → AreAlike a a → AreSound a.boxes
+sound_of a alike i box is =
+    let v = ((alike.1).boxes).each i box is in subst (AlikeBoxes box) (same_Some v.0 box (sym v.1 ∙ is)) v.2
+
+pub alike_itself : (a : Cluster) → AreSound a.boxes → AreAlike a a
+alike_itself a sound = (
+  no_renaming,
+  clusters_itself a (record { many = refl; each = λ i box here. (box, here, sound i box here) }),
+)
 
 within_list : {A : Type 0} (xs ys : List A) → length ys ≡ length xs → (i : ℕ) (x : A) → slice_get xs i ≡ Some x
     → (y : A) × (slice_get ys i ≡ Some y)

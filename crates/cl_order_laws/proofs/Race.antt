@@ -1,5 +1,5 @@
 -- The wildcard race: where each turn leads, and which nodes are ends.
-use Rattle.std.proofs.Common.{◌≡◌, ℕ, zero, suc, ◌+◌, ◌⊎◌, inl, inr, [], ◌∷◌, ◌++◌, length, Some, true, refl, sym, ap, ◌∙◌, subst, arith}
+use Rattle.std.proofs.Common.{◌≡◌, ℕ, zero, suc, ◌+◌, ◌⊎◌, inl, inr, List, [], ◌∷◌, ◌++◌, length, Some, true, refl, sym, ap, ◌∙◌, subst, arith}
 use Rattle.std.specs.List.{slice_get, slice_set}
 use Rattle.std.proofs.lemmas.Bool.{cases_eq}
 use Rattle.std.proofs.lemmas.Option.{same_Some}
@@ -31,7 +31,7 @@ use Rattle.cl_machine.specs.Journal.{reply_in}
 use Rattle.cl_order_laws.specs.Alike.{AlikeBoxes, AlikeRanks, AreEach, Leads, hub_of}
 use Rattle.cl_order_laws.specs.Closed.{IsBehind, IsClosed, IsCovered, IsDone, IsEnd, IsInVain, NeedsOnlyRank, Node, Turns, one_more}
 use Rattle.cl_order_laws.specs.Turns.{IsTurn, called}
-use Rattle.cl_order_laws.specs.Race.{EndsInOneOfTwo, IsPosted, Receives, WorkedRace, both_0, both_1, end_0, end_1, from_0, from_1, got, got_0, got_1, one_hart, open_node, race, receiver, receives, sender_0, sender_1, sends, sent, sent_0, sent_1, waiting}
+use Rattle.cl_order_laws.specs.Race.{EndsInOneOfTwo, IsPosted, Receives, both_0, both_1, end_0, end_1, from_0, from_1, got, got_0, got_1, one_hart, open_node, race, receiver, receives, sender_0, sender_1, sends, sent, sent_0, sent_1, waiting}
 use Rattle.cl_order_laws.proofs.Each.{set_here, set_length, was_there}
 use Rattle.cl_order_laws.proofs.Deadlocks.{ends_law}
 use Rattle.cl_order_laws.proofs.Ends.{every_end_law}
@@ -40,14 +40,14 @@ use Rattle.cl_order_laws.proofs.Turns.{turns_law}
 
 -- ---- a call that leads to the next node
 
-no_boxes : AreEach AlikeBoxes [] []
+pub no_boxes : AreEach AlikeBoxes [] []
 no_boxes = record { many = refl; each = λ i x here. absurd (cc) }
 
 -- behind the node by one turn, or as it stands there
 abbrev pub Behind : Rank → Rank → Type 0
 Behind rank other = (had theirs : ℕ) → IsBehind (one_hart 0) no_renaming rank had other theirs
 
-as_there : (rank other : Rank) (clock : ℕ) → other ≡ at_clock rank clock → Behind rank other
+pub as_there : (rank other : Rank) (clock : ℕ) → other ≡ at_clock rank clock → Behind rank other
 as_there rank other clock is had theirs = record {
   turns = 0;
   then = rank;
@@ -79,25 +79,58 @@ pub record Calls (c : Cluster) (r : ℕ) (x : Rank) (q : Request) (index : ℕ) 
   pub hub : hub_after c.journal.links (calls_of c.journal.entries ++ (r, q) ∷ []) ≡ hub_of node.cluster.journal
   pub boxes : AreEach AlikeBoxes c.boxes node.cluster.boxes
 
-module _ (c : Cluster) (r : ℕ) (x : Rank) (q : Request) (index : ℕ) (node : Node) (y : Rank)
-    (calls : Calls c r x q index node y) (e : Step) (new : Cluster) (at : e.rank ≡ r) (hart : e.hart ≡ 0)
+-- or where its other ranks are behind those of the node
+pub record Reaches (nodes : List Node) (c : Cluster) (r : ℕ) (x : Rank) (q : Request) (index : ℕ) (node : Node)
+    (y : Rank) : Type 0 where
+  pub here : slice_get c.ranks r ≡ Some x
+  pub asks : asked x 0 ≡ Ask.Hub q
+  pub there : slice_get nodes index ≡ Some node
+  pub many : length node.cluster.ranks ≡ length c.ranks
+  pub at : slice_get node.cluster.ranks r ≡ Some y
+  pub others : (s : ℕ) (rank : Rank) → (r ≡ s → ⊥) → slice_get c.ranks s ≡ Some rank
+      → (other : Rank) × (slice_get node.cluster.ranks s ≡ Some other) × Behind rank other
+  pub behind : (stamp : ℕ) → Behind (told x 0 (Answer.Reply (reply_in c.journal r q)) stamp) y
+  pub hub : hub_after c.journal.links (calls_of c.journal.entries ++ (r, q) ∷ []) ≡ hub_of node.cluster.journal
+  pub boxes : AreEach AlikeBoxes c.boxes node.cluster.boxes
+
+pub reaches : (nodes : List Node) (c : Cluster) (r : ℕ) (x : Rank) (q : Request) (index : ℕ) (node : Node) (y : Rank)
+    (place : ℕ) → slice_get nodes place ≡ Some node → Calls c r x q index node y
+    → Reaches nodes c r x q place node y
+reaches nodes c r x q index node y place there calls = record {
+  here = calls.here;
+  asks = calls.asks;
+  there = there;
+  many = ap (λ l. length l) calls.ranks ∙ set_length c.ranks r y;
+  at = ap (λ l. slice_get l r) calls.ranks ∙ set_here c.ranks r y x calls.here;
+  others = λ s rank other here. (
+    rank,
+    ap (λ l. slice_get l s) calls.ranks ∙ get-set_other c.ranks r s y other ∙ here,
+    as_there rank rank rank.clock refl,
+  );
+  behind = calls.behind;
+  hub = calls.hub;
+  boxes = calls.boxes;
+}
+
+module _ (nodes : List Node) (c : Cluster) (r : ℕ) (x : Rank) (q : Request) (index : ℕ) (node : Node) (y : Rank)
+    (calls : Reaches nodes c r x q index node y) (e : Step) (new : Cluster) (at : e.rank ≡ r) (hart : e.hart ≡ 0)
     (leads : Leads c e new) where
-  told_x : Rank
+  unfoldable pub told_x : Rank
   told_x = told x 0 (Answer.Reply (reply_in c.journal r q)) e.stamp
 
-  new_is : new ≡ called c e x q
+  pub new_is : new ≡ called c e x q
   new_is =
       let turn = turns_law c new e x (ap (slice_get c.ranks) at ∙ calls.here) leads in
       let by : IsTurn c e x (Ask.Hub q) new =
       subst (λ a. IsTurn c e x a new) (ap (asked x) hart ∙ calls.asks) turn in by.1
 
-  ranks_are : new.ranks ≡ slice_set c.ranks r told_x
+  pub ranks_are : new.ranks ≡ slice_set c.ranks r told_x
   unfolding told_x
   ranks_are =
       ap (λ (k : Cluster). k.ranks) new_is
       ∙ (λ i. slice_set c.ranks (at i) (told x (hart i) (Answer.Reply (reply_in c.journal (at i) q)) e.stamp))
 
-  hub_is : hub_of new.journal ≡ hub_of node.cluster.journal
+  pub hub_is : hub_of new.journal ≡ hub_of node.cluster.journal
   hub_is =
       ap (λ (k : Cluster). hub_of k.journal) new_is
       ∙ ap (hub_after c.journal.links)
@@ -113,27 +146,23 @@ module _ (c : Cluster) (r : ℕ) (x : Rank) (q : Request) (index : ℕ) (node : 
         let now : slice_get (slice_set c.ranks r told_x) s ≡ Some rank = ap (λ l. slice_get l s) (sym ranks_are) ∙ is in
         let w = was_there c.ranks r told_x rank (subst (λ k. slice_get (slice_set c.ranks r told_x) k ≡ Some rank) (sym same) now) in (
           y,
-          ap (λ l. slice_get l s) calls.ranks
-              ∙ subst (λ k. slice_get (slice_set c.ranks r y) k ≡ Some y) same (set_here c.ranks r y x calls.here),
+          subst (λ k. slice_get node.cluster.ranks k ≡ Some y) same calls.at,
           subst (λ z. IsBehind (one_hart s) no_renaming z had y (node.had s)) w.0 (calls.behind e.stamp had (node.had s)),
         )
     | inr other ↦
-        let now = sym (get-set_other c.ranks r s told_x other) ∙ ap (λ l. slice_get l s) (sym ranks_are) ∙ is in (
-          rank,
-          ap (λ l. slice_get l s) calls.ranks ∙ get-set_other c.ranks r s y other ∙ now,
-          as_there rank rank rank.clock refl had (node.had s),
-        )
+        let now = sym (get-set_other c.ranks r s told_x other) ∙ ap (λ l. slice_get l s) (sym ranks_are) ∙ is in
+        let v = calls.others s rank other now in
+        (v.0, v.1, v.2 had (node.had s))
   ]
 
-  pub call_covered : (had : Turns) → IsCovered one_hart race (record { cluster = new; had = had })
+  pub call_covered : (had : Turns) → IsCovered one_hart nodes (record { cluster = new; had = had })
   call_covered had = record {
     index = index;
     node = node;
     there = calls.there;
     names = no_renaming;
     many =
-        ap (λ l. length l) calls.ranks ∙ set_length c.ranks r y
-        ∙ sym (ap (λ l. length l) ranks_are ∙ set_length c.ranks r told_x);
+        calls.many ∙ sym (ap (λ l. length l) ranks_are ∙ set_length c.ranks r told_x);
     ranks = λ s rank is. each_behind s (had s) rank is;
     hubs = subst (λ h. AlikeHubs no_renaming (hub_of new.journal) h) hub_is (hub_itself (hub_of new.journal));
     boxes = subst (λ bs. AreEach AlikeBoxes bs node.cluster.boxes) (sym (ap (λ (k : Cluster). k.boxes) new_is)) calls.boxes;
@@ -149,7 +178,7 @@ asks_1 : asked sender_1 0 ≡ Ask.Hub (sends 105)
 unfolding asked doing
 asks_1 = refl
 
-asks_wait : asked waiting 0 ≡ Ask.Hub (request.Collect 1)
+pub asks_wait : asked waiting 0 ≡ Ask.Hub (request.Collect 1)
 unfolding asked doing told
 asks_wait = refl
 
@@ -175,33 +204,33 @@ behind_wait : (stamp : ℕ) → Behind (told waiting 0 (Answer.Reply reply.NotYe
 unfolding doing told
 behind_wait stamp = as_there (told waiting 0 (Answer.Reply reply.NotYet) stamp) waiting 9 refl
 
-stopped_0 : IsStopped (mode_of (sent sender_0) 0)
+pub stopped_0 : IsStopped (mode_of (sent sender_0) 0)
 unfolding doing told returned stepped
 stopped_0 = tt
 
-stopped_1 : IsStopped (mode_of (sent sender_1) 0)
+pub stopped_1 : IsStopped (mode_of (sent sender_1) 0)
 unfolding doing told returned stepped
 stopped_1 = tt
 
-stopped_got_0 : IsStopped (mode_of (got from_0) 0)
+pub stopped_got_0 : IsStopped (mode_of (got from_0) 0)
 unfolding doing told returned received received_message with_status stepped
 stopped_got_0 = tt
 
-stopped_got_1 : IsStopped (mode_of (got from_1) 0)
+pub stopped_got_1 : IsStopped (mode_of (got from_1) 0)
 unfolding doing told returned received received_message with_status stepped
 stopped_got_1 = tt
 
 -- ---- where the turns lead
 
-from_open_0 : Calls open_node.cluster 0 sender_0 (sends 104) 1 sent_0 (sent sender_0)
+pub from_open_0 : Calls open_node.cluster 0 sender_0 (sends 104) 1 sent_0 (sent sender_0)
 unfolding reply_in
 from_open_0 = record { here = refl; asks = asks_0; there = refl; ranks = refl; behind = behind_0 2; hub = refl; boxes = no_boxes }
 
-from_open_1 : Calls open_node.cluster 1 sender_1 (sends 105) 2 sent_1 (sent sender_1)
+pub from_open_1 : Calls open_node.cluster 1 sender_1 (sends 105) 2 sent_1 (sent sender_1)
 unfolding reply_in
 from_open_1 = record { here = refl; asks = asks_1; there = refl; ranks = refl; behind = behind_1 2; hub = refl; boxes = no_boxes }
 
-from_open_2 : Calls open_node.cluster 2 waiting (request.Collect 1) 0 open_node waiting
+pub from_open_2 : Calls open_node.cluster 2 waiting (request.Collect 1) 0 open_node waiting
 unfolding reply_in
 from_open_2 = record { here = refl; asks = asks_wait; there = refl; ranks = refl; behind = behind_wait; hub = refl; boxes = no_boxes }
 
@@ -209,7 +238,7 @@ from_sent_0_1 : Calls sent_0.cluster 1 sender_1 (sends 105) 5 both_0 (sent sende
 unfolding reply_in
 from_sent_0_1 = record { here = refl; asks = asks_1; there = refl; ranks = refl; behind = behind_1 3; hub = refl; boxes = no_boxes }
 
-from_sent_0_2 : Calls sent_0.cluster 2 waiting (request.Collect 1) 3 got_0 (got from_0)
+pub from_sent_0_2 : Calls sent_0.cluster 2 waiting (request.Collect 1) 3 got_0 (got from_0)
 unfolding reply_in
 from_sent_0_2 = record { here = refl; asks = asks_wait; there = refl; ranks = refl; behind = behind_got_0; hub = refl; boxes = no_boxes }
 
@@ -217,15 +246,15 @@ from_sent_1_0 : Calls sent_1.cluster 0 sender_0 (sends 104) 6 both_1 (sent sende
 unfolding reply_in
 from_sent_1_0 = record { here = refl; asks = asks_0; there = refl; ranks = refl; behind = behind_0 3; hub = refl; boxes = no_boxes }
 
-from_sent_1_2 : Calls sent_1.cluster 2 waiting (request.Collect 1) 4 got_1 (got from_1)
+pub from_sent_1_2 : Calls sent_1.cluster 2 waiting (request.Collect 1) 4 got_1 (got from_1)
 unfolding reply_in
 from_sent_1_2 = record { here = refl; asks = asks_wait; there = refl; ranks = refl; behind = behind_got_1; hub = refl; boxes = no_boxes }
 
-from_got_0 : Calls got_0.cluster 1 sender_1 (sends 105) 7 end_0 (sent sender_1)
+pub from_got_0 : Calls got_0.cluster 1 sender_1 (sends 105) 7 end_0 (sent sender_1)
 unfolding reply_in
 from_got_0 = record { here = refl; asks = asks_1; there = refl; ranks = refl; behind = behind_1 3; hub = refl; boxes = no_boxes }
 
-from_got_1 : Calls got_1.cluster 0 sender_0 (sends 104) 8 end_1 (sent sender_0)
+pub from_got_1 : Calls got_1.cluster 0 sender_0 (sends 104) 8 end_1 (sent sender_0)
 unfolding reply_in
 from_got_1 = record { here = refl; asks = asks_0; there = refl; ranks = refl; behind = behind_0 3; hub = refl; boxes = no_boxes }
 
@@ -252,21 +281,27 @@ AreFine node = (r : ℕ) (rank : Rank) → slice_get node.cluster.ranks r ≡ So
 goes : (node : Node) (r : ℕ) (x : Rank) (q : Request) (index : ℕ) (next : Node) (y : Rank)
     → Calls node.cluster r x q index next y → IsFine node r x
 goes node r x q index next y calls = inr (λ e new at hart leads.
-    call_covered node.cluster r x q index next y calls e new at hart leads (one_more node.had r))
+    call_covered race node.cluster r x q index next y (reaches race node.cluster r x q index next y index calls.there calls)
+    e new at hart leads (one_more node.had r))
 
 rests : (node : Node) (r : ℕ) (rank : Rank) → IsStopped (mode_of rank 0) → IsFine node r rank
 rests node r rank stopped = inl (λ n. stopped)
 
+-- what holds of three ranks holds of each
+pub by_rank : (P : ℕ → Rank → Type 0) (ranks : List Rank) (a b c : Rank) → ranks ≡ a ∷ b ∷ c ∷ [] → P 0 a → P 1 b
+    → P 2 c → (r : ℕ) (rank : Rank) → slice_get ranks r ≡ Some rank → P r rank
+by_rank P ranks a b c are x y z zero rank here =
+    subst (P 0) (same_Some a rank (sym (ap (λ l. slice_get l 0) are) ∙ here)) x
+by_rank P ranks a b c are x y z (suc zero) rank here =
+    subst (P 1) (same_Some b rank (sym (ap (λ l. slice_get l 1) are) ∙ here)) y
+by_rank P ranks a b c are x y z (suc (suc zero)) rank here =
+    subst (P 2) (same_Some c rank (sym (ap (λ l. slice_get l 2) are) ∙ here)) z
+by_rank P ranks a b c are x y z (suc (suc (suc r))) rank here =
+    let none = sym (ap (λ l. slice_get l (suc (suc (suc r)))) are) ∙ here in absurd (cc)
+
 fine : (node : Node) (a b c : Rank) → node.cluster.ranks ≡ a ∷ b ∷ c ∷ [] → IsFine node 0 a → IsFine node 1 b
     → IsFine node 2 c → AreFine node
-fine node a b c are x y z zero rank here =
-    subst (IsFine node 0) (same_Some a rank (sym (ap (λ l. slice_get l 0) are) ∙ here)) x
-fine node a b c are x y z (suc zero) rank here =
-    subst (IsFine node 1) (same_Some b rank (sym (ap (λ l. slice_get l 1) are) ∙ here)) y
-fine node a b c are x y z (suc (suc zero)) rank here =
-    subst (IsFine node 2) (same_Some c rank (sym (ap (λ l. slice_get l 2) are) ∙ here)) z
-fine node a b c are x y z (suc (suc (suc r))) rank here =
-    let none = sym (ap (λ l. slice_get l (suc (suc (suc r)))) are) ∙ here in absurd (cc)
+fine node a b c are x y z = by_rank (IsFine node) node.cluster.ranks a b c are x y z
 
 all_fine : (i : ℕ) (node : Node) → slice_get race i ≡ Some node → AreFine node
 all_fine zero node is =
@@ -325,10 +360,10 @@ all_fine (suc (suc (suc (suc (suc (suc (suc (suc zero)))))))) node is =
     (rests end_1 2 (got from_1) stopped_got_1))
 all_fine (suc (suc (suc (suc (suc (suc (suc (suc (suc i))))))))) node is = absurd (cc)
 
-closed : IsClosed one_hart race
+pub closed : IsClosed one_hart race
 closed = record { each = λ i r node rank there here. all_fine i node there r rank here }
 
-start : IsCovered one_hart race open_node
+pub start : IsCovered one_hart race open_node
 start = record {
   index = 0;
   node = open_node;
@@ -354,10 +389,10 @@ ended c x y z are s t u (suc (suc zero)) n rank here =
 ended c x y z are s t u (suc (suc (suc r))) n rank here =
     let none = sym (ap (λ l. slice_get l (suc (suc (suc r)))) are) ∙ here in absurd (cc)
 
-is_end_0 : IsEnd one_hart end_0.cluster
+pub is_end_0 : IsEnd one_hart end_0.cluster
 is_end_0 = ended end_0.cluster (sent sender_0) (sent sender_1) (got from_0) refl stopped_0 stopped_1 stopped_got_0
 
-is_end_1 : IsEnd one_hart end_1.cluster
+pub is_end_1 : IsEnd one_hart end_1.cluster
 is_end_1 = ended end_1.cluster (sent sender_0) (sent sender_1) (got from_1) refl stopped_0 stopped_1 stopped_got_1
 
 runs_on : (c : Cluster) (r : ℕ) (x : Rank) → slice_get c.ranks r ≡ Some x → mode_of x 0 ≡ Running → IsEnd one_hart c → ⊥
@@ -390,7 +425,7 @@ other : (known node : Node) → known ≡ node → (IsEnd one_hart known.cluster
     → (node ≡ end_0) ⊎ (node ≡ end_1)
 other known node is not end = absurd (not (subst (λ (n : Node). IsEnd one_hart n.cluster) (sym is) end))
 
-two : (i : ℕ) (node : Node) → slice_get race i ≡ Some node → IsEnd one_hart node.cluster
+pub two : (i : ℕ) (node : Node) → slice_get race i ≡ Some node → IsEnd one_hart node.cluster
     → (node ≡ end_0) ⊎ (node ≡ end_1)
 two zero node is =
     other open_node node (same_Some open_node node is) (runs_on open_node.cluster 0 sender_0 refl refl)
@@ -419,10 +454,10 @@ bytes_1 : bytes_at (got from_1).memory 16 1 ≡ 105 ∷ []
 unfolding doing told returned received received_message with_status stepped
 bytes_1 = refl
 
-receives_0 : Receives end_0.cluster 104
+pub receives_0 : Receives end_0.cluster 104
 receives_0 = (got from_0, refl, bytes_0)
 
-receives_1 : Receives end_1.cluster 105
+pub receives_1 : Receives end_1.cluster 105
 receives_1 = (got from_1, refl, bytes_1)
 
 -- an alike cluster received the same
@@ -431,7 +466,7 @@ alike_receives a b byte alike received =
     let v = ends_law.tells a b 2 received.0 (likeness_law.back b a alike) received.1 in
     (v.0, v.1, ap (λ m. bytes_at m 16 1) (v.2).memory ∙ received.2)
 
-runs : EndsInOneOfTwo
+pub runs : EndsInOneOfTwo
 runs steps end run follow is =
     let found = every_end_law one_hart race open_node start closed steps end run follow is in
     elim (two found.0 found.1 found.2 (ends_law.ends one_hart end (found.1).cluster found.3 is)) [
@@ -443,21 +478,10 @@ runs steps end run follow is =
           (subst (λ (n : Node). Receives n.cluster 105) (sym second) receives_1))
     ]
 
-posted_first : IsPosted
+pub posted_first : IsPosted
 unfolding asked doing told reply_in
 posted_first = (
   open_node.cluster,
   (receiver, refl, omega arith, omega arith, (receives, refl, refl, refl, refl)),
   refl,
 )
-
-pub worked_race : WorkedRace
-worked_race = record {
-  posted = posted_first;
-  start = start;
-  closed = closed;
-  two = two;
-  first = (is_end_0, receives_0);
-  second = (is_end_1, receives_1);
-  runs = runs;
-}

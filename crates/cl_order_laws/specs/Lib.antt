@@ -2,5 +2,9 @@ pub mod Alike
 pub mod Closed
 pub mod Laws
 pub mod Turns
+pub mod Splits
+pub mod Orders
+pub mod Sure
+pub mod SureTurns
 pub mod Race
 pub mod Rows

@@ -19,6 +19,7 @@ use Rattle.cl_machine.specs.Cluster.{Cluster, IsRun}
 use Rattle.cl_machine.specs.Journal.{empty_journal, journal_of}
 use Rattle.cl_machine.specs.Worked.{step}
 use Rattle.cl_order_laws.specs.Closed.{FollowPlans, IsClosed, IsCovered, IsEnd, Node, Plans, none_had}
+use Rattle.cl_order_laws.specs.Sure.{IsClosedAtOnce}
 
 -- ---- the guests: each is at one call, and traps in the turn behind it, since its text ends there
 
@@ -142,6 +143,10 @@ end_1 = node_of (sent sender_0) (sent sender_1) (got from_1)
 abbrev pub race : List Node
 race = open_node ∷ sent_0 ∷ sent_1 ∷ got_0 ∷ got_1 ∷ both_0 ∷ both_1 ∷ end_0 ∷ end_1 ∷ []
 
+-- where a receive that has its message is collected at once
+abbrev pub at_once : List Node
+at_once = open_node ∷ got_0 ∷ got_1 ∷ end_0 ∷ end_1 ∷ []
+
 -- each rank has one hart
 abbrev pub one_hart : Plans
 one_hart r n = 0
@@ -171,6 +176,8 @@ pub record WorkedRace : Type 0 where
   pub posted : IsPosted
   pub start : IsCovered one_hart race open_node
   pub closed : IsClosed one_hart race
+  -- five of the nodes are enough
+  pub fewer : IsClosedAtOnce one_hart 65535 at_once
   -- just two of the nodes are ends
   pub two : (i : ℕ) (node : Node) → slice_get race i ≡ Some node → IsEnd one_hart node.cluster
       → (node ≡ end_0) ⊎ (node ≡ end_1)

@@ -10,7 +10,7 @@ pub fn worked_orders()
 {}
 
 /// Two ranks send to a third that receives from any source: a closed list has two ends, and any run that ends receives
-/// the one message or the other.
+/// the one message or the other. Where turns of sure ranks are made at once five of its nine nodes are enough.
 pub fn worked_race()
     ensures { WorkedRace }
 {}
