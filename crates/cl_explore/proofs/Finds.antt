@@ -1,20 +1,23 @@
 -- The search as a whole.
-use Rattle.std.specs.Prelude.{ℕ, zero, suc, ◌+◌, ◌<◌, ◌≤◌, ◌≡◌, ◌⊎◌, List, [], ◌∷◌, ◌++◌, length, reverse, slice_get, Some, Bool, true, false, Result, Ok, Err, IfOk}
+use Rattle.std.specs.Prelude.{ℕ, zero, suc, ◌+◌, ◌<◌, ◌≤◌, ◌≡◌, ◌⊎◌, List, [], ◌∷◌, ◌++◌, length, reverse, slice_get, Some, Bool, true, false, Result, Ok, Err, IfOk, map}
 use Rattle.std.proofs.Common.{refl, sym, ap, ◌∙◌, subst, arith, inl, inr}
 use Rattle.std.proofs.lemmas.Bool.{cases_eq}
 use Rattle.std.proofs.lemmas.List.{reverse-append, reverse-reverse}
 use Rattle.std.proofs.lemmas.Option.{same_Some, slice_get_within}
 use Rattle.rv_image.specs.declared.images.ImageParts.{ImageParts}
 use Rattle.cl_machine.specs.declared.steps.Step.{Step}
+use Rattle.cl_turns.specs.declared.Turn.{Turn}
 use Rattle.cl_order_laws.specs.Closed.{IsClosed, IsCovered, IsEnd, Node}
+use Rattle.cl_order_laws.specs.Orders.{turn_of}
 use Rattle.cl_order_laws.proofs.Deadlocks.{ends_law}
 use Rattle.cl_order_laws.proofs.Ends.{every_end_law}
 use Rattle.cl_moves.specs.Ahead.{GoesAhead}
-use Rattle.cl_moves.specs.Standing.{IsStart, IsWay, by_order, first_node}
+use Rattle.cl_moves.specs.Standing.{IsWay, StandsAt, by_order, first_node}
 use Rattle.cl_moves.specs.declared.standing.Standing.{Standing}
 use Rattle.cl_explore.specs.Kept.{IsBefore, IsLed}
 use Rattle.cl_explore.specs.Covering.{AreNodes, IsClosedAt}
-use Rattle.cl_explore.specs.Ends.{AreAllEnds, BeginsWell, Explored, Notes}
+use Rattle.cl_explore.specs.Ends.{AreAllEnds, AreTurnsTo, BeginsAt, BeginsWell, ExploredFrom, ExploresFrom, Notes}
+use Rattle.cl_explore.specs.Orders.{named}
 use Rattle.cl_explore.specs.Searching.{Arrives, IsVisited, KeepsOf}
 use Rattle.cl_explore.specs.declared.kept.KeptNode.{KeptNode}
 use Rattle.cl_explore.proofs.Lists.{at_inside, at_last, stays_at, was_or_new}
@@ -26,47 +29,48 @@ use Rattle.cl_explore.proofs.Covers.{closed_more, covered_by, covered_more}
 no_nodes : (image : ImageParts) (order : List ℕ) → AreNodes image order [] []
 no_nodes image order = record { many = refl; each = λ i k at. absurd (cc) }
 
-pub begins : (image : ImageParts) (order : List ℕ) (none new : List KeptNode) (start there : Standing) → none ≡ []
-    → IsStart image start → GoesAhead order start there → Arrives order none 0 there new → BeginsWell image order new
-begins image order none new start there empty is ahead arrives =
+pub begins : (order : List ℕ) (none new : List KeptNode) (start there : Standing) → none ≡ []
+    → GoesAhead order start there → Arrives order none 0 there new → BeginsAt order start new
+begins order none new start there empty ahead arrives = λ image here stands way.
     let first = first_node image in
     let plans = by_order order in
-    let far = ahead image first first is.stands (no_way plans first start.steps.items is.steps) in
+    let far = ahead image first here stands way in
     let kept = arrives image [] first far.0 (subst (λ ks. AreNodes image order ks []) (sym empty) (no_nodes image order)) far.1
     refl far.2 in
     let alike = kept.holds in
     record {
       nodes = kept.more;
       are = kept.are;
-      start = covered_by plans kept.more first far.0 alike.1 alike.0 far.3 alike.3 alike.2;
+      start_is = covered_by plans kept.more here far.0 alike.1 alike.0 far.3 alike.3 alike.2;
     }
 
 -- ---- so many nodes were visited
 
-pub record SoFar (image : ImageParts) (order : List ℕ) (kept : List KeptNode) (ends : List ℕ) (done : ℕ) : Type 0 where
+pub record SoFar (image : ImageParts) (order : List ℕ) (start : Node) (kept : List KeptNode) (ends : List ℕ) (done : ℕ)
+    : Type 0 where
   pub nodes : List Node
   pub are : AreNodes image order kept nodes
-  pub start : IsCovered (by_order order) nodes (first_node image)
+  pub start_is : IsCovered (by_order order) nodes start
   pub closed : (i r : ℕ) (node : Node) → i < done → slice_get nodes i ≡ Some node → IsClosedAt order nodes node r
   pub told : (k i : ℕ) → slice_get ends k ≡ Some i
       → (node : Node) × (slice_get nodes i ≡ Some node) × IsEnd (by_order order) node.cluster
   pub all : (i : ℕ) (node : Node) → i < done → slice_get nodes i ≡ Some node → IsEnd (by_order order) node.cluster
       → (k : ℕ) × (slice_get ends k ≡ Some i)
 
-pub none_so_far : (image : ImageParts) (order : List ℕ) (kept : List KeptNode) (ends : List ℕ)
-    → BeginsWell image order kept → ends ≡ [] → SoFar image order kept ends 0
-none_so_far image order kept ends begun none = record {
+pub none_so_far : (image : ImageParts) (order : List ℕ) (start : Node) (kept : List KeptNode) (ends : List ℕ)
+    → BeginsWell image order start kept → ends ≡ [] → SoFar image order start kept ends 0
+none_so_far image order start kept ends begun none = record {
   nodes = begun.nodes;
   are = begun.are;
-  start = begun.start;
+  start_is = begun.start_is;
   closed = λ i r node low at. absurd (omega (arith, low));
   told = λ k i at.
       let no : slice_get [] k ≡ Some i = subst (λ xs. slice_get xs k ≡ Some i) none at in absurd (cc);
   all = λ i node low at end. absurd (omega (arith, low));
 }
 
-module _ (image : ImageParts) (order : List ℕ) (old new : List KeptNode) (ends : List ℕ) (done : ℕ)
-    (explored : SoFar image order old ends done) (inside : done < length old) (end : Bool)
+module _ (image : ImageParts) (order : List ℕ) (start : Node) (old new : List KeptNode) (ends : List ℕ) (done : ℕ)
+    (explored : SoFar image order start old ends done) (inside : done < length old) (end : Bool)
     (visit : KeepsOf order old done new (IsVisited order end)) where
   abbrev nodes : List Node
   nodes = explored.nodes
@@ -79,14 +83,14 @@ module _ (image : ImageParts) (order : List ℕ) (old new : List KeptNode) (ends
       → ((k i : ℕ) → slice_get now k ≡ Some i
       → (slice_get ends k ≡ Some i) ⊎ ((i ≡ done) × (end ≡ true)))
       → ((k i : ℕ) → slice_get ends k ≡ Some i → slice_get now k ≡ Some i)
-      → (end ≡ true → (k : ℕ) × (slice_get now k ≡ Some done)) → SoFar image order new now (done + 1)
+      → (end ≡ true → (k : ℕ) × (slice_get now k ≡ Some done)) → SoFar image order start new now (done + 1)
   more now was stays here =
       let far = visit image nodes node.0 explored.are node.1 in
       let there = far.grows done node.0 node.1 in
       record {
         nodes = far.more;
         are = far.are;
-        start = covered_more (by_order order) nodes far.more (first_node image) far.grows explored.start;
+        start_is = covered_more (by_order order) nodes far.more start far.grows explored.start_is;
         closed = λ i r x low at. elim (cases_eq done i) [
           | inl same ↦
               subst (λ y. IsClosedAt order far.more y r)
@@ -128,8 +132,8 @@ module _ (image : ImageParts) (order : List ℕ) (old new : List KeptNode) (ends
       let far = visit image nodes node.0 explored.are node.1 in
       let low = slice_get_within far.more done node.0 (far.grows done node.0 node.1) in omega (arith, low, (far.are).many)
 
-  pub more_ended : end ≡ true → (now : List ℕ) → now ≡ ends ++ done ∷ [] → SoFar image order new now (done + 1)
-  more_ended is now same = subst (λ xs. SoFar image order new xs (done + 1)) (sym same)
+  pub more_ended : end ≡ true → (now : List ℕ) → now ≡ ends ++ done ∷ [] → SoFar image order start new now (done + 1)
+  more_ended is now same = subst (λ xs. SoFar image order start new xs (done + 1)) (sym same)
       (more (ends ++ done ∷ [])
       (λ k i at. elim (was_or_new ends done k i at) [
         | inl before ↦ inl before
@@ -138,24 +142,24 @@ module _ (image : ImageParts) (order : List ℕ) (old new : List KeptNode) (ends
       (λ k i at. stays_at ends done k i at)
       (λ its. (length ends, at_last ends done)))
 
-  pub more_going : end ≡ false → SoFar image order new ends (done + 1)
+  pub more_going : end ≡ false → SoFar image order start new ends (done + 1)
   more_going not_end = more ends (λ k i at. inl at) (λ k i at. at)
       (λ is. let no : true ≡ false = sym is ∙ not_end in absurd (cc))
 
-pub more_noted : (image : ImageParts) (order : List ℕ) (old new : List KeptNode) (ends now : List ℕ) (done : ℕ)
-    → SoFar image order old ends done → done < length old → (end : Bool)
-    → KeepsOf order old done new (IsVisited order end) → Notes ends end done now → SoFar image order new now (done + 1)
-more_noted image order old new ends now done explored inside true visit notes =
-    more_ended image order old new ends done explored inside true visit refl now notes
-more_noted image order old new ends now done explored inside false visit notes =
-    subst (λ xs. SoFar image order new xs (done + 1)) (sym notes)
-    (more_going image order old new ends done explored inside false visit refl)
+pub more_noted : (image : ImageParts) (order : List ℕ) (start : Node) (old new : List KeptNode) (ends now : List ℕ)
+    (done : ℕ) → SoFar image order start old ends done → done < length old → (end : Bool)
+    → KeepsOf order old done new (IsVisited order end) → Notes ends end done now → SoFar image order start new now (done + 1)
+more_noted image order start old new ends now done explored inside true visit notes =
+    more_ended image order start old new ends done explored inside true visit refl now notes
+more_noted image order start old new ends now done explored inside false visit notes =
+    subst (λ xs. SoFar image order start new xs (done + 1)) (sym notes)
+    (more_going image order start old new ends done explored inside false visit refl)
 
 -- ---- in the end
 
-module _ (image : ImageParts) (order : List ℕ) (kept : List KeptNode) (ends : List ℕ) (done : ℕ)
-    (explored : SoFar image order kept ends done) where
-  all_ends : length kept ≤ done → AreAllEnds image order explored.nodes ends
+module _ (image : ImageParts) (order : List ℕ) (start : Node) (kept : List KeptNode) (ends : List ℕ) (done : ℕ)
+    (explored : SoFar image order start kept ends done) where
+  all_ends : length kept ≤ done → AreAllEnds order start explored.nodes ends
   all_ends all = λ steps end run follow ended.
       let plans = by_order order in
       let closed : IsClosed plans explored.nodes = record {
@@ -163,19 +167,55 @@ module _ (image : ImageParts) (order : List ℕ) (kept : List KeptNode) (ends : 
             let inside = slice_get_within explored.nodes i node at in
             explored.closed i r node (omega (arith, inside, all, (explored.are).many)) at rank here;
       } in
-      let found = every_end_law plans explored.nodes (first_node image) explored.start closed steps end run follow ended in
+      let found = every_end_law plans explored.nodes start explored.start_is closed steps end run follow ended in
       let inside = slice_get_within explored.nodes found.0 found.1 found.2 in
       let k = explored.all found.0 found.1 (omega (arith, inside, all, (explored.are).many)) found.2
       (ends_law.ends plans end (found.1).cluster found.3 ended) in
       (k.0, found.0, found.1, k.1, found.2, found.3)
 
-  pub tells_all : (left : ℕ) → (left ≡ 0 → length kept ≤ done) → Explored image order kept ends left
-  tells_all left none = record {
+  pub tells_all : (left : ℕ) → length kept ≤ done + left → ExploredFrom image order start kept ends left
+  tells_all left many = record {
     nodes = explored.nodes;
     are = explored.are;
+    start_is = explored.start_is;
+    closed = λ i r node visited. explored.closed i r node (low i visited.0) visited.1;
     sound = explored.told;
-    all = λ is. all_ends (none is);
+    told = λ i node visited ended. explored.all i node (low i visited.0) visited.1 ended;
+    all = λ is. all_ends (omega (arith, is, many));
   }
+    where
+      low : (i : ℕ) → i + left < length explored.nodes → i < done
+      low i inside = omega (arith, inside, many, (explored.are).many)
+
+-- ---- from whichever node the search begins at
+
+-- so it is, and the moves of no more nodes were made than are there
+abbrev pub SoFarFrom : List ℕ → Standing → List KeptNode → List ℕ → ℕ → Type 0
+SoFarFrom order standing kept ends done =
+    (image : ImageParts) (here : Node) → StandsAt image standing here
+    → IsWay (by_order order) (first_node image) standing.steps.items here
+    → SoFar image order here kept ends done × (done ≤ length kept)
+
+pub none_from : (order : List ℕ) (standing : Standing) (kept : List KeptNode) (ends : List ℕ)
+    → BeginsAt order standing kept → ends ≡ [] → SoFarFrom order standing kept ends 0
+none_from order standing kept ends begun none = λ image here stands way. (
+  none_so_far image order here kept ends (begun image here stands way) none,
+  omega (arith),
+)
+
+pub more_from : (order : List ℕ) (standing : Standing) (old new : List KeptNode) (ends now : List ℕ) (done : ℕ)
+    → SoFarFrom order standing old ends done → done < length old → (end : Bool)
+    → KeepsOf order old done new (IsVisited order end) → Notes ends end done now
+    → SoFarFrom order standing new now (done + 1)
+more_from order standing old new ends now done so_far inside end visit notes = λ image here stands way.
+    let s = so_far image here stands way in
+    let still = still_inside image order here old new ends done s.0 inside end visit in
+    (more_noted image order here old new ends now done s.0 inside end visit notes, omega (arith, still))
+
+pub tells_from : (order : List ℕ) (standing : Standing) (kept : List KeptNode) (ends : List ℕ) (done left : ℕ)
+    → SoFarFrom order standing kept ends done → length kept ≤ done + left → ExploresFrom order standing kept ends left
+tells_from order standing kept ends done left so_far many = λ image here stands way.
+    tells_all image order here kept ends done (so_far image here stands way).0 left many
 
 -- ---- what led to a node
 
@@ -242,3 +282,18 @@ pub turned_way : {E : Type 0} {V : Type 0} (image : ImageParts) (order : List �
 turned_way image order here (Ok steps) items back is way =
     subst (λ es. IsWay (by_order order) (first_node image) es here) (sym is) way
 turned_way image order here (Err e) items back is way = tt
+
+-- ---- turns that lead to a node
+
+pub turns_lead : {E : Type 0} {V : Type 0} (kept : List KeptNode) (number : ℕ) (steps : List Step) (r : Result V E)
+    (items : V → List Turn)
+    → ((image : ImageParts) (order : List ℕ) (nodes : List Node) (here : Node) → AreNodes image order kept nodes
+    → slice_get nodes number ≡ Some here
+    → IsWay (by_order order) (first_node image) steps here)
+    → (lent : List Step) → lent ≡ steps → IfOk r (λ turns. map named (items turns) ≡ map turn_of lent)
+    → IfOk r (λ turns. AreTurnsTo kept number (items turns))
+turns_lead kept number steps (Ok turns) items leads lent same is = λ image order nodes here are at. (
+  steps,
+  record { way = leads image order nodes here are at; turns_are = sym (is ∙ ap (map turn_of) same) },
+)
+turns_lead kept number steps (Err e) items leads lent same is = tt

@@ -4,6 +4,7 @@ pub mod Winding
 pub mod Keeping
 pub mod Staying
 pub mod Covers
+pub mod Following
 pub mod Tries
 pub mod Finds
 pub mod Alike

@@ -1,12 +1,15 @@
 -- What an exploration tells.
-use Rattle.std.specs.Prelude.{ℕ, ◌≡◌, List, [], ◌∷◌, ◌++◌, slice_get, Some, Bool, true, false}
+use Rattle.std.specs.Prelude.{ℕ, ◌+◌, ◌<◌, ◌≤◌, ◌≡◌, ◌⊎◌, List, [], ◌∷◌, ◌++◌, length, slice_get, Option, Some, None, Bool, true, false}
 use Rattle.rv_image.specs.declared.images.ImageParts.{ImageParts}
-use Rattle.cl_machine.specs.Cluster.{Cluster, IsRun, loaded_cluster}
+use Rattle.cl_machine.specs.Cluster.{Cluster, IsRun}
 use Rattle.cl_machine.specs.declared.steps.Step.{Step}
-use Rattle.cl_order_laws.specs.Closed.{FollowPlans, IsCovered, IsEnd, Node, none_had}
+use Rattle.cl_turns.specs.declared.Turn.{Turn}
+use Rattle.cl_order_laws.specs.Closed.{FollowPlans, IsCovered, IsEnd, Node}
 use Rattle.cl_order_laws.specs.Laws.{AreAlike}
-use Rattle.cl_moves.specs.Standing.{by_order, first_node}
-use Rattle.cl_explore.specs.Covering.{AreNodes}
+use Rattle.cl_moves.specs.Standing.{IsWay, StandsAt, by_order, first_node}
+use Rattle.cl_moves.specs.declared.standing.Standing.{Standing}
+use Rattle.cl_explore.specs.Covering.{AreNodes, IsClosedAt}
+use Rattle.cl_explore.specs.Orders.{IsOrderedWay}
 use Rattle.cl_explore.specs.declared.kept.KeptNode.{KeptNode}
 
 -- at each end that is told nobody goes on
@@ -15,27 +18,82 @@ AreEnds order nodes ends =
     (k i : ℕ) → slice_get ends k ≡ Some i
     → (node : Node) × (slice_get nodes i ≡ Some node) × IsEnd (by_order order) node.cluster
 
--- of whatever run of the machine follows the order, and after which nobody goes on, the last cluster is alike one of those
--- that are told
-abbrev pub AreAllEnds : ImageParts → List ℕ → List Node → List ℕ → Type 0
-AreAllEnds image order nodes ends =
-    (steps : List Step) (end : Cluster) → IsRun (loaded_cluster image) steps end
-    → FollowPlans (by_order order) none_had steps → IsEnd (by_order order) end
+-- of whatever run of the machine from the start follows the order, and after which nobody goes on, the last cluster is
+-- alike one of those that are told
+abbrev pub AreAllEnds : List ℕ → Node → List Node → List ℕ → Type 0
+AreAllEnds order start nodes ends =
+    (steps : List Step) (end : Cluster) → IsRun start.cluster steps end
+    → FollowPlans (by_order order) start.had steps → IsEnd (by_order order) end
     → (k : ℕ) × (i : ℕ) × (node : Node) × (slice_get ends k ≡ Some i) × (slice_get nodes i ≡ Some node)
     × AreAlike end node.cluster
 
--- what is kept are nodes to each of which its turns led, the ends are ends, and where no node is left they are all
-pub record Explored (image : ImageParts) (order : List ℕ) (kept : List KeptNode) (ends : List ℕ) (left : ℕ) : Type 0 where
-  pub nodes : List Node
-  pub are : AreNodes image order kept nodes
-  pub sound : AreEnds order nodes ends
-  pub all : left ≡ 0 → AreAllEnds image order nodes ends
+-- the node of this number is one whose moves were made: all but the last ones
+abbrev pub IsVisitedNode : List Node → ℕ → ℕ → Node → Type 0
+IsVisitedNode nodes left i node = (i + left < length nodes) × (slice_get nodes i ≡ Some node)
 
--- the loaded cluster is covered by what is kept
-pub record BeginsWell (image : ImageParts) (order : List ℕ) (kept : List KeptNode) : Type 0 where
+-- what is kept are nodes to each of which its turns led, the start is covered by them, those whose moves were made are
+-- closed over them, the ends are ends, each of those that is one is told, and where no node is left they are all
+pub record ExploredFrom (image : ImageParts) (order : List ℕ) (start : Node) (kept : List KeptNode) (ends : List ℕ)
+    (left : ℕ) : Type 0 where
   pub nodes : List Node
   pub are : AreNodes image order kept nodes
-  pub start : IsCovered (by_order order) nodes (first_node image)
+  pub start_is : IsCovered (by_order order) nodes start
+  pub closed : (i r : ℕ) (node : Node) → IsVisitedNode nodes left i node → IsClosedAt order nodes node r
+  pub sound : AreEnds order nodes ends
+  pub told : (i : ℕ) (node : Node) → IsVisitedNode nodes left i node → IsEnd (by_order order) node.cluster
+      → (k : ℕ) × (slice_get ends k ≡ Some i)
+  pub all : left ≡ 0 → AreAllEnds order start nodes ends
+
+-- from the loaded cluster
+abbrev pub Explored : ImageParts → List ℕ → List KeptNode → List ℕ → ℕ → Type 0
+Explored image order kept ends left = ExploredFrom image order (first_node image) kept ends left
+
+-- whichever node it is at which the search begins, and to which its steps led from the loaded cluster
+abbrev pub ExploresFrom : List ℕ → Standing → List KeptNode → List ℕ → ℕ → Type 0
+ExploresFrom order standing kept ends left =
+    (image : ImageParts) (here : Node) → StandsAt image standing here
+    → IsWay (by_order order) (first_node image) standing.steps.items here
+    → ExploredFrom image order here kept ends left
+
+-- from where these turns lead
+pub record ExploredBehind (image : ImageParts) (order : List ℕ) (turns : List Turn) (kept : List KeptNode)
+    (ends : List ℕ) (left : ℕ) : Type 0 where
+  pub steps : List Step
+  pub start : Node
+  pub ordered : IsOrderedWay image order turns steps start
+  pub explored : ExploredFrom image order start kept ends left
+
+-- turns that lead to whichever node is kept at this number
+abbrev pub AreTurnsTo : List KeptNode → ℕ → List Turn → Type 0
+AreTurnsTo kept node turns =
+    (image : ImageParts) (order : List ℕ) (nodes : List Node) (here : Node) → AreNodes image order kept nodes
+    → slice_get nodes node ≡ Some here
+    → (steps : List Step) × IsOrderedWay image order turns steps here
+
+-- ---- how far
+
+abbrev pub AreEnough : Option ℕ → ℕ → Type 0
+AreEnough None left = ⊥
+AreEnough (Some least) left = least ≤ left
+
+-- no node is left, or the moves of as many as were allowed have been made, or enough are left
+abbrev pub IsBounded : ℕ → Option ℕ → ℕ → ℕ → Type 0
+IsBounded states enough many left = (left ≡ 0) ⊎ ((many ≡ states + left) ⊎ AreEnough enough left)
+
+-- ---- on the way
+
+-- the start is covered by what is kept
+pub record BeginsWell (image : ImageParts) (order : List ℕ) (start : Node) (kept : List KeptNode) : Type 0 where
+  pub nodes : List Node
+  pub are : AreNodes image order kept nodes
+  pub start_is : IsCovered (by_order order) nodes start
+
+-- whichever node the standing is, to which its steps led from the loaded cluster
+abbrev pub BeginsAt : List ℕ → Standing → List KeptNode → Type 0
+BeginsAt order standing kept =
+    (image : ImageParts) (here : Node) → StandsAt image standing here
+    → IsWay (by_order order) (first_node image) standing.steps.items here
+    → BeginsWell image order here kept
 
 -- a node is noted behind the others if it is an end
 abbrev pub Notes : List ℕ → Bool → ℕ → List ℕ → Type 0

@@ -13,13 +13,15 @@ mod kept;
 mod leads;
 mod likeness;
 mod moving;
+mod orders;
 mod runs;
 mod search;
 mod sorting;
 
 pub use course::Course;
-pub use exploring::{Exploration, explore};
+pub use exploring::{Exploration, explore, explore_from, split};
 pub use kept::KeptNode;
 pub use leads::Lead;
+pub use orders::OrderFault;
 pub use runs::Runs;
 pub use sorting::in_order;

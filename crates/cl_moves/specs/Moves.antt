@@ -10,6 +10,7 @@ use Rattle.cl_machine.specs.Boxes.{Box, box_number}
 use Rattle.cl_machine.specs.Cluster.{Cluster}
 use Rattle.cl_machine.specs.Journal.{reply_in}
 use Rattle.cl_order_laws.specs.Alike.{Leads}
+use Rattle.cl_order_laws.specs.Orders.{is_miss}
 use Rattle.cl_replay.specs.declared.states.ClusterState.{ClusterState}
 use Rattle.cl_replay.specs.States.{ClusterStandsFor}
 use Rattle.cl_moves.specs.declared.single.Whose.{Whose}
@@ -29,6 +30,13 @@ pub record IsTurnOf (rank hart : ℕ) (e : Step) : Type 0 where
 
 abbrev pub AreTurnsOf : ℕ → ℕ → List Step → Type 0
 AreTurnsOf rank hart turns = (i : ℕ) (e : Step) → slice_get turns i ≡ Some e → IsTurnOf rank hart e
+
+-- at most one of the turns misses, and at most one doesn't
+abbrev pub AreApart : List Step → Type 0
+AreApart turns =
+    (i j : ℕ) (e f : Step) → slice_get turns i ≡ Some e → slice_get turns j ≡ Some f
+    → is_miss e.kind ≡ is_miss f.kind
+    → e ≡ f
 
 -- ---- by what is asked
 

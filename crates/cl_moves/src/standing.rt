@@ -1,6 +1,6 @@
 //! Where a search stands, and how it goes on.
 
-ghost use Rattle.std.specs.Prelude.{◌≡◌, ◌<◌, IfOk, OnOk, length, replicate};
+ghost use Rattle.std.specs.Prelude.{◌≡◌, ◌<◌, ◌++◌, ◌∷◌, [], IfOk, OnOk, length, replicate, true};
 ghost use Rattle.cl_moves.specs.Ahead.{GoesAhead, IsAloneIfSome, IsAloneNext};
 ghost use Rattle.cl_moves.specs.Standing.{IsNextHart, IsStart, Takes};
 ghost use Rattle.cl_moves.specs.Whole.{Follows, IsAskedBy, requested};
@@ -111,7 +111,8 @@ impl Standing {
     ///
     /// Refusals: Clock where the rank has had 2^64 - 1 turns, Memory. Then it may be anything too.
     pub fn take(&mut self, turn: Step) -> Result<bool, MoveFault>
-        ensures { IfOk result (Takes self.old turn self.new) }
+        ensures takes { IfOk result (Takes self.old turn self.new) }
+        ensures noted { IfOk result (λ took. took ≡ true → self.new.steps.items ≡ self.old.steps.items ++ turn ∷ []) }
     {
         let rank = usize::from(turn.rank());
         if rank >= self.had.len() {

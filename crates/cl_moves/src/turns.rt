@@ -1,6 +1,6 @@
 //! All turns that a hart may take from a state.
 
-ghost use Rattle.std.specs.Prelude.{◌≡◌, ◌<◌, ◌+◌, ◌-◌, ◌^◌, ◌∷◌, [], List, IfOk, max};
+ghost use Rattle.std.specs.Prelude.{◌≡◌, ◌<◌, ◌+◌, ◌-◌, ◌^◌, ◌∷◌, [], List, IfOk, false, max};
 ghost use Rattle.rv_image.specs.declared.images.Link.{Link};
 ghost use Rattle.mp_hub.specs.Hub.{Call, reply_of};
 ghost use Rattle.mp_hub.specs.Outcomes.{StandsFor};
@@ -8,7 +8,8 @@ ghost use Rattle.cl_machine.specs.Boxes.{box_number};
 ghost use Rattle.cl_trace.specs.Traces.{kind_of_bare};
 ghost use Rattle.cl_trace.specs.declared.events.Kind.{Kind};
 ghost use Rattle.cl_replay.specs.Boxes.{settled_at};
-ghost use Rattle.cl_moves.specs.Moves.{AreTurnsOf, HasAllTurns, HasMoves, looks, turn_at};
+ghost use Rattle.cl_order_laws.specs.Orders.{is_miss};
+ghost use Rattle.cl_moves.specs.Moves.{AreApart, AreTurnsOf, HasAllTurns, HasMoves, looks, turn_at};
 
 use crate::faults::MoveFault;
 use crate::single::Whose;
@@ -36,6 +37,7 @@ fn single(alloc: Global, whose: Whose, kind: Bare) -> Result<Vec<Step>, MoveFaul
     requires { whose.clock < 2 ^ 62 - 1 }
     ensures turn { IfOk result (λ turns. turns.items ≡ turn_at whose (whose.clock + 1) (kind_of_bare kind) ∷ []) }
     ensures own { IfOk result (λ turns. AreTurnsOf whose.rank whose.hart turns.items) }
+    ensures apart { IfOk result (λ turns. AreApart turns.items) }
 {
     Ok(one(alloc, whose.next(kind))?)
 }
@@ -59,9 +61,11 @@ fn looking(
     settled: Option<Settled>,
     sees: Bare,
 ) -> Result<Vec<Step>, MoveFault>
-    requires { whose.clock < 2 ^ 62 - 1 }
+    requires clock { whose.clock < 2 ^ 62 - 1 }
+    requires sees { is_miss (kind_of_bare sees) ≡ false }
     ensures turns { IfOk result (λ turns. turns.items ≡ looks whose (kind_of_bare sees) settled) }
     ensures own { IfOk result (λ turns. AreTurnsOf whose.rank whose.hart turns.items) }
+    ensures apart { IfOk result (λ turns. AreApart turns.items) }
 {
     let mut turns = one(alloc, whose.next(Bare::Miss))?;
     if let Some(settled) = settled {
@@ -88,6 +92,7 @@ fn calling(
         → turns.items
         ≡ turn_at whose (max whose.clock clock + 1) (Kind.Hub (reply_of links calls whose.rank request.now)) ∷ []) }
     ensures own { IfOk result (λ turns. AreTurnsOf whose.rank whose.hart turns.items) }
+    ensures apart { IfOk result (λ turns. AreApart turns.items) }
 {
     if hub.posts() >= u64::MAX {
         return Err(MoveFault::Clock);
@@ -113,6 +118,7 @@ fn turns_for(
     requires hub { state.now.clock < 2 ^ 62 - 1 }
     ensures all { IfOk result (λ turns. HasMoves state.now whose ask.now turns.items) }
     ensures own { IfOk result (λ turns. AreTurnsOf whose.rank whose.hart turns.items) }
+    ensures apart { IfOk result (λ turns. AreApart turns.items) }
 {
     let boxes = state.boxes.as_slice();
     match ask {
@@ -132,7 +138,8 @@ fn turns_for(
     }
 }
 
-/// All turns that this hart of this rank may take from the state, a look that misses too.
+/// All turns that this hart of this rank may take from the state, a look that misses too: at most one that misses, and one
+/// that doesn't.
 ///
 /// Refusals: Clock where a clock or a stamp of a box is at its end, Memory.
 pub fn turns_of(
@@ -143,6 +150,7 @@ pub fn turns_of(
 ) -> Result<Vec<Step>, MoveFault>
     ensures all { IfOk result (λ turns. HasAllTurns state.now rank hart turns.items) }
     ensures own { IfOk result (λ turns. AreTurnsOf rank hart turns.items) }
+    ensures apart { IfOk result (λ turns. AreApart turns.items) }
 {
     let place = usize::from(rank);
     if place >= state.ranks.len() {

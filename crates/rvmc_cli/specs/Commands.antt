@@ -1,17 +1,20 @@
 -- The commands, one row each: its name, what clap reads for it, and what it asks for.
-use Rattle.std.specs.Prelude.{ℕ, Bool, false, true, List, [], ◌∷◌, ◌++◌, Option, Some, None, if◌then◌else◌, codes, map, not, option_map}
+use Rattle.std.specs.Prelude.{ℕ, ⊤, Bool, false, true, List, [], ◌∷◌, ◌++◌, Option, Some, None, if◌then◌else◌, codes, map, not, option_map}
 use Rattle.std.specs.Prelude.{option_and_then}
+use Rattle.std.specs.Option.{option_map_or}
 use Rattle.std.specs.Str.{bytes_eq}
-use Rattle.clap.specs.Words.{App, Row, Rule, Text, all_of, new_app}
+use Rattle.clap.specs.Words.{App, Row, Rule, Text, all_of, first_of, new_app}
 use Rattle.rvmc_cli.specs.App.{flag, option, texts, top_app, with_commands, with_rules}
 use Rattle.rvmc_cli.specs.declared.places.Places.{Places}
-use Rattle.rvmc_cli.specs.Options.{flag_in, list_option, number_option, optional_number}
+use Rattle.rvmc_cli.specs.Options.{apart, flag_in, list_option, number_option, optional_number}
 use Rattle.rvmc_words.specs.Debug.{debug_words_in}
+use Rattle.rvmc_starts.specs.Starts.{start_in}
+use Rattle.rvmc_starts.specs.declared.starts.Start.{Start}
 use Rattle.rvmc_line.specs.declared.line.CommandLine.{CommandLine}
-use Rattle.rvmc_line.specs.declared.line.CommandLine.TheVariants.{OfImage, OfRecord, Session}
+use Rattle.rvmc_line.specs.declared.line.CommandLine.TheVariants.{Join, OfImage, OfRecord, Session}
 use Rattle.rvmc_line.specs.declared.line.ImageCommand.{ImageCommand}
-use Rattle.rvmc_line.specs.declared.line.ImageCommand.TheVariants.{Asm, Dis, Explore, One, OneUntilStuck, Run}
-use Rattle.rvmc_line.specs.declared.line.ImageCommand.TheVariants.{RunUntilStuck}
+use Rattle.rvmc_line.specs.declared.line.ImageCommand.TheVariants.{Asm, Dis, Explore, ExploreFrom, One, OneUntilStuck}
+use Rattle.rvmc_line.specs.declared.line.ImageCommand.TheVariants.{Run, RunUntilStuck, Split}
 use Rattle.rvmc_line.specs.declared.line.RecordCommand.TheVariants.{Check, Debug, Draw, List as ListSteps, Page, Report}
 use Rattle.rvmc_line.specs.declared.line.RecordCommand.TheVariants.{Stats, Why}
 use Rattle.rvmc_line.specs.declared.line.RecordCommand.{RecordCommand}
@@ -111,17 +114,56 @@ turns_alone_in rows = number_option (codes "turns") 1 16777216 1000000 rows
 abbrev pub end_in : List Row → Option (Option ℕ)
 end_in rows = optional_number (codes "record") 1 18446744073709551615 rows
 
--- `explore [--source] [--plan HARTS] [--states N] [--turns N] [--record K]`
+-- `--split N`, which has a number here: of starts, from 1 to 2^24
+abbrev pub count_in : List Row → Option (Option ℕ)
+count_in rows = optional_number (codes "split") 1 16777216 rows
+
+-- `--from START`, which has a start here
+abbrev pub beginning_in : List Row → Option (Option Start)
+beginning_in rows =
+    option_map_or (λ text. option_map (λ start. Some start) (start_in text)) (first_of (codes "from") rows) (Some None)
+
+-- `--join` stands alone; a split looks for no ends; and a start has its plan in it
+abbrev pub explore_fits : List Row → Option ⊤
+explore_fits rows =
+    option_and_then (λ _. option_and_then (λ _. apart (codes "from") (codes "plan" ∷ []) rows)
+    (apart (codes "split") (codes "from" ∷ codes "states" ∷ codes "record" ∷ []) rows))
+    (apart (codes "join") (codes "source" ∷ codes "plan" ∷ codes "states" ∷ codes "turns" ∷ codes "record" ∷ codes "split"
+    ∷ codes "from" ∷ []) rows)
+
+-- all ends behind a start, or else from the image on
+abbrev pub ends_by : ℕ → ℕ → Option ℕ → Option Start → List Row → Option ImageCommand
+ends_by states turns end (Some start) rows = Some (ExploreFrom start states turns end)
+ends_by states turns end None rows = option_map (λ plan. Explore plan states turns end) (list_option (codes "plan") rows)
+
+abbrev pub ends_in : ℕ → List Row → Option ImageCommand
+ends_in turns rows =
+    option_and_then (λ states. option_and_then (λ end. option_and_then (λ start. ends_by states turns end start rows)
+    (beginning_in rows)) (end_in rows)) (states_in rows)
+
+-- so many starts, or else all ends
+abbrev pub search_by : ℕ → Option ℕ → List Row → Option ImageCommand
+search_by turns (Some count) rows = option_map (λ plan. Split plan count turns) (list_option (codes "plan") rows)
+search_by turns None rows = ends_in turns rows
+
+abbrev pub search_in : List Row → Option ImageCommand
+search_in rows =
+    option_and_then (λ turns. option_and_then (λ count. search_by turns count rows) (count_in rows)) (turns_alone_in rows)
+
+-- the texts of a split, or else an image
+abbrev pub explored_in : List Row → Option CommandLine
+explored_in rows =
+    if flag_in (codes "join") rows then Some Join
+    else option_map (λ search. OfImage (flag_in (codes "source") rows) search) (search_in rows)
+
+-- `explore [--source] [--plan HARTS] [--states N] [--turns N] [--record K] [--split N] [--from START] [--join]`
 abbrev pub explore_row : CommandRow
 explore_row =
     record {
       name = codes "explore";
       rules = flag (codes "source") ∷ option (codes "plan") ∷ option (codes "states") ∷ option (codes "turns")
-          ∷ option (codes "record") ∷ [];
-      meaning = λ rows.
-          option_and_then (λ states. option_and_then (λ turns. option_and_then (λ end. option_map (λ plan.
-          OfImage (flag_in (codes "source") rows) (Explore plan states turns end))
-          (list_option (codes "plan") rows)) (end_in rows)) (turns_alone_in rows)) (states_in rows);
+          ∷ option (codes "record") ∷ option (codes "split") ∷ option (codes "from") ∷ flag (codes "join") ∷ [];
+      meaning = λ rows. option_and_then (λ _. explored_in rows) (explore_fits rows);
     }
 
 -- ---- commands of a record

@@ -81,8 +81,9 @@ fn told(alloc: Global, matches: &ArgMatches<'_>) -> Result<CommandLine, ParseFau
 /// What the words after the program's name ask for. Without words it is `one --source`.
 ///
 /// `Asked` comes where the words ask for help or the version, `Refused` where clap doesn't take them,
-/// a number is out of its range, a list is none, a word of `debug` is none, or `--record` and `--why`
-/// are both there, and `Memory` where memory was refused, whatever the words, unless there are none.
+/// a number is out of its range, a list, a start or a word of `debug` is none, or two are there that
+/// don't go together, as `--record` and `--why`, and `Memory` where memory was refused, whatever the
+/// words, unless there are none.
 pub fn parse<'a>(alloc: Global, words: &'a [&'a str]) -> Result<CommandLine, ParseFault>
     ensures parsed { Parses (map (λ w. w.now) words.entry.now) result }
     ensures none { words.entry.now ≡ [] → result ≡ Ok (OfImage true (One 1000000 None None written.Report)) }

@@ -4,11 +4,12 @@ ghost use Rattle.std.specs.Prelude.{◌≡◌, map};
 ghost use Rattle.std.specs.Option.{option_map};
 ghost use Rattle.clap.specs.Walk.{rows_of};
 ghost use Rattle.clap.specs.Words.{all_of, first_of, found_of};
-ghost use Rattle.rvmc_cli.specs.Options.{flag_in, list_option, number_option, optional_number};
+ghost use Rattle.rvmc_cli.specs.Options.{apart, flag_in, is_given, list_option, number_option, optional_number, source_of};
 ghost use Rattle.rvmc_cli.specs.Parsing.{Finds, Reads};
 
 use crate::wrong::Wrong;
 use clap::ArgMatches;
+use clap::parser::ValueSource;
 use rvmc_words::{Numbers, number_in, numbers_in};
 use std::alloc::Global;
 
@@ -27,6 +28,42 @@ pub fn flag(matches: &ArgMatches<'_>, name: &str) -> bool
         Some(text) => text == "true",
         None => false,
     }
+}
+
+/// Where what was found for a flag or an option comes from.
+fn source(matches: &ArgMatches<'_>, name: &str) -> Option<ValueSource>
+    ensures { result ≡ source_of name.now (rows_of (found_of matches.now)) }
+{
+    matches.value_source(name)
+}
+
+/// Whether a flag or an option was given.
+fn is_given(matches: &ArgMatches<'_>, name: &str) -> bool
+    ensures { result ≡ is_given name.now (rows_of (found_of matches.now)) }
+{
+    match source(matches, name) {
+        Some(ValueSource::CommandLine) => true,
+        Some(ValueSource::DefaultValue) | None => false,
+    }
+}
+
+/// Refuses a flag or an option beside one of these others, with which it doesn't go together.
+pub fn apart<'a>(
+    matches: &ArgMatches<'a>,
+    flag: &'static str,
+    others: &[&'static str],
+) -> Result<(), Wrong<'a>>
+    ensures { Reads (apart flag.entry.now (map (λ other. other.now) others.now) (rows_of (found_of matches.now))) result }
+{
+    if !is_given(matches, flag) {
+        return Ok(());
+    }
+    for other in others {
+        if is_given(matches, other) {
+            return Err(Wrong::Both { flag, other });
+        }
+    }
+    Ok(())
 }
 
 /// The number of an option, or its default.

@@ -9,7 +9,7 @@ use std::fmt;
 /// Why what clap found is no command line.
 #[derive(Clone, Copy)]
 pub enum Wrong<'a> {
-    /// Memory was refused for a list. It is told as that, and not by a sentence.
+    /// Memory was refused for a list or a start. It is told as that, and not by a sentence.
     Memory,
     /// There is no command, or none of this name.
     Command,
@@ -27,7 +27,12 @@ pub enum Wrong<'a> {
     },
     /// A text is no word of `debug`.
     Word(&'a str),
-    /// Two flags were given that don't go together.
+    /// An option's text is no start.
+    Start {
+        option: &'static str,
+        text: &'a str,
+    },
+    /// Two flags or options were given that don't go together.
     Both {
         flag: &'static str,
         other: &'static str,
@@ -64,6 +69,10 @@ impl fmt::Display for Wrong<'_> {
                 f,
                 "a CMD is go=N, step, back, run, place, break=R,H,PC, break=R,H,NAME, regs=R,H, frames=R,H, \
                  output=R, bytes=R,A,N or bytes=R,NAME,N, with R and H from 0 to 255, not '{text}'"
+            ),
+            Wrong::Start { option, text } => write!(
+                f,
+                "'--{option}' takes a start, as 'rvmc explore --split' writes them, not '{text}'"
             ),
             Wrong::Both { flag, other } => write!(
                 f,

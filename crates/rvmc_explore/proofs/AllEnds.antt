@@ -3,15 +3,16 @@ use Rattle.std.proofs.Common.{ℕ, ◌≡◌, ◌∙◌, ◌<◌, ◌≤◌, ◌
 use Rattle.std.proofs.lemmas.List.{drop_all}
 use Rattle.std.proofs.lemmas.Option.{get_or_from_slice_get, slice_get_within}
 use Rattle.rv_image.specs.declared.images.ImageParts.{ImageParts}
-use Rattle.cl_explore.specs.Ends.{Explored}
+use Rattle.cl_order_laws.specs.Closed.{Node}
+use Rattle.cl_explore.specs.Ends.{ExploredFrom}
 use Rattle.cl_explore.specs.declared.kept.KeptNode.{KeptNode}
 use Rattle.rvmc_explore.specs.Telling.{AddsEnd, AddsEnds}
 use Rattle.rvmc_explore.specs.There.{AreThere}
 
 -- the ends of an exploration are nodes that it kept
-pub are_there : (image : ImageParts) (order : List ℕ) (kept : List KeptNode) (ends : List ℕ) (left : ℕ) → Explored image order kept ends left
-    → AreThere kept ends
-are_there image order kept ends left explored k i is =
+pub are_there : (image : ImageParts) (order : List ℕ) (start : Node) (kept : List KeptNode) (ends : List ℕ) (left : ℕ)
+    → ExploredFrom image order start kept ends left → AreThere kept ends
+are_there image order start kept ends left explored k i is =
     let end = explored.sound k i is in
     let within : i < length explored.nodes = slice_get_within explored.nodes i end.0 end.1 in
     omega (arith, within, explored.are.many)

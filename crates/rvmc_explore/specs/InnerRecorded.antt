@@ -9,7 +9,7 @@ use Rattle.cl_machine.specs.declared.steps.Step.{Step}
 use Rattle.cl_order_laws.specs.Closed.{Node}
 use Rattle.cl_moves.specs.Standing.{IsWay, by_order, first_node}
 use Rattle.cl_explore.specs.Covering.{AreNodes}
-use Rattle.cl_explore.specs.Ends.{Explored}
+use Rattle.cl_explore.specs.Ends.{ExploredFrom}
 use Rattle.cl_explore.specs.declared.exploring.Exploration.{Exploration}
 use Rattle.cl_explore.specs.declared.kept.KeptNode.{KeptNode}
 use Rattle.rvmc_explore.specs.Recorded.{Leads, numbered}
@@ -27,9 +27,9 @@ LeadInOrder kept at steps =
     (image : ImageParts) (order : List ℕ) (nodes : List Node) (here : Node) → IsImage image
     → AreNodes image order kept nodes → slice_get nodes at ≡ Some here → IsRecordTo image order here steps
 
--- whatever was searched
+-- whatever was searched, from wherever
 abbrev pub RecordsIn : Exploration → ℕ → Option (List Step) → Type 0
 RecordsIn found number steps =
-    (image : ImageParts) (order : List ℕ) → IsImage image
-    → (explored : Explored image order found.nodes.items found.ends.items found.left)
+    (image : ImageParts) (order : List ℕ) (start : Node) → IsImage image
+    → (explored : ExploredFrom image order start found.nodes.items found.ends.items found.left)
     → Leads image order explored.nodes (numbered found.ends.items number) steps

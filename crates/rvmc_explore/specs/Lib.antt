@@ -3,3 +3,6 @@ pub mod Telling
 pub mod There
 pub mod Recorded
 pub mod InnerRecorded
+pub mod Splitting
+pub mod Starting
+pub mod SplitLaw

@@ -8,10 +8,15 @@ mod differences;
 mod ends;
 mod heads;
 mod judging;
+pub mod laws;
 mod recording;
+mod splitting;
+mod starting;
 mod telling;
 mod unending;
 
 pub use asked::Asked;
 pub use recording::recorded;
+pub use splitting::split;
+pub use starting::{Reach, StartFault, explored_from, recorded_from};
 pub use telling::{Told, explored};

@@ -36,7 +36,7 @@ fn steps_to(alloc: Global, found: &Exploration, node: usize) -> Result<Vec<Step>
 }
 
 /// The same of the end of this number, from 1. None where there are fewer ends.
-fn record_in(
+pub(crate) fn record_in(
     alloc: Global,
     found: &Exploration,
     number: u64,

@@ -24,7 +24,11 @@ pub struct Told {
 }
 
 /// The cluster of the node of this number, in memory of its own.
-fn state_at(alloc: Global, found: &Exploration, node: usize) -> Result<ClusterState, AllocError>
+pub(crate) fn state_at(
+    alloc: Global,
+    found: &Exploration,
+    node: usize,
+) -> Result<ClusterState, AllocError>
     requires { node < length found.now.nodes.items }
     ensures { IfOk result (IsKeptState found.now.nodes.items node) }
 {

@@ -41,19 +41,29 @@ fn mark_all(marks: &mut [bool], leads: &[Lead]) -> bool {
     more
 }
 
+/// A mark for each node that leads to one of these.
+pub(crate) fn leading_to(
+    alloc: Global,
+    found: &Exploration,
+    nodes: &[usize],
+) -> Result<Vec<bool>, AllocError> {
+    let mut marks = marked_at(alloc, found.nodes.len(), nodes)?;
+    for _round in 0..found.nodes.len() {
+        if !mark_all(marks.as_mut_slice(), found.leads.as_slice()) {
+            return Ok(marks);
+        }
+    }
+    Ok(marks)
+}
+
 /// Whether some node leads to no end: from there a run goes on for ever, however it goes. False where not all moves were
 /// made, since then it isn't known. The only error is want of memory.
 pub(crate) fn is_unending(alloc: Global, found: &Exploration) -> Result<bool, AllocError> {
     if found.left > 0 {
         return Ok(false);
     }
-    let mut marks = marked_at(alloc, found.nodes.len(), found.ends.as_slice())?;
-    for _round in 0..found.nodes.len() {
-        if !mark_all(marks.as_mut_slice(), found.leads.as_slice()) {
-            return Ok(marks.iter().any(|mark| !*mark));
-        }
-    }
-    Ok(false)
+    let marks = leading_to(alloc, found, found.ends.as_slice())?;
+    Ok(marks.iter().any(|mark| !*mark))
 }
 
 /// The line that says so.

@@ -10,12 +10,14 @@ use Rattle.rvmc_hints.specs.declared.seen.Seen.TheVariants as seen
 -- a text may be a source to whom it wasn't one: it is one where the assembler makes an image of it
 abbrev pub text_in : Wanted → Bool → Option Hint
 text_in wanted.Source source = None
+text_in wanted.Told source = None
 text_in other source = if source then Some (hint.Source other) else Some (hint.Text other)
 
 abbrev pub content_in : Wanted → Bool → Seen → Option Hint
 content_in wanted source seen.Nothing = Some (hint.Nothing wanted)
 content_in wanted.Source source seen.Image = Some hint.Image
 content_in wanted.Record source seen.Image = Some hint.Image
+content_in wanted.Told source seen.Image = Some hint.Image
 content_in wanted.Record source seen.Record = None
 content_in wanted source seen.Record = Some hint.Record
 content_in wanted source seen.Text = text_in wanted source

@@ -28,6 +28,13 @@ an_image_for_dis = refl
 pub a_record_for_asm : content_in wanted.Source false (seen_in (codes "RVMR")) ≡ Some hint.Record
 a_record_for_asm = refl
 
+-- `explore --join < prog.image`, and texts that may be what is wanted
+pub an_image_for_join : content_in wanted.Told false (seen_in (codes "RVMC")) ≡ Some hint.Image
+an_image_for_join = refl
+
+pub texts_for_join : content_in wanted.Told false (seen_in (codes "start 1 of 2")) ≡ None
+texts_for_join = refl
+
 pub nothing_for_check : content_in wanted.Record false (seen_in []) ≡ Some (hint.Nothing wanted.Record)
 nothing_for_check = refl
 

@@ -12,7 +12,7 @@ fn text_hint<'a>(wanted: Wanted, source: bool) -> Option<Hint<'a>>
     ensures { result ≡ text_in wanted source }
 {
     match wanted {
-        Wanted::Source => None,
+        Wanted::Source | Wanted::Told => None,
         _ => {
             if source {
                 Some(Hint::Source(wanted))
@@ -30,10 +30,9 @@ pub fn content_hint<'a>(wanted: Wanted, source: bool, bytes: &[u8]) -> Option<Hi
 {
     match (seen_in(bytes), wanted) {
         (Seen::Nothing, _) => Some(Hint::Nothing(wanted)),
-        (Seen::Image, Wanted::Source | Wanted::Record) => Some(Hint::Image),
-        (Seen::Record, Wanted::Source | Wanted::Image | Wanted::Listed | Wanted::Rewritten) => {
-            Some(Hint::Record)
-        }
+        (Seen::Image, Wanted::Source | Wanted::Record | Wanted::Told) => Some(Hint::Image),
+        (Seen::Record, Wanted::Record) => None,
+        (Seen::Record, _) => Some(Hint::Record),
         (Seen::Text, _) => text_hint(wanted, source),
         _ => None,
     }

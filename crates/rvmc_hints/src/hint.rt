@@ -15,6 +15,8 @@ pub enum Wanted {
     Rewritten,
     /// A record.
     Record,
+    /// What was told of the starts of a split.
+    Told,
 }
 
 /// What a person can be told behind a fault's line. It prints as the text behind `hint: `.
@@ -152,6 +154,7 @@ impl fmt::Display for Wanted {
             Wanted::Listed => write!(f, "an image"),
             Wanted::Rewritten => write!(f, "an image"),
             Wanted::Record => write!(f, "a record"),
+            Wanted::Told => write!(f, "what rvmc explore --from writes"),
         }
     }
 }
@@ -185,6 +188,7 @@ fn remedy(wanted: Wanted) -> &'static str {
         Wanted::Listed => "rvmc asm | rvmc dis",
         Wanted::Rewritten => "rvmc asm reads it, without --from",
         Wanted::Record => "rvmc one --source --record makes a record of its run",
+        Wanted::Told => "rvmc explore --source --split begins with it",
     }
 }
 
@@ -196,6 +200,7 @@ fn advice(wanted: Wanted) -> &'static str {
         Wanted::Listed => "of a source, rvmc asm | rvmc dis",
         Wanted::Rewritten => "a source wants no --from",
         Wanted::Record => "rvmc one --record writes a record",
+        Wanted::Told => "rvmc explore --from writes them",
     }
 }
 

@@ -3,6 +3,7 @@
 ghost use Rattle.std.specs.Prelude.{◌≡◌};
 ghost use Rattle.rvmc_line.specs.declared.line.ParseFault.TheVariants.{Memory};
 
+use rvmc_starts::Start;
 use rvmc_words::{DebugWords, Numbers};
 use std::alloc::AllocError;
 
@@ -27,6 +28,9 @@ pub enum CommandLine {
     /// A record is read, and behind it the packets of gdb, each of which is answered as it comes: of this rank of the record
     /// (0 to 255). Whether there is such a rank is not known here.
     Session { rank: u64 },
+    /// Texts are read that were told of the starts of a split, and it is told whether these are all ends. Whether they were
+    /// told of one split, and of each of its starts, is not known here.
+    Join,
 }
 
 /// What is done with an image.
@@ -82,6 +86,25 @@ pub enum ImageCommand {
     /// not known here.
     Explore {
         plan: Option<Numbers>,
+        states: u64,
+        turns: u64,
+        record: Option<u64>,
+    },
+    /// Starts are written from which all ends can be searched apart: `count` (1 to 16,777,216) or more of them, as far as the
+    /// orders part so often. A rank takes at most `turns` turns (1 to 16,777,216) alone between two meetings. The harts of a
+    /// rank take turns in the order of `plan`, round and round; without it all take turns in order. Whether a hart is there
+    /// is not known here.
+    Split {
+        plan: Option<Numbers>,
+        count: u64,
+        turns: u64,
+    },
+    /// All ends are told to which some order leads behind `start`, whose harts are the plan, of at most `states` states (1 to
+    /// 16,777,216), where a rank takes at most `turns` turns (1 to 16,777,216) alone between two meetings; with `record` the
+    /// record of the end of this number (1 to 18,446,744,073,709,551,615) is written, in place of the text. Whether the start
+    /// is one of the image, and such an end is there, is not known here.
+    ExploreFrom {
+        start: Start,
         states: u64,
         turns: u64,
         record: Option<u64>,

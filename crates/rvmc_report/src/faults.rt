@@ -55,12 +55,24 @@ pub enum DrawRefusal {
     TooMany(u64),
 }
 
-/// Why there is no record of an end.
+/// Why a search tells nothing.
 #[derive(Clone, Copy, Debug, Drop, Error)]
 pub enum ExploreRefusal {
     /// There are fewer ends. Carries the number of the end whose record was asked for.
     #[error("NoEnd {0}")]
     NoEnd(u64),
+    /// The start is one of another image.
+    #[error("OtherImage")]
+    OtherImage,
+    /// A turn of the start leads nowhere. Carries its number among the start's turns, from 1.
+    #[error("NoTurn {0}")]
+    NoTurn(u64),
+    /// What is to be joined isn't told of a start. Carries the number of the text, from 1.
+    #[error("NotAText {0}")]
+    NotAText(u64),
+    /// What is to be joined is told of a start of another split than the text before. Carries the number of the text, from 1.
+    #[error("OtherSplit {0}")]
+    OtherSplit(u64),
 }
 
 /// Why there is no answer. It prints as the fault's line on standard error, behind `rvmc: `.
@@ -100,7 +112,7 @@ pub enum Fault {
     /// Why there is no page of a record.
     #[error("page: {0}")]
     Page(DrawRefusal),
-    /// Why there is no record of an end.
+    /// Why a search tells nothing.
     #[error("explore: {0}")]
     Explore(ExploreRefusal),
     /// Memory was refused.

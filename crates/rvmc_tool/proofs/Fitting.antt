@@ -11,6 +11,8 @@ use Rattle.cl_order_laws.specs.Closed.{Node}
 use Rattle.cl_text.specs.Limits.{FitsStep}
 use Rattle.cl_text_laws.proofs.Runs.{runs_fit}
 use Rattle.rvmc_explore.specs.Recorded.{Leads, RecordsEnd}
+use Rattle.rvmc_explore.specs.Starting.{RecordsEndBehind}
+use Rattle.rvmc_starts.specs.declared.starts.Start.{Start}
 use Rattle.rvmc_tool.specs.Plans.{ArePlansOf, IsPlanOf}
 
 fit_by : (image : ImageParts) (order : List ℕ) (nodes : List Node) (steps : List Step) (found : Option ℕ) → IsImage image
@@ -22,6 +24,11 @@ pub ends_fit : (image : ImageParts) (order : List ℕ) (number : ℕ) (steps : L
     → RecordsEnd image order number (Some steps) → All (FitsStep image) steps
 ends_fit image order number steps is recorded =
     fit_by image order (recorded.explored).nodes steps _ is recorded.leads
+
+pub ends_behind_fit : (image : ImageParts) (start : Start) (number : ℕ) (steps : List Step) → IsImage image
+    → RecordsEndBehind image start number (Some steps) → All (FitsStep image) steps
+ends_behind_fit image start number steps is recorded =
+    fit_by image start.harts (((recorded.behind).explored).nodes) steps _ is recorded.leads
 
 -- the harts of right plans are some
 pub names_one : (image : ImageParts) (order : List ℕ) (budget : ℕ) (plans : List Plan) → 1 ≤ image.ranks

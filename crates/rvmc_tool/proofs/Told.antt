@@ -7,9 +7,9 @@ use Rattle.cl_text.specs.Reading.{reading_record}
 use Rattle.cl_text.specs.declared.faults.RecordFault.{RecordFault}
 use Rattle.rv_image.specs.declared.images.ImageParts.{ImageParts}
 use Rattle.rvmc_line.specs.declared.line.CommandLine.{CommandLine}
-use Rattle.rvmc_line.specs.declared.line.CommandLine.TheVariants.{OfImage, OfRecord, Session}
+use Rattle.rvmc_line.specs.declared.line.CommandLine.TheVariants.{Join, OfImage, OfRecord, Session}
 use Rattle.rvmc_line.specs.declared.line.ImageCommand.{ImageCommand}
-use Rattle.rvmc_line.specs.declared.line.ImageCommand.TheVariants.{Explore, One, OneUntilStuck, Run, RunUntilStuck}
+use Rattle.rvmc_line.specs.declared.line.ImageCommand.TheVariants.{Explore, ExploreFrom, One, OneUntilStuck, Run, RunUntilStuck, Split}
 use Rattle.rvmc_line.specs.declared.line.RecordCommand.{RecordCommand}
 use Rattle.rvmc_list.specs.declared.folding.Wanted.{Wanted}
 use Rattle.rvmc_report.specs.Faults.{fault_status}
@@ -43,9 +43,13 @@ misplanned (OneUntilStuck budget plan order written) image (plans, of, wrong) =
     (plans, of, record { told = λ right. absurd (wrong right); refused = λ _. (refl, refl) })
 misplanned (Explore plan states turns number) image (plans, of, wrong) =
     (plans, of, record { told = λ right. absurd (wrong right); refused = λ _. (refl, refl) })
+misplanned (Split plan count turns) image (plans, of, wrong) =
+    (plans, of, record { told = λ right. absurd (wrong right); refused = λ _. (refl, refl) })
+misplanned (ExploreFrom start states turns number) image (plans, of, wrong) =
+    (plans, of, record { told = λ right. absurd (wrong right); refused = λ _. (refl, refl) })
 misplanned other image wrong = absurd wrong
 
--- and so is the record of an end that isn't there
+-- and so is the record of an end that isn't there, and a start that isn't one
 unexplored : (command : ImageCommand) (image : ImageParts) (refusal : ExploreRefusal) → IsUnexplored command image refusal
     → Makes command image [] 1
 unexplored (Explore plan states turns asked) image (refusals.NoEnd number) (plans, of, (right, (is, none))) = (
@@ -56,6 +60,9 @@ unexplored (Explore plan states turns asked) image (refusals.NoEnd number) (plan
     refused = λ wrong. absurd (wrong right);
   },
 )
+unexplored (Explore plan states turns asked) image other (plans, of, (right, never)) = absurd never
+unexplored (ExploreFrom start states turns asked) image refusal (plans, of, (right, none)) =
+    (plans, of, record { told = λ _. inr ((refusal, none), (refl, refl)); refused = λ wrong. absurd (wrong right) })
 unexplored other image refusal unexplored_is = absurd unexplored_is
 
 -- what a fault leaves: nothing, as the command line says, or for want of memory or of a thread
@@ -101,6 +108,9 @@ leaves_of : (line : CommandLine) (bytes : List ℕ) (fault : Fault) → IsFaultO
     → LeavesOf line bytes fault
 leaves_of (OfImage source command) bytes fault is = leaves command (image_in source bytes) fault is
 leaves_of (Session rank) bytes fault is = absurd is
+leaves_of Join bytes faults.Memory is = inr (refl, refl)
+leaves_of Join bytes (faults.Explore refusal) is = inl (inl (inr ((refusal, is), (refl, refl))))
+leaves_of Join bytes other is = absurd is
 leaves_of (OfRecord command) bytes fault is = go (leaves_read command (reading_record bytes) fault is)
   where
     go : SaysNothing command (reading_record bytes) fault ⊎ IsRefused [] (fault_status fault)

@@ -1,5 +1,5 @@
 -- What each command answers: the text on standard output, and the status.
-use Rattle.std.specs.Prelude.{◌≡◌, ◌⊎◌, ◌++◌, ℕ, Bool, true, false, List, codes, length, MatchResult, Option}
+use Rattle.std.specs.Prelude.{◌≡◌, ◌⊎◌, ◌++◌, ℕ, Bool, true, false, List, codes, length, MatchResult, Option, Some}
 use Rattle.cl_ending.specs.DeadEnds.{IsStuckAt}
 use Rattle.cl_machine.specs.Merge.{IsMerge}
 use Rattle.cl_machine.specs.declared.steps.Step.{Step}
@@ -17,9 +17,9 @@ use Rattle.rv_image.specs.Image.{in_version_two}
 use Rattle.rv_image.specs.Text.{image_text}
 use Rattle.rv_image.specs.declared.images.ImageParts.{ImageParts}
 use Rattle.rvmc_line.specs.declared.line.CommandLine.{CommandLine}
-use Rattle.rvmc_line.specs.declared.line.CommandLine.TheVariants.{OfImage, OfRecord, Session}
+use Rattle.rvmc_line.specs.declared.line.CommandLine.TheVariants.{Join, OfImage, OfRecord, Session}
 use Rattle.rvmc_line.specs.declared.line.ImageCommand.{ImageCommand}
-use Rattle.rvmc_line.specs.declared.line.ImageCommand.TheVariants.{Asm, Dis, Explore, One, OneUntilStuck, Run, RunUntilStuck}
+use Rattle.rvmc_line.specs.declared.line.ImageCommand.TheVariants.{Asm, Dis, Explore, ExploreFrom, One, OneUntilStuck, Run, RunUntilStuck, Split}
 use Rattle.rvmc_line.specs.declared.line.Written.{Written}
 use Rattle.rvmc_line.specs.declared.line.Written.TheVariants as written
 use Rattle.rvmc_report.specs.Listing.{listing}
@@ -31,6 +31,8 @@ use Rattle.rvmc_tool.specs.Images.{image_in}
 use Rattle.rvmc_tool.specs.Plans.{ArePlansOf, listed}
 use Rattle.rvmc_tool.specs.Records.{IsWhyAt, SaysOfRecord}
 use Rattle.rvmc_tool.specs.Sessions.{SaysOfSession}
+use Rattle.rvmc_tool.specs.Starting.{IsExploredFromBy, IsSplitBy, IsToldTogether}
+use Rattle.rvmc_starts.specs.declared.starts.Start.{Start}
 
 -- ---- runs
 
@@ -187,6 +189,16 @@ IsExplored image harts states turns number text status =
     ByPlans image turns harts
     (λ plans. IsExploredBy image (listed harts image.harts) states turns number plans text status)
 
+-- `explore --split`: starts, if the plan is right
+abbrev pub IsSplitOf : ImageParts → Option (List ℕ) → (count turns : ℕ) → List ℕ → ℕ → Type 0
+IsSplitOf image harts count turns text status =
+    ByPlans image turns harts (λ plans. IsSplitBy image (listed harts image.harts) count plans text status)
+
+-- `explore --from`: each rank's harts take turns in the start's order
+abbrev pub IsExploredFrom : ImageParts → Start → (states turns : ℕ) → Option ℕ → List ℕ → ℕ → Type 0
+IsExploredFrom image start states turns number text status =
+    ByPlans image turns (Some start.harts) (λ plans. IsExploredFromBy image start states number plans text status)
+
 -- ---- the commands
 
 -- one case a command, of the image that it takes
@@ -201,6 +213,9 @@ Makes (One budget plan order written) image text status = IsOne image budget pla
 Makes (OneUntilStuck budget plan order written) image text status =
     IsOneUntilStuck image budget plan order written text status
 Makes (Explore plan states turns number) image text status = IsExplored image plan states turns number text status
+Makes (Split plan count turns) image text status = IsSplitOf image plan count turns text status
+Makes (ExploreFrom start states turns number) image text status =
+    IsExploredFrom image start states turns number text status
 
 -- what a command says that takes an image from the bytes, or with `source` a source
 abbrev pub SaysOfImage : Bool → ImageCommand → List ℕ → List ℕ → ℕ → Type 0
@@ -212,6 +227,7 @@ abbrev pub Says : CommandLine → List ℕ → List ℕ → ℕ → Type 0
 Says (OfImage source command) bytes text status = SaysOfImage source command bytes text status
 Says (OfRecord command) bytes text status = SaysOfRecord command bytes text status
 Says (Session rank) bytes text status = SaysOfSession rank bytes text status
+Says Join bytes text status = IsToldTogether bytes text status
 
 -- ---- which fault is told
 

@@ -6,6 +6,7 @@ pub mod Outputs
 pub mod Waiting
 pub mod Records
 pub mod Sessions
+pub mod Starting
 pub mod Answers
 pub mod Making
 pub mod Lists

@@ -1,5 +1,5 @@
 -- What the calls behind each command answer, and their faults.
-use Rattle.std.specs.Prelude.{◌≡◌, ⊤, ℕ, Bool, true, false, List, length, MatchResult, Option, Result, Err}
+use Rattle.std.specs.Prelude.{◌≡◌, ⊤, ℕ, Bool, true, false, List, length, MatchResult, Option, Some, Result, Err}
 use Rattle.cl_machine.specs.declared.steps.Step.{Step}
 use Rattle.cl_record.specs.Plans.{ArePlans, HasPlans}
 use Rattle.cl_record.specs.Records.{IsMergedRun}
@@ -9,9 +9,9 @@ use Rattle.cl_text.specs.declared.faults.RecordFault.{RecordFault}
 use Rattle.rv_image.specs.Image.{IsImage}
 use Rattle.rv_image.specs.declared.images.ImageParts.{ImageParts}
 use Rattle.rvmc_line.specs.declared.line.CommandLine.{CommandLine}
-use Rattle.rvmc_line.specs.declared.line.CommandLine.TheVariants.{OfImage, OfRecord, Session}
+use Rattle.rvmc_line.specs.declared.line.CommandLine.TheVariants.{Join, OfImage, OfRecord, Session}
 use Rattle.rvmc_line.specs.declared.line.ImageCommand.{ImageCommand}
-use Rattle.rvmc_line.specs.declared.line.ImageCommand.TheVariants.{Explore, One, OneUntilStuck, Run, RunUntilStuck}
+use Rattle.rvmc_line.specs.declared.line.ImageCommand.TheVariants.{Explore, ExploreFrom, One, OneUntilStuck, Run, RunUntilStuck, Split}
 use Rattle.rvmc_line.specs.declared.line.RecordCommand.{RecordCommand}
 use Rattle.rvmc_line.specs.declared.line.Written.{Written}
 use Rattle.rvmc_list.specs.declared.walk.ListFault.{ListFault}
@@ -25,6 +25,7 @@ use Rattle.rvmc_tool.specs.Answers.{ByPlans, HasThreads, IsOne, IsOneUntilStuck,
 use Rattle.rvmc_tool.specs.Images.{image_in}
 use Rattle.rvmc_tool.specs.Plans.{listed}
 use Rattle.rvmc_tool.specs.Records.{RefusesSteps, TellsOfSteps}
+use Rattle.rvmc_tool.specs.Starting.{IsJoinFault, IsNoStart}
 use Rattle.rvmc_tool.specs.Taking.{IsFaultIn}
 use Rattle.rvmc_tool.specs.Unexplored.{IsNoEnd}
 use Rattle.rvmc_tool.specs.declared.answers.End.{End}
@@ -47,6 +48,7 @@ abbrev pub EndsSo : CommandLine → List ℕ → List ℕ → End → Type 0
 EndsSo (OfImage source command) bytes text end = IsWhole end
 EndsSo (OfRecord command) bytes text end = HasTold command bytes text end
 EndsSo (Session rank) bytes text end = ⊥
+EndsSo Join bytes text end = IsWhole end
 
 -- ---- runs to the end of their plans or until nobody can go on
 
@@ -74,6 +76,7 @@ abbrev pub needs_threads : CommandLine → Bool
 needs_threads (OfImage source command) = runs_threads command
 needs_threads (OfRecord command) = false
 needs_threads (Session rank) = false
+needs_threads Join = false
 
 -- the plan is wrong, or the order of the ranks
 abbrev pub IsMisplanned : ImageCommand → ImageParts → Type 0
@@ -87,16 +90,22 @@ IsMisplanned (OneUntilStuck budget plan order written) image =
     ByPlans image budget plan (λ plans. ¬ (ArePlans image plans (listed order image.ranks)))
 IsMisplanned (Explore plan states turns number) image =
     ByPlans image turns plan (λ plans. ¬ (HasPlans image plans))
+IsMisplanned (Split plan count turns) image =
+    ByPlans image turns plan (λ plans. ¬ (HasPlans image plans))
+IsMisplanned (ExploreFrom start states turns number) image =
+    ByPlans image turns (Some start.harts) (λ plans. ¬ (HasPlans image plans))
 IsMisplanned other image = ⊥
 
--- by a right plan there is no such end
+-- by a right plan there is no such end, or nothing is told of the start
 abbrev pub IsUnexplored : ImageCommand → ImageParts → ExploreRefusal → Type 0
 IsUnexplored (Explore plan states turns number) image refusal =
     ByPlans image turns plan (λ plans. HasPlans image plans × IsNoEnd image (listed plan image.harts) number refusal)
+IsUnexplored (ExploreFrom start states turns number) image refusal =
+    ByPlans image turns (Some start.harts) (λ plans. HasPlans image plans × IsNoStart image start number refusal)
 IsUnexplored other image refusal = ⊥
 
 -- Plans where they are wrong; of threads that were started, that one was refused, or that what they left doesn't fit
--- together; of a search, that there is no such end; and whatever it is, that memory was refused
+-- together; of a search, that there is no such end or nothing is told of its start; and whatever it is, that memory was refused
 abbrev pub IsMakingFault : (Misplanned Threads : Type 0) (Unexplored : ExploreRefusal → Type 0) → Fault → Type 0
 IsMakingFault Misplanned Threads Unexplored faults.Plans = Misplanned
 IsMakingFault Misplanned Threads Unexplored (faults.Unlike rank place) = Threads
@@ -149,6 +158,7 @@ abbrev pub IsFaultOf : CommandLine → List ℕ → Fault → Type 0
 IsFaultOf (OfImage source command) bytes fault = IsImageFault source command bytes fault
 IsFaultOf (OfRecord command) bytes fault = IsReadFault command (reading_record bytes) fault
 IsFaultOf (Session rank) bytes fault = ⊥
+IsFaultOf Join bytes fault = IsJoinFault bytes fault
 
 -- ---- the steps to an answer
 

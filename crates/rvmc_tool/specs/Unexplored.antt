@@ -8,3 +8,4 @@ use Rattle.rvmc_report.specs.declared.faults.ExploreRefusal.TheVariants as refus
 -- it was asked for, and there are fewer ends
 abbrev pub IsNoEnd : ImageParts → List ℕ → Option ℕ → ExploreRefusal → Type 0
 IsNoEnd image order asked (refusal.NoEnd number) = (asked ≡ Some number) × RecordsEnd image order number None
+IsNoEnd image order asked other = ⊥

@@ -16,6 +16,7 @@ use crate::images::image_in;
 use crate::outputs::Output;
 use crate::records::answer_of_record;
 use crate::runs::{one, run};
+use crate::starting::{explore_from, join, split};
 use rv_image::{Image, write_image};
 use rvmc_line::{CommandLine, ImageCommand};
 use rvmc_report::faults::Fault;
@@ -115,6 +116,13 @@ fn made(alloc: Global, command: &ImageCommand, image: Image) -> Result<Answer, F
             turns,
             record,
         } => explore(alloc, &image, plan, *states, *turns, *record),
+        ImageCommand::Split { plan, count, turns } => split(alloc, &image, plan, *count, *turns),
+        ImageCommand::ExploreFrom {
+            start,
+            states,
+            turns,
+            record,
+        } => explore_from(alloc, &image, start, *states, *turns, *record),
         ImageCommand::Run { .. } | ImageCommand::RunUntilStuck { .. } => unreachable!(),
     }
 }
@@ -152,7 +160,7 @@ pub fn needs_threads(line: &CommandLine) -> bool
 {
     match line {
         CommandLine::OfImage { command, .. } => runs_threads(command),
-        CommandLine::OfRecord(_) | CommandLine::Session { .. } => false,
+        CommandLine::OfRecord(_) | CommandLine::Session { .. } | CommandLine::Join => false,
     }
 }
 
@@ -173,6 +181,7 @@ pub fn answer_to(alloc: Global, line: &CommandLine, bytes: &[u8]) -> Result<Answ
     match line {
         CommandLine::OfImage { source, command } => answer_of_image(alloc, *source, command, bytes),
         CommandLine::OfRecord(command) => answer_of_record(alloc, command, bytes),
+        CommandLine::Join => join(alloc, bytes),
         CommandLine::Session { .. } => unreachable!(),
     }
 }
@@ -233,7 +242,8 @@ pub fn answer_with_threads<R: Threads + Wait + Sync>(
         CommandLine::OfImage { source, command } => {
             answer_of_image_with_threads(rt, alloc, *source, command, bytes)
         }
-        CommandLine::OfRecord(command) => answer_of_record(alloc, command, bytes),
-        CommandLine::Session { .. } => unreachable!(),
+        CommandLine::OfRecord(_) | CommandLine::Join | CommandLine::Session { .. } => {
+            answer_to(alloc, line, bytes)
+        }
     }
 }

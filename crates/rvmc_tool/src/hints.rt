@@ -15,7 +15,7 @@ use rvmc_hints::{
     plans_hint, put_run_hint, short_hint, source_hint,
 };
 use rvmc_line::{CommandLine, ImageCommand, RecordCommand};
-use rvmc_report::faults::{DrawRefusal, Fault};
+use rvmc_report::faults::{DrawRefusal, ExploreRefusal, Fault};
 use rvmc_words::{DebugWord, DebugWords, Numbers, Spot, debug_word_in};
 use std::alloc::Global;
 use std::io::Write;
@@ -44,6 +44,7 @@ fn wanted_by(line: &CommandLine) -> Wanted
         } => Wanted::Listed,
         CommandLine::OfImage { .. } => Wanted::Image,
         CommandLine::OfRecord(_) | CommandLine::Session { .. } => Wanted::Record,
+        CommandLine::Join => Wanted::Told,
     }
 }
 
@@ -123,6 +124,7 @@ fn hint_of<'a>(
             None => of_bytes(bytes, fault),
         },
         Fault::Plans => plans(alloc, line, bytes),
+        Fault::Explore(ExploreRefusal::NotAText(1)) => content(alloc, line, bytes),
         Fault::Draw(DrawRefusal::TooMany(_)) => Some(Hint::Most(FEWER)),
         Fault::Page(DrawRefusal::TooMany(_)) => Some(Hint::Most(SHORTER)),
         _ => None,

@@ -18,6 +18,7 @@ mod records;
 mod reporting;
 mod runs;
 mod sessions;
+mod starting;
 mod stuck;
 mod waiting;
 

@@ -39,6 +39,13 @@ impl Eq for Numbers {
 }
 
 impl Numbers {
+    /// The numbers of a vector. Takes no memory.
+    pub fn from_vec(items: Vec<u8>) -> Numbers
+        ensures { result ≡ items.items }
+    {
+        Numbers { items }
+    }
+
     /// The numbers, in the order in which they were written.
     pub fn as_slice(&self) -> &[u8]
         ensures { result.now ≡ self.now }

@@ -1,5 +1,6 @@
 use Rattle.std.proofs.Common.{List, ℕ, ◌≡◌, ◌∙◌, ◌++◌, ap, length, rules, subst}
 use Rattle.std.proofs.lemmas.List.{append_assoc}
+use Rattle.cl_moves.specs.Standing.{first_node}
 use Rattle.rvmc_explore.specs.Telling.{AddsEnds, last_line, unending_line}
 use Rattle.rvmc_explore.proofs.AllEnds.{are_there}
 use Rattle.rvmc_explore.proofs.telling.explored.Goals as goal
@@ -7,7 +8,7 @@ use Rattle.rvmc_explore.proofs.telling.explored.Goals as goal
 pub put_ends-requires : goal.put_ends-requires
 put_ends-requires c =
     let found = c.in_ok-found.found in
-    are_there c.args.image.now c.args.asked.now.order.now found.nodes.items found.ends.items found.left c.in_ok-found.ensures.ends
+    are_there c.args.image.now c.args.asked.now.order.now (first_node c.args.image.now) found.nodes.items found.ends.items found.left c.in_ok-found.ensures.ends
 
 pub returns : goal.returns
 returns c =

@@ -19,7 +19,7 @@ returns-then-not-branch c =
     (c.len.ensures ∙ kept.ok.0) c.if-node-len.false c.index-kept.ensures in
     goes_nowhere c.args.course.now.order.now kept.items c.args.node c.index-kept.result.now here c.args.live.now
     c.in_ok-live.field-0 c.args.turn
-    (subst (λ b. Takes c.args.live.now c.args.turn c.take.new.self b) c.if-not-branch.true c.in_ok-take.ensures)
+    (subst (λ b. Takes c.args.live.now c.args.turn c.take.new.self b) c.if-not-branch.true c.in_ok-take.ensures.takes)
     c.in_ok-live.ensures
 
 pub returns-then-node-len-2 : goal.returns-then-node-len-2
@@ -27,7 +27,7 @@ returns-then-node-len-2 c =
     let new = c.arrive.new.self.nodes in
     goes_past c.args.course.now.order.now c.args.self.now.nodes.items new.items c.args.node c.args.turn c.args.live.now
     c.take.new.self c.go_ahead.new.self _
-    (subst (λ b. Takes c.args.live.now c.args.turn c.take.new.self b) c.if-not-branch.false c.in_ok-take.ensures)
+    (subst (λ b. Takes c.args.live.now c.args.turn c.take.new.self b) c.if-not-branch.false c.in_ok-take.ensures.takes)
     c.in_ok-fewer.ensures c.in_ok-to.ensures (omega (arith, c.if-node-len-2.true, c.len-2.ensures, new.ok.0))
 
 pub returns : goal.returns
@@ -38,7 +38,7 @@ returns c =
     c.if-node-len-2.false c.index-again.ensures in
     goes_on c.args.course.now.order.now c.args.self.now.nodes.items new.items c.args.node c.args.turn c.args.live.now
     c.take.new.self c.go_ahead.new.self c.restore.new.standing
-    (subst (λ b. Takes c.args.live.now c.args.turn c.take.new.self b) c.if-not-branch.false c.in_ok-take.ensures)
+    (subst (λ b. Takes c.args.live.now c.args.turn c.take.new.self b) c.if-not-branch.false c.in_ok-take.ensures.takes)
     c.in_ok-fewer.ensures c.in_ok-to.ensures
     (λ k at stayed.
     let same = same_Some again k (sym here ∙ at) in

@@ -9,7 +9,7 @@ returns-then-not-branch c =
     let turn = subst (λ o. IsAloneNext order c.loop-turn.self c.args.rank o) c.in-Some.is c.in_ok-turn.ensures in
     ahead_more order c.args.self.now c.loop-turn.self c.take.new.self c.loop-turn.invariant
     (ahead_taken order c.loop-turn.self c.take.new.self c.args.rank c.in-Some.turn turn c.in_ok-take.field-0
-    c.in_ok-take.ensures)
+    c.in_ok-take.ensures.takes)
 
 pub loop-turn-preserved : goal.loop-turn-preserved
 loop-turn-preserved c =
@@ -17,4 +17,4 @@ loop-turn-preserved c =
     let turn = subst (λ o. IsAloneNext order c.loop-turn.self c.args.rank o) c.in-Some.is c.in_ok-turn.ensures in
     ahead_more order c.args.self.now c.loop-turn.self c.take.new.self c.loop-turn.invariant
     (ahead_taken order c.loop-turn.self c.take.new.self c.args.rank c.in-Some.turn turn c.in_ok-take.field-0
-    c.in_ok-take.ensures)
+    c.in_ok-take.ensures.takes)

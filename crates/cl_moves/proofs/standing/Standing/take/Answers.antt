@@ -4,18 +4,18 @@ use Rattle.cl_moves.specs.Whole.{Follows}
 use Rattle.cl_moves.proofs.Ways.{no_such_rank, no_turn, took}
 use Rattle.cl_moves.proofs.standing.Standing.take.Goals as goal
 
-pub returns-then-rank-len : goal.returns-then-rank-len
-returns-then-rank-len c =
+pub returns-then-rank-len-clause-takes : goal.returns-then-rank-len-clause-takes
+returns-then-rank-len-clause-takes c =
     let had = c.args.self.now.had in
     no_such_rank c.args.self.now c.args.turn
     (omega (arith, c.if-rank-len.true, c.from-rank.ensures, c.rank.ensures, c.len.ensures, had.ok.0))
 
-pub returns-in-Err-NotAStep : goal.returns-in-Err-NotAStep
-returns-in-Err-NotAStep c =
+pub returns-in-Err-NotAStep-clause-takes : goal.returns-in-Err-NotAStep-clause-takes
+returns-in-Err-NotAStep-clause-takes c =
     no_turn c.args.self.now c.args.turn (rw c.in-Err-NotAStep.field-0-is at c.in-Err-NotAStep.ensures.fault)
 
-pub returns : goal.returns
-returns c =
+pub returns-clause-takes : goal.returns-clause-takes
+returns-clause-takes c =
     let had = c.args.self.now.had in
     let here = slice_get_read had.items c.len.result c.from-rank.result c.index-had.result.now
     (c.len.ensures ∙ had.ok.0) c.if-rank-len.false c.index-had.ensures in

@@ -1,0 +1,12 @@
+pub mod Hex
+pub mod Joining
+pub mod Laws
+pub mod PartRead
+pub mod Parts
+pub mod Reading
+pub mod StartFits
+pub mod Starts
+pub mod Sums
+pub mod Telling
+pub mod Turns
+pub mod Using
