@@ -151,6 +151,9 @@ fn sraw(a: u64, amount: u32) -> u64
 }
 
 // ---- products
+//
+// Upper halves, quotients and remainders of signed numbers stand by themselves: they are seldom asked for, and with them
+// inside the step it grows so large that the compiler leaves it outside its loops (tests/symbols).
 
 #[inline(always)]
 fn product(a: i64, b: i64) -> i128
@@ -174,21 +177,21 @@ fn high(value: i128) -> u64
     unsigned((value >> 64) as i64)
 }
 
-#[inline(always)]
+#[inline(never)]
 fn mulh(a: u64, b: u64) -> u64
     ensures { result ≡ in_64 (floor (signed_64 a *ℤ signed_64 b) (2 ^ 64)) }
 {
     high(product(signed(a), signed(b)))
 }
 
-#[inline(always)]
+#[inline(never)]
 fn mulhsu(a: u64, b: u64) -> u64
     ensures { result ≡ in_64 (floor (signed_64 a *ℤ pos b) (2 ^ 64)) }
 {
     high(mixed_product(signed(a), b))
 }
 
-#[inline(always)]
+#[inline(never)]
 fn mulhu(a: u64, b: u64) -> u64
     ensures { result ≡ a * b / 2 ^ 64 }
 {
@@ -204,7 +207,7 @@ fn mulw(a: u64, b: u64) -> u64
 
 // ---- quotients and remainders, of a divisor that isn't 0
 
-#[inline(always)]
+#[inline(never)]
 fn div(a: u64, b: u64) -> u64
     requires { 0 < b }
     ensures { result ≡ in_64 (int_div (signed_64 a) (signed_64 b)) }
@@ -212,7 +215,7 @@ fn div(a: u64, b: u64) -> u64
     unsigned(signed(a).wrapping_div(signed(b)))
 }
 
-#[inline(always)]
+#[inline(never)]
 fn rem(a: u64, b: u64) -> u64
     requires { 0 < b }
     ensures { result ≡ in_64 (int_rem (signed_64 a) (signed_64 b)) }
@@ -228,7 +231,7 @@ fn quotient_32(a: i32, b: i32) -> i32
     a.wrapping_div(b)
 }
 
-#[inline(always)]
+#[inline(never)]
 fn divw(a: u64, b: u64) -> u64
     requires { 0 < low_32 b }
     ensures { result ≡ in_32 (int_div (signed_32 a) (signed_32 b)) }
@@ -236,7 +239,7 @@ fn divw(a: u64, b: u64) -> u64
     extended_signed(quotient_32(low_signed(a), low_signed(b)))
 }
 
-#[inline(always)]
+#[inline(never)]
 fn remw(a: u64, b: u64) -> u64
     requires { 0 < low_32 b }
     ensures { result ≡ in_32 (int_rem (signed_32 a) (signed_32 b)) }
