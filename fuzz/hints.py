@@ -22,6 +22,7 @@ NAMES = {
     "listed": "an image",
     "rewritten": "an image",
     "record": "a record",
+    "told": "what rvmc explore --from writes",
 }
 
 
@@ -33,6 +34,8 @@ def parted(error):
 
 def wanted_by(words):
     """Returns what a command takes."""
+    if "--join" in words:
+        return "told"
     if not words or "--source" in words or (words[0] == "asm" and "--from" not in words):
         return "source"
     return {"asm": "rewritten", "dis": "listed", "one": "run", "run": "run"}.get(words[0], "record")
@@ -77,10 +80,10 @@ def of_content(wanted, given):
     if not given:
         return f"the input is empty: {NAMES[wanted]} is wanted"
     if given.startswith(b"RVMC"):
-        return "this is an image: rvmc one reads it" if wanted in ("source", "record") else ""
+        return "this is an image: rvmc one reads it" if wanted in ("source", "record", "told") else ""
     if given.startswith(b"RVMR"):
         return "" if wanted == "record" else "this is a record: rvmc check reads it"
-    if wanted == "source" or any(byte not in b"\t\n\r" and not 32 <= byte <= 126 for byte in given):
+    if wanted in ("source", "told") or any(byte not in b"\t\n\r" and not 32 <= byte <= 126 for byte in given):
         return ""
     if is_source(given):
         return f"this is an assembler source: {REMEDIES[wanted][0]}"
@@ -145,6 +148,8 @@ def meant(words, given, first, out):
         return "a page has at most 200000 steps: --from and --to make one of a part of the record"
     if first == b"rvmc: plans\n":
         return of_plans(words, given)
+    if first == b"rvmc: explore: NotAText 1\n":
+        return of_content(wanted_by(words), given)
     if first.startswith((b"rvmc: image: ", b"rvmc: record: ", b"rvmc: line ")):
         content = of_content(wanted_by(words), given)
         return content or (None if first.startswith(b"rvmc: line ") else of_record(given, first))
