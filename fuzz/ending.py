@@ -4,7 +4,7 @@ import cluster
 import why
 from list import is_vain
 
-# how many rounds of a plan's harts all ranks may look in vain before a run on one thread is ended
+# how many rounds of the ranks, for each hart of a plan, all may look in vain before a run on one thread is ended
 LATE = 100
 
 
@@ -29,27 +29,31 @@ class End:
             self.stops[rank.number] = "budget" if rank.turns >= budget else early
         self.is_early = early in self.stops.values()
 
-    def wrong(self, plan, whole):
-        """What is wrong with such an end, by a plan of harts, and where the run was on one thread by the steps of the
-        run without the option: None where nothing is."""
+    def wrong(self, run):
+        """What is wrong with such an end, where the run was on one thread also by what the run without the option was:
+        None where nothing is."""
         if self.bad is not None:
             return f"no run at step {self.bad}"
         if self.is_early and not self.is_stuck:
             return "ranks were told to stop, and some can go on"
-        if whole is not None:
-            here, there = ([step.written() for step in steps] for steps in (self.steps, whole))
-            known = set(here)
-            if here != (there if not self.is_early else [step for step in there if step in known]):
-                return f"{len(here)} steps that aren't the first of each rank of the {len(there)} without the option"
-        if whole is not None and self.is_stuck and not self.is_early and self.vain() > LATE * len(plan):
-            return f"a deadlock that was not seen in {self.vain()} turns"
+        if run is None:
+            return None
+        whole = sorted(run.steps, key=lambda step: (step.stamp, step.rank))
+        here, there = ([step.written() for step in steps] for steps in (self.steps, whole))
+        known = set(here)
+        if here != (there if not self.is_early else [step for step in there if step in known]):
+            return f"{len(here)} steps that aren't the first of each rank of the {len(there)} without the option"
+        if self.is_stuck and not self.is_early and self.vain(run) > LATE * len(run.plan):
+            return f"a deadlock that was not seen in {self.vain(run)} rounds"
         return None
 
-    def vain(self):
-        """The fewest turns in vain that a rank which waits took since a turn changed anything."""
-        at = next((at for at, step in enumerate(reversed(self.steps)) if not is_vain(step)), len(self.steps))
-        last = [step.rank for step in self.steps[len(self.steps) - at :]]
-        return min((last.count(rank) for rank, stop in self.stops.items() if stop != "all-ended"), default=0)
+    def vain(self, run):
+        """The fewest rounds in which a rank that waits looked in vain since a turn of such a run changed anything. They are
+        counted in the order in which turns were taken: a rank that waits may be far ahead of the others by its stamps."""
+        at = next((at for at, step in enumerate(reversed(run.steps)) if not is_vain(step)), len(run.steps))
+        last = [step.rank for step in run.steps[len(run.steps) - at :]]
+        waits = [rank for rank, stop in self.stops.items() if stop != "all-ended"]
+        return min((last.count(rank) // run.order.count(rank) for rank in waits), default=0)
 
     def reports(self):
         """What may be told of the run: behind it what its harts wait for where it was ended, which may be where a rank used
