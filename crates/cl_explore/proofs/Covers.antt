@@ -1,62 +1,60 @@
 -- What nodes cover, and lists of them that grow.
-use Rattle.std.specs.Prelude.{ℕ, ◌+◌, ◌%◌, ◌<◌, ◌≡◌, List, [], ◌∷◌, ◌++◌, length, option_map, slice_get, slice_index, Option, Some, None}
+use Rattle.std.specs.Prelude.{ℕ, zero, suc, ◌+◌, ◌%◌, ◌<◌, ◌≡◌, List, [], ◌∷◌, ◌++◌, length, option_map, slice_get, slice_index, Option, Some, None, Bool, true, false}
 use Rattle.std.proofs.Common.{refl, sym, ap, ◌∙◌, subst, arith, inl, inr}
 use Rattle.std.proofs.Math.Nat.{mod-add-mod}
 use Rattle.std.proofs.lemmas.Option.{same_Some, slice_get-map, slice_get_within}
 use Rattle.std.proofs.lemmas.List.{length-append}
 use Rattle.rv_image.specs.declared.images.ImageParts.{ImageParts}
-use Rattle.mp_alike_laws.specs.Alike.{AlikeHubs}
 use Rattle.mp_alike_laws.specs.Renaming.{no_renaming}
 use Rattle.cl_record.specs.Plans.{in_slot}
-use Rattle.cl_machine.specs.Boxes.{Box}
-use Rattle.cl_machine.specs.Journal.{Journal}
 use Rattle.cl_machine.specs.declared.steps.Step.{Step}
-use Rattle.cl_order_laws.specs.Alike.{AlikeBoxes, AreEach, hub_of}
 use Rattle.cl_replay.specs.Kept.{Snapshot, snapshot}
 use Rattle.cl_state.specs.Rank.{Rank}
 use Rattle.cl_state.specs.Room.{rank_of}
 use Rattle.cl_state.specs.declared.state.RankState.{RankState}
 use Rattle.cl_order_laws.specs.Closed.{IsCovered, IsDone, IsSamePlace, Node, Plans, one_more}
 use Rattle.cl_order_laws.specs.Laws.{AreAlike, IsReached}
+use Rattle.cl_order_laws.specs.Sure.{Settles}
+use Rattle.cl_order_laws.proofs.Covered.{covered_on, only_one}
 use Rattle.cl_order_laws.proofs.Likeness.{itself}
-use Rattle.cl_moves.specs.Ahead.{WentAhead}
+use Rattle.cl_moves.specs.Ahead.{GoesAhead}
+use Rattle.cl_moves.specs.Sure.{GoesSurely, most_posts}
+use Rattle.cl_moves.proofs.Surely.{alike_by, sure_ahead, sure_more, went_covers}
 use Rattle.cl_moves.specs.Standing.{IsWay, StandsAt, by_order, node_of}
 use Rattle.cl_moves.specs.declared.standing.Standing.{Standing}
 use Rattle.cl_explore.specs.Kept.{AreSamePlaces, HaveStayedSince, IsBefore, IsKeptAs, IsKeptOf, IsLed, KeptStandsAt}
-use Rattle.cl_explore.specs.Covering.{AreAlikeNodes, AreNodes, Grows, IsClosedAt, IsCoveredTurn}
-use Rattle.cl_explore.specs.Searching.{Arrives, IsFoundIn}
+use Rattle.cl_explore.specs.Covering.{AreAlikeNodes, AreNodes, Grows, IsClosedAt, IsReachedTurn, Reaches}
+use Rattle.cl_explore.specs.Searching.{Arrives, GoesOn, IsFoundIn}
 use Rattle.cl_explore.specs.declared.kept.KeptNode.{KeptNode}
 use Rattle.cl_explore.proofs.Lists.{at_inside, at_last, stays_at, was_or_new}
 use Rattle.cl_explore.proofs.Keeping.{found_reached, kept_stands, led_more, node_found, start_found}
 use Rattle.cl_explore.proofs.Staying.{have_stayed}
 
--- ---- one that is alike a node, once its ranks went ahead
+-- ---- one that is alike a node
 
-pub covered_by : (plans : Plans) (nodes : List Node) (here there other : Node) (i : ℕ) → WentAhead plans here there
-    → AreAlikeNodes plans there other → slice_get nodes i ≡ Some other → IsCovered plans nodes here
-covered_by plans nodes here there other i went alike at = record {
+pub covered_alike : (plans : Plans) (nodes : List Node) (here other : Node) (i : ℕ) → AreAlikeNodes plans here other
+    → slice_get nodes i ≡ Some other → IsCovered plans nodes here
+covered_alike plans nodes here other i alike at = record {
   index = i;
   node = other;
   there = at;
   names = alike.names;
-  many = ((alike.alike).ranks).many ∙ went.many;
+  many = ((alike.alike).ranks).many;
   ranks = λ r rank was.
-      let v = went.ranks r rank was in
-      let w = ((alike.alike).ranks).each r v.0 v.1 in (
+      let w = ((alike.alike).ranks).each r rank was in (
         w.0,
         w.1,
         record {
-          turns = v.2.0;
-          then = v.0;
-          after = there.had r;
-          ahead = v.2.1;
+          turns = 0;
+          then = rank;
+          after = here.had r;
+          ahead = (refl, refl);
           alike = w.2;
-          place = alike.places r v.0 v.1;
+          place = alike.places r rank was;
         },
       );
-  hubs = subst (λ (j : Journal). AlikeHubs alike.names (hub_of j) (hub_of other.cluster.journal)) went.journal
-      (alike.alike).hubs;
-  boxes = subst (λ (b : List Box). AreEach AlikeBoxes b other.cluster.boxes) went.boxes (alike.alike).boxes;
+  hubs = (alike.alike).hubs;
+  boxes = (alike.alike).boxes;
 }
 
 pub same_place : (order : List ℕ) (n m : ℕ) → n % length order ≡ m % length order → IsSamePlace (in_slot order) n m
@@ -85,17 +83,52 @@ covered_more plans nodes more here grows cov = record {
   boxes = cov.boxes;
 }
 
-pub turn_more : (order : List ℕ) (nodes more : List Node) (node : Node) (e : Step) → Grows nodes more
-    → IsCoveredTurn order nodes node e → IsCoveredTurn order more node e
-turn_more order nodes more node e grows covered = λ new leads.
-    covered_more (by_order order) nodes more (node_of new (one_more node.had e.rank)) grows (covered new leads)
+pub settles_more : (plans : Plans) (most : ℕ) (nodes more : List Node) → Grows nodes more → (n : ℕ) (here : Node)
+    → Settles plans most nodes n here → Settles plans most more n here
+settles_more plans most nodes more grows zero here cov = covered_more plans nodes more here grows cov
+settles_more plans most nodes more grows (suc n) here settles = elim settles [
+  | inl cov ↦ inl (covered_more plans nodes more here grows cov)
+  | inr on ↦ elim on [
+    | inl ahead ↦ inr (inl (ahead.0, ahead.1, settles_more plans most nodes more grows n ahead.0 ahead.2))
+    | inr turn ↦ inr (inr (
+      turn.0,
+      turn.1,
+      λ e new is hart leads.
+          settles_more plans most nodes more grows n (node_of new (one_more here.had turn.0)) (turn.2 e new is hart leads),
+    ))
+  ]
+]
 
-pub closed_more : (order : List ℕ) (nodes more : List Node) (node : Node) (r : ℕ) → Grows nodes more
-    → IsClosedAt order nodes node r → IsClosedAt order more node r
-closed_more order nodes more node r grows closed = λ rank at. elim (closed rank at) [
+pub reaches_more : (sure : Bool) (order : List ℕ) (nodes more : List Node) (here : Node) → Grows nodes more
+    → Reaches sure order nodes here → Reaches sure order more here
+reaches_more true order nodes more here grows settled =
+    (settled.0, settles_more (by_order order) most_posts nodes more grows settled.0 here settled.1)
+reaches_more false order nodes more here grows cov = covered_more (by_order order) nodes more here grows cov
+
+pub reaches_covered : (sure : Bool) (order : List ℕ) (nodes : List Node) (here : Node)
+    → IsCovered (by_order order) nodes here → Reaches sure order nodes here
+reaches_covered true order nodes here cov = (0, cov)
+reaches_covered false order nodes here cov = cov
+
+-- one that is covered by one that is reached
+pub reaches_on : (sure : Bool) (order : List ℕ) (nodes : List Node) (here there : Node)
+    → IsCovered (by_order order) (there ∷ []) here → Reaches sure order nodes there → Reaches sure order nodes here
+reaches_on true order nodes here there cov settled = (suc settled.0, inr (inl (there, cov, settled.1)))
+reaches_on false order nodes here there cov next =
+    covered_on (by_order order) (there ∷ []) nodes here cov
+    (subst (λ (n : Node). IsCovered (by_order order) nodes n) (only_one there cov.node cov.index cov.there) next)
+
+pub turn_more : (sure : Bool) (order : List ℕ) (nodes more : List Node) (node : Node) (e : Step) → Grows nodes more
+    → IsReachedTurn sure order nodes node e → IsReachedTurn sure order more node e
+turn_more sure order nodes more node e grows reached = λ new leads.
+    reaches_more sure order nodes more (node_of new (one_more node.had e.rank)) grows (reached new leads)
+
+pub closed_more : (sure : Bool) (order : List ℕ) (nodes more : List Node) (node : Node) (r : ℕ) → Grows nodes more
+    → IsClosedAt sure order nodes node r → IsClosedAt sure order more node r
+closed_more sure order nodes more node r grows closed = λ rank at. elim (closed rank at) [
   | inl done ↦ inl done
-  | inr covered ↦ inr (λ e new is hart leads.
-      covered_more (by_order order) nodes more (node_of new (one_more node.had r)) grows (covered e new is hart leads))
+  | inr reached ↦ inr (λ e new is hart leads.
+      reaches_more sure order nodes more (node_of new (one_more node.had r)) grows (reached e new is hart leads))
 ]
 
 pub are_more : (image : ImageParts) (order : List ℕ) (kept : List KeptNode) (nodes : List Node) (k : KeptNode) (node : Node)
@@ -122,6 +155,19 @@ are_more image order kept nodes k node are stands led =
             )
       ];
     }
+
+-- ---- a standing goes on
+
+pub goes_plainly : (order : List ℕ) (old new : Standing) → GoesAhead order old new → GoesOn false order old new
+goes_plainly order old new ahead = λ image start here stands way reached.
+    let v = ahead image start here stands way in
+    let cov = went_covers (by_order order) here v.0 v.3
+    (alike_by (by_order order) start v.0 new.steps.items reached v.2) in
+    (v.0, v.1, v.2, λ nodes next. reaches_on false order nodes here v.0 cov next)
+
+pub goes_surely : (order : List ℕ) (old mid new : Standing) → GoesAhead order old mid → GoesSurely order mid new
+    → GoesOn true order old new
+goes_surely order old mid new ahead surely = sure_more order old mid new (sure_ahead order old mid ahead) surely
 
 -- ---- a standing arrives
 

@@ -7,99 +7,120 @@ use Rattle.std.proofs.lemmas.Option.{same_Some, slice_get_within}
 use Rattle.rv_image.specs.declared.images.ImageParts.{ImageParts}
 use Rattle.cl_machine.specs.declared.steps.Step.{Step}
 use Rattle.cl_turns.specs.declared.Turn.{Turn}
-use Rattle.cl_order_laws.specs.Closed.{IsClosed, IsCovered, IsEnd, Node}
+use Rattle.cl_machine.specs.Cluster.{Cluster, IsRun}
+use Rattle.cl_order_laws.specs.Alike.{hub_of}
+use Rattle.cl_order_laws.specs.Closed.{FollowPlans, IsEnd, Node}
 use Rattle.cl_order_laws.specs.Orders.{turn_of}
+use Rattle.cl_order_laws.specs.Splits.{HasAlike}
+use Rattle.cl_order_laws.proofs.AtOnce.{at_once_law}
 use Rattle.cl_order_laws.proofs.Deadlocks.{ends_law}
 use Rattle.cl_order_laws.proofs.Ends.{every_end_law}
-use Rattle.cl_moves.specs.Ahead.{GoesAhead}
-use Rattle.cl_moves.specs.Standing.{IsWay, StandsAt, by_order, first_node}
+use Rattle.cl_moves.specs.Standing.{IsStart, IsWay, StandsAt, by_order, first_node}
+use Rattle.cl_moves.specs.Sure.{most_posts}
 use Rattle.cl_moves.specs.declared.standing.Standing.{Standing}
 use Rattle.cl_explore.specs.Kept.{IsBefore, IsLed}
-use Rattle.cl_explore.specs.Covering.{AreNodes, IsClosedAt}
-use Rattle.cl_explore.specs.Ends.{AreAllEnds, AreTurnsTo, BeginsAt, BeginsWell, ExploredFrom, ExploresFrom, Notes}
+use Rattle.cl_explore.specs.Covering.{AreNodes, HasRoom, HasRoomAt, IsClosedAt, Reaches}
+use Rattle.cl_explore.specs.Ends.{AreAllEnds, AreTurnsTo, BeginsAt, BeginsWell, Explored, ExploredFrom, ExploresFrom, Notes}
 use Rattle.cl_explore.specs.Orders.{named}
-use Rattle.cl_explore.specs.Searching.{Arrives, IsVisited, KeepsOf}
+use Rattle.cl_explore.specs.Searching.{Arrives, GoesOn, IsVisited, KeepsOf}
 use Rattle.cl_explore.specs.declared.kept.KeptNode.{KeptNode}
 use Rattle.cl_explore.proofs.Lists.{at_inside, at_last, stays_at, was_or_new}
 use Rattle.cl_explore.proofs.Keeping.{led_at, no_way, way_on}
-use Rattle.cl_explore.proofs.Covers.{closed_more, covered_by, covered_more}
+use Rattle.cl_explore.proofs.Covers.{closed_more, covered_alike, reaches_covered, reaches_more}
 
 -- ---- the first node
 
 no_nodes : (image : ImageParts) (order : List ℕ) → AreNodes image order [] []
 no_nodes image order = record { many = refl; each = λ i k at. absurd (cc) }
 
-pub begins : (order : List ℕ) (none new : List KeptNode) (start there : Standing) → none ≡ []
-    → GoesAhead order start there → Arrives order none 0 there new → BeginsAt order start new
-begins order none new start there empty ahead arrives = λ image here stands way.
+pub begins : (sure : Bool) (order : List ℕ) (none new : List KeptNode) (start there : Standing) → none ≡ []
+    → GoesOn sure order start there → Arrives order none 0 there new → BeginsAt sure order start new
+begins sure order none new start there empty ahead arrives = λ image here stands way.
     let first = first_node image in
     let plans = by_order order in
-    let far = ahead image first here stands way in
+    let far = ahead image first here stands way (image, [], refl) in
     let kept = arrives image [] first far.0 (subst (λ ks. AreNodes image order ks []) (sym empty) (no_nodes image order)) far.1
     refl far.2 in
     let alike = kept.holds in
     record {
       nodes = kept.more;
       are = kept.are;
-      start_is = covered_by plans kept.more here far.0 alike.1 alike.0 far.3 alike.3 alike.2;
+      start_is = far.3 kept.more (reaches_covered sure order kept.more far.0
+          (covered_alike plans kept.more far.0 alike.1 alike.0 alike.3 alike.2));
     }
 
 -- ---- so many nodes were visited
 
-pub record SoFar (image : ImageParts) (order : List ℕ) (start : Node) (kept : List KeptNode) (ends : List ℕ) (done : ℕ)
-    : Type 0 where
+pub record SoFar (sure : Bool) (image : ImageParts) (order : List ℕ) (start : Node) (kept : List KeptNode)
+    (ends : List ℕ) (done : ℕ) : Type 0 where
   pub nodes : List Node
   pub are : AreNodes image order kept nodes
-  pub start_is : IsCovered (by_order order) nodes start
-  pub closed : (i r : ℕ) (node : Node) → i < done → slice_get nodes i ≡ Some node → IsClosedAt order nodes node r
+  pub start_is : Reaches sure order nodes start
+  pub closed : (i r : ℕ) (node : Node) → i < done → slice_get nodes i ≡ Some node → IsClosedAt sure order nodes node r
+  pub few : (i : ℕ) (node : Node) → i < done → slice_get nodes i ≡ Some node → HasRoom sure (hub_of node.cluster.journal)
   pub told : (k i : ℕ) → slice_get ends k ≡ Some i
       → (node : Node) × (slice_get nodes i ≡ Some node) × IsEnd (by_order order) node.cluster
   pub all : (i : ℕ) (node : Node) → i < done → slice_get nodes i ≡ Some node → IsEnd (by_order order) node.cluster
       → (k : ℕ) × (slice_get ends k ≡ Some i)
 
-pub none_so_far : (image : ImageParts) (order : List ℕ) (start : Node) (kept : List KeptNode) (ends : List ℕ)
-    → BeginsWell image order start kept → ends ≡ [] → SoFar image order start kept ends 0
-none_so_far image order start kept ends begun none = record {
+pub none_so_far : (sure : Bool) (image : ImageParts) (order : List ℕ) (start : Node) (kept : List KeptNode)
+    (ends : List ℕ) → BeginsWell sure image order start kept → ends ≡ [] → SoFar sure image order start kept ends 0
+none_so_far sure image order start kept ends begun none = record {
   nodes = begun.nodes;
   are = begun.are;
   start_is = begun.start_is;
   closed = λ i r node low at. absurd (omega (arith, low));
+  few = λ i node low at. absurd (omega (arith, low));
   told = λ k i at.
       let no : slice_get [] k ≡ Some i = subst (λ xs. slice_get xs k ≡ Some i) none at in absurd (cc);
   all = λ i node low at end. absurd (omega (arith, low));
 }
 
-module _ (image : ImageParts) (order : List ℕ) (start : Node) (old new : List KeptNode) (ends : List ℕ) (done : ℕ)
-    (explored : SoFar image order start old ends done) (inside : done < length old) (end : Bool)
-    (visit : KeepsOf order old done new (IsVisited order end)) where
+module _ (sure : Bool) (image : ImageParts) (order : List ℕ) (start : Node) (old new : List KeptNode) (ends : List ℕ)
+    (done : ℕ) (explored : SoFar sure image order start old ends done) (inside : done < length old)
+    (room : HasRoomAt sure old done) (end : Bool) (visit : KeepsOf order old done new (IsVisited sure order end)) where
   abbrev nodes : List Node
   nodes = explored.nodes
 
   node : (node : Node) × (slice_get nodes done ≡ Some node)
   node = at_inside nodes done (subst (λ c. done < c) (sym (explored.are).many) inside)
 
+  node_room : HasRoom sure (hub_of (node.0).cluster.journal)
+  node_room =
+      let v = led_at image order old nodes explored.are done node.0 node.1 in
+      subst (HasRoom sure) (v.2).whole (room v.0 v.1)
+
   -- one node more was visited, and the ends are told so far
   more : (now : List ℕ)
       → ((k i : ℕ) → slice_get now k ≡ Some i
       → (slice_get ends k ≡ Some i) ⊎ ((i ≡ done) × (end ≡ true)))
       → ((k i : ℕ) → slice_get ends k ≡ Some i → slice_get now k ≡ Some i)
-      → (end ≡ true → (k : ℕ) × (slice_get now k ≡ Some done)) → SoFar image order start new now (done + 1)
+      → (end ≡ true → (k : ℕ) × (slice_get now k ≡ Some done)) → SoFar sure image order start new now (done + 1)
   more now was stays here =
       let far = visit image nodes node.0 explored.are node.1 in
       let there = far.grows done node.0 node.1 in
       record {
         nodes = far.more;
         are = far.are;
-        start_is = covered_more (by_order order) nodes far.more start far.grows explored.start_is;
+        start_is = reaches_more sure order nodes far.more start far.grows explored.start_is;
         closed = λ i r x low at. elim (cases_eq done i) [
           | inl same ↦
-              subst (λ y. IsClosedAt order far.more y r)
+              subst (λ y. IsClosedAt sure order far.more y r)
               (same_Some node.0 x (sym there ∙ subst (λ j. slice_get far.more j ≡ Some x) (sym same) at)) (far.holds.0 r)
           | inr other ↦
               let y = earlier i (omega (arith, low, other)) in
-              subst (λ z. IsClosedAt order far.more z r) (same_Some y.0 x (sym (far.grows i y.0 y.1) ∙ at))
-              (closed_more order nodes far.more y.0 r far.grows
+              subst (λ z. IsClosedAt sure order far.more z r) (same_Some y.0 x (sym (far.grows i y.0 y.1) ∙ at))
+              (closed_more sure order nodes far.more y.0 r far.grows
               (explored.closed i r y.0 (omega (arith, low, other)) y.1))
+        ];
+        few = λ i x low at. elim (cases_eq done i) [
+          | inl same ↦
+              subst (λ (y : Node). HasRoom sure (hub_of y.cluster.journal))
+              (same_Some node.0 x (sym there ∙ subst (λ j. slice_get far.more j ≡ Some x) (sym same) at)) node_room
+          | inr other ↦
+              let y = earlier i (omega (arith, low, other)) in
+              subst (λ (z : Node). HasRoom sure (hub_of z.cluster.journal)) (same_Some y.0 x (sym (far.grows i y.0 y.1) ∙ at))
+              (explored.few i y.0 (omega (arith, low, other)) y.1)
         ];
         told = λ k i at. elim (was k i at) [
           | inl before ↦ let v = explored.told k i before in (v.0, far.grows i v.0 v.1, v.2)
@@ -132,8 +153,8 @@ module _ (image : ImageParts) (order : List ℕ) (start : Node) (old new : List 
       let far = visit image nodes node.0 explored.are node.1 in
       let low = slice_get_within far.more done node.0 (far.grows done node.0 node.1) in omega (arith, low, (far.are).many)
 
-  pub more_ended : end ≡ true → (now : List ℕ) → now ≡ ends ++ done ∷ [] → SoFar image order start new now (done + 1)
-  more_ended is now same = subst (λ xs. SoFar image order start new xs (done + 1)) (sym same)
+  pub more_ended : end ≡ true → (now : List ℕ) → now ≡ ends ++ done ∷ [] → SoFar sure image order start new now (done + 1)
+  more_ended is now same = subst (λ xs. SoFar sure image order start new xs (done + 1)) (sym same)
       (more (ends ++ done ∷ [])
       (λ k i at. elim (was_or_new ends done k i at) [
         | inl before ↦ inl before
@@ -142,80 +163,110 @@ module _ (image : ImageParts) (order : List ℕ) (start : Node) (old new : List 
       (λ k i at. stays_at ends done k i at)
       (λ its. (length ends, at_last ends done)))
 
-  pub more_going : end ≡ false → SoFar image order start new ends (done + 1)
+  pub more_going : end ≡ false → SoFar sure image order start new ends (done + 1)
   more_going not_end = more ends (λ k i at. inl at) (λ k i at. at)
       (λ is. let no : true ≡ false = sym is ∙ not_end in absurd (cc))
 
-pub more_noted : (image : ImageParts) (order : List ℕ) (start : Node) (old new : List KeptNode) (ends now : List ℕ)
-    (done : ℕ) → SoFar image order start old ends done → done < length old → (end : Bool)
-    → KeepsOf order old done new (IsVisited order end) → Notes ends end done now → SoFar image order start new now (done + 1)
-more_noted image order start old new ends now done explored inside true visit notes =
-    more_ended image order start old new ends done explored inside true visit refl now notes
-more_noted image order start old new ends now done explored inside false visit notes =
-    subst (λ xs. SoFar image order start new xs (done + 1)) (sym notes)
-    (more_going image order start old new ends done explored inside false visit refl)
+pub more_noted : (sure : Bool) (image : ImageParts) (order : List ℕ) (start : Node) (old new : List KeptNode)
+    (ends now : List ℕ) (done : ℕ) → SoFar sure image order start old ends done → done < length old
+    → HasRoomAt sure old done → (end : Bool) → KeepsOf order old done new (IsVisited sure order end) → Notes ends end done now → SoFar sure image order start new now (done + 1)
+more_noted sure image order start old new ends now done explored inside room true visit notes =
+    more_ended sure image order start old new ends done explored inside room true visit refl now notes
+more_noted sure image order start old new ends now done explored inside room false visit notes =
+    subst (λ xs. SoFar sure image order start new xs (done + 1)) (sym notes)
+    (more_going sure image order start old new ends done explored inside room false visit refl)
 
 -- ---- in the end
 
-module _ (image : ImageParts) (order : List ℕ) (start : Node) (kept : List KeptNode) (ends : List ℕ) (done : ℕ)
-    (explored : SoFar image order start kept ends done) where
-  all_ends : length kept ≤ done → AreAllEnds order start explored.nodes ends
-  all_ends all = λ steps end run follow ended.
-      let plans = by_order order in
-      let closed : IsClosed plans explored.nodes = record {
-        each = λ i r node rank at here.
-            let inside = slice_get_within explored.nodes i node at in
-            explored.closed i r node (omega (arith, inside, all, (explored.are).many)) at rank here;
-      } in
-      let found = every_end_law plans explored.nodes start explored.start_is closed steps end run follow ended in
-      let inside = slice_get_within explored.nodes found.0 found.1 found.2 in
-      let k = explored.all found.0 found.1 (omega (arith, inside, all, (explored.are).many)) found.2
-      (ends_law.ends plans end (found.1).cluster found.3 ended) in
-      (k.0, found.0, found.1, k.1, found.2, found.3)
+-- where each node is closed, with few posts where calls for what is there are made at once, the nodes have each end
+pub ends_by : (sure : Bool) (order : List ℕ) (nodes : List Node) (start : Node) → Reaches sure order nodes start
+    → HasRoom sure (hub_of start.cluster.journal)
+    → ((i r : ℕ) (node : Node) → slice_get nodes i ≡ Some node → IsClosedAt sure order nodes node r)
+    → ((i : ℕ) (node : Node) → slice_get nodes i ≡ Some node → HasRoom sure (hub_of node.cluster.journal))
+    → (steps : List Step) (end : Cluster) → IsRun start.cluster steps end
+    → FollowPlans (by_order order) start.had steps → IsEnd (by_order order) end → HasAlike nodes end
+ends_by true order nodes start reach room closed few = λ steps end run follow ended.
+    at_once_law.ends (by_order order) most_posts nodes start reach (omega (arith, room))
+    (record { each = λ i r node rank at here. closed i r node at rank here; few = few }) steps end run follow ended
+ends_by false order nodes start reach room closed few = λ steps end run follow ended.
+    every_end_law (by_order order) nodes start reach
+    (record { each = λ i r node rank at here. closed i r node at rank here }) steps end run follow ended
 
-  pub tells_all : (left : ℕ) → length kept ≤ done + left → ExploredFrom image order start kept ends left
-  tells_all left many = record {
-    nodes = explored.nodes;
-    are = explored.are;
-    start_is = explored.start_is;
-    closed = λ i r node visited. explored.closed i r node (low i visited.0) visited.1;
-    sound = explored.told;
-    told = λ i node visited ended. explored.all i node (low i visited.0) visited.1 ended;
-    all = λ is. all_ends (omega (arith, is, many));
-  }
-    where
-      low : (i : ℕ) → i + left < length explored.nodes → i < done
-      low i inside = omega (arith, inside, many, (explored.are).many)
+module _ (sure : Bool) (image : ImageParts) (order : List ℕ) (start : Node) (kept : List KeptNode) (ends : List ℕ)
+    (done : ℕ) (explored : SoFar sure image order start kept ends done) (room : HasRoom sure (hub_of start.cluster.journal))
+  where
+    all_ends : length kept ≤ done → AreAllEnds order start explored.nodes ends
+    all_ends all = λ steps end run follow ended.
+        let low : (i : ℕ) (node : Node) → slice_get explored.nodes i ≡ Some node → i < done =
+        λ i node at.
+        let inside = slice_get_within explored.nodes i node at in omega (arith, inside, all, (explored.are).many) in
+        let found = ends_by sure order explored.nodes start explored.start_is room
+        (λ i r node at. explored.closed i r node (low i node at) at) (λ i node at. explored.few i node (low i node at) at)
+        steps end run follow ended in
+        let k = explored.all found.0 found.1 (low found.0 found.1 found.2) found.2
+        (ends_law.ends (by_order order) end (found.1).cluster found.3 ended) in
+        (k.0, found.0, found.1, k.1, found.2, found.3)
+
+    pub tells_all : (left : ℕ) → length kept ≤ done + left
+        → (e : ExploredFrom image order start kept ends left) × (e.sure ≡ sure)
+    tells_all left many = (
+      record {
+        nodes = explored.nodes;
+        are = explored.are;
+        sure = sure;
+        start_is = explored.start_is;
+        room = room;
+        closed = λ i r node visited. explored.closed i r node (low i visited.0) visited.1;
+        few = λ i node visited. explored.few i node (low i visited.0) visited.1;
+        sound = explored.told;
+        told = λ i node visited ended. explored.all i node (low i visited.0) visited.1 ended;
+        all = λ is. all_ends (omega (arith, is, many));
+      },
+      refl,
+    )
+      where
+        low : (i : ℕ) → i + left < length explored.nodes → i < done
+        low i inside = omega (arith, inside, many, (explored.are).many)
 
 -- ---- from whichever node the search begins at
 
 -- so it is, and the moves of no more nodes were made than are there
-abbrev pub SoFarFrom : List ℕ → Standing → List KeptNode → List ℕ → ℕ → Type 0
-SoFarFrom order standing kept ends done =
+abbrev pub SoFarFrom : Bool → List ℕ → Standing → List KeptNode → List ℕ → ℕ → Type 0
+SoFarFrom sure order standing kept ends done =
     (image : ImageParts) (here : Node) → StandsAt image standing here
     → IsWay (by_order order) (first_node image) standing.steps.items here
-    → SoFar image order here kept ends done × (done ≤ length kept)
+    → SoFar sure image order here kept ends done × (done ≤ length kept)
 
-pub none_from : (order : List ℕ) (standing : Standing) (kept : List KeptNode) (ends : List ℕ)
-    → BeginsAt order standing kept → ends ≡ [] → SoFarFrom order standing kept ends 0
-none_from order standing kept ends begun none = λ image here stands way. (
-  none_so_far image order here kept ends (begun image here stands way) none,
+pub none_from : (sure : Bool) (order : List ℕ) (standing : Standing) (kept : List KeptNode) (ends : List ℕ)
+    → BeginsAt sure order standing kept → ends ≡ [] → SoFarFrom sure order standing kept ends 0
+none_from sure order standing kept ends begun none = λ image here stands way. (
+  none_so_far sure image order here kept ends (begun image here stands way) none,
   omega (arith),
 )
 
-pub more_from : (order : List ℕ) (standing : Standing) (old new : List KeptNode) (ends now : List ℕ) (done : ℕ)
-    → SoFarFrom order standing old ends done → done < length old → (end : Bool)
-    → KeepsOf order old done new (IsVisited order end) → Notes ends end done now
-    → SoFarFrom order standing new now (done + 1)
-more_from order standing old new ends now done so_far inside end visit notes = λ image here stands way.
+pub more_from : (sure : Bool) (order : List ℕ) (standing : Standing) (old new : List KeptNode) (ends now : List ℕ)
+    (done : ℕ) → SoFarFrom sure order standing old ends done → done < length old → HasRoomAt sure old done → (end : Bool)
+    → KeepsOf order old done new (IsVisited sure order end) → Notes ends end done now
+    → SoFarFrom sure order standing new now (done + 1)
+more_from sure order standing old new ends now done so_far inside room end visit notes = λ image here stands way.
     let s = so_far image here stands way in
-    let still = still_inside image order here old new ends done s.0 inside end visit in
-    (more_noted image order here old new ends now done s.0 inside end visit notes, omega (arith, still))
+    let still = still_inside sure image order here old new ends done s.0 inside room end visit in
+    (more_noted sure image order here old new ends now done s.0 inside room end visit notes, omega (arith, still))
 
-pub tells_from : (order : List ℕ) (standing : Standing) (kept : List KeptNode) (ends : List ℕ) (done left : ℕ)
-    → SoFarFrom order standing kept ends done → length kept ≤ done + left → ExploresFrom order standing kept ends left
-tells_from order standing kept ends done left so_far many = λ image here stands way.
-    tells_all image order here kept ends done (so_far image here stands way).0 left many
+pub tells_from : (sure : Bool) (order : List ℕ) (standing : Standing) (kept : List KeptNode) (ends : List ℕ)
+    (done left : ℕ) → HasRoom sure standing.whole → SoFarFrom sure order standing kept ends done
+    → length kept ≤ done + left → ExploresFrom sure order standing kept ends left
+tells_from sure order standing kept ends done left room so_far many = λ image here stands way.
+    tells_all sure image order here kept ends done (so_far image here stands way).0
+    (subst (HasRoom sure) stands.whole room) left many
+
+-- from the loaded cluster
+pub explored_start : (sure : Bool) (image : ImageParts) (order : List ℕ) (standing : Standing) (kept : List KeptNode)
+    (ends : List ℕ) (left : ℕ) → IsStart image standing → ExploresFrom sure order standing kept ends left
+    → (e : Explored image order kept ends left) × (e.sure ≡ sure)
+explored_start sure image order standing kept ends left start explores =
+    explores image (first_node image) start.stands
+    (no_way (by_order order) (first_node image) standing.steps.items start.steps)
 
 -- ---- what led to a node
 

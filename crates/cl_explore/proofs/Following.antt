@@ -2,8 +2,8 @@
 use Rattle.std.specs.Prelude.{ℕ, zero, suc, ◌+◌, ◌<◌, ◌≤◌, ◌≡◌, ◌⊎◌, List, [], ◌∷◌, ◌++◌, length, map, take, slice_get, Some, None, Bool, true, false, Result, Ok, Err, IfOk}
 use Rattle.std.proofs.Common.{refl, sym, ap, ◌∙◌, subst, arith, inl, inr}
 use mathlib.Core.Bool.{beq}
-use Rattle.std.proofs.lemmas.List.{map-append, length-map}
-use Rattle.std.proofs.lemmas.Option.{same_Some, slice_get-map, slice_get_within}
+use Rattle.std.proofs.lemmas.List.{map-append}
+use Rattle.std.proofs.lemmas.Option.{same_Some, slice_get_within}
 use Rattle.rv_image.specs.declared.images.ImageParts.{ImageParts}
 use Rattle.cl_machine.specs.Cluster.{Cluster, IsStep}
 use Rattle.cl_machine.specs.declared.steps.Step.{Step}
@@ -12,11 +12,11 @@ use Rattle.cl_record.specs.Plans.{in_slot}
 use Rattle.cl_order_laws.specs.Closed.{Node, one_more}
 use Rattle.cl_order_laws.specs.Orders.{is_miss, turn_of}
 use Rattle.cl_moves.specs.Moves.{AreApart, AreTurnsOf, HasAllTurns}
-use Rattle.cl_moves.specs.Standing.{HasNoTurn, IsNextHart, IsStart, IsWay, StandsAt, Takes, by_order, first_node, node_of}
+use Rattle.cl_moves.specs.Standing.{IsNextHart, IsStart, StandsAt, Takes, by_order, first_node, node_of}
 use Rattle.cl_moves.specs.declared.standing.Standing.{Standing}
-use Rattle.cl_explore.specs.Orders.{HasNoTurnAs, IsChosen, IsLedBy, IsOrderedWay, IsTurnless, TakesTurn, TookTurn, named}
+use Rattle.cl_explore.specs.Orders.{IsChosen, IsLedBy, IsTurnless, TakesTurn, named}
 use Rattle.cl_explore.proofs.Keeping.{no_way}
-use Rattle.cl_explore.proofs.Lists.{at_inside, at_last, stays_at, was_or_new}
+use Rattle.cl_explore.proofs.Lists.{at_last, stays_at, was_or_new}
 use Rattle.cl_explore.proofs.Tries.{Firsts}
 
 -- ---- one is chosen

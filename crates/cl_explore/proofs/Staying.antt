@@ -2,8 +2,8 @@
 use Rattle.std.specs.Prelude.{ℕ, ◌+◌, ◌<◌, ◌≤◌, ◌≡◌, List, [], ◌∷◌, length, map, option_map, slice_get, slice_set, Some}
 use Rattle.std.proofs.Common.{sym, ap, ◌∙◌, subst, arith, inl, inr}
 use Rattle.std.proofs.lemmas.Bool.{cases_eq}
-use Rattle.std.proofs.lemmas.List.{length-map}
-use Rattle.std.proofs.lemmas.Option.{slice_get-map}
+use Rattle.std.proofs.lemmas.List.{length-map, length-set}
+use Rattle.std.proofs.lemmas.Option.{slice_get-map, slice_get_within}
 use Rattle.rv_image.specs.declared.images.ImageParts.{ImageParts}
 use Rattle.cl_state.specs.Rank.{Rank}
 use Rattle.cl_state.specs.Room.{rank_of}
@@ -12,7 +12,7 @@ use Rattle.cl_state.specs.declared.asking.Answer.{Answer}
 use Rattle.cl_trace.specs.declared.events.Kind.{Kind}
 use Rattle.cl_machine.specs.Cluster.{CaseOf, Cluster, IsRun, IsStep}
 use Rattle.cl_machine.specs.declared.steps.Step.{Step}
-use Rattle.cl_machine.proofs.Lists.{get-set_other}
+use Rattle.cl_machine.proofs.Lists.{get-set_other, get-set_same}
 use Rattle.cl_replay.specs.Kept.{IsBeside, IsRestored, Snapshot, snapshot}
 use Rattle.cl_order_laws.specs.Closed.{Node, Turns, had_after, one_more}
 use Rattle.cl_order_laws.proofs.Covered.{had_here, had_other}
@@ -123,3 +123,47 @@ module _ (k : KeptNode) (standing : Standing) (rank : ℕ) (beside : AreSameBesi
         had = had;
         steps = steps;
       }
+
+-- ---- one rank is brought back
+
+module _ (k : KeptNode) (old new : Standing) (rank n : ℕ) (at : slice_get k.had.items rank ≡ Some n)
+    (is : IsRestored k.cluster old.cluster rank new.cluster) (had : new.had.items ≡ slice_set old.had.items rank n)
+    (stayed : HaveStayed k old) where
+  abbrev before : List Rank
+  before = map rank_of old.cluster.ranks.items
+
+  abbrev after : List Rank
+  after = map rank_of new.cluster.ranks.items
+
+  own : (x : Rank) × (slice_get k.cluster.ranks rank ≡ Some x)
+  own = at_inside k.cluster.ranks rank (subst (λ c. rank < c) stayed.counted (slice_get_within k.had.items rank n at))
+
+  ranks : after ≡ slice_set before rank own.0
+  ranks = is.ranks own.0 own.1
+
+  many : length new.had.items ≡ length new.cluster.ranks.items
+  many =
+      ap length had
+      ∙ (length-set old.had.items rank n
+      ∙ (stayed.many
+      ∙ (sym (length-map old.cluster.ranks.items rank_of)
+      ∙ (sym (ap length ranks ∙ length-set before rank own.0) ∙ length-map new.cluster.ranks.items rank_of))))
+
+  pub brought_back : rank < length old.cluster.ranks.items → HaveStayed k new
+  brought_back inside = record {
+    counted = stayed.counted;
+    many = many;
+    each = λ r m was now. elim (cases_eq rank r) [
+      | inl same ↦
+          let was_rank = at_inside before rank
+          (subst (λ c. rank < c) (sym (length-map old.cluster.ranks.items rank_of)) inside) in
+          subst (λ i. slice_get k.cluster.ranks i ≡ slice_get after i) same
+          (own.1
+          ∙ sym (ap (λ (rs : List Rank). slice_get rs rank) ranks
+          ∙ get-set_same before rank was_rank.0 own.0 was_rank.1))
+      | inr other ↦
+          stayed.each r m was
+          (sym (get-set_other old.had.items rank r n other) ∙ (ap (λ hs. slice_get hs r) (sym had) ∙ now))
+          ∙ sym (ap (λ (rs : List Rank). slice_get rs r) ranks ∙ get-set_other before rank r own.0 other)
+    ];
+  }

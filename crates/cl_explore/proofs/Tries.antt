@@ -8,24 +8,23 @@ use Rattle.rv_image.specs.declared.images.ImageParts.{ImageParts}
 use Rattle.cl_record.specs.Plans.{in_slot}
 use Rattle.cl_machine.specs.declared.steps.Step.{Step}
 use Rattle.cl_machine.proofs.Tables.{step_once}
-use Rattle.cl_order_laws.specs.Closed.{IsCovered, IsDone, Node, one_more}
+use Rattle.cl_order_laws.specs.Closed.{IsDone, Node, one_more}
 use Rattle.cl_order_laws.proofs.Steps.{below_law}
 use Rattle.cl_state.specs.declared.state.RankState.{RankState}
 use Rattle.cl_state.specs.Rank.{Rank}
 use Rattle.cl_state.specs.Room.{rank_of}
-use Rattle.cl_moves.specs.Ahead.{GoesAhead}
 use Rattle.cl_moves.specs.Ends.{TellsEnd}
 use Rattle.cl_moves.specs.Moves.{AreTurnsOf, HasAllTurns}
 use Rattle.cl_moves.specs.Standing.{HasNoTurn, IsNextHart, Took, by_order, node_of}
 use Rattle.cl_moves.specs.declared.standing.Standing.{Standing}
 use Rattle.cl_explore.specs.Kept.{HaveStayed, IsLiveAt, IsLiveOf, KeptStandsAt}
-use Rattle.cl_explore.specs.Covering.{AreNodes, IsClosedAt, IsCoveredTurn}
-use Rattle.cl_explore.specs.Searching.{AreClosedBelow, ArePlanned, Arrives, ClosesRank, Goes, GoesEach, IsVisited, KeepsAt, KeepsOf}
+use Rattle.cl_explore.specs.Covering.{AreNodes, IsClosedAt, IsReachedTurn, Reaches}
+use Rattle.cl_explore.specs.Searching.{AreClosedBelow, ArePlanned, Arrives, ClosesRank, Goes, GoesEach, GoesOn, IsVisited, KeepsAt, KeepsOf}
 use Rattle.cl_explore.specs.declared.kept.KeptNode.{KeptNode}
-use Rattle.cl_explore.proofs.Covers.{by_state, closed_more, covered_by, grows_none, grows_on, turn_more}
+use Rattle.cl_explore.proofs.Covers.{by_state, closed_more, covered_alike, grows_none, grows_on, reaches_covered, turn_more}
 use Rattle.cl_explore.proofs.Lists.{at_inside, at_last, stays_at, was_or_new}
 use Rattle.cl_explore.proofs.Staying.{have_stayed}
-use Rattle.cl_explore.proofs.Keeping.{before_at, live_stands, no_way}
+use Rattle.cl_explore.proofs.Keeping.{before_at, found_reached, live_stands, no_way, node_found}
 
 -- ---- one turn
 
@@ -52,9 +51,9 @@ module _ (order : List ℕ) (old : List KeptNode) (n : ℕ) (k : KeptNode) (at :
   }
 
   -- the machine has no such turn there
-  pub goes_nowhere : (live after : Standing) (e : Step) → HasNoTurn live e → IsLiveOf k after
-      → Goes order old n live e old after
-  goes_nowhere live after e none is = λ image nodes node are there at planned. (
+  pub goes_nowhere : (sure : Bool) (live after : Standing) (e : Step) → HasNoTurn live e → IsLiveOf k after
+      → Goes sure order old n live e old after
+  goes_nowhere sure live after e none is = λ image nodes node are there at planned. (
     record {
       more = nodes;
       grows = grows_none nodes;
@@ -65,14 +64,16 @@ module _ (order : List ℕ) (old : List KeptNode) (n : ℕ) (k : KeptNode) (at :
   )
 
 -- it has: where it leads is kept, or alike a node, and then the standing is at the node again
-pub goes_on : (order : List ℕ) (old new : List KeptNode) (n : ℕ) (e : Step) (live mid there after : Standing)
-    → Took live e mid → GoesAhead order mid there → Arrives order old n there new
-    → ((k : KeptNode) → slice_get new n ≡ Some k → HaveStayed k there → IsLiveOf k after) → Goes order old n live e new after
-goes_on order old new n e live mid there after took ahead arrives back = λ image nodes node are here at planned.
+pub goes_on : (sure : Bool) (order : List ℕ) (old new : List KeptNode) (n : ℕ) (e : Step)
+    (live mid there after : Standing) → Took live e mid → GoesOn sure order mid there → Arrives order old n there new
+    → ((k : KeptNode) → slice_get new n ≡ Some k → HaveStayed k there → IsLiveOf k after)
+    → Goes sure order old n live e new after
+goes_on sure order old new n e live mid there after took ahead arrives back = λ image nodes node are here at planned.
     let plans = by_order order in
     let led = took image plans node node at.stands (no_way plans node live.steps.items at.steps) planned.0 in
     let mid_node : Node = node_of led.0 (one_more node.had e.rank) in
-    let far = ahead image node mid_node led.2 led.3 in
+    let far = ahead image node mid_node led.2 led.3
+    (found_reached image order node (node_found image order old nodes are n node here)) in
     let kept = arrives image nodes node far.0 are far.1 (before_at image nodes n node here) far.2 in
     let still = kept.grows n node here in
     let inside = slice_get_within kept.more n node still in
@@ -86,37 +87,39 @@ goes_on order old new n e live mid there after took ahead arrives back = λ imag
             let same : led.0 ≡ new_cluster = step_once node.cluster e led.0 new_cluster led.1
             (below_law node.cluster new_cluster e leads planned.1) in
             let alike = kept.holds in
-            subst (λ c. IsCovered plans kept.more (node_of c (one_more node.had e.rank))) same
-            (covered_by plans kept.more mid_node far.0 alike.1 alike.0 far.3 alike.3 alike.2);
+            subst (λ c. Reaches sure order kept.more (node_of c (one_more node.had e.rank))) same
+            (far.3 kept.more (reaches_covered sure order kept.more far.0
+            (covered_alike plans kept.more far.0 alike.1 alike.0 alike.3 alike.2)));
       },
       live_at order new n k.0 k.1 after (back k.0 k.1 (have_stayed image order k.0 there node far.0 stands far.1 far.2))
           image kept.more node kept.are still,
     )
 
 -- no such node is kept then either
-pub goes_past : (order : List ℕ) (old new : List KeptNode) (n : ℕ) (e : Step) (live mid there after : Standing)
-    → Took live e mid → GoesAhead order mid there → Arrives order old n there new → length new ≤ n
-    → Goes order old n live e new after
-goes_past order old new n e live mid there after took ahead arrives past = λ image nodes node are here at planned.
+pub goes_past : (sure : Bool) (order : List ℕ) (old new : List KeptNode) (n : ℕ) (e : Step)
+    (live mid there after : Standing) → Took live e mid → GoesOn sure order mid there → Arrives order old n there new
+    → length new ≤ n → Goes sure order old n live e new after
+goes_past sure order old new n e live mid there after took ahead arrives past = λ image nodes node are here at planned.
     let plans = by_order order in
     let led = took image plans node node at.stands (no_way plans node live.steps.items at.steps) planned.0 in
     let mid_node : Node = node_of led.0 (one_more node.had e.rank) in
-    let far = ahead image node mid_node led.2 led.3 in
+    let far = ahead image node mid_node led.2 led.3
+    (found_reached image order node (node_found image order old nodes are n node here)) in
     let kept = arrives image nodes node far.0 are far.1 (before_at image nodes n node here) far.2 in
     absurd (not_kept order new n past image kept.more node kept.are (kept.grows n node here))
 
 -- ---- each turn of a list, from its end on
 
 -- of those that are left nothing is said yet, and the others are covered
-abbrev pub GoneFrom : List ℕ → List KeptNode → ℕ → Standing → List Step → List Step → List KeptNode → Standing → Type 0
-GoneFrom order old n live turns left new after =
+abbrev pub GoneFrom : Bool → List ℕ → List KeptNode → ℕ → Standing → List Step → List Step → List KeptNode → Standing → Type 0
+GoneFrom sure order old n live turns left new after =
     KeepsAt order old n live new after (λ node. ArePlanned order node turns)
     (λ more node. (i : ℕ) (e : Step) → slice_get turns i ≡ Some e
-    → (slice_get left i ≡ Some e) ⊎ IsCoveredTurn order more node e)
+    → (slice_get left i ≡ Some e) ⊎ IsReachedTurn sure order more node e)
 
-pub none_gone : (order : List ℕ) (old : List KeptNode) (n : ℕ) (live : Standing) (turns : List Step)
-    → GoneFrom order old n live turns turns old live
-none_gone order old n live turns = λ image nodes node are there at planned. (
+pub none_gone : (sure : Bool) (order : List ℕ) (old : List KeptNode) (n : ℕ) (live : Standing) (turns : List Step)
+    → GoneFrom sure order old n live turns turns old live
+none_gone sure order old n live turns = λ image nodes node are there at planned. (
   record {
     more = nodes;
     grows = grows_none nodes;
@@ -130,11 +133,11 @@ none_gone order old n live turns = λ image nodes node are there at planned. (
 abbrev pub Firsts : List Step → List Step → Type 0
 Firsts left turns = (i : ℕ) (e : Step) → slice_get left i ≡ Some e → slice_get turns i ≡ Some e
 
-pub one_gone : (order : List ℕ) (old mid new : List KeptNode) (n : ℕ) (live between after : Standing)
+pub one_gone : (sure : Bool) (order : List ℕ) (old mid new : List KeptNode) (n : ℕ) (live between after : Standing)
     (turns left rest : List Step) (e : Step) → Firsts left turns → left ≡ rest ++ e ∷ []
-    → GoneFrom order old n live turns left mid between → Goes order mid n between e new after
-    → Firsts rest turns × GoneFrom order old n live turns rest new after
-one_gone order old mid new n live between after turns left rest e firsts is gone goes = (
+    → GoneFrom sure order old n live turns left mid between → Goes sure order mid n between e new after
+    → Firsts rest turns × GoneFrom sure order old n live turns rest new after
+one_gone sure order old mid new n live between after turns left rest e firsts is gone goes = (
   λ i x at. firsts i x (subst (λ xs. slice_get xs i ≡ Some x) (sym is) (stays_at rest e i x at)),
   λ image nodes node are there at planned.
       let end : slice_get turns (length rest) ≡ Some e =
@@ -148,10 +151,10 @@ one_gone order old mid new n live between after turns left rest e firsts is gone
           grows = grows_on nodes first.more second.more first.grows second.grows;
           are = second.are;
           holds = λ i x has. elim (first.holds i x has) [
-            | inr covered ↦ inr (turn_more order first.more second.more node x second.grows covered)
+            | inr covered ↦ inr (turn_more sure order first.more second.more node x second.grows covered)
             | inl was ↦ elim (was_or_new rest e i x (subst (λ xs. slice_get xs i ≡ Some x) is was)) [
               | inl still ↦ inl still
-              | inr last ↦ inr (subst (λ y. IsCoveredTurn order second.more node y) (same_Some e x last.1) second.holds)
+              | inr last ↦ inr (subst (λ y. IsReachedTurn sure order second.more node y) (same_Some e x last.1) second.holds)
             ]
           ];
         },
@@ -159,9 +162,10 @@ one_gone order old mid new n live between after turns left rest e firsts is gone
       ),
 )
 
-pub all_gone : (order : List ℕ) (old new : List KeptNode) (n : ℕ) (live after : Standing) (turns left : List Step)
-    → length left ≡ 0 → GoneFrom order old n live turns left new after → GoesEach order old n live turns new after
-all_gone order old new n live after turns left none gone = λ image nodes node are there at planned.
+pub all_gone : (sure : Bool) (order : List ℕ) (old new : List KeptNode) (n : ℕ) (live after : Standing) (turns left : List Step)
+    → length left ≡ 0 → GoneFrom sure order old n live turns left new after
+    → GoesEach sure order old n live turns new after
+all_gone sure order old new n live after turns left none gone = λ image nodes node are there at planned.
     let both = gone image nodes node are there at planned in
     let far = both.0 in (
       record {
@@ -179,10 +183,10 @@ all_gone order old new n live after turns left none gone = λ image nodes node a
 -- ---- a rank
 
 -- the rank isn't there, or all its harts are stopped
-pub closed_done : (order : List ℕ) (old : List KeptNode) (n : ℕ) (live : Standing) (rank : ℕ)
+pub closed_done : (sure : Bool) (order : List ℕ) (old : List KeptNode) (n : ℕ) (live : Standing) (rank : ℕ)
     → ((own : RankState) → slice_get live.cluster.ranks.items rank ≡ Some own → IsDone (in_slot order) (rank_of own))
-    → ClosesRank order old n live rank old live
-closed_done order old n live rank done = λ image nodes node are there at needs. (
+    → ClosesRank sure order old n live rank old live
+closed_done sure order old n live rank done = λ image nodes node are there at needs. (
   record {
     more = nodes;
     grows = grows_none nodes;
@@ -193,9 +197,9 @@ closed_done order old n live rank done = λ image nodes node are there at needs.
 )
 
 -- no rank of that number has had turns
-pub closed_none : (order : List ℕ) (old : List KeptNode) (n : ℕ) (live : Standing) (rank : ℕ)
-    → length live.had.items ≤ rank → ClosesRank order old n live rank old live
-closed_none order old n live rank past = λ image nodes node are there at needs. (
+pub closed_none : (sure : Bool) (order : List ℕ) (old : List KeptNode) (n : ℕ) (live : Standing) (rank : ℕ)
+    → length live.had.items ≤ rank → ClosesRank sure order old n live rank old live
+closed_none sure order old n live rank past = λ image nodes node are there at needs. (
   record {
     more = nodes;
     grows = grows_none nodes;
@@ -208,10 +212,10 @@ closed_none order old n live rank past = λ image nodes node are there at needs.
 )
 
 -- all its turns were taken
-pub closed_by : (order : List ℕ) (old new : List KeptNode) (n : ℕ) (live after : Standing) (rank hart : ℕ)
+pub closed_by : (sure : Bool) (order : List ℕ) (old new : List KeptNode) (n : ℕ) (live after : Standing) (rank hart : ℕ)
     (turns : List Step) → IsNextHart order live rank (Some hart) → HasAllTurns live.cluster rank hart turns
-    → AreTurnsOf rank hart turns → GoesEach order old n live turns new after → ClosesRank order old n live rank new after
-closed_by order old new n live after rank hart turns next all own goes = λ image nodes node are there at needs.
+    → AreTurnsOf rank hart turns → GoesEach sure order old n live turns new after → ClosesRank sure order old n live rank new after
+closed_by sure order old new n live after rank hart turns next all own goes = λ image nodes node are there at needs.
     let hart_is : hart ≡ in_slot order (node.had rank) =
     next.2 ∙ ap (in_slot order) (sym ((at.stands).had rank next.0 next.1)) in
     let both = goes image nodes node are there at (λ i e has.
@@ -224,7 +228,7 @@ closed_by order old new n live after rank hart turns next all own goes = λ imag
         are = far.are;
         holds = λ x here. inr (λ e new_cluster is its leads.
             let found = all image node.cluster new_cluster e (at.stands).stands is (its ∙ sym hart_is) leads in
-            subst (λ r. IsCovered (by_order order) far.more (node_of new_cluster (one_more node.had r))) is
+            subst (λ r. Reaches sure order far.more (node_of new_cluster (one_more node.had r))) is
             (far.holds found.0 e found.1 new_cluster leads));
       },
       both.1,
@@ -233,13 +237,13 @@ closed_by order old new n live after rank hart turns next all own goes = λ imag
 -- ---- all ranks
 
 -- where a standing is the node, its first so many ranks are closed
-abbrev pub ClosesBelow : List ℕ → List KeptNode → ℕ → Standing → ℕ → List KeptNode → Standing → Type 0
-ClosesBelow order old n live count new after =
-    KeepsAt order old n live new after (λ node. Unit {0}) (λ more node. AreClosedBelow order count more node)
+abbrev pub ClosesBelow : Bool → List ℕ → List KeptNode → ℕ → Standing → ℕ → List KeptNode → Standing → Type 0
+ClosesBelow sure order old n live count new after =
+    KeepsAt order old n live new after (λ node. Unit {0}) (λ more node. AreClosedBelow sure order count more node)
 
-pub none_closed : (order : List ℕ) (old : List KeptNode) (n : ℕ) (live : Standing)
-    → ClosesBelow order old n live 0 old live
-none_closed order old n live = λ image nodes node are there at needs. (
+pub none_closed : (sure : Bool) (order : List ℕ) (old : List KeptNode) (n : ℕ) (live : Standing)
+    → ClosesBelow sure order old n live 0 old live
+none_closed sure order old n live = λ image nodes node are there at needs. (
   record {
     more = nodes;
     grows = grows_none nodes;
@@ -249,10 +253,10 @@ none_closed order old n live = λ image nodes node are there at needs. (
   at,
 )
 
-pub one_closed : (order : List ℕ) (old mid new : List KeptNode) (n : ℕ) (live between after : Standing) (count : ℕ)
-    → ClosesBelow order old n live count mid between → ClosesRank order mid n between count new after
-    → ClosesBelow order old n live (count + 1) new after
-one_closed order old mid new n live between after count below one = λ image nodes node are there at needs.
+pub one_closed : (sure : Bool) (order : List ℕ) (old mid new : List KeptNode) (n : ℕ) (live between after : Standing) (count : ℕ)
+    → ClosesBelow sure order old n live count mid between → ClosesRank sure order mid n between count new after
+    → ClosesBelow sure order old n live (count + 1) new after
+one_closed sure order old mid new n live between after count below one = λ image nodes node are there at needs.
     let before = below image nodes node are there at tt in
     let first = before.0 in
     let later = one image first.more node first.are (first.grows n node there) before.1 tt in
@@ -262,8 +266,8 @@ one_closed order old mid new n live between after count below one = λ image nod
         grows = grows_on nodes first.more second.more first.grows second.grows;
         are = second.are;
         holds = λ r low. elim (cases_eq count r) [
-          | inl same ↦ subst (IsClosedAt order second.more node) same second.holds
-          | inr other ↦ closed_more order first.more second.more node r second.grows
+          | inl same ↦ subst (IsClosedAt sure order second.more node) same second.holds
+          | inr other ↦ closed_more sure order first.more second.more node r second.grows
               (first.holds r (omega (arith, low, other)))
         ];
       },
@@ -271,11 +275,11 @@ one_closed order old mid new n live between after count below one = λ image nod
     )
 
 -- each rank is closed, and it was told whether nobody goes on
-pub visited : (order : List ℕ) (old new : List KeptNode) (n : ℕ) (k : KeptNode) → slice_get old n ≡ Some k
+pub visited : (sure : Bool) (order : List ℕ) (old new : List KeptNode) (n : ℕ) (k : KeptNode) → slice_get old n ≡ Some k
     → (live after : Standing) → IsLiveOf k live → (count : ℕ) (end : Bool)
     → min (length live.cluster.ranks.items) 255 ≤ count → TellsEnd live.cluster order end
-    → ClosesBelow order old n live count new after → KeepsOf order old n new (IsVisited order end)
-visited order old new n k at live after is count end enough tells below = λ image nodes node are there.
+    → ClosesBelow sure order old n live count new after → KeepsOf order old n new (IsVisited sure order end)
+visited sure order old new n k at live after is count end enough tells below = λ image nodes node are there.
     let here = live_at order old n k at live is image nodes node are there in
     let stands = here.stands in
     let far = (below image nodes node are there here tt).0 in

@@ -1,14 +1,17 @@
 -- Lists of nodes that grow, and what they cover.
-use Rattle.std.specs.Prelude.{ℕ, ◌≡◌, ◌⊎◌, List, length, slice_get, Some}
+use Rattle.std.specs.Prelude.{ℕ, ◌<◌, ◌≡◌, ◌⊎◌, List, length, slice_get, Some, Bool, true, false}
 use Rattle.rv_image.specs.declared.images.ImageParts.{ImageParts}
 use Rattle.cl_record.specs.Plans.{in_slot}
 use Rattle.cl_state.specs.Rank.{Rank}
 use Rattle.cl_machine.specs.Cluster.{Cluster}
 use Rattle.cl_machine.specs.declared.steps.Step.{Step}
+use Rattle.mp_hub.specs.Hub.{HubView}
 use Rattle.mp_alike_laws.specs.Renaming.{Renaming}
 use Rattle.cl_order_laws.specs.Alike.{AlikeClusters, Leads}
 use Rattle.cl_order_laws.specs.Closed.{IsCovered, IsDone, IsSamePlace, Node, Plans, one_more}
+use Rattle.cl_order_laws.specs.Sure.{IsSettled}
 use Rattle.cl_moves.specs.Standing.{by_order, node_of}
+use Rattle.cl_moves.specs.Sure.{most_posts}
 use Rattle.cl_explore.specs.Kept.{IsLed, KeptStandsAt}
 use Rattle.cl_explore.specs.declared.kept.KeptNode.{KeptNode}
 
@@ -34,16 +37,32 @@ abbrev pub IsAlikeOneOf : List ℕ → List Node → Node → Type 0
 IsAlikeOneOf order nodes here =
     (i : ℕ) × (node : Node) × (slice_get nodes i ≡ Some node) × AreAlikeNodes (by_order order) here node
 
--- wherever this turn of the node leads is covered
-abbrev pub IsCoveredTurn : List ℕ → List Node → Node → Step → Type 0
-IsCoveredTurn order nodes node e =
-    (new : Cluster) → Leads node.cluster e new
-    → IsCovered (by_order order) nodes (node_of new (one_more node.had e.rank))
+-- ---- what is reached from a node
 
--- all harts of the rank are stopped, or wherever its next turn leads is covered
-abbrev pub IsClosedAt : List ℕ → List Node → Node → ℕ → Type 0
-IsClosedAt order nodes node r =
+-- the nodes cover it, or, where calls for what is there are made at once, they settle it
+abbrev pub Reaches : Bool → List ℕ → List Node → Node → Type 0
+Reaches true order nodes here = IsSettled (by_order order) most_posts nodes here
+Reaches false order nodes here = IsCovered (by_order order) nodes here
+
+-- then few posts were made
+abbrev pub HasRoom : Bool → HubView → Type 0
+HasRoom true hub = length hub.board.lines < most_posts
+HasRoom false hub = Unit {0}
+
+-- and so in what is kept at this number
+abbrev pub HasRoomAt : Bool → List KeptNode → ℕ → Type 0
+HasRoomAt sure kept i = (k : KeptNode) → slice_get kept i ≡ Some k → HasRoom sure k.whole
+
+-- wherever this turn of the node leads is reached
+abbrev pub IsReachedTurn : Bool → List ℕ → List Node → Node → Step → Type 0
+IsReachedTurn sure order nodes node e =
+    (new : Cluster) → Leads node.cluster e new
+    → Reaches sure order nodes (node_of new (one_more node.had e.rank))
+
+-- all harts of the rank are stopped, or wherever its next turn leads is reached
+abbrev pub IsClosedAt : Bool → List ℕ → List Node → Node → ℕ → Type 0
+IsClosedAt sure order nodes node r =
     (rank : Rank) → slice_get node.cluster.ranks r ≡ Some rank
     → IsDone (in_slot order) rank
     ⊎ ((e : Step) (new : Cluster) → e.rank ≡ r → e.hart ≡ in_slot order (node.had r) → Leads node.cluster e new
-    → IsCovered (by_order order) nodes (node_of new (one_more node.had r)))
+    → Reaches sure order nodes (node_of new (one_more node.had r)))

@@ -4,10 +4,11 @@ use Rattle.rv_image.specs.declared.images.ImageParts.{ImageParts}
 use Rattle.cl_record.specs.Plans.{in_slot}
 use Rattle.cl_machine.specs.declared.steps.Step.{Step}
 use Rattle.cl_order_laws.specs.Closed.{IsEnd, Node}
+use Rattle.cl_order_laws.specs.Laws.{IsReached}
 use Rattle.cl_moves.specs.Standing.{IsWay, StandsAt, by_order}
 use Rattle.cl_moves.specs.declared.standing.Standing.{Standing}
 use Rattle.cl_explore.specs.Kept.{AreSamePlaces, IsAlikeKept, IsBefore, IsLiveAt}
-use Rattle.cl_explore.specs.Covering.{AreNodes, Grows, IsAlikeOneOf, IsClosedAt, IsCoveredTurn}
+use Rattle.cl_explore.specs.Covering.{AreNodes, Grows, IsAlikeOneOf, IsClosedAt, IsReachedTurn, Reaches}
 use Rattle.cl_explore.specs.declared.kept.KeptNode.{KeptNode}
 
 -- more is kept than before, and of these nodes something holds
@@ -51,32 +52,44 @@ KeepsAt order old n live new after Needs P =
     → slice_get nodes n ≡ Some node → IsLiveAt image live node → Needs node
     → Keeps image order nodes new (λ more. P more node) × IsLiveAt image after node
 
--- where it is one, wherever it leads is covered then
-abbrev pub Goes : List ℕ → List KeptNode → ℕ → Standing → Step → List KeptNode → Standing → Type 0
-Goes order old n live e new after =
-    KeepsAt order old n live new after (λ node. IsPlanned order node e) (λ more node. IsCoveredTurn order more node e)
+-- turns that are taken at once led from whichever node the old standing was to one that the new standing is, and what
+-- reaches the one reaches the other
+abbrev pub GoesOn : Bool → List ℕ → Standing → Standing → Type 0
+GoesOn sure order old new =
+    (image : ImageParts) (start here : Node) → StandsAt image old here → IsWay (by_order order) start old.steps.items here
+    → IsReached start.cluster
+    → (there : Node) × StandsAt image new there × IsWay (by_order order) start new.steps.items there
+    × ((nodes : List Node) → Reaches sure order nodes there → Reaches sure order nodes here)
+
+-- where it is one, wherever it leads is reached then
+abbrev pub Goes : Bool → List ℕ → List KeptNode → ℕ → Standing → Step → List KeptNode → Standing → Type 0
+Goes sure order old n live e new after =
+    KeepsAt order old n live new after (λ node. IsPlanned order node e)
+    (λ more node. IsReachedTurn sure order more node e)
 
 abbrev pub ArePlanned : List ℕ → Node → List Step → Type 0
 ArePlanned order node turns = (i : ℕ) (e : Step) → slice_get turns i ≡ Some e → IsPlanned order node e
 
-abbrev pub AreCovered : List ℕ → List Step → List Node → Node → Type 0
-AreCovered order turns nodes node = (i : ℕ) (e : Step) → slice_get turns i ≡ Some e → IsCoveredTurn order nodes node e
+abbrev pub AreReached : Bool → List ℕ → List Step → List Node → Node → Type 0
+AreReached sure order turns nodes node =
+    (i : ℕ) (e : Step) → slice_get turns i ≡ Some e → IsReachedTurn sure order nodes node e
 
 -- and so of each of these turns
-abbrev pub GoesEach : List ℕ → List KeptNode → ℕ → Standing → List Step → List KeptNode → Standing → Type 0
-GoesEach order old n live turns new after =
+abbrev pub GoesEach : Bool → List ℕ → List KeptNode → ℕ → Standing → List Step → List KeptNode → Standing → Type 0
+GoesEach sure order old n live turns new after =
     KeepsAt order old n live new after (λ node. ArePlanned order node turns)
-    (λ more node. AreCovered order turns more node)
+    (λ more node. AreReached sure order turns more node)
 
 -- the first so many ranks of a node are closed
-abbrev pub AreClosedBelow : List ℕ → ℕ → List Node → Node → Type 0
-AreClosedBelow order count nodes node = (r : ℕ) → r < count → IsClosedAt order nodes node r
+abbrev pub AreClosedBelow : Bool → List ℕ → ℕ → List Node → Node → Type 0
+AreClosedBelow sure order count nodes node = (r : ℕ) → r < count → IsClosedAt sure order nodes node r
 
 -- each rank is, and it is told whether nobody goes on
-abbrev pub IsVisited : List ℕ → Bool → List Node → Node → Type 0
-IsVisited order end nodes node = ((r : ℕ) → IsClosedAt order nodes node r) × ((end ≡ true) ↔ IsEnd (by_order order) node.cluster)
+abbrev pub IsVisited : Bool → List ℕ → Bool → List Node → Node → Type 0
+IsVisited sure order end nodes node =
+    ((r : ℕ) → IsClosedAt sure order nodes node r) × ((end ≡ true) ↔ IsEnd (by_order order) node.cluster)
 
 -- where a standing is the node, the rank is closed
-abbrev pub ClosesRank : List ℕ → List KeptNode → ℕ → Standing → ℕ → List KeptNode → Standing → Type 0
-ClosesRank order old n live rank new after =
-    KeepsAt order old n live new after (λ node. Unit {0}) (λ more node. IsClosedAt order more node rank)
+abbrev pub ClosesRank : Bool → List ℕ → List KeptNode → ℕ → Standing → ℕ → List KeptNode → Standing → Type 0
+ClosesRank sure order old n live rank new after =
+    KeepsAt order old n live new after (λ node. Unit {0}) (λ more node. IsClosedAt sure order more node rank)

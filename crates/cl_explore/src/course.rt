@@ -9,3 +9,12 @@ pub struct Course<'a> {
     pub order: &'a [u8],
     pub most: u64,
 }
+
+/// The same, and whether calls for what is there are made at once.
+#[derive(Clone, Copy, Drop)]
+pub(crate) struct Manner<'a> {
+    pub alloc: Global,
+    pub order: &'a [u8],
+    pub most: u64,
+    pub sure: bool,
+}

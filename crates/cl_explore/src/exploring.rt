@@ -1,24 +1,29 @@
 //! The search from the loaded cluster on.
 
-ghost use Rattle.std.specs.Prelude.{◌≡◌, ◌⊎◌, ◌<◌, ◌≤◌, ◌+◌, ◌-◌, ℕ, List, Some, IfErr, IfOk, IsFalse, IsTrue, OnOk, length, reverse, slice_get};
+ghost use Rattle.std.specs.Prelude.{◌≡◌, ◌⊎◌, ◌<◌, ◌≤◌, ◌+◌, ◌-◌, ℕ, List, Some, IfErr, IfOk, IfSome, IsFalse, IsTrue, OnOk, false, is_some, length, reverse, slice_get, true};
 ghost use Rattle.rv_image.specs.declared.images.ImageParts.{ImageParts};
 ghost use Rattle.cl_order_laws.specs.Closed.{Node};
 ghost use Rattle.cl_moves.specs.Standing.{IsWay, by_order, first_node};
-ghost use Rattle.cl_explore.specs.Covering.{AreNodes};
-ghost use Rattle.cl_explore.specs.Ends.{AreEnough, AreTurnsTo, BeginsAt, Explored, ExploredBehind, ExploresFrom, IsBounded, Notes};
+ghost use Rattle.cl_explore.specs.Covering.{AreNodes, HasRoom, HasRoomAt};
+ghost use Rattle.cl_explore.specs.Ends.{AreEnough, AreTurnsTo, BeginsAt, Explored, ExploredBehind, ExploredPlainly, ExploresFrom, IsBounded, Notes};
 ghost use Rattle.cl_explore.specs.Orders.{OrderFaultHolds};
 
 use crate::candidates::Candidates;
-use crate::course::Course;
+use crate::course::{Course, Manner};
 use crate::kept::KeptNode;
 use crate::leads::Lead;
+use crate::moving::settle;
 use crate::orders::{OrderFault, follow, turns_in};
 use crate::search::Search;
 use cl_machine::Step;
 use cl_moves::{MoveFault, Standing};
 use cl_turns::Turn;
+use mp_alike::WholeHub;
 use rv_image::Image;
 use std::alloc::{AllocError, Global};
+
+/// How many posts are too many beside calls that are made at once: a hub holds one message more.
+const MOST_POSTS: u64 = 65535;
 
 /// Where a search came.
 #[derive(Drop)]
@@ -56,10 +61,10 @@ fn goes_on(enough: Option<usize>, done: usize, nodes: usize) -> bool
     }
 }
 
-/// The standing from which a search begins, once each rank took its turns that need only itself.
-fn begin(course: &Course<'_>, mut standing: Standing) -> Result<(Search, Option<u8>), MoveFault>
+/// The standing from which a search begins, once each rank took its turns that are taken at once.
+fn begin(course: &Manner<'_>, mut standing: Standing) -> Result<(Search, Option<u8>), MoveFault>
     requires { 0 < length course.now.order.now }
-    ensures { IfOk result (λ begun. BeginsAt course.now.order.now standing begun.0.nodes.items) }
+    ensures { IfOk result (λ begun. BeginsAt course.now.sure course.now.order.now standing begun.0.nodes.items) }
 {
     let mut search = Search {
         nodes: Vec::new(course.alloc),
@@ -67,7 +72,7 @@ fn begin(course: &Course<'_>, mut standing: Standing) -> Result<(Search, Option<
         moved: Candidates::new(course.alloc)?,
         leads: Vec::new(course.alloc),
     };
-    let long = standing.settle(course.order, course.most)?;
+    let long = settle(course, &mut standing)?;
     search.arrive(course, &standing, 0, 0)?;
     Ok((search, long))
 }
@@ -82,18 +87,50 @@ fn note(ends: &mut Vec<usize>, end: bool, node: usize) -> Result<(), AllocError>
     Ok(())
 }
 
-/// All clusters to which any order of turns leads from a standing, but for those that are alike one of them, and which of
-/// them are ends: breadth first, ranks in order.
-fn search(course: &Course<'_>, standing: Standing, bounds: Bounds) -> Result<Exploration, MoveFault>
-    requires { 0 < length course.now.order.now }
-    ensures ends { IfOk result (λ found. ExploresFrom course.now.order.now standing found.nodes.items found.ends.items
-        found.left) }
-    ensures most { IfOk result (λ found. IsBounded bounds.states bounds.enough (length found.nodes.items) found.left) }
+/// Whether calls for what is there may be made at once beside as many posts, if they are to be.
+fn has_room(sure: bool, whole: &WholeHub) -> bool
+    ensures room { IsTrue result → HasRoom sure whole.now }
+    ensures plain { sure ≡ false → result ≡ true }
 {
+    !sure || whole.board().next_number() <= MOST_POSTS
+}
+
+/// The same of the node of this number.
+fn has_room_at(sure: bool, nodes: &[KeptNode], node: usize) -> bool
+    ensures room { IsTrue result → HasRoomAt sure nodes.now node }
+    ensures plain { sure ≡ false → result ≡ true }
+{
+    match nodes.get(node) {
+        None => true,
+        Some(kept) => has_room(sure, &kept.whole),
+    }
+}
+
+/// All clusters to which any order of turns leads from a standing, but for those that are alike one of them, and which of
+/// them are ends: breadth first, ranks in order. None where calls for what is there are made at once, and a hub came to
+/// have too many posts for that.
+fn search_on(
+    course: &Manner<'_>,
+    standing: Standing,
+    bounds: Bounds,
+) -> Result<Option<Exploration>, MoveFault>
+    requires { 0 < length course.now.order.now }
+    ensures ends { IfOk result (λ o. IfSome o (λ found. ExploresFrom course.now.sure course.now.order.now standing
+        found.nodes.items found.ends.items found.left)) }
+    ensures most { IfOk result (λ o. IfSome o (λ found.
+        IsBounded bounds.states bounds.enough (length found.nodes.items) found.left)) }
+    ensures plain { course.now.sure ≡ false → IfOk result (λ o. is_some o ≡ true) }
+{
+    if !has_room(course.sure, &standing.whole) {
+        return Ok(None);
+    }
     let (mut search, mut long) = begin(course, standing)?;
     let mut ends = Vec::new(course.alloc);
     let mut done = 0;
     'rest: while done < bounds.states && goes_on(bounds.enough, done, search.nodes.len()) {
+        if !has_room_at(course.sure, search.nodes.as_slice(), done) {
+            return Ok(None);
+        }
         let visit = search.visit(course, done)?;
         note(&mut ends, visit.end, done)?;
         if long.is_none() {
@@ -102,13 +139,53 @@ fn search(course: &Course<'_>, standing: Standing, bounds: Bounds) -> Result<Exp
         done += 1;
     }
     let left = search.nodes.len().saturating_sub(done);
-    Ok(Exploration {
+    Ok(Some(Exploration {
         nodes: search.nodes,
         ends,
         left,
         long,
         leads: search.leads,
-    })
+    }))
+}
+
+/// The same, with calls that are made at once or without.
+fn search(
+    course: &Course<'_>,
+    standing: Standing,
+    bounds: Bounds,
+    sure: bool,
+) -> Result<Option<Exploration>, MoveFault>
+    requires { 0 < length course.now.order.now }
+    ensures ends { IfOk result (λ o. IfSome o (λ found. ExploresFrom sure course.now.order.now standing found.nodes.items
+        found.ends.items found.left)) }
+    ensures most { IfOk result (λ o. IfSome o (λ found.
+        IsBounded bounds.states bounds.enough (length found.nodes.items) found.left)) }
+    ensures plain { sure ≡ false → IfOk result (λ o. is_some o ≡ true) }
+{
+    let manner = Manner {
+        alloc: course.alloc,
+        order: course.order,
+        most: course.most,
+        sure,
+    };
+    search_on(&manner, standing, bounds)
+}
+
+/// The same without them.
+fn search_plainly(
+    course: &Course<'_>,
+    standing: Standing,
+    bounds: Bounds,
+) -> Result<Exploration, MoveFault>
+    requires { 0 < length course.now.order.now }
+    ensures ends { IfOk result (λ found. ExploresFrom false course.now.order.now standing found.nodes.items
+        found.ends.items found.left) }
+    ensures most { IfOk result (λ found. IsBounded bounds.states bounds.enough (length found.nodes.items) found.left) }
+{
+    match search(course, standing, bounds, false)? {
+        Some(found) => Ok(found),
+        None => unreachable!(),
+    }
 }
 
 /// All clusters to which any order of turns leads, but for those that are alike one of them, and which of them are ends:
@@ -122,16 +199,20 @@ pub fn explore(course: &Course<'_>, image: &Image, states: usize) -> Result<Expl
     ensures ends { IfOk result (λ found. Explored image.now course.now.order.now found.nodes.items found.ends.items found.left) }
     ensures most { IfOk result (λ found. (found.left ≡ 0) ⊎ (length found.nodes.items ≡ states + found.left)) }
 {
-    let standing = Standing::load(course.alloc, image)?;
     let bounds = Bounds {
         states,
         enough: None,
     };
-    search(course, standing, bounds)
+    let standing = Standing::load(course.alloc, image)?;
+    if let Some(found) = search(course, standing, bounds, true)? {
+        return Ok(found);
+    }
+    let again = Standing::load(course.alloc, image)?;
+    search_plainly(course, again, bounds)
 }
 
-/// The same until so many nodes are left or more, from each of which one may go on by itself. Fewer are left only where
-/// the moves of as many as were allowed have been made, or none is left.
+/// The same until so many nodes are left or more, from each of which one may go on by itself, and without calls that are
+/// made at once. Fewer are left only where the moves of as many as were allowed have been made, or none is left.
 ///
 /// Refusals: Clock, Memory.
 pub fn split(
@@ -141,7 +222,8 @@ pub fn split(
     least: usize,
 ) -> Result<Exploration, MoveFault>
     requires { 0 < length course.now.order.now }
-    ensures ends { IfOk result (λ found. Explored image.now course.now.order.now found.nodes.items found.ends.items found.left) }
+    ensures ends { IfOk result (λ found. ExploredPlainly image.now course.now.order.now found.nodes.items found.ends.items
+        found.left) }
     ensures most { IfOk result (λ found. IsBounded states (Some least) (length found.nodes.items) found.left) }
 {
     let standing = Standing::load(course.alloc, image)?;
@@ -149,7 +231,7 @@ pub fn split(
         states,
         enough: Some(least),
     };
-    search(course, standing, bounds)
+    search_plainly(course, standing, bounds)
 }
 
 /// The same as `explore`, from where the turns of an order lead: of the runs that begin with those turns.
@@ -167,12 +249,16 @@ pub fn explore_from(
     ensures most { IfOk result (λ found. (found.left ≡ 0) ⊎ (length found.nodes.items ≡ states + found.left)) }
     ensures fault { IfErr result (OrderFaultHolds image.now course.now.order.now turns.now) }
 {
-    let standing = follow(course, image, turns)?;
     let bounds = Bounds {
         states,
         enough: None,
     };
-    let found = search(course, standing, bounds)?;
+    let standing = follow(course, image, turns)?;
+    if let Some(found) = search(course, standing, bounds, true)? {
+        return Ok(found);
+    }
+    let again = follow(course, image, turns)?;
+    let found = search_plainly(course, again, bounds)?;
     Ok(found)
 }
 

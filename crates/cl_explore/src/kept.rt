@@ -100,8 +100,49 @@ impl KeptNode {
         })
     }
 
-    /// A standing that came from here is here again, and no turn is noted. Where only the rank of this number has had
-    /// turns, the others stay where they are. The only error is want of memory, and then the standing may be anything.
+    /// A rank of a standing is again as it was here, if it has had turns since. The only error is want of memory.
+    fn bring_back(
+        &self,
+        alloc: Global,
+        standing: &mut Standing,
+        rank: usize,
+    ) -> Result<(), AllocError>
+        ensures { OnOk result (HaveStayed self.now standing.old → HaveStayed self.now standing.new) }
+    {
+        if rank >= standing.cluster.ranks.len() || rank >= self.cluster.ranks().len() {
+            return Ok(());
+        }
+        if rank >= standing.had.len() || rank >= self.had.len() {
+            return Ok(());
+        }
+        let had = self.had[rank];
+        if standing.had[rank] == had {
+            return Ok(());
+        }
+        self.cluster.restore(alloc, &mut standing.cluster, rank)?;
+        standing.had[rank] = had;
+        Ok(())
+    }
+
+    /// The same of all ranks but one that moved.
+    fn bring_back_others(
+        &self,
+        alloc: Global,
+        standing: &mut Standing,
+        moved: usize,
+    ) -> Result<(), AllocError>
+        ensures { OnOk result (HaveStayed self.now standing.old → HaveStayed self.now standing.new) }
+    {
+        for other in 0..self.had.len() {
+            if other != moved {
+                self.bring_back(alloc, standing, other)?;
+            }
+        }
+        Ok(())
+    }
+
+    /// A standing that came from here, mostly by turns of this rank, is here again, and no turn is noted. Ranks that have
+    /// had none stay where they are. The only error is want of memory, and then the standing may be anything.
     pub(crate) fn restore(
         &self,
         alloc: Global,
@@ -110,6 +151,7 @@ impl KeptNode {
     ) -> Result<(), AllocError>
         ensures { OnOk result (HaveStayed self.now standing.old → IsLiveOf self.now standing.new) }
     {
+        self.bring_back_others(alloc, standing, rank)?;
         let is_one = are_same_beside(standing.had.as_slice(), self.had.as_slice(), rank);
         if !is_one || rank >= standing.cluster.ranks.len() || rank >= self.cluster.ranks().len() {
             *standing = self.live(alloc)?;

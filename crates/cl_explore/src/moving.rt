@@ -1,9 +1,9 @@
 //! All moves of a node.
 
 ghost use Rattle.std.specs.Prelude.{◌<◌, IfOk, OnOk, length};
-ghost use Rattle.cl_explore.specs.Searching.{ClosesRank, Goes, GoesEach, IsVisited, KeepsOf};
+ghost use Rattle.cl_explore.specs.Searching.{ClosesRank, Goes, GoesEach, GoesOn, IsVisited, KeepsOf};
 
-use crate::course::Course;
+use crate::course::Manner;
 use crate::leads::Lead;
 use crate::search::Search;
 use cl_machine::Step;
@@ -34,19 +34,45 @@ fn if_long(rank: u8, long: bool) -> Option<u8> {
     if long { Some(rank) } else { None }
 }
 
+/// Takes the turns behind one of this rank that are taken at once: those that need only the rank, and calls for what is
+/// there, where these are. Answers whether the rank took fewer by itself than it was let.
+fn go_on(course: &Manner<'_>, live: &mut Standing, rank: u8) -> Result<bool, MoveFault>
+    requires { 0 < length course.now.order.now }
+    ensures { OnOk result (GoesOn course.now.sure course.now.order.now live.old live.new) }
+{
+    let fewer = live.go_ahead(rank, course.order, course.most)?;
+    if course.sure {
+        live.go_surely(course.alloc, course.order, course.most)?;
+    }
+    Ok(fewer)
+}
+
+/// Lets each rank take its turns that are taken at once. Answers the first rank that would take more by itself, if there
+/// is one.
+pub(crate) fn settle(course: &Manner<'_>, live: &mut Standing) -> Result<Option<u8>, MoveFault>
+    requires { 0 < length course.now.order.now }
+    ensures { OnOk result (GoesOn course.now.sure course.now.order.now live.old live.new) }
+{
+    let long = live.settle(course.order, course.most)?;
+    if course.sure {
+        live.go_surely(course.alloc, course.order, course.most)?;
+    }
+    Ok(long)
+}
+
 impl Search {
-    /// One turn of a node at which a standing is, and behind it the turns that need only its rank: where it leads is kept,
+    /// One turn of a node at which a standing is, and behind it the turns that are taken at once: where it leads is kept,
     /// unless it is alike a node. Then the standing is at the node again. Answers whether the rank would take more turns
     /// by itself.
     fn go(
         &mut self,
-        course: &Course<'_>,
+        course: &Manner<'_>,
         node: usize,
         live: &mut Standing,
         turn: Step,
     ) -> Result<bool, MoveFault>
         requires { 0 < length course.now.order.now }
-        ensures { OnOk result (Goes course.now.order.now self.old.nodes.items node live.old turn self.new.nodes.items
+        ensures { OnOk result (Goes course.now.sure course.now.order.now self.old.nodes.items node live.old turn self.new.nodes.items
             live.new) }
     {
         if node >= self.nodes.len() {
@@ -58,7 +84,7 @@ impl Search {
             *live = kept.live(course.alloc)?;
             return Ok(false);
         }
-        let fewer = live.go_ahead(rank, course.order, course.most)?;
+        let fewer = go_on(course, live, rank)?;
         let to = self.arrive(course, live, node, usize::from(rank))?;
         self.leads.push(Lead { from: node, to })?;
         if node >= self.nodes.len() {
@@ -73,13 +99,13 @@ impl Search {
     /// one of them.
     fn go_each(
         &mut self,
-        course: &Course<'_>,
+        course: &Manner<'_>,
         node: usize,
         live: &mut Standing,
         mut turns: Vec<Step>,
     ) -> Result<bool, MoveFault>
         requires { 0 < length course.now.order.now }
-        ensures { OnOk result (GoesEach course.now.order.now self.old.nodes.items node live.old turns.items
+        ensures { OnOk result (GoesEach course.now.sure course.now.order.now self.old.nodes.items node live.old turns.items
             self.new.nodes.items live.new) }
     {
         let mut long = false;
@@ -97,13 +123,13 @@ impl Search {
     /// All turns that a rank of a node may take next. Answers the rank if it would take more turns by itself behind one.
     fn go_rank(
         &mut self,
-        course: &Course<'_>,
+        course: &Manner<'_>,
         node: usize,
         live: &mut Standing,
         rank: u8,
     ) -> Result<Option<u8>, MoveFault>
         requires { 0 < length course.now.order.now }
-        ensures { OnOk result (ClosesRank course.now.order.now self.old.nodes.items node live.old rank self.new.nodes.items
+        ensures { OnOk result (ClosesRank course.now.sure course.now.order.now self.old.nodes.items node live.old rank self.new.nodes.items
             live.new) }
     {
         let place = usize::from(rank);
@@ -123,10 +149,10 @@ impl Search {
     }
 
     /// All moves of a node. Answers whether nobody goes on there.
-    pub(crate) fn visit(&mut self, course: &Course<'_>, node: usize) -> Result<Visit, MoveFault>
+    pub(crate) fn visit(&mut self, course: &Manner<'_>, node: usize) -> Result<Visit, MoveFault>
         requires { 0 < length course.now.order.now }
         ensures { IfOk result (λ visit. KeepsOf course.now.order.now self.old.nodes.items node self.new.nodes.items
-            (IsVisited course.now.order.now visit.end)) }
+            (IsVisited course.now.sure course.now.order.now visit.end)) }
     {
         if node >= self.nodes.len() {
             return Ok(Visit {

@@ -9,7 +9,7 @@ ghost use Rattle.cl_explore.specs.Kept.{AreSamePlaces, HaveStayedSince};
 ghost use Rattle.cl_explore.specs.Searching.{Arrives, IsFoundIn};
 
 use crate::candidates::Candidates;
-use crate::course::Course;
+use crate::course::Manner;
 use crate::kept::{KeptNode, keep_moved};
 use crate::leads::Lead;
 use crate::likeness::{is_alike, key_of, key_of_rank};
@@ -60,7 +60,7 @@ impl Search {
     /// Whether the node of this number is alike a standing, at the same places.
     fn is_at(
         &self,
-        course: &Course<'_>,
+        course: &Manner<'_>,
         standing: &Standing,
         node: usize,
     ) -> Result<bool, AllocError>
@@ -80,7 +80,7 @@ impl Search {
     /// A node that is alike a standing, at the same places: of those that have its key.
     fn finds(
         &self,
-        course: &Course<'_>,
+        course: &Manner<'_>,
         standing: &Standing,
         key: u64,
     ) -> Result<Option<usize>, AllocError>
@@ -114,7 +114,7 @@ impl Search {
     /// The cluster of a standing that came from the node of the number `parent` by turns of this rank, kept.
     fn keep(
         &self,
-        course: &Course<'_>,
+        course: &Manner<'_>,
         standing: &Standing,
         parent: usize,
         rank: usize,
@@ -135,7 +135,7 @@ impl Search {
     /// rank, led to it from the node of the number `parent`. Answers the number of the node.
     pub(crate) fn arrive(
         &mut self,
-        course: &Course<'_>,
+        course: &Manner<'_>,
         standing: &Standing,
         parent: usize,
         rank: usize,

@@ -3,3 +3,4 @@ pub mod Following
 pub mod Ways
 pub mod Going
 pub mod Resting
+pub mod Surely

@@ -3,3 +3,4 @@ pub mod Standing
 pub mod Ahead
 pub mod Ends
 pub mod Whole
+pub mod Sure

@@ -1,5 +1,6 @@
 //! What a search of all orders does at one cluster: the turns that a hart may take, all that the written machine has, also
-//! a look that misses; turns that need only their rank, taken at once; and whether nobody goes on.
+//! a look that misses; turns that need only their rank, and calls for what is there, taken at once; and whether nobody
+//! goes on.
 //!
 //! The laws of closed sets of clusters are those of `cl_order_laws`.
 #![tactic(auto)]
@@ -8,6 +9,7 @@ mod ends;
 mod faults;
 mod single;
 mod standing;
+mod sure;
 mod turns;
 
 pub use ends::{is_done, is_end};

@@ -79,7 +79,7 @@ fn looking(
 }
 
 /// The turn of a call: the hub's reply to it, which is told by a copy of the hub.
-fn calling(
+pub(crate) fn calling(
     alloc: Global,
     whose: Whose,
     hub: &HubState,

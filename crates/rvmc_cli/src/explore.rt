@@ -35,7 +35,7 @@ but the first has in its first line by whose message it differs:
   ..
   end 2: rank 0 at 0xa4 (divide+0x58) got rank 2's message, in end 1 rank 1's
   ..
-  2 ends of 20 states: no other end
+  2 ends of 14 states: no other end
 
 The last line says whether these are all ends. They aren't where more states are
 found than --states lets it go on from: `not all: 7 states are left`. What a rank

@@ -1,6 +1,5 @@
 -- A record of an end, and that there is none.
-use Rattle.std.proofs.Common.{ℕ, ◌≡◌, zero, suc, List, None, Option, Some, slice_get, subst, sym}
-use Rattle.std.specs.Prelude.{option_map, Result, Ok, Err, IfOk}
+use Rattle.std.proofs.Common.{ℕ, ◌≡◌, zero, suc, List, None, Option, Some, slice_get}
 use Rattle.rv_image.specs.Image.{IsImage}
 use Rattle.rv_image.specs.Text.{image_text}
 use Rattle.rv_image.specs.declared.images.ImageParts.{ImageParts}

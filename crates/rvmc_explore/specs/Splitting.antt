@@ -1,5 +1,5 @@
 -- The starts of a split.
-use Rattle.std.specs.Prelude.{ℕ, ◌+◌, ◌-◌, ◌<◌, ◌≤◌, ◌≡◌, ◌⊎◌, List, ◌++◌, ◌∷◌, [], length, map, slice_get, Option, Some, None}
+use Rattle.std.specs.Prelude.{ℕ, ◌+◌, ◌<◌, ◌≤◌, ◌≡◌, ◌⊎◌, List, ◌++◌, ◌∷◌, [], length, map, slice_get, Option, Some, None, false}
 use Rattle.std.specs.List.{flat_map}
 use Rattle.rv_image.specs.Text.{image_text}
 use Rattle.rv_image.specs.declared.images.ImageParts.{ImageParts}
@@ -12,7 +12,6 @@ use Rattle.rvmc_report.specs.Report.{newline}
 use Rattle.rvmc_starts.specs.Starts.{start_text}
 use Rattle.rvmc_starts.specs.Sums.{sum_of}
 use Rattle.rvmc_starts.specs.declared.starts.Start.{Start}
-use Rattle.rvmc_starts.specs.declared.sums.ImageSum.{ImageSum}
 use Rattle.rvmc_explore.specs.declared.splitting.Common.{Common}
 
 -- ---- where they are
@@ -82,12 +81,14 @@ Reach image order nodes ends left starts =
     → (k : ℕ) × (start : Start) × (steps : List Step) × (slice_get starts k ≡ Some start)
     × IsOrderedWay image order start.turns steps node
 
--- the starts of a search that went on until so many nodes were left, or as far as it might
+-- the starts of a search that went on until so many nodes were left, or as far as it might, without calls that are made at
+-- once
 pub record IsSplit (image : ImageParts) (order : List ℕ) (states least : ℕ) (text : List ℕ) : Type 0 where
   pub kept : List KeptNode
   pub ends : List ℕ
   pub left : ℕ
   pub explored : Explored image order kept ends left
+  pub plain : explored.sure ≡ false
   pub most : IsBounded states (Some least) (length kept) left
   pub starts : List Start
   pub split : ℕ

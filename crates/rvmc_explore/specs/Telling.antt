@@ -1,5 +1,5 @@
 -- What is told of a search.
-use Rattle.std.specs.Prelude.{ℕ, ◌+◌, ◌≡◌, ◌⊎◌, ◌++◌, ◌==◌, ◌<◌, List, [], ◌∷◌, Bool, false, Option, Some, None, codes, if◌then◌else◌, length, slice_get}
+use Rattle.std.specs.Prelude.{ℕ, ◌+◌, ◌≡◌, ◌⊎◌, ◌++◌, ◌==◌, List, [], ◌∷◌, Bool, false, Option, Some, None, codes, if◌then◌else◌, length, slice_get}
 use Rattle.std.specs.Fmt.{decimal}
 use Rattle.std.specs.List.{list_any}
 use Rattle.rv_image.specs.declared.images.ImageParts.{ImageParts}

@@ -1,4 +1,4 @@
-use Rattle.std.proofs.Common.{◌≡◌, Some, None, ap, sym, ◌∙◌}
+use Rattle.std.proofs.Common.{ap, sym, ◌∙◌}
 use Rattle.rvmc_explore.specs.Recorded.{numbered}
 use Rattle.rvmc_explore.proofs.ToEnds.{none_such, one_such}
 use Rattle.rvmc_explore.proofs.recording.record_in.Goals as goal

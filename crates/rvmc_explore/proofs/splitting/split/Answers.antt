@@ -3,7 +3,7 @@ use Rattle.std.specs.List.{flat_map}
 use Rattle.std.proofs.Math.Seq.{take-append_seam}
 use Rattle.std.proofs.lemmas.List.{length-map}
 use Rattle.rvmc_starts.specs.declared.starts.Start.{Start}
-use Rattle.rvmc_explore.specs.Splitting.{AreStartsAt, HasEachStart, split_sum, start_line, with_split}
+use Rattle.rvmc_explore.specs.Splitting.{AreStartsAt, split_sum, start_line, with_split}
 use Rattle.rvmc_explore.specs.declared.splitting.Common.{Common}
 use Rattle.rvmc_explore.proofs.EachStart.{are_of, they_reach}
 use Rattle.rvmc_explore.proofs.splitting.split.Goals as goal
@@ -12,7 +12,7 @@ pub returns : goal.returns
 returns c =
     let image = c.args.image.now in
     let found = c.in_ok-found.found in
-    let explored = c.in_ok-found.ensures.ends in
+    let explored = c.in_ok-found.ensures.ends.0 in
     let numbers = c.in_ok-numbers.numbers in
     let before = c.in_ok-starts.starts.items in
     let split = c.in_ok-split.split in
@@ -34,6 +34,7 @@ returns c =
       ends = found.ends.items;
       left = found.left;
       explored = explored;
+      plain = c.in_ok-found.ensures.ends.1;
       most = c.in_ok-found.ensures.most;
       starts = map (with_split split) before;
       split = split;

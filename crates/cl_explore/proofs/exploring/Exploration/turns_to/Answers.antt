@@ -1,5 +1,3 @@
-use Rattle.std.proofs.Common.{map, subst, sym, ◌∙◌, ap}
-use Rattle.cl_order_laws.specs.Orders.{turn_of}
 use Rattle.cl_explore.proofs.Finds.{turns_lead}
 use Rattle.cl_explore.proofs.exploring.Exploration.turns_to.Goals as goal
 

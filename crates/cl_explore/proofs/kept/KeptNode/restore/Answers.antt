@@ -4,9 +4,10 @@ use Rattle.cl_explore.proofs.Staying.{is_restored}
 use Rattle.cl_explore.proofs.kept.KeptNode.restore.Goals as goal
 
 pub returns : goal.returns
-returns c = λ stayed.
+returns c = λ came.
+    let stayed = c.in_ok-bring_back_others.ensures came in
     let k = c.args.self.now in
-    let standing = c.args.standing.now in
+    let standing = c.bring_back_others.new.standing in
     let rank = c.args.rank in
     let ranks = standing.cluster.ranks in
     let beside = subst (λ had. AreSameBeside had k.had.items rank) c.as_slice.ensures.value

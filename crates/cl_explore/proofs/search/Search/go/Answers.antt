@@ -17,16 +17,16 @@ returns-then-not-branch c =
     let kept = c.args.self.now.nodes in
     let here = slice_get_read kept.items c.len.result c.args.node c.index-kept.result.now
     (c.len.ensures ∙ kept.ok.0) c.if-node-len.false c.index-kept.ensures in
-    goes_nowhere c.args.course.now.order.now kept.items c.args.node c.index-kept.result.now here c.args.live.now
-    c.in_ok-live.field-0 c.args.turn
+    goes_nowhere c.args.course.now.order.now kept.items c.args.node c.index-kept.result.now here c.args.course.now.sure
+    c.args.live.now c.in_ok-live.field-0 c.args.turn
     (subst (λ b. Takes c.args.live.now c.args.turn c.take.new.self b) c.if-not-branch.true c.in_ok-take.ensures.takes)
     c.in_ok-live.ensures
 
 pub returns-then-node-len-2 : goal.returns-then-node-len-2
 returns-then-node-len-2 c =
     let new = c.arrive.new.self.nodes in
-    goes_past c.args.course.now.order.now c.args.self.now.nodes.items new.items c.args.node c.args.turn c.args.live.now
-    c.take.new.self c.go_ahead.new.self _
+    goes_past c.args.course.now.sure c.args.course.now.order.now c.args.self.now.nodes.items new.items c.args.node c.args.turn c.args.live.now
+    c.take.new.self c.go_on.new.live _
     (subst (λ b. Takes c.args.live.now c.args.turn c.take.new.self b) c.if-not-branch.false c.in_ok-take.ensures.takes)
     c.in_ok-fewer.ensures c.in_ok-to.ensures (omega (arith, c.if-node-len-2.true, c.len-2.ensures, new.ok.0))
 
@@ -36,11 +36,11 @@ returns c =
     let again = c.index-again.result.now in
     let here = slice_get_read new.items c.len-2.result c.args.node again (c.len-2.ensures ∙ new.ok.0)
     c.if-node-len-2.false c.index-again.ensures in
-    goes_on c.args.course.now.order.now c.args.self.now.nodes.items new.items c.args.node c.args.turn c.args.live.now
-    c.take.new.self c.go_ahead.new.self c.restore.new.standing
+    goes_on c.args.course.now.sure c.args.course.now.order.now c.args.self.now.nodes.items new.items c.args.node c.args.turn c.args.live.now
+    c.take.new.self c.go_on.new.live c.restore.new.standing
     (subst (λ b. Takes c.args.live.now c.args.turn c.take.new.self b) c.if-not-branch.false c.in_ok-take.ensures.takes)
     c.in_ok-fewer.ensures c.in_ok-to.ensures
     (λ k at stayed.
     let same = same_Some again k (sym here ∙ at) in
     subst (λ (x : KeptNode). IsLiveOf x c.restore.new.standing) same
-    (c.in_ok-restore.ensures (subst (λ (x : KeptNode). HaveStayed x c.go_ahead.new.self) (sym same) stayed)))
+    (c.in_ok-restore.ensures (subst (λ (x : KeptNode). HaveStayed x c.go_on.new.live) (sym same) stayed)))
