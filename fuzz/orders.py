@@ -13,6 +13,13 @@ from ranks import messages_of
 # turns that need only their rank, and leave nobody waiting
 ALONE = (PLAIN, LOCAL, IDLE)
 
+# what the hub is asked where who asks may go first, if it is there: the message of a receive of its own, whether its send is
+# complete, several of these, the next message to be received, and how a link is cut
+STAYS = ("collect", "finished", "all", "probe", "cut")
+
+# how often each rank goes first with such calls before others may
+ROUNDS = 64
+
 # how many turns a rank takes by itself before a search is given up
 LONGEST = 3_000
 
@@ -98,34 +105,40 @@ def copy_of_boxes(boxes):
 # ---- keys: equal where all is, but clocks and stamps
 
 
-def key_of_request(request, named):
-    """A request's fields, with the number of its post or whether it has one."""
+def key_of_request(request, name):
+    """A request's fields, with what its post is called."""
     transfer, side = request.transfer, request.side
     fields = (transfer.at, transfer.count, transfer.peer, transfer.tag, transfer.comm, transfer.parts)
     phase = side and (side.link, side.parts, side.size, tuple(sorted(side.ready)), side.freed, side.cut)
     taken = side and tuple(sorted(side.taken))
-    post = request.post if named else request.post is not None
-    return request.kind, request.persistent, request.active, fields, phase, taken, post
+    return request.kind, request.persistent, request.active, fields, phase, taken, name(request.post)
 
 
-def key_of_rank(rank, named=True):
-    """A rank's memory, harts, requests and output, with the numbers of posts or without."""
+def key_of_rank(rank, name=lambda number: number):
+    """A rank's memory, harts, requests and output, with what posts are called, by default by their numbers."""
     harts = tuple(
-        (hart.pc, hart.mode, hart.why if named or hart.mode != WAITING else None, tuple(hart.regs)) for hart in rank.harts
+        (hart.pc, hart.mode, name(hart.why) if hart.mode == WAITING else hart.why, tuple(hart.regs)) for hart in rank.harts
     )
-    requests = tuple((handle, key_of_request(rank.requests[handle], named)) for handle in sorted(rank.requests))
+    requests = tuple((handle, key_of_request(rank.requests[handle], name)) for handle in sorted(rank.requests))
     return bytes(rank.memory.bytes), harts, requests, bytes(rank.out)
+
+
+def key_of_post(post, name):
+    """A post, with what its partner is called."""
+    fields = (post.kind, post.rank, post.partner and name(post.partner), post.sync, post.dest, post.envelope, post.text)
+    return *fields, post.comm, post.source, post.tag, post.collected, post.received
+
+
+def key_of_side(side):
+    """A side of a transfer."""
+    return side.sends, side.key, side.parts, side.size, side.link
 
 
 def key_of_hub(hub):
     """All posts in their order, each with the place of its partner, and all sides."""
     places = {id(post): place for place, post in enumerate(hub.posts)}
-    posts = tuple(
-        (post.kind, post.rank, post.partner and places[id(post.partner)], post.sync, post.dest, post.envelope, post.text)
-        + (post.comm, post.source, post.tag, post.collected, post.received)
-        for post in hub.posts
-    )
-    return posts, tuple((side.sends, side.key, side.parts, side.size, side.link) for side in hub.sides)
+    posts = tuple(key_of_post(post, lambda other: places[id(other)]) for post in hub.posts)
+    return posts, tuple(map(key_of_side, hub.sides))
 
 
 def key_of_boxes(boxes):
@@ -144,6 +157,9 @@ class State:
 class Search:
     """All states that some order of turns leads to. Where `each` is set, each turn is one of its own; else turns that
     need only their rank are taken at once, for they can be exchanged with those of others."""
+
+    # whether an end is left alone: what waits there may look in vain
+    is_over = True
 
     def __init__(self, image, plan, each, most):
         self.image, self.plan, self.each, self.most = image, plan, each, most
@@ -268,7 +284,8 @@ class Search:
             if self.is_end(state):
                 ends[what_is_known(state.ranks)] = text_of(state.ranks, self.plan)
                 stops.append(state.key)
-                continue
+                if self.is_over:
+                    continue
             try:
                 for after in self.moves(state):
                     if after.key not in before:
@@ -298,6 +315,82 @@ class Search:
         return None
 
 
+class Ahead(Search):
+    """The states as they are counted: where each rank makes its calls for what is there and stays at once, for no turn of
+    another rank changes what such a call answers; and where states count as one that are equal but for clocks, stamps, and
+    the numbers of posts that are no claims. Posts go by the rank that made them, and as the how manieth of its own; sends
+    that have no partner stay in order, to each destination in each communicator."""
+
+    is_over = False
+
+    def __init__(self, image, plan, most):
+        super().__init__(image, plan, False, most)
+
+    def called(self, hub):
+        """What each post is called."""
+        counts, names = [0] * self.image.ranks, []
+        for number, post in enumerate(hub.posts, 1):
+            counts[post.rank] += 1
+            names.append(number if post.kind == "claim" else (post.rank, counts[post.rank]))
+        return names
+
+    def state(self, ranks, hub, boxes):
+        """A state, known by all that counts."""
+        names = self.called(hub)
+        of_number = lambda number: number and names[number - 1]
+        places = {id(post): name for post, name in zip(hub.posts, names)}
+        posts, waiting, sides = {}, {}, {}
+        for post in hub.posts:
+            posts.setdefault(post.rank, []).append(key_of_post(post, lambda other: places[id(other)]))
+            if post.kind == "send" and not post.partner:
+                waiting.setdefault((post.dest, post.envelope[0]), []).append(places[id(post)])
+        for side in hub.sides:
+            sides.setdefault((side.sends, side.key), []).append(key_of_side(side))
+        keys = []
+        for rank in ranks:
+            place = 0 if self.is_done(rank) else rank.turns % len(self.plan)
+            keys.append((place, key_of_rank(rank, of_number)))
+        key = self.number(repr((keys, *(sorted(it.items()) for it in (posts, waiting, sides)), key_of_boxes(boxes))))
+        return State(ranks, hub, boxes, key)
+
+    def behind(self, state, number, must_miss=False):
+        """The state behind a rank's next turn, and the turn's kind."""
+        rank, around, step = self.turn(state, number, self.next_hart(state.ranks[number]), must_miss)
+        ranks = list(state.ranks)
+        ranks[number] = self.settled(rank)
+        return self.state(ranks, around.hub, around.boxes), step.kind
+
+    def is_sure(self, state, number):
+        """Whether a rank's next turn is a call for what is there and stays."""
+        rank = state.ranks[number]
+        if self.is_done(rank) or not self.meets(rank, self.next_hart(rank)):
+            return False
+        after = copy_of_rank(rank, Around(self.image, copy_of_hub(state.hub), copy_of_boxes(state.boxes)))
+        asked, ask = [], after.ask
+        after.ask = lambda name, *arguments: asked.append(name) or ask(name, *arguments)
+        step = after.turn(self.next_hart(after))
+        return step.kind == HUB and asked[0] in STAYS and step.reply != NOT_YET and step.reply[0] != 0
+
+    def ahead(self, state):
+        """The state behind all such calls."""
+        for _ in range(ROUNDS):
+            sure = [number for number in range(len(state.ranks)) if self.is_sure(state, number)]
+            if not sure:
+                break
+            for number in sure:
+                state = self.behind(state, number)[0]
+        return state
+
+    def first(self):
+        """The state that the image begins as."""
+        first = super().first()
+        return self.ahead(self.state(first.ranks, first.hub, first.boxes))
+
+    def moves(self, state):
+        """The states that one turn leads to, and the calls behind it."""
+        return map(self.ahead, super().moves(state))
+
+
 def led_to(stops, before):
     """The states that lead to one of these, by those from which each was come to."""
     found, todo = set(stops), list(stops)
@@ -314,7 +407,7 @@ def led_to(stops, before):
 
 def what_is_known(ranks):
     """All that alike ends have in common: memory, registers, modes, requests and output of each rank."""
-    return tuple(key_of_rank(rank, False) for rank in ranks)
+    return tuple(key_of_rank(rank, lambda number: number is not None) for rank in ranks)
 
 
 def waits(rank, plan):

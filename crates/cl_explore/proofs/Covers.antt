@@ -18,7 +18,8 @@ use Rattle.cl_order_laws.specs.Sure.{Settles}
 use Rattle.cl_order_laws.proofs.Covered.{covered_on, only_one}
 use Rattle.cl_order_laws.proofs.Likeness.{itself}
 use Rattle.cl_moves.specs.Ahead.{GoesAhead}
-use Rattle.cl_moves.specs.Sure.{GoesSurely, most_posts}
+use Rattle.cl_moves.specs.Posts.{most_posts}
+use Rattle.cl_moves.specs.Sure.{GoesSurely}
 use Rattle.cl_moves.proofs.Surely.{alike_by, sure_ahead, sure_more, went_covers}
 use Rattle.cl_moves.specs.Standing.{IsWay, StandsAt, by_order, node_of}
 use Rattle.cl_moves.specs.declared.standing.Standing.{Standing}

@@ -16,7 +16,7 @@ use Rattle.cl_order_laws.proofs.AtOnce.{at_once_law}
 use Rattle.cl_order_laws.proofs.Deadlocks.{ends_law}
 use Rattle.cl_order_laws.proofs.Ends.{every_end_law}
 use Rattle.cl_moves.specs.Standing.{IsStart, IsWay, StandsAt, by_order, first_node}
-use Rattle.cl_moves.specs.Sure.{most_posts}
+use Rattle.cl_moves.specs.Posts.{most_posts}
 use Rattle.cl_moves.specs.declared.standing.Standing.{Standing}
 use Rattle.cl_explore.specs.Kept.{IsBefore, IsLed}
 use Rattle.cl_explore.specs.Covering.{AreNodes, HasRoom, HasRoomAt, IsClosedAt, Reaches}

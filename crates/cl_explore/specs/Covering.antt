@@ -9,9 +9,9 @@ use Rattle.mp_hub.specs.Hub.{HubView}
 use Rattle.mp_alike_laws.specs.Renaming.{Renaming}
 use Rattle.cl_order_laws.specs.Alike.{AlikeClusters, Leads}
 use Rattle.cl_order_laws.specs.Closed.{IsCovered, IsDone, IsSamePlace, Node, Plans, one_more}
-use Rattle.cl_order_laws.specs.Sure.{IsSettled}
+use Rattle.cl_order_laws.specs.Sure.{IsSettledBy}
 use Rattle.cl_moves.specs.Standing.{by_order, node_of}
-use Rattle.cl_moves.specs.Sure.{most_posts}
+use Rattle.cl_moves.specs.Posts.{most_posts}
 use Rattle.cl_explore.specs.Kept.{IsLed, KeptStandsAt}
 use Rattle.cl_explore.specs.declared.kept.KeptNode.{KeptNode}
 
@@ -41,7 +41,7 @@ IsAlikeOneOf order nodes here =
 
 -- the nodes cover it, or, where calls for what is there are made at once, they settle it
 abbrev pub Reaches : Bool → List ℕ → List Node → Node → Type 0
-Reaches true order nodes here = IsSettled (by_order order) most_posts nodes here
+Reaches true order nodes here = IsSettledBy (by_order order) most_posts nodes here
 Reaches false order nodes here = IsCovered (by_order order) nodes here
 
 -- then few posts were made

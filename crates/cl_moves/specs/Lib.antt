@@ -3,4 +3,5 @@ pub mod Standing
 pub mod Ahead
 pub mod Ends
 pub mod Whole
+pub mod Posts
 pub mod Sure

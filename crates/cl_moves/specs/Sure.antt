@@ -15,9 +15,10 @@ use Rattle.cl_trace.specs.declared.events.Kind.{Kind}
 use Rattle.cl_machine.specs.declared.steps.Step.{Step}
 use Rattle.cl_order_laws.specs.Closed.{Node, Plans}
 use Rattle.cl_order_laws.specs.Laws.{IsReached}
-use Rattle.cl_order_laws.specs.Sure.{IsSettled}
+use Rattle.cl_order_laws.specs.Sure.{IsSettledBy}
 use Rattle.cl_order_laws.specs.SureTurns.{IsReady}
 use Rattle.cl_moves.specs.Moves.{turn_at}
+use Rattle.cl_moves.specs.Posts.{most_posts}
 use Rattle.cl_moves.specs.Standing.{IsWay, StandsAt, by_order}
 use Rattle.cl_moves.specs.declared.standing.Standing.{Standing}
 use Rattle.cl_moves.specs.declared.single.Whose.{Whose}
@@ -65,14 +66,10 @@ IsSureNext order standing rank (Some e) = IsSureTurn order standing rank e
 
 -- ---- where they lead
 
--- fewer posts than a hub holds messages
-abbrev pub most_posts : ℕ
-most_posts = 65535
-
 -- what settles the one settles the other
 abbrev pub SettlesBy : Plans → Node → Node → Type 0
 SettlesBy plans here there =
-    (nodes : List Node) → IsSettled plans most_posts nodes there → IsSettled plans most_posts nodes here
+    (nodes : List Node) → IsSettledBy plans most_posts nodes there → IsSettledBy plans most_posts nodes here
 
 -- whichever node the old standing was that a run led to, the new one is one that settles it
 abbrev pub GoesSurely : List ℕ → Standing → Standing → Type 0

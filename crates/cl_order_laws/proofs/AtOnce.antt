@@ -6,7 +6,7 @@ use Rattle.cl_machine.specs.declared.steps.Step.{Step}
 use Rattle.cl_machine.specs.Cluster.{Cluster, IsRun}
 use Rattle.cl_order_laws.specs.Alike.{hub_of}
 use Rattle.cl_order_laws.specs.Closed.{FollowPlans, IsCovered, Node, Plans, had_after, one_more}
-use Rattle.cl_order_laws.specs.Sure.{AtOnceLaw, Goes, GoesOn, HasPostsWithin, IsClosedAtOnce, IsSettled, IsSure, Settles}
+use Rattle.cl_order_laws.specs.Sure.{AtOnceLaw, Goes, GoesOn, HasPostsWithin, IsClosedAtOnce, IsSettledBy, IsSure, Settles}
 use Rattle.cl_order_laws.proofs.Covered.{node_of}
 use Rattle.cl_order_laws.proofs.Splits.{by_alike}
 use Rattle.cl_order_laws.proofs.Sure.{sure_law, sure_on, turn_on}
@@ -152,7 +152,7 @@ module _ (plans : Plans) (most : ℕ) where
         (walk.0, walk.1, one_behind rs r walk.0 mid new walk.2 goes)
 
     -- a run that came so far goes on so
-    goes_on : (start : Node) → IsSettled plans most nodes start → (rs done : List ℕ) (here there : Node)
+    goes_on : (start : Node) → IsSettledBy plans most nodes start → (rs done : List ℕ) (here there : Node)
         → GoesOn plans done start here → posts here.cluster < most → GoesOn plans rs here there
         → posts there.cluster < most
     goes_on start settled [] done here there came less walk =
@@ -165,7 +165,7 @@ module _ (plans : Plans) (most : ℕ) where
         (omega (arith, one, less)))
         walk.2
 
-few : (plans : Plans) (most : ℕ) (nodes : List Node) (start : Node) → IsSettled plans most nodes start
+few : (plans : Plans) (most : ℕ) (nodes : List Node) (start : Node) → IsSettledBy plans most nodes start
     → HasPostsWithin most start.cluster → IsClosedAtOnce plans most nodes
     → (steps : List Step) (end : Cluster) → IsRun start.cluster steps end → FollowPlans plans start.had steps
     → length (hub_of end.journal).board.lines < most

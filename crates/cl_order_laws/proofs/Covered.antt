@@ -23,7 +23,7 @@ use Rattle.cl_machine.specs.Cluster.{CaseOf, Cluster, IsRun, only_told}
 use Rattle.cl_order_laws.specs.Alike.{AlikeBoxes, AlikeRanks, AreEach, Leads, at_stamp, hub_of}
 use Rattle.cl_order_laws.specs.Closed.{FollowPlans, IsAhead, IsBehind, IsClosed, IsCovered, IsDone, IsSamePlace, NeedsOnlyRank, Node, Plans, Turns, had_after, one_more}
 use Rattle.cl_order_laws.specs.Laws.{CoveredLaw}
-use Rattle.cl_order_laws.specs.Sure.{Goes, LeadsTo}
+use Rattle.cl_order_laws.specs.Sure.{Goes, WhereverLeads}
 use Rattle.cl_order_laws.proofs.Ahead.{behind_on, done_back, one_on, same_hart}
 use Rattle.cl_order_laws.proofs.Boxes.{boxes_on}
 use Rattle.cl_order_laws.proofs.Each.{set_here, set_length, was_there}
@@ -314,13 +314,13 @@ module _ (plans : Plans) (nodes : List Node) (c new : Cluster) (had : Turns) (e 
 
   -- where the node that covers is closed in the rank, the list covers again
   pub step_covered : ((other : Rank) → slice_get cov.node.cluster.ranks e.rank ≡ Some other
-      → IsDone (plans e.rank) other ⊎ LeadsTo plans cov.node e.rank (IsCovered plans nodes)) → IsCovered plans nodes Here
-  step_covered what = elim (step_goes (LeadsTo plans cov.node e.rank (IsCovered plans nodes)) what) [
+      → IsDone (plans e.rank) other ⊎ WhereverLeads plans cov.node e.rank (IsCovered plans nodes)) → IsCovered plans nodes Here
+  step_covered what = elim (step_goes (WhereverLeads plans cov.node e.rank (IsCovered plans nodes)) what) [
     | inl same ↦ same
     | inr v ↦ on (v.1).next (v.1).goes v.0 (v.1).covers
   ]
     where
-      on : (next : Node) → Goes plans e.rank cov.node next → LeadsTo plans cov.node e.rank (IsCovered plans nodes)
+      on : (next : Node) → Goes plans e.rank cov.node next → WhereverLeads plans cov.node e.rank (IsCovered plans nodes)
           → IsCovered plans (next ∷ []) Here → IsCovered plans nodes Here
       on next goes moves covers =
           covered_on plans (next ∷ []) nodes Here covers

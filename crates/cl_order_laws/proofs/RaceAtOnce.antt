@@ -22,7 +22,7 @@ use Rattle.cl_machine.specs.Journal.{reply_in}
 use Rattle.cl_order_laws.specs.Alike.{AlikeBoxes, AreEach, Leads, hub_of}
 use Rattle.cl_order_laws.specs.Closed.{IsDone, Node, one_more}
 use Rattle.cl_order_laws.specs.Race.{WorkedRace, at_once, end_0, end_1, from_0, from_1, got, got_0, got_1, one_hart, open_node, sender_0, sender_1, sends, sent, sent_0, sent_1, waiting}
-use Rattle.cl_order_laws.specs.Sure.{IsClosedAtOnce, IsSettled, IsSure, LeadsTo}
+use Rattle.cl_order_laws.specs.Sure.{IsClosedAtOnce, IsSettledBy, IsSure, WhereverLeads}
 use Rattle.cl_order_laws.specs.SureTurns.{IsReady}
 use Rattle.cl_order_laws.proofs.Covered.{each_on}
 use Rattle.cl_order_laws.proofs.Each.{set_here, set_length, was_there}
@@ -116,7 +116,7 @@ module _ (r : ℕ) (x : Rank) (q : Request) (i k : ℕ) (then next : Node) (y z 
         (each_on [] then.cluster.boxes next.cluster.boxes calls.boxes collects.boxes);
   }
 
-  pub settled : IsSettled one_hart 65535 at_once (record { cluster = new; had = one_more open_node.had r })
+  pub settled : IsSettledBy one_hart 65535 at_once (record { cluster = new; had = one_more open_node.had r })
   settled = (
     1,
     inr (inr (
@@ -131,7 +131,7 @@ module _ (r : ℕ) (x : Rank) (q : Request) (i k : ℕ) (then next : Node) (y z 
 -- ---- the list is closed
 
 abbrev IsMoving : Node → ℕ → Rank → Type 0
-IsMoving node r rank = IsDone (one_hart r) rank ⊎ LeadsTo one_hart node r (IsSettled one_hart 65535 at_once)
+IsMoving node r rank = IsDone (one_hart r) rank ⊎ WhereverLeads one_hart node r (IsSettledBy one_hart 65535 at_once)
 
 abbrev AreMoving : Node → Type 0
 AreMoving node = (r : ℕ) (rank : Rank) → slice_get node.cluster.ranks r ≡ Some rank → IsMoving node r rank

@@ -9,7 +9,7 @@ use Rattle.cl_machine.specs.Cluster.{Cluster}
 use Rattle.cl_order_laws.specs.Closed.{IsCovered, IsDone, IsEnd, Node, Plans, had_after, one_more}
 use Rattle.cl_order_laws.specs.Laws.{AreAlike}
 use Rattle.cl_order_laws.specs.Splits.{HasAlike}
-use Rattle.cl_order_laws.specs.Sure.{Goes, GoesOn, HasPostsWithin, IsClosedBySure, IsSettled, IsSure, LeadsTo, Settles, SureLaw}
+use Rattle.cl_order_laws.specs.Sure.{Goes, GoesOn, HasPostsWithin, IsClosedBySure, IsSettledBy, IsSure, WhereverLeads, Settles, SureLaw}
 use Rattle.cl_order_laws.proofs.Covered.{covered_among, node_of, step_goes}
 use Rattle.cl_order_laws.proofs.Deadlocks.{ends_law}
 use Rattle.cl_order_laws.proofs.Ends.{end_alike}
@@ -87,18 +87,18 @@ module _ (plans : Plans) where
   pub turn_on : (most : ℕ) (nodes : List Node) (r : ℕ) (here mid : Node) (cov : IsCovered plans nodes here)
       → Goes plans r here mid
       → ((r : ℕ) (rank : Rank) → slice_get cov.node.cluster.ranks r ≡ Some rank
-      → IsDone (plans r) rank ⊎ LeadsTo plans cov.node r (IsSettled plans most nodes))
-      → IsCovered plans nodes mid ⊎ ((next : Node) × Covers plans next mid × IsSettled plans most nodes next)
+      → IsDone (plans r) rank ⊎ WhereverLeads plans cov.node r (IsSettledBy plans most nodes))
+      → IsCovered plans nodes mid ⊎ ((next : Node) × Covers plans next mid × IsSettledBy plans most nodes next)
   turn_on most nodes r here mid cov goes each =
       let s = stepped plans r here mid goes in
       elim (step_goes plans nodes here.cluster mid.cluster here.had s.0 s.3 s.2 cov
-      (LeadsTo plans cov.node (s.0).rank (IsSettled plans most nodes)) (λ other there. each (s.0).rank other there)) [
+      (WhereverLeads plans cov.node (s.0).rank (IsSettledBy plans most nodes)) (λ other there. each (s.0).rank other there)) [
         | inl covers ↦ inl (subst (IsCovered plans nodes) (sym s.4) covers)
         | inr v ↦
             let t = (v.1).goes in inr (
               (v.1).next,
               subst (Covers plans (v.1).next) (sym s.4) (v.1).covers,
-              subst (λ had. IsSettled plans most nodes (node_of (v.1).next.cluster had)) (sym t.had)
+              subst (λ had. IsSettledBy plans most nodes (node_of (v.1).next.cluster had)) (sym t.had)
                   (v.0 t.step (v.1).next.cluster t.rank t.hart t.leads),
             )
       ]
@@ -114,15 +114,15 @@ module _ (plans : Plans) where
         → HasAlike nodes end.cluster
 
     by_sure : (bound : ℕ) → Finds bound → (rs : List ℕ) (here end : Node) (r : ℕ) → length rs ≤ bound
-        → IsSure plans most here r → LeadsTo plans here r (IsSettled plans most nodes) → GoesOn plans rs here end
+        → IsSure plans most here r → WhereverLeads plans here r (IsSettledBy plans most nodes) → GoesOn plans rs here end
         → IsEnd plans end.cluster → HasPostsWithin most end.cluster
         → HasAlike nodes end.cluster
     by_sure bound finds rs here end r small sure leads walk is within =
         let g = front most r rs here end sure walk is within in
         let t = g.goes in
         let fewer = g.fewer in
-        let settled : IsSettled plans most nodes g.mid =
-        subst (λ had. IsSettled plans most nodes (node_of g.mid.cluster had)) (sym t.had)
+        let settled : IsSettledBy plans most nodes g.mid =
+        subst (λ had. IsSettledBy plans most nodes (node_of g.mid.cluster had)) (sym t.had)
         (leads t.step g.mid.cluster t.rank t.hart t.leads) in
         let h = finds g.ranks g.mid g.last settled.0 (omega (arith, fewer, small)) settled.1 g.walk g.is g.within in
         (h.0, h.1, h.2, g.alike (h.1).cluster h.3)
@@ -130,7 +130,7 @@ module _ (plans : Plans) where
     by_each : (bound : ℕ) → Finds bound → (rs : List ℕ) (here end : Node) (cov : IsCovered plans nodes here)
         → length rs ≤ bound → GoesOn plans rs here end → IsEnd plans end.cluster → HasPostsWithin most end.cluster
         → ((r : ℕ) (rank : Rank) → slice_get cov.node.cluster.ranks r ≡ Some rank
-        → IsDone (plans r) rank ⊎ LeadsTo plans cov.node r (IsSettled plans most nodes))
+        → IsDone (plans r) rank ⊎ WhereverLeads plans cov.node r (IsSettledBy plans most nodes))
         → HasAlike nodes end.cluster
     by_each bound finds [] here end cov small walk is within each =
         let at = subst (IsCovered plans nodes) (sym walk) cov in
@@ -141,7 +141,7 @@ module _ (plans : Plans) where
           | inr v ↦ on v.0 (follow plans rs v.0 walk.0 end v.1 walk.2 is) v.2
         ]
       where
-        on : (next : Node) → Follows plans (length rs) next end → IsSettled plans most nodes next
+        on : (next : Node) → Follows plans (length rs) next end → IsSettledBy plans most nodes next
             → HasAlike nodes end.cluster
         on next f settled =
             let few = f.most in

@@ -29,8 +29,8 @@ AreOthers r [] = Unit {0}
 AreOthers r (s ∷ ss) = (s ≢ r) × AreOthers r ss
 
 -- wherever the rank's next turn may lead, this holds
-abbrev pub LeadsTo : Plans → Node → ℕ → (Node → Type 0) → Type 0
-LeadsTo plans node r P =
+abbrev pub WhereverLeads : Plans → Node → ℕ → (Node → Type 0) → Type 0
+WhereverLeads plans node r P =
     (e : Step) (new : Cluster) → e.rank ≡ r → e.hart ≡ plans r (node.had r) → Leads node.cluster e new
     → P (record { cluster = new; had = one_more node.had r })
 
@@ -68,10 +68,10 @@ Settles plans most nodes zero here = IsCovered plans nodes here
 Settles plans most nodes (suc n) here =
     IsCovered plans nodes here
     ⊎ (((there : Node) × IsCovered plans (there ∷ []) here × Settles plans most nodes n there)
-    ⊎ ((r : ℕ) × IsSure plans most here r × LeadsTo plans here r (Settles plans most nodes n)))
+    ⊎ ((r : ℕ) × IsSure plans most here r × WhereverLeads plans here r (Settles plans most nodes n)))
 
-abbrev pub IsSettled : Plans → ℕ → List Node → Node → Type 0
-IsSettled plans most nodes here = (n : ℕ) × Settles plans most nodes n here
+abbrev pub IsSettledBy : Plans → ℕ → List Node → Node → Type 0
+IsSettledBy plans most nodes here = (n : ℕ) × Settles plans most nodes n here
 
 -- ---- closed sets
 
@@ -79,15 +79,15 @@ IsSettled plans most nodes here = (n : ℕ) × Settles plans most nodes n here
 -- all harts that its plan names are stopped
 pub record IsClosedBySure (plans : Plans) (most : ℕ) (nodes : List Node) : Type 0 where
   pub each : (i : ℕ) (node : Node) → slice_get nodes i ≡ Some node
-      → ((r : ℕ) × IsSure plans most node r × LeadsTo plans node r (IsSettled plans most nodes))
+      → ((r : ℕ) × IsSure plans most node r × WhereverLeads plans node r (IsSettledBy plans most nodes))
       ⊎ ((r : ℕ) (rank : Rank) → slice_get node.cluster.ranks r ≡ Some rank
-      → IsDone (plans r) rank ⊎ LeadsTo plans node r (IsSettled plans most nodes))
+      → IsDone (plans r) rank ⊎ WhereverLeads plans node r (IsSettledBy plans most nodes))
 
 -- it has each end with no more posts than so many: of every run that follows the plans, of any length and with any
 -- order of the ranks. Clusters on the way may be alike none of the nodes
 abbrev pub SureLaw : Type 0
 SureLaw =
-    (plans : Plans) (most : ℕ) (nodes : List Node) (start : Node) → IsSettled plans most nodes start
+    (plans : Plans) (most : ℕ) (nodes : List Node) (start : Node) → IsSettledBy plans most nodes start
     → IsClosedBySure plans most nodes
     → (steps : List Step) (end : Cluster) → IsRun start.cluster steps end → FollowPlans plans start.had steps
     → IsEnd plans end → HasPostsWithin most end
@@ -101,17 +101,17 @@ SureLaw =
 pub record IsClosedAtOnce (plans : Plans) (most : ℕ) (nodes : List Node) : Type 0 where
   pub each : (i r : ℕ) (node : Node) (rank : Rank) → slice_get nodes i ≡ Some node
       → slice_get node.cluster.ranks r ≡ Some rank
-      → IsDone (plans r) rank ⊎ LeadsTo plans node r (IsSettled plans most nodes)
+      → IsDone (plans r) rank ⊎ WhereverLeads plans node r (IsSettledBy plans most nodes)
   pub few : (i : ℕ) (node : Node) → slice_get nodes i ≡ Some node
       → length (hub_of node.cluster.journal).board.lines < most
 
 -- then no run makes as many, and the list has each end
 pub record AtOnceLaw : Type 0 where
-  pub few : (plans : Plans) (most : ℕ) (nodes : List Node) (start : Node) → IsSettled plans most nodes start
+  pub few : (plans : Plans) (most : ℕ) (nodes : List Node) (start : Node) → IsSettledBy plans most nodes start
       → HasPostsWithin most start.cluster → IsClosedAtOnce plans most nodes
       → (steps : List Step) (end : Cluster) → IsRun start.cluster steps end → FollowPlans plans start.had steps
       → length (hub_of end.journal).board.lines < most
-  pub ends : (plans : Plans) (most : ℕ) (nodes : List Node) (start : Node) → IsSettled plans most nodes start
+  pub ends : (plans : Plans) (most : ℕ) (nodes : List Node) (start : Node) → IsSettledBy plans most nodes start
       → HasPostsWithin most start.cluster → IsClosedAtOnce plans most nodes
       → (steps : List Step) (end : Cluster) → IsRun start.cluster steps end → FollowPlans plans start.had steps
       → IsEnd plans end
