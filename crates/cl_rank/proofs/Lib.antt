@@ -1,4 +1,5 @@
 pub mod Alone
+pub mod Anew
 pub mod Answered
 pub mod Asks
 pub mod Boxes

@@ -95,7 +95,7 @@ may_wait r t c post request may polls asks = record {
 -- ---- a hart that makes a call anew which waits for several requests
 
 -- such a hart waits
-anew_mode : (m : Mode) → is_anew m ≡ true → m ≡ Waiting Again
+pub anew_mode : (m : Mode) → is_anew m ≡ true → m ≡ Waiting Again
 anew_mode (Waiting Again) h = refl
 anew_mode (Waiting (Post post)) h = absurd (cc)
 anew_mode Runs h = absurd (cc)

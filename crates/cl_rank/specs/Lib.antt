@@ -4,6 +4,7 @@ pub mod Sides
 pub mod RankSides
 pub mod Facts
 pub mod Roomy
+pub mod Anew
 pub mod Steps
 pub mod Tidings
 pub mod Fitting

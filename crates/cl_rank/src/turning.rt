@@ -16,7 +16,8 @@ ghost use Rattle.cl_state.specs.Asked.{asked, is_ecall as is_ecall_of};
 ghost use Rattle.cl_state.specs.Room.{rank_of};
 ghost use Rattle.cl_state.specs.Told.{told};
 ghost use Rattle.cl_rank.specs.Follows.{named_link as named_link_in, started_link};
-ghost use Rattle.cl_rank.specs.Roomy.{IsAgain};
+ghost use Rattle.cl_rank.specs.Anew.{WaitsAnew, waits_for_one as waits_for_one_in};
+ghost use Rattle.cl_rank.specs.Roomy.{IsAgain, is_anew as is_anew_in};
 ghost use Rattle.cl_rank.specs.Tidings.{HasLooked, TakeTells, TestTells};
 ghost use Rattle.cl_rank.specs.Turns.{AllStopped, IsActive};
 ghost use Rattle.cl_rank.specs.Turning.{StopHolds};
@@ -118,6 +119,23 @@ pub(crate) fn all_stopped(state: &RankState) -> bool
 pub(crate) struct Turn {
     pub(crate) hart: u8,
     pub(crate) doing: Doing,
+}
+
+/// Whether a hart makes its call anew.
+fn is_anew(hart: &Hart) -> bool
+    ensures { result ≡ is_anew_in hart.now.mode }
+{
+    matches!(hart.mode(), Mode::Waiting(Wait::Again))
+}
+
+/// Whether the call waits for one thing: what one request waits for, or a message to look for.
+fn waits_for_one(doing: &Doing) -> bool
+    ensures { result ≡ waits_for_one_in doing.now }
+{
+    match doing {
+        Doing::Go(call) => matches!(call, Call::Wait(_) | Call::Probe(_) | Call::Mprobe(_)),
+        _ => false,
+    }
 }
 
 /// The link on which a call begins a phase, if it does.
@@ -277,6 +295,9 @@ impl Rank {
             if let Some(request) = self.known(hart) {
                 return self.poll_again(rt, desk, hart, request);
             }
+            if let Some(request) = self.asked_anew(hart) {
+                return self.poll_again(rt, desk, hart, request);
+            }
         }
         self.slow_turn(channels, rt, desk, hart)
     }
@@ -405,6 +426,32 @@ impl Rank {
         }
     }
 
+    /// What a hart asks that makes a call anew which waits for one thing.
+    fn asked_anew(&self, hart: u8) -> Option<Request>
+        requires { HasTurn self.now hart }
+        ensures { IfSome result (λ request. Stays self.now.state hart request) }
+    {
+        if !is_anew(&self.state.harts[hart as usize]) {
+            return None;
+        }
+        let doing = self.state.next(hart);
+        if !waits_for_one(&doing) {
+            return None;
+        }
+        match self.state.ask_next(hart, &doing) {
+            Ok(Ask::Hub(request)) => Some(request),
+            _ => None,
+        }
+    }
+
+    /// Whether a turn makes its call anew, and waits for one thing.
+    fn waits_anew(&self, turn: &Turn) -> bool
+        requires { turn.now.hart < vec_len self.now.state.harts }
+        ensures { IsTrue result → WaitsAnew self.now.state turn.now.hart turn.now.doing }
+    {
+        is_anew(&self.state.harts[turn.hart as usize]) && waits_for_one(&turn.doing)
+    }
+
     /// The posts for which a call asks that waits for several requests, where the hart made it before and waits.
     fn awaited(&self, turn: &Turn, request: &Request) -> Option<Posts>
         requires may { MayTurn self.now turn.now }
@@ -429,14 +476,19 @@ impl Rank {
         }
     }
 
-    /// Tells the rank that nothing is there yet of what a call asked for. Where the call was made before, and waits for
-    /// several requests, only the clock moves, and it is known what the hart asks next.
+    /// Tells the rank that nothing is there yet of what a call asked for. Where the call was made before, and waits, only
+    /// the clock moves; where it waits for several requests it is known what the hart asks next.
     fn put_off(&mut self, turn: Turn, request: Request, stamp: Stamp)
         requires may { MayTurn self.old turn }
+        requires fresh { self.old.again ≡ None }
         requires asked { asked (rank_of self.old.state) turn.hart ≡ ask.Hub request }
         requires stamp { (self.old.state.clock < stamp) × (stamp < 2 ^ 62) }
         ensures { IsHubTurn turn.hart request NotYet stamp self.old self.new }
     {
+        if self.waits_anew(&turn) {
+            self.wait_on(turn.hart, request, stamp);
+            return;
+        }
         match self.awaited(&turn, &request) {
             None => self.tell_reply(turn, request, Reply::NotYet, stamp),
             Some(posts) => {
