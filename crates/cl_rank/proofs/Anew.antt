@@ -1,6 +1,6 @@
 -- A hart that makes a call anew which waits for one thing: told that it isn't there yet it makes the call anew again, and
 -- only the clock of its rank changes.
-use Rattle.std.proofs.Common.{◌≡◌, ℕ, Bool, true, false, List, Option, Some, None, refl, sym, ap, subst, ◌∙◌, ◌==◌, if◌then◌else◌}
+use Rattle.std.proofs.Common.{◌≡◌, ℕ, Bool, true, false, Option, Some, None, refl, sym, ap, ◌∙◌, ◌==◌, if◌then◌else◌}
 use Rattle.std.proofs.lemmas.List.{set-get_or}
 use Rattle.mp_types.specs.declared.replies.Reply.TheVariants as reply
 use Rattle.mp_types.specs.declared.requests.Request.{Request}
@@ -12,8 +12,6 @@ use Rattle.cl_calls.specs.declared.calls.Completing.{Completing}
 use Rattle.cl_calls.specs.declared.sites.Site.{Site}
 use Rattle.rv_hart.specs.State.{in_mode}
 use Rattle.rv_hart.specs.declared.state.Mode.{Mode}
-use Rattle.rv_hart.specs.declared.state.Mode.TheVariants.{Waiting}
-use Rattle.rv_hart.specs.declared.state.Wait.TheVariants.{Again}
 use Rattle.cl_state.specs.declared.asking.Answer.TheVariants as answer
 use Rattle.cl_state.specs.declared.asking.Ask.{Ask}
 use Rattle.cl_state.specs.declared.asking.Ask.TheVariants as ask
@@ -28,7 +26,7 @@ use Rattle.cl_state.specs.declared.row.Row.{Row}
 use Rattle.cl_state.specs.declared.row.Row.TheVariants.{AtOnce, OnReply, OnBox}
 use Rattle.cl_state.specs.declared.state.RankState.{RankState}
 use Rattle.cl_state.specs.Asked.{Part, asked, asked_completing, asked_in, doing, part_of}
-use Rattle.cl_state.specs.Partitions.{asked_awaited, awaited}
+use Rattle.cl_state.specs.Partitions.{awaited}
 use Rattle.cl_state.specs.Pending.{asked_pending, pending_of}
 use Rattle.cl_state.specs.Rank.{Rank}
 use Rattle.cl_state.specs.Room.{rank_of}
