@@ -9,3 +9,4 @@ pub mod Tries
 pub mod Finds
 pub mod Alike
 pub mod Ordering
+pub mod Fronts

@@ -73,7 +73,7 @@ fn is_alike_rank(names: &Names, rank: &RankState, kept: &KeptRank) -> bool
 {
     kept.is_same_beside(rank)
         && are_alike_harts(names, rank.harts.as_slice(), kept.harts())
-        && are_alike_slots(names, rank.requests.slots(), kept.requests().slots())
+        && are_alike_slots(names, rank.requests.front(), kept.requests().front())
 }
 
 fn are_alike_ranks(names: &Names, ranks: &[RankState], kept: &[SharedRank]) -> bool

@@ -2,10 +2,10 @@
 
 ghost use Rattle.std.specs.Prelude.{◌≡◌, ◌↔◌, IfOk, IsTrue};
 
-use crate::same_requests::are_same_requests;
+use crate::same_requests::are_same_slots;
 use crate::state::{RankParts, RankState};
 use cl_calls::Site;
-use mp_request::Requests;
+use mp_request::{KeptRequests, Requests};
 use mp_types::Stamp;
 use part_phase::Phases;
 use rv_hart::Hart;
@@ -21,7 +21,7 @@ pub struct KeptRank {
     site: Site,
     memory: KeptMemory,
     harts: Vec<Hart>,
-    requests: Arc<Requests>,
+    requests: Arc<KeptRequests>,
     phases: Phases,
     out: Vec<u8>,
     clock: Stamp,
@@ -48,16 +48,16 @@ fn keep_requests(
     alloc: Global,
     requests: &Requests,
     earlier: Option<&KeptRank>,
-) -> Result<Arc<Requests>, AllocError>
+) -> Result<Arc<KeptRequests>, AllocError>
     ensures { IfOk result (λ kept. kept.value ≡ requests.now) }
 {
     if let Some(before) = earlier {
-        if are_same_requests(&before.requests, requests) {
+        if are_same_slots(before.requests.front(), requests.front()) {
             return Arc::try_clone(&before.requests);
         }
     }
-    let copy = requests.try_copy(alloc)?;
-    Ok(Arc::new(alloc, copy)?)
+    let kept = requests.keep(alloc)?;
+    Ok(Arc::new(alloc, kept)?)
 }
 
 impl KeptRank {
@@ -73,7 +73,7 @@ impl KeptRank {
             site: self.site.try_copy(alloc)?,
             memory: self.memory.live(alloc)?,
             harts: Vec::from_slice(alloc, self.harts.as_slice())?,
-            requests: self.requests.try_copy(alloc)?,
+            requests: self.requests.live(alloc)?,
             phases: self.phases.try_copy(alloc)?,
         };
         let mut rank = RankState::new(alloc, parts);
@@ -90,7 +90,7 @@ impl KeptRank {
     }
 
     /// The requests.
-    pub fn requests(&self) -> &Requests
+    pub fn requests(&self) -> &KeptRequests
         ensures { result.now ≡ self.now.requests }
     {
         &self.requests

@@ -2,7 +2,7 @@
 
 ghost use Rattle.std.specs.Prelude.{◌≡◌, ◌↔◌, IsTrue};
 
-use mp_request::{OpenRequest, Progress, Requests, State, is_same_transfer};
+use mp_request::{OpenRequest, Progress, State, is_same_transfer};
 
 fn is_same_progress(a: Progress, b: Progress) -> bool
     ensures { IsTrue result ↔ (a ≡ b) }
@@ -39,7 +39,8 @@ fn is_same_slot(a: &Option<OpenRequest>, b: &Option<OpenRequest>) -> bool
     }
 }
 
-fn are_same_slots(slots: &[Option<OpenRequest>], others: &[Option<OpenRequest>]) -> bool
+/// Whether the slots name the same requests, in their order. It takes no memory.
+pub(crate) fn are_same_slots(slots: &[Option<OpenRequest>], others: &[Option<OpenRequest>]) -> bool
     ensures { IsTrue result ↔ (slots.now ≡ others.now) }
 {
     let mut left = slots;
@@ -55,11 +56,4 @@ fn are_same_slots(slots: &[Option<OpenRequest>], others: &[Option<OpenRequest>])
         right = beyond;
     }
     right.is_empty()
-}
-
-/// Whether each handle names the same request in both tables. It takes no memory.
-pub(crate) fn are_same_requests(a: &Requests, b: &Requests) -> bool
-    ensures { IsTrue result ↔ (a.now ≡ b.now) }
-{
-    are_same_slots(a.slots(), b.slots())
 }

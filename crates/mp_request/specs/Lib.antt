@@ -4,5 +4,6 @@ pub mod Laws
 pub mod Refusals
 pub mod Worked
 pub mod Table
+pub mod Kept
 pub mod Handles
 pub mod CallLaws

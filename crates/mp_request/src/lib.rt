@@ -6,6 +6,7 @@
 
 mod call_laws;
 mod entries;
+mod kept;
 mod laws;
 mod refusals;
 mod table;
@@ -13,6 +14,7 @@ mod worked;
 
 pub use call_laws::{nothing_law, start_law, states_law, test_law};
 pub use entries::{OpenRequest, Partitions, Progress, State, Transfer, is_same_transfer};
+pub use kept::KeptRequests;
 pub use laws::{completion_law, map_law};
 pub use refusals::Refusal;
 pub use table::{HANDLES, Requests};

@@ -28,7 +28,7 @@ pub const HANDLES: usize = 255;
 #[derive(Drop)]
 pub struct Requests {
     // handle h has slot h - 1
-    slots: Vec<Option<OpenRequest>>,
+    pub(crate) slots: Vec<Option<OpenRequest>>,
 }
 
 impl Model for Requests {
