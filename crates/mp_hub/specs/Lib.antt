@@ -1,6 +1,7 @@
 pub mod Hub
 pub mod Outcomes
 pub mod Held
+pub mod Building
 pub mod Laws
 pub mod Made
 pub mod Twice

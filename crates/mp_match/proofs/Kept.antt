@@ -44,6 +44,24 @@ stand_same os f g b s same = record {
   over = λ k line h l. s.over k line (sym (same k) ∙ h) l;
 }
 
+-- how many receives were compared is nothing that is kept
+pub stand_compared : (os : List Owner) (f : Table) (b : Board) (n : ℕ) → StandFor os f b
+    → StandFor os f (record b { compared = n })
+stand_compared os f b n s = record {
+  owners = s.owners;
+  bodies = s.bodies;
+  live = λ place live h. (let k = s.live place live h in record { line = k.line; body = k.body });
+  over = λ place line h l. (let o = s.over place line h l in record {
+    partner = o.partner;
+    other = o.other;
+    paired = o.paired;
+    there = o.there;
+    exchanged = o.exchanged;
+    empty = o.empty;
+    gone = o.gone;
+  });
+}
+
 -- without a post that is over
 pub stand_less : (os : List Owner) (f g : Table) (b : Board) (i : ℕ) → StandFor os f b
     → ((line : Line) → slice_get b.lines i ≡ Some line → IsOver b i line) → ((k : ℕ) → g k ≡ set_at f i None k)

@@ -44,6 +44,13 @@ impl History {
         History {}
     }
 
+    /// The last send compared so many waiting receives.
+    pub fn with_compared(&self, _compared: &u64) -> History
+        ensures { result.board ≡ record self.now.board { compared = _compared.now } }
+    {
+        History {}
+    }
+
     /// The same board.
     pub fn again(&self) -> History
         ensures { result.board ≡ self.now.board }

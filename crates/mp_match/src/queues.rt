@@ -14,6 +14,7 @@ ghost use Rattle.mp_match.specs.InnerLive.{IsPast, owner_in};
 ghost use Rattle.mp_match.specs.FreePosts.{free_post};
 ghost use Rattle.mp_types.specs.Carried.{carried_by_message};
 
+mod building;
 mod live_posts;
 
 use crate::entering::enter;

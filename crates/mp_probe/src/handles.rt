@@ -54,6 +54,14 @@ impl Claims {
         }
     }
 
+    /// These claimed messages, which weren't received, in memory of their own. The only error is want of memory.
+    pub fn of(alloc: Global, waiting: &[Waiting]) -> Result<Claims, AllocError>
+        ensures { IfOk result (λ claims. claims ≡ waiting.now) }
+    {
+        let waiting = Vec::from_slice(alloc, waiting)?;
+        Ok(Claims { waiting })
+    }
+
     /// The same messages in memory of their own. A copy of none takes no memory.
     pub fn try_copy(&self, alloc: Global) -> Result<Claims, AllocError>
         ensures copy { IfOk result (λ copy. copy ≡ self.now) }

@@ -1,8 +1,10 @@
 -- Boards of two posts or three for rank 1, in communicator 0. Each message has one byte.
-use Rattle.std.specs.Prelude.{ℕ, false, [], ◌∷◌, Option, Some, None}
+use Rattle.std.specs.Prelude.{ℕ, false, List, [], ◌∷◌, Option, Some, None}
 use Rattle.mp_types.specs.declared.messages.Envelope.{Envelope}
 use Rattle.mp_match.specs.declared.posts.Sent.{Sent}
 use Rattle.mp_match.specs.declared.posts.Selection.{Selection}
+use Rattle.mp_match.specs.declared.posts.Post.TheVariants.{Send, Receive}
+use Rattle.mp_match.specs.declared.posts.Line.{Line}
 use Rattle.mp_match.specs.Board.{Board, no_posts, send_posted, receive_posted}
 
 abbrev pub envelope : ℕ → Envelope
@@ -34,3 +36,13 @@ receive_of_any = receive_posted no_posts (record { rank = 1; comm = 0; source = 
 -- post 3 received the first send, and wasn't collected yet
 abbrev pub one_received : Board
 one_received = receive_posted two_sent (asked None)
+
+-- the same posts as the lines are kept: places are numbers less 1
+abbrev pub lines_received : List Line
+lines_received =
+    record { post = Send (sending 9); partner = Some 2 } ∷ record { post = Send (sending 3); partner = None }
+    ∷ record { post = Receive (asked None); partner = Some 0 } ∷ []
+
+-- what is held once post 3 was collected
+abbrev pub bodies_left : List (Option (List ℕ))
+bodies_left = None ∷ Some (2 ∷ []) ∷ None ∷ []

@@ -2,9 +2,9 @@
 
 ghost use Rattle.std.specs.Prelude.{◌≡◌, ◌∷◌, [], false, true, None, Some, IfOk};
 ghost use Rattle.mp_match.specs.Board.{held_count, no_posts};
-ghost use Rattle.test_match.specs.Boards.{envelope, one_received, receive_of_any, sending, sending_in, two_receives, two_sent};
+ghost use Rattle.test_match.specs.Boards.{envelope, bodies_left, lines_received, one_received, receive_of_any, sending, sending_in, two_receives, two_sent};
 
-use mp_match::{PostFault, Queues, Selection, Sent};
+use mp_match::{Line, PostFault, Queues, Selection, Sent};
 use mp_types::{Bytes, Envelope, Message};
 use std::alloc::{AllocError, Global};
 
@@ -58,6 +58,25 @@ pub fn copy_has_the_messages(alloc: Global, queues: &Queues) -> Result<Option<En
 {
     let copy = queues.try_copy(alloc)?;
     Ok(copy.probe(ANY_TAG))
+}
+
+/// Queues that are made anew of a send that was collected and of one that waits say so: the receive is collected, the
+/// later message is found, and what the last send compared is what was told.
+pub fn made_anew(
+    alloc: Global,
+    lines: &[Line],
+    bodies: &[Option<Bytes>],
+) -> Result<(bool, Option<Envelope>, u64), AllocError>
+    requires lines { lines.now ≡ lines_received }
+    requires bodies { bodies.now ≡ bodies_left }
+    ensures { IfOk result (λ found. found ≡ (true, Some (envelope 3), 2)) }
+{
+    let queues = Queues::of(alloc, lines, bodies, 2)?;
+    Ok((
+        queues.is_collected(3),
+        queues.probe(ANY_TAG),
+        queues.compared(),
+    ))
 }
 
 /// A receive of any tag is given the earlier of two messages, and the later has no partner.

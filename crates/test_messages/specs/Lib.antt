@@ -3,3 +3,4 @@ pub mod Boards
 pub mod Calls
 pub mod Premises
 pub mod Held
+pub mod Anew

@@ -1,14 +1,18 @@
 //! Answers of `mp_hub`.
 
-ghost use Rattle.std.specs.Prelude.{◌≡◌, ◌≢◌, ◌<◌, ◌≤◌, ◌^◌, ◌-◌, ◌∷◌, [], false, length};
+ghost use Rattle.std.specs.Prelude.{◌≡◌, ◌≢◌, ◌<◌, ◌≤◌, ◌^◌, ◌-◌, ◌∷◌, [], false, length, IfOk};
 ghost use Rattle.mp_match.specs.Board.{held_count};
+ghost use Rattle.mp_hub.specs.Building.{hub_in};
 ghost use Rattle.mp_hub.specs.Hub.{hub_at_start};
+ghost use Rattle.test_messages.specs.Anew.{claimed_hub};
+ghost use Rattle.test_messages.specs.Boards.{message};
 ghost use Rattle.test_messages.specs.Calls.{MoreWorkedCalls};
 ghost use Rattle.test_messages.specs.Held.{FullLaw};
 ghost use Rattle.test_messages.specs.Premises.{HubPremises};
 
-use mp_hub::{CallFault, HubState};
+use mp_hub::{CallFault, HubParts, HubState};
 use mp_types::{Code, Reply, Request};
+use std::alloc::Global;
 
 /// Some calls with the replies that the definitions give, computed.
 pub fn more_worked_calls()
@@ -73,4 +77,21 @@ pub fn unknown_post_among_several(
     ensures { result ≡ Ok (Reply.Code Code.BadRequest) }
 {
     hub.answer(rank, request)
+}
+
+/// A hub that is made anew with a message which rank 1 claimed gives it to rank 1.
+pub fn made_anew_gives_the_claimed(alloc: Global, parts: &HubParts<'_>) -> Result<Reply, CallFault>
+    requires { hub_in parts.now ≡ claimed_hub }
+    ensures { IfOk result (λ reply. reply ≡ Reply.Got message) }
+{
+    let Ok(mut hub) = HubState::of(alloc, parts) else {
+        return Err(CallFault::Memory);
+    };
+    hub.answer(
+        1,
+        &Request::Claimed {
+            now: true,
+            message: 2,
+        },
+    )
 }
