@@ -7,3 +7,4 @@ pub mod Initialised
 pub mod Told
 pub mod Hubs
 pub mod Calls
+pub mod HeldAlways

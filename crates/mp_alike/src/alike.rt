@@ -9,10 +9,10 @@ ghost use Rattle.mp_alike.specs.Names.{AreAlikeBy};
 ghost use Rattle.mp_alike.specs.InnerAlike.{IsAlikeBeside, IsAlikeBoardBy};
 
 use crate::board::WholeBoard;
-use crate::hub::WholeHub;
 use crate::names::{Names, name_all};
 use crate::posts::are_alike_posts;
 use crate::sides::are_alike_sides;
+use crate::whole::WholeHub;
 use mp_probe::Waiting;
 use rv_image::Link;
 use std::alloc::{AllocError, Global};

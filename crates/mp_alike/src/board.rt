@@ -140,6 +140,13 @@ impl WholeBoard {
         self.bodies.as_slice()
     }
 
+    /// How many waiting receives the last send compared.
+    pub fn compared(&self) -> u64
+        ensures { result ≡ self.now.compared }
+    {
+        self.compared
+    }
+
     /// The number of the next post.
     pub fn next_number(&self) -> u64
         ensures { result ≡ next_number self.now }

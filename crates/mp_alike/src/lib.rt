@@ -9,9 +9,10 @@ mod names;
 mod pairing;
 mod posts;
 mod sides;
+mod whole;
 pub mod worked;
 
 pub use alike::alike_names;
 pub use board::WholeBoard;
-pub use hub::WholeHub;
 pub use names::Names;
+pub use whole::WholeHub;

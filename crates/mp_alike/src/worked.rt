@@ -6,8 +6,8 @@ ghost use Rattle.mp_hub.specs.RankRows.{sends_in};
 ghost use Rattle.mp_alike_laws.specs.Rows.{after, claims_any, sends_sync};
 
 use crate::alike::alike_names;
-use crate::hub::WholeHub;
 use crate::names::Names;
+use crate::whole::WholeHub;
 use std::alloc::{AllocError, Global};
 
 /// Sends to two ranks, in either order: there are names.
