@@ -1,5 +1,6 @@
 pub mod Rank
 pub mod Same
+pub mod InnerKept
 pub mod Transfers
 pub mod Pending
 pub mod Blocking

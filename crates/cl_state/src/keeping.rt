@@ -2,6 +2,7 @@
 
 ghost use Rattle.std.specs.Prelude.{◌≡◌, ◌↔◌, IfOk, IsTrue};
 
+use crate::same_harts::are_same_harts;
 use crate::same_requests::are_same_slots;
 use crate::state::{RankParts, RankState};
 use cl_calls::Site;
@@ -14,16 +15,22 @@ use std::alloc::{AllocError, Global};
 use std::marker::Model;
 use std::sync::Arc;
 
-/// A rank that is kept as it was at one time: its pages and its requests stand once for all kept ranks in which they are
-/// alike. Contracts see the rank.
+/// What is kept of a rank beside its site and its clock.
 #[derive(Drop)]
-pub struct KeptRank {
-    site: Site,
+pub(crate) struct KeptBody {
     memory: KeptMemory,
     harts: Vec<Hart>,
     requests: Arc<KeptRequests>,
     phases: Phases,
     out: Vec<u8>,
+}
+
+/// A rank that is kept as it was at one time: what it holds beside its site and its clock stands once for all kept ranks in
+/// which that is the same, and else its pages and its requests do. Contracts see the rank.
+#[derive(Drop)]
+pub struct KeptRank {
+    site: Site,
+    body: Arc<KeptBody>,
     clock: Stamp,
 }
 
@@ -34,11 +41,11 @@ impl Model for KeptRank {
 
     ghost view = { λ k. record {
       site = k.site;
-      memory = k.memory;
-      harts = k.harts.items;
-      requests = k.requests.value;
-      phases = k.phases;
-      out = k.out.items;
+      memory = k.body.value.memory;
+      harts = k.body.value.harts.items;
+      requests = k.body.value.requests.value;
+      phases = k.body.value.phases;
+      out = k.body.value.out.items;
       clock = k.clock;
     } };
 }
@@ -47,7 +54,7 @@ impl Model for KeptRank {
 fn keep_requests(
     alloc: Global,
     requests: &Requests,
-    earlier: Option<&KeptRank>,
+    earlier: Option<&KeptBody>,
 ) -> Result<Arc<KeptRequests>, AllocError>
     ensures { IfOk result (λ kept. kept.value ≡ requests.now) }
 {
@@ -58,6 +65,62 @@ fn keep_requests(
     }
     let kept = requests.keep(alloc)?;
     Ok(Arc::new(alloc, kept)?)
+}
+
+impl KeptBody {
+    ghost use Rattle.cl_state.specs.Room.{rank_of};
+    ghost use Rattle.cl_state.specs.InnerKept.{IsBodyOf};
+
+    /// What a rank holds is kept. A page that is as in the earlier one stands once for both, and so do the requests, if all
+    /// of them are. The only error is want of memory.
+    fn of(
+        alloc: Global,
+        rank: &RankState,
+        earlier: Option<&KeptBody>,
+    ) -> Result<KeptBody, AllocError>
+        ensures { IfOk result (λ body. IsBodyOf body (rank_of rank.now)) }
+    {
+        let before = match earlier {
+            Some(kept) => Some(&kept.memory),
+            None => None,
+        };
+        Ok(KeptBody {
+            memory: rank.memory.keep(alloc, before)?,
+            harts: Vec::from_slice(alloc, rank.harts.as_slice())?,
+            requests: keep_requests(alloc, &rank.requests, earlier)?,
+            phases: rank.phases.try_copy(alloc)?,
+            out: Vec::from_slice(alloc, rank.out.as_slice())?,
+        })
+    }
+
+    /// Whether a rank holds the same. It takes no memory.
+    fn is_of(&self, rank: &RankState) -> bool
+        ensures { IsTrue result → IsBodyOf self.now (rank_of rank.now) }
+    {
+        self.phases.is_same(&rank.phases)
+            && self.out.as_slice() == rank.out.as_slice()
+            && are_same_harts(self.harts.as_slice(), rank.harts.as_slice())
+            && are_same_slots(self.requests.front(), rank.requests.front())
+            && self.memory.is_of(&rank.memory)
+    }
+
+    /// What a rank holds is kept: as the earlier one, where that is the same, and else by itself. The only error is want of
+    /// memory.
+    fn keep(
+        alloc: Global,
+        rank: &RankState,
+        earlier: Option<&Arc<KeptBody>>,
+    ) -> Result<Arc<KeptBody>, AllocError>
+        ensures { IfOk result (λ body. IsBodyOf body.value (rank_of rank.now)) }
+    {
+        let Some(before) = earlier else {
+            return Ok(Arc::new(alloc, KeptBody::of(alloc, rank, None)?)?);
+        };
+        if before.is_of(rank) {
+            return Arc::try_clone(before);
+        }
+        Ok(Arc::new(alloc, KeptBody::of(alloc, rank, Some(before))?)?)
+    }
 }
 
 impl KeptRank {
@@ -71,13 +134,13 @@ impl KeptRank {
     {
         let parts = RankParts {
             site: self.site.try_copy(alloc)?,
-            memory: self.memory.live(alloc)?,
-            harts: Vec::from_slice(alloc, self.harts.as_slice())?,
-            requests: self.requests.live(alloc)?,
-            phases: self.phases.try_copy(alloc)?,
+            memory: self.body.memory.live(alloc)?,
+            harts: Vec::from_slice(alloc, self.body.harts.as_slice())?,
+            requests: self.body.requests.live(alloc)?,
+            phases: self.body.phases.try_copy(alloc)?,
         };
         let mut rank = RankState::new(alloc, parts);
-        rank.out = Vec::from_slice(alloc, self.out.as_slice())?;
+        rank.out = Vec::from_slice(alloc, self.body.out.as_slice())?;
         rank.clock = self.clock;
         Ok(rank)
     }
@@ -86,46 +149,42 @@ impl KeptRank {
     pub fn harts(&self) -> &[Hart]
         ensures { result.now ≡ self.now.harts }
     {
-        self.harts.as_slice()
+        self.body.harts.as_slice()
     }
 
     /// The requests.
     pub fn requests(&self) -> &KeptRequests
         ensures { result.now ≡ self.now.requests }
     {
-        &self.requests
+        &self.body.requests
     }
 
     /// Whether a rank has the same memory, the same phases and the same output. It takes no memory.
     pub fn is_same_beside(&self, rank: &RankState) -> bool
         ensures { IsTrue result ↔ IsSameBeside self.now (rank_of rank.now) }
     {
-        self.phases.is_same(&rank.phases)
-            && self.out.as_slice() == rank.out.as_slice()
-            && self.memory.is_of(&rank.memory)
+        self.body.phases.is_same(&rank.phases)
+            && self.body.out.as_slice() == rank.out.as_slice()
+            && self.body.memory.is_of(&rank.memory)
     }
 }
 
 impl RankState {
     ghost use Rattle.cl_state.specs.Room.{rank_of};
 
-    /// The rank as it is now, kept: its parts, output and clock, and no room for the next turn. A page that is as in
-    /// the earlier one stands once for both, and so do the requests, if all of them are. The only error is want of
-    /// memory.
+    /// The rank as it is now, kept: its parts, output and clock, and no room for the next turn. Where it holds the same as
+    /// the earlier one, that stands once for both, and else each page that is as in the earlier one does, and so do the
+    /// requests, if all of them are. The only error is want of memory.
     pub fn keep(&self, alloc: Global, earlier: Option<&KeptRank>) -> Result<KeptRank, AllocError>
         ensures { IfOk result (λ kept. kept ≡ rank_of self.now) }
     {
         let before = match earlier {
-            Some(kept) => Some(&kept.memory),
+            Some(kept) => Some(&kept.body),
             None => None,
         };
         Ok(KeptRank {
             site: self.site.try_copy(alloc)?,
-            memory: self.memory.keep(alloc, before)?,
-            harts: Vec::from_slice(alloc, self.harts.as_slice())?,
-            requests: keep_requests(alloc, &self.requests, earlier)?,
-            phases: self.phases.try_copy(alloc)?,
-            out: Vec::from_slice(alloc, self.out.as_slice())?,
+            body: KeptBody::keep(alloc, self, before)?,
             clock: self.clock,
         })
     }

@@ -4,5 +4,5 @@ use Rattle.mp_request.specs.declared.entries.OpenRequest.{OpenRequest}
 use Rattle.mp_request.specs.Table.{Table}
 
 -- the handles behind the list name nothing
-abbrev pub filled : List (Option OpenRequest) → Table
-filled slots = slots ++ replicate (255 - length slots) None
+abbrev pub whole_table : List (Option OpenRequest) → Table
+whole_table slots = slots ++ replicate (255 - length slots) None

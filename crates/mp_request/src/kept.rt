@@ -1,7 +1,7 @@
 //! A table of requests that is kept as it was at one time, in no more memory than what its handles named.
 
 ghost use Rattle.std.specs.Prelude.{◌≡◌, ◌≤◌, IfOk, None, length};
-ghost use Rattle.mp_request.specs.Kept.{filled};
+ghost use Rattle.mp_request.specs.Kept.{whole_table};
 
 use crate::entries::OpenRequest;
 use crate::table::{HANDLES, Requests};
@@ -18,11 +18,11 @@ pub struct KeptRequests {
 impl Model for KeptRequests {
     ghost use Rattle.std.specs.Prelude.{◌≤◌, List, Option, length};
     ghost use Rattle.mp_request.specs.declared.entries.OpenRequest.{OpenRequest};
-    ghost use Rattle.mp_request.specs.Kept.{filled};
+    ghost use Rattle.mp_request.specs.Kept.{whole_table};
 
     ghost Value = { List (Option OpenRequest) };
 
-    ghost view = { λ kept. filled kept.slots.items };
+    ghost view = { λ kept. whole_table kept.slots.items };
 
     ghost invariant = { λ kept. length kept.slots.items ≤ 255 };
 }
@@ -30,7 +30,7 @@ impl Model for KeptRequests {
 /// The slots up to the last one that names something.
 fn up_to_last(slots: &[Option<OpenRequest>]) -> &[Option<OpenRequest>]
     requires { length slots.now ≤ 255 }
-    ensures filled { filled result.now ≡ filled slots.now }
+    ensures filled { whole_table result.now ≡ whole_table slots.now }
     ensures few { length result.now ≤ 255 }
 {
     let mut left = slots;
@@ -46,7 +46,7 @@ fn up_to_last(slots: &[Option<OpenRequest>]) -> &[Option<OpenRequest>]
 impl Requests {
     /// What the handles name, from handle 1 up to the last that is open.
     pub fn front(&self) -> &[Option<OpenRequest>]
-        ensures filled { filled result.now ≡ self.now }
+        ensures filled { whole_table result.now ≡ self.now }
         ensures few { length result.now ≤ 255 }
     {
         up_to_last(self.slots())
@@ -65,7 +65,7 @@ impl Requests {
 impl KeptRequests {
     /// What the handles named, from handle 1 up to the last that was open.
     pub fn front(&self) -> &[Option<OpenRequest>]
-        ensures { filled result.now ≡ self.now }
+        ensures { whole_table result.now ≡ self.now }
     {
         self.slots.as_slice()
     }

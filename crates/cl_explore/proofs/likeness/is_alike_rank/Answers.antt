@@ -1,7 +1,7 @@
 use Rattle.std.proofs.Common.{ap, map, sym, ◌∙◌}
 use Rattle.cl_names_laws.specs.Named.{hart_by, table_by}
 use Rattle.cl_state.specs.Room.{rank_of}
-use Rattle.mp_request.specs.Kept.{filled}
+use Rattle.mp_request.specs.Kept.{whole_table}
 use Rattle.cl_explore.proofs.Alike.{rank_alike}
 use Rattle.cl_explore.proofs.Fronts.{filled_by}
 use Rattle.cl_explore.proofs.likeness.is_alike_rank.Goals as goal
@@ -15,7 +15,7 @@ returns-then-are_alike_harts c = λ naming listed its site. elim c.if-is_same_be
       ∙ (w.are_alike_harts.ensures naming listed (sym w.value-is ∙ c.if-are_alike_harts.true)
       ∙ ap (map (hart_by naming)) w.as_slice.ensures.value))
       (sym (c.front-then-are_alike_harts.ensures ∙ c.requests.ensures)
-      ∙ ap filled (c.are_alike_slots.ensures naming listed its)
+      ∙ ap whole_table (c.are_alike_slots.ensures naming listed its)
       ∙ filled_by naming c.front.result.now ∙ ap (table_by naming) c.front.ensures.filled)
   | else-is_same_beside w ↦ absurd (let v = w.value-is in let t = c.if-are_alike_harts.true in cc)
 ]
