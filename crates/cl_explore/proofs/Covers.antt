@@ -8,7 +8,7 @@ use Rattle.rv_image.specs.declared.images.ImageParts.{ImageParts}
 use Rattle.mp_alike_laws.specs.Renaming.{no_renaming}
 use Rattle.cl_record.specs.Plans.{in_slot}
 use Rattle.cl_machine.specs.declared.steps.Step.{Step}
-use Rattle.cl_replay.specs.Kept.{Snapshot, snapshot}
+use Rattle.cl_replay.specs.Kept.{RanksAt, ranks_at}
 use Rattle.cl_state.specs.Rank.{Rank}
 use Rattle.cl_state.specs.Room.{rank_of}
 use Rattle.cl_state.specs.declared.state.RankState.{RankState}
@@ -233,8 +233,8 @@ arrives_found order kept parent i standing in_it = λ image nodes before here ar
     }
 
 -- with the cluster that a standing is
-kept_of : (standing : Standing) (parent : ℕ) (k : KeptNode) (cluster : Snapshot) → IsKeptAs standing cluster parent k
-    → cluster ≡ snapshot standing.cluster → IsKeptOf standing parent k
+kept_of : (standing : Standing) (parent : ℕ) (k : KeptNode) (cluster : RanksAt) → IsKeptAs standing cluster parent k
+    → cluster ≡ ranks_at standing.cluster → IsKeptOf standing parent k
 kept_of standing parent k cluster keeps is = record {
   cluster = keeps.cluster_is ∙ is;
   whole = keeps.whole;
@@ -257,7 +257,7 @@ stayed_since image order kept (x ∷ nodes) parent standing before here are at f
 
 -- kept as one more
 pub arrives_new : (order : List ℕ) (kept new : List KeptNode) (parent : ℕ) (standing : Standing) (k : KeptNode)
-    (cluster : Snapshot) → (HaveStayedSince kept parent standing → cluster ≡ snapshot standing.cluster)
+    (cluster : RanksAt) → (HaveStayedSince kept parent standing → cluster ≡ ranks_at standing.cluster)
     → IsKeptAs standing cluster parent k → new ≡ kept ++ k ∷ [] → Arrives order kept parent standing new
 arrives_new order kept new parent standing k cluster beside keeps same = λ image nodes before here are at from way.
     let is = kept_of standing parent k cluster keeps

@@ -13,7 +13,8 @@ use Rattle.cl_trace.specs.declared.events.Kind.{Kind}
 use Rattle.cl_machine.specs.Cluster.{CaseOf, Cluster, IsRun, IsStep}
 use Rattle.cl_machine.specs.declared.steps.Step.{Step}
 use Rattle.cl_machine.proofs.Lists.{get-set_other, get-set_same}
-use Rattle.cl_replay.specs.Kept.{IsBeside, IsRestored, Snapshot, snapshot}
+use Rattle.mp_hub.specs.Hub.{HubView}
+use Rattle.cl_replay.specs.Kept.{IsBeside, IsRestored, RanksAt, ranks_at, with_hub}
 use Rattle.cl_order_laws.specs.Closed.{Node, Turns, had_after, one_more}
 use Rattle.cl_order_laws.proofs.Covered.{had_here, had_other}
 use Rattle.cl_moves.specs.Standing.{IsWay, StandsAt, by_order}
@@ -95,8 +96,8 @@ module _ (k : KeptNode) (standing : Standing) (rank : ℕ) (beside : AreSameBesi
       (length-map standing.cluster.ranks.items rank_of ∙ (sym stayed.many ∙ beside.many))
       (λ n at. stayed.each r n at (beside.each r other ∙ at))
 
-  pub kept_beside : (kept : Snapshot) → rank < length standing.cluster.ranks.items → rank < length k.cluster.ranks
-      → IsBeside standing.cluster k.cluster.ranks rank kept → kept ≡ snapshot standing.cluster
+  pub kept_beside : (kept : RanksAt) → rank < length standing.cluster.ranks.items → rank < length k.cluster.ranks
+      → IsBeside standing.cluster k.cluster.ranks rank kept → kept ≡ ranks_at standing.cluster
   kept_beside kept here there is =
       let own = at_inside standing.cluster.ranks.items rank here in
       let mine : slice_get (map rank_of standing.cluster.ranks.items) rank ≡ Some (rank_of own.0) =
@@ -104,12 +105,13 @@ module _ (k : KeptNode) (standing : Standing) (rank : ℕ) (beside : AreSameBesi
       let ranks : kept.ranks ≡ map rank_of standing.cluster.ranks.items =
       is.ranks own.0 own.1
       ∙ set_is k.cluster.ranks (map rank_of standing.cluster.ranks.items) rank (rank_of own.0) there others_are mine in
-      λ i. record { ranks = ranks i; hub = is.hub i; clock = is.clock i; boxes = is.boxes i }
+      λ i. record { ranks = ranks i; clock = is.clock i; boxes = is.boxes i }
 
-  pub is_restored : (new : Standing) → rank < length standing.cluster.ranks.items → rank < length k.cluster.ranks
-      → IsRestored k.cluster standing.cluster rank new.cluster → new.whole ≡ k.whole → new.had.items ≡ k.had.items
+  pub is_restored : (new : Standing) (hub : HubView) → rank < length standing.cluster.ranks.items
+      → rank < length k.cluster.ranks → hub ≡ k.whole
+      → IsRestored (with_hub k.cluster hub) standing.cluster rank new.cluster → new.whole ≡ k.whole → new.had.items ≡ k.had.items
       → new.steps.items ≡ [] → IsLiveOf k new
-  is_restored new here there is whole had steps =
+  is_restored new hub here there same is whole had steps =
       let own = at_inside k.cluster.ranks rank there in
       let mine : rank < length (map rank_of standing.cluster.ranks.items) =
       subst (λ c. rank < c) (sym (length-map standing.cluster.ranks.items rank_of)) here in
@@ -118,7 +120,7 @@ module _ (k : KeptNode) (standing : Standing) (rank : ℕ) (beside : AreSameBesi
       ∙ set_is (map rank_of standing.cluster.ranks.items) k.cluster.ranks rank own.0 mine
       (λ r other. sym (others_are r other)) own.1 in
       record {
-        cluster = λ i. record { ranks = ranks i; hub = is.hub i; clock = is.clock i; boxes = is.boxes i };
+        cluster = λ i. record { ranks = ranks i; hub = (is.hub ∙ same) i; clock = is.clock i; boxes = is.boxes i };
         whole = whole;
         had = had;
         steps = steps;
@@ -126,8 +128,8 @@ module _ (k : KeptNode) (standing : Standing) (rank : ℕ) (beside : AreSameBesi
 
 -- ---- one rank is brought back
 
-module _ (k : KeptNode) (old new : Standing) (rank n : ℕ) (at : slice_get k.had.items rank ≡ Some n)
-    (is : IsRestored k.cluster old.cluster rank new.cluster) (had : new.had.items ≡ slice_set old.had.items rank n)
+module _ (k : KeptNode) (old new : Standing) (hub : HubView) (rank n : ℕ) (at : slice_get k.had.items rank ≡ Some n)
+    (is : IsRestored (with_hub k.cluster hub) old.cluster rank new.cluster) (had : new.had.items ≡ slice_set old.had.items rank n)
     (stayed : HaveStayed k old) where
   abbrev before : List Rank
   before = map rank_of old.cluster.ranks.items

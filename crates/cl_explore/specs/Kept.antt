@@ -6,7 +6,7 @@ use Rattle.cl_record.specs.Plans.{in_slot}
 use Rattle.cl_state.specs.Room.{rank_of}
 use Rattle.cl_state.specs.declared.state.RankState.{RankState}
 use Rattle.cl_replay.specs.declared.states.ClusterState.{ClusterState}
-use Rattle.cl_replay.specs.Kept.{Snapshot, snapshot}
+use Rattle.cl_replay.specs.Kept.{RanksAt, Snapshot, ranks_at, snapshot, with_hub}
 use Rattle.cl_replay.specs.States.{ClusterStandsFor, IsClusterOf}
 use Rattle.cl_record.specs.Keys.{ShowsAll}
 use Rattle.cl_order_laws.specs.Alike.{hub_of}
@@ -16,13 +16,17 @@ use Rattle.cl_moves.specs.Standing.{HaveHad, IsWay, StandsAt, by_order, first_no
 use Rattle.cl_moves.specs.declared.standing.Standing.{Standing}
 use Rattle.cl_explore.specs.declared.kept.KeptNode.{KeptNode}
 
+-- the cluster that a node keeps: its ranks and boxes, with the hub of all posts ever made, which is the cluster's
+abbrev pub cluster_of : KeptNode → Snapshot
+cluster_of kept = with_hub kept.cluster kept.whole
+
 -- what is kept is the node: its parts are the node's, and a state that has these parts is its cluster
 pub record KeptStandsAt (image : ImageParts) (kept : KeptNode) (node : Node) : Type 0 where
   pub of : IsClusterOf image node.cluster
   pub ranks_are : node.cluster.ranks ≡ kept.cluster.ranks
   pub boxes_show : ShowsAll image kept.cluster.boxes node.cluster.boxes
   pub whole : kept.whole ≡ hub_of node.cluster.journal
-  pub stands : (state : ClusterState) → snapshot state ≡ kept.cluster → ClusterStandsFor image state node.cluster
+  pub stands : (state : ClusterState) → snapshot state ≡ cluster_of kept → ClusterStandsFor image state node.cluster
   pub had : HaveHad kept.had.items node.had
   pub each : length kept.had.items ≡ length node.cluster.ranks
   pub few : length node.cluster.ranks < 256
@@ -32,8 +36,8 @@ pub record IsLiveAt (image : ImageParts) (standing : Standing) (node : Node) : T
   pub stands : StandsAt image standing node
   pub steps : standing.steps.items ≡ []
 
--- what is kept of a standing beside its cluster, which was kept as this
-pub record IsKeptAs (standing : Standing) (cluster : Snapshot) (parent : ℕ) (kept : KeptNode) : Type 0 where
+-- what is kept of a standing beside its ranks, which were kept as this
+pub record IsKeptAs (standing : Standing) (cluster : RanksAt) (parent : ℕ) (kept : KeptNode) : Type 0 where
   pub cluster_is : kept.cluster ≡ cluster
   pub whole : kept.whole ≡ standing.whole
   pub had : kept.had.items ≡ standing.had.items
@@ -42,7 +46,7 @@ pub record IsKeptAs (standing : Standing) (cluster : Snapshot) (parent : ℕ) (k
 
 -- what is kept of a standing, whose turns led from the node of this number
 pub record IsKeptOf (standing : Standing) (parent : ℕ) (kept : KeptNode) : Type 0 where
-  pub cluster : kept.cluster ≡ snapshot standing.cluster
+  pub cluster : kept.cluster ≡ ranks_at standing.cluster
   pub whole : kept.whole ≡ standing.whole
   pub had : kept.had.items ≡ standing.had.items
   pub parent_is : kept.parent ≡ parent
@@ -50,7 +54,7 @@ pub record IsKeptOf (standing : Standing) (parent : ℕ) (kept : KeptNode) : Typ
 
 -- a standing at a node, of which no turn is noted
 pub record IsLiveOf (kept : KeptNode) (standing : Standing) : Type 0 where
-  pub cluster : snapshot standing.cluster ≡ kept.cluster
+  pub cluster : snapshot standing.cluster ≡ cluster_of kept
   pub whole : standing.whole ≡ kept.whole
   pub had : standing.had.items ≡ kept.had.items
   pub steps : standing.steps.items ≡ []

@@ -1,12 +1,12 @@
 //! Nodes that are kept.
 
 ghost use Rattle.std.specs.Prelude.{◌≡◌, ◌<◌, [], IfOk, IsTrue, OnOk, length, slice_get};
-ghost use Rattle.cl_replay.specs.Kept.{snapshot};
-ghost use Rattle.cl_explore.specs.Kept.{AreSameBeside, HaveStayed, IsKeptAs, IsLiveOf};
+ghost use Rattle.cl_replay.specs.Kept.{ranks_at, snapshot};
+ghost use Rattle.cl_explore.specs.Kept.{AreSameBeside, HaveStayed, IsKeptAs, IsLiveOf, cluster_of};
 
 use crate::runs::Runs;
 use cl_moves::Standing;
-use cl_replay::{KeptCluster, SharedRank};
+use cl_replay::{ClusterState, KeptRanks, SharedRank};
 use mp_alike::WholeHub;
 use std::alloc::{AllocError, Global};
 
@@ -14,8 +14,10 @@ use std::alloc::{AllocError, Global};
 /// node from which it was found stand once.
 #[derive(Drop)]
 pub struct KeptNode {
-    pub cluster: KeptCluster,
-    /// The cluster's hub with each post ever made, by which likeness is told.
+    /// The cluster's ranks and boxes.
+    pub cluster: KeptRanks,
+    /// The cluster's hub with each post ever made, by which likeness is told, and of which a hub is built to go on from
+    /// here.
     pub whole: WholeHub,
     pub had: Vec<u64>,
     /// The number of the node from which it was found. The first node has itself here.
@@ -48,7 +50,7 @@ fn are_same_beside(had: &[u64], before: &[u64], rank: usize) -> bool
     true
 }
 
-/// The cluster of a standing, kept beside an earlier node. Where only the rank of this number has had turns since then, all
+/// The ranks of a standing, kept beside an earlier node. Where only the rank of this number has had turns since then, all
 /// other ranks stand once for both, and pages of that rank once for it and for the rank `near`.
 pub(crate) fn keep_moved(
     alloc: Global,
@@ -56,12 +58,14 @@ pub(crate) fn keep_moved(
     earlier: &KeptNode,
     rank: usize,
     near: Option<&SharedRank>,
-) -> Result<KeptCluster, AllocError>
-    ensures { IfOk result (λ kept. HaveStayed earlier.now standing.now → kept ≡ snapshot standing.now.cluster) }
+) -> Result<KeptRanks, AllocError>
+    ensures { IfOk result (λ kept. HaveStayed earlier.now standing.now → kept ≡ ranks_at standing.now.cluster) }
 {
     let is_one = are_same_beside(standing.had.as_slice(), earlier.had.as_slice(), rank);
     if !is_one || rank >= standing.cluster.ranks.len() || rank >= earlier.cluster.ranks().len() {
-        return standing.cluster.keep(alloc, Some(&earlier.cluster));
+        return standing
+            .cluster
+            .keep_ranks(alloc, Some(&earlier.cluster));
     }
     standing
         .cluster
@@ -69,12 +73,12 @@ pub(crate) fn keep_moved(
 }
 
 impl KeptNode {
-    /// A standing whose cluster was kept, as a node that was found from the one of the number `parent`. The only error is
+    /// A standing whose ranks were kept, as a node that was found from the one of the number `parent`. The only error is
     /// want of memory.
     pub(crate) fn of(
         alloc: Global,
         standing: &Standing,
-        cluster: KeptCluster,
+        cluster: KeptRanks,
         parent: usize,
     ) -> Result<KeptNode, AllocError>
         ensures { IfOk result (IsKeptAs standing.now cluster parent) }
@@ -88,12 +92,20 @@ impl KeptNode {
         })
     }
 
+    /// The cluster, in memory of its own. The only error is want of memory.
+    pub fn state(&self, alloc: Global) -> Result<ClusterState, AllocError>
+        ensures { IfOk result (λ state. snapshot state ≡ cluster_of self.now) }
+    {
+        let hub = self.whole.hub(alloc)?;
+        self.cluster.live(alloc, hub)
+    }
+
     /// A standing at the node, from which no turn is noted yet. The only error is want of memory.
     pub(crate) fn live(&self, alloc: Global) -> Result<Standing, AllocError>
         ensures { IfOk result (IsLiveOf self.now) }
     {
         Ok(Standing {
-            cluster: self.cluster.live(alloc)?,
+            cluster: self.state(alloc)?,
             whole: self.whole.try_copy(alloc)?,
             had: Vec::from_slice(alloc, self.had.as_slice())?,
             steps: Vec::new(alloc),
@@ -119,7 +131,9 @@ impl KeptNode {
         if standing.had[rank] == had {
             return Ok(());
         }
-        self.cluster.restore(alloc, &mut standing.cluster, rank)?;
+        let hub = self.whole.hub(alloc)?;
+        self.cluster
+            .restore(alloc, &mut standing.cluster, rank, hub)?;
         standing.had[rank] = had;
         Ok(())
     }
@@ -157,7 +171,9 @@ impl KeptNode {
             *standing = self.live(alloc)?;
             return Ok(());
         }
-        self.cluster.restore(alloc, &mut standing.cluster, rank)?;
+        let hub = self.whole.hub(alloc)?;
+        self.cluster
+            .restore(alloc, &mut standing.cluster, rank, hub)?;
         standing.whole = self.whole.try_copy(alloc)?;
         standing.had = Vec::from_slice(alloc, self.had.as_slice())?;
         standing.steps = Vec::new(alloc);

@@ -3,7 +3,7 @@
 ghost use Rattle.std.specs.Prelude.{◌≡◌, ◌<◌, ◌%◌, ◌⊎◌, IfOk, IfSome, OnOk, true, length};
 ghost use Rattle.cl_record.specs.Plans.{in_slot};
 ghost use Rattle.cl_state.specs.Room.{rank_of};
-ghost use Rattle.cl_replay.specs.Kept.{snapshot};
+ghost use Rattle.cl_replay.specs.Kept.{ranks_at};
 ghost use Rattle.cl_order_laws.specs.Closed.{IsDone};
 ghost use Rattle.cl_explore.specs.Kept.{AreSamePlaces, HaveStayedSince};
 ghost use Rattle.cl_explore.specs.Searching.{Arrives, IsFoundIn};
@@ -14,7 +14,7 @@ use crate::kept::{KeptNode, keep_moved};
 use crate::leads::Lead;
 use crate::likeness::{is_alike, key_of, key_of_rank};
 use cl_moves::{MoveFault, Standing, is_done};
-use cl_replay::{KeptCluster, SharedRank};
+use cl_replay::{KeptRanks, SharedRank};
 use cl_state::RankState;
 use std::alloc::AllocError;
 
@@ -111,7 +111,7 @@ impl Search {
         self.nodes.get(node)?.cluster.ranks().get(rank)
     }
 
-    /// The cluster of a standing that came from the node of the number `parent` by turns of this rank, kept.
+    /// The ranks of a standing that came from the node of the number `parent` by turns of this rank, kept.
     fn keep(
         &self,
         course: &Manner<'_>,
@@ -119,12 +119,12 @@ impl Search {
         parent: usize,
         rank: usize,
         key: u64,
-    ) -> Result<KeptCluster, AllocError>
+    ) -> Result<KeptRanks, AllocError>
         ensures { IfOk result (λ kept. HaveStayedSince self.now.nodes.items parent standing.now
-            → kept ≡ snapshot standing.now.cluster) }
+            → kept ≡ ranks_at standing.now.cluster) }
     {
         if parent >= self.nodes.len() {
-            return standing.cluster.keep(course.alloc, None);
+            return standing.cluster.keep_ranks(course.alloc, None);
         }
         let near = self.near(parent, rank, key);
         let earlier = &self.nodes[parent];

@@ -23,11 +23,24 @@ snapshot state = record {
   boxes = state.boxes.items;
 }
 
--- what a state is now, but that its ranks are others beside the one of this number
-pub record IsBeside (state : ClusterState) (others : List Rank) (rank : ℕ) (kept : Snapshot) : Type 0 where
+-- the ranks, the hub's clock and the boxes of a cluster, as they were at one time
+pub record RanksAt : Type 0 where
+  pub ranks : List Rank
+  pub clock : ℕ
+  pub boxes : List (List Settled)
+
+-- with a hub they are a cluster
+abbrev pub with_hub : RanksAt → HubView → Snapshot
+with_hub at hub = record { ranks = at.ranks; hub = hub; clock = at.clock; boxes = at.boxes }
+
+-- what a state is now beside its hub
+abbrev pub ranks_at : ClusterState → RanksAt
+ranks_at state = record { ranks = map rank_of state.ranks.items; clock = state.clock; boxes = state.boxes.items }
+
+-- what a state is now beside its hub, but that its ranks are others beside the one of this number
+pub record IsBeside (state : ClusterState) (others : List Rank) (rank : ℕ) (kept : RanksAt) : Type 0 where
   pub ranks : (own : RankState) → slice_get state.ranks.items rank ≡ Some own
       → kept.ranks ≡ slice_set others rank (rank_of own)
-  pub hub : kept.hub ≡ state.hub
   pub clock : kept.clock ≡ state.clock
   pub boxes : kept.boxes ≡ state.boxes.items
 

@@ -1,8 +1,8 @@
-//! A cluster that is kept as it was at one time.
+//! The ranks of a cluster with its boxes, kept as they were at one time.
 
 ghost use Rattle.std.specs.Prelude.{◌≡◌, ◌<◌, IfOk, OnErr, OnOk, length, map};
 ghost use Rattle.cl_state.specs.Room.{rank_of};
-ghost use Rattle.cl_replay.specs.Kept.{IsBeside, IsRestored, snapshot};
+ghost use Rattle.cl_replay.specs.Kept.{IsBeside, IsRestored, ranks_at, snapshot, with_hub};
 
 use crate::states::ClusterState;
 use cl_state::{KeptRank, RankState};
@@ -53,22 +53,21 @@ impl SharedRank {
     }
 }
 
-/// A cluster that is kept as it was at one time: its ranks, and their pages, stand once for all kept clusters in which
-/// they are alike. Contracts see what the cluster was.
+/// The ranks of a cluster with the boxes, kept as they were at one time: a rank, and its pages, stand once for all kept
+/// clusters in which they are alike. Of the hub its clock alone is kept. Contracts see what they were.
 #[derive(Drop)]
-pub struct KeptCluster {
+pub struct KeptRanks {
     ranks: Vec<SharedRank>,
-    hub: HubState,
     clock: Stamp,
     boxes: Vec<[Settled; 16]>,
 }
 
-impl Model for KeptCluster {
-    ghost use Rattle.cl_replay.specs.Kept.{Snapshot};
+impl Model for KeptRanks {
+    ghost use Rattle.cl_replay.specs.Kept.{RanksAt};
 
-    ghost Value = { Snapshot };
+    ghost Value = { RanksAt };
 
-    ghost view = { λ k. record { ranks = k.ranks.items; hub = k.hub; clock = k.clock; boxes = k.boxes.items } };
+    ghost view = { λ k. record { ranks = k.ranks.items; clock = k.clock; boxes = k.boxes.items } };
 }
 
 /// A rank is kept, beside an earlier one: what is alike in both stands once.
@@ -87,7 +86,7 @@ fn keep_rank(
 }
 
 /// All ranks are kept, each beside the earlier one of its number.
-fn keep_ranks(
+fn keep_each(
     alloc: Global,
     ranks: &[RankState],
     earlier: &[SharedRank],
@@ -123,36 +122,36 @@ fn live_ranks(alloc: Global, kept: &[SharedRank]) -> Result<Vec<RankState>, Allo
     Ok(ranks)
 }
 
-impl KeptCluster {
-    /// The same cluster in memory of its own, that goes on from here: this one stays as it is. The only error is want
-    /// of memory.
-    pub fn live(&self, alloc: Global) -> Result<ClusterState, AllocError>
-        ensures { IfOk result (λ state. snapshot state ≡ self.now) }
+impl KeptRanks {
+    /// The cluster with this hub, in memory of its own, that goes on from here: these ranks stay as they are. The only
+    /// error is want of memory.
+    pub fn live(&self, alloc: Global, hub: HubState) -> Result<ClusterState, AllocError>
+        ensures { IfOk result (λ state. snapshot state ≡ with_hub self.now hub) }
     {
         Ok(ClusterState {
             ranks: live_ranks(alloc, self.ranks.as_slice())?,
-            hub: self.hub.try_copy(alloc)?,
+            hub,
             clock: self.clock,
             boxes: Vec::from_slice(alloc, self.boxes.as_slice())?,
         })
     }
 
-    /// The rank of this number, the hub, its clock and the boxes of a state are again what they were here, and its other
-    /// ranks stay. So a state that came from here by turns of that rank alone is as it was here. The only error is want
-    /// of memory, and then nothing changes.
+    /// The rank of this number, the hub's clock and the boxes of a state are again what they were here, its hub is the
+    /// one that is given, and its other ranks stay. So a state that came from here, with that hub, by turns of that
+    /// rank alone is as it was here. The only error is want of memory, and then nothing changes.
     pub fn restore(
         &self,
         alloc: Global,
         state: &mut ClusterState,
         rank: usize,
+        hub: HubState,
     ) -> Result<(), AllocError>
         requires here { rank < length self.now.ranks }
         requires there { rank < length state.old.ranks.items }
-        ensures restored { OnOk result (IsRestored self.now state.old rank state.new) }
+        ensures restored { OnOk result (IsRestored (with_hub self.now hub) state.old rank state.new) }
         ensures refused { OnErr result (state.new ≡ state.old) }
     {
         let own = self.ranks[rank].rank().live(alloc)?;
-        let hub = self.hub.try_copy(alloc)?;
         let boxes = Vec::from_slice(alloc, self.boxes.as_slice())?;
         state.ranks[rank] = own;
         state.hub = hub;
@@ -177,46 +176,45 @@ impl KeptCluster {
 }
 
 impl ClusterState {
-    /// The cluster as it is now, kept. A page of a rank that is as in the earlier one stands once for both. The only
-    /// error is want of memory.
-    pub fn keep(
+    /// The ranks as they are now with the hub's clock and the boxes, kept. A page of a rank that is as in the earlier
+    /// ones stands once for both. The only error is want of memory.
+    pub fn keep_ranks(
         &self,
         alloc: Global,
-        earlier: Option<&KeptCluster>,
-    ) -> Result<KeptCluster, AllocError>
-        ensures { IfOk result (λ kept. kept ≡ snapshot self.now) }
+        earlier: Option<&KeptRanks>,
+    ) -> Result<KeptRanks, AllocError>
+        ensures { IfOk result (λ kept. kept ≡ ranks_at self.now) }
     {
         let ranks = match earlier {
-            Some(earlier) => keep_ranks(alloc, self.ranks.as_slice(), earlier.ranks.as_slice())?,
-            None => keep_ranks(alloc, self.ranks.as_slice(), &[])?,
+            Some(earlier) => keep_each(alloc, self.ranks.as_slice(), earlier.ranks.as_slice())?,
+            None => keep_each(alloc, self.ranks.as_slice(), &[])?,
         };
-        Ok(KeptCluster {
+        Ok(KeptRanks {
             ranks,
-            hub: self.hub.try_copy(alloc)?,
             clock: self.clock,
             boxes: Vec::from_slice(alloc, self.boxes.as_slice())?,
         })
     }
 
-    /// The cluster as it is now, kept beside an earlier one, of which only the rank of this number has changed: all other
-    /// ranks are the earlier ones, and stand once for both. Pages of that rank stand once for it and for the rank
-    /// `near`, if one is given, where they are alike. The only error is want of memory.
+    /// The ranks as they are now with the hub's clock and the boxes, kept beside earlier ones, of which only the rank
+    /// of this number has changed: all other ranks are the earlier ones, and stand once for both. Pages of that rank
+    /// stand once for it and for the rank `near`, if one is given, where they are alike. The only error is want of
+    /// memory.
     pub fn keep_beside(
         &self,
         alloc: Global,
-        earlier: &KeptCluster,
+        earlier: &KeptRanks,
         rank: usize,
         near: Option<&SharedRank>,
-    ) -> Result<KeptCluster, AllocError>
+    ) -> Result<KeptRanks, AllocError>
         requires here { rank < length self.now.ranks.items }
         requires there { rank < length earlier.now.ranks }
         ensures { IfOk result (IsBeside self.now earlier.now.ranks rank) }
     {
         let mut ranks = share_ranks(alloc, earlier.ranks.as_slice())?;
         ranks[rank] = keep_rank(alloc, &self.ranks[rank], near)?;
-        Ok(KeptCluster {
+        Ok(KeptRanks {
             ranks,
-            hub: self.hub.try_copy(alloc)?,
             clock: self.clock,
             boxes: Vec::from_slice(alloc, self.boxes.as_slice())?,
         })

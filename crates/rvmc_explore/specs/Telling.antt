@@ -4,6 +4,7 @@ use Rattle.std.specs.Fmt.{decimal}
 use Rattle.std.specs.List.{list_any}
 use Rattle.rv_image.specs.declared.images.ImageParts.{ImageParts}
 use Rattle.cl_explore.specs.Ends.{Explored}
+use Rattle.cl_explore.specs.Kept.{cluster_of}
 use Rattle.cl_explore.specs.declared.kept.KeptNode.{KeptNode}
 use Rattle.cl_replay.specs.Kept.{snapshot}
 use Rattle.cl_replay.specs.declared.states.ClusterState.{ClusterState}
@@ -24,7 +25,7 @@ AddsHead number old new = (more : List ℕ) × (new ≡ old ++ (end_number numbe
 pub record IsKeptState (kept : List KeptNode) (node : ℕ) (state : ClusterState) : Type 0 where
   pub what : KeptNode
   pub there : slice_get kept node ≡ Some what
-  pub same : snapshot state ≡ what.cluster
+  pub same : snapshot state ≡ cluster_of what
 
 -- a text with all that is told of the end behind it
 pub record AddsEnd (order : List ℕ) (image : ImageParts) (kept : List KeptNode) (number node : ℕ) (old new : List ℕ)

@@ -32,7 +32,7 @@ pub(crate) fn state_at(
     requires { node < length found.now.nodes.items }
     ensures { IfOk result (IsKeptState found.now.nodes.items node) }
 {
-    let state = found.nodes[node].cluster.live(alloc)?;
+    let state = found.nodes[node].state(alloc)?;
     Ok(state)
 }
 

@@ -15,5 +15,5 @@ returns c = λ came.
     (c.are_same_beside-is_one.ensures c.if-not-is_one.false)) in
     let here : rank < length ranks.items = omega (arith, c.if-rank-len.false, c.len.ensures, ranks.ok.0) in
     let there = subst (λ rs. rank < length rs) c.ranks.ensures c.if-rank-ranks.false in
-    is_restored k standing rank beside stayed _ here there c.in_ok-restore.ensures.restored
+    is_restored k standing rank beside stayed _ _ here there c.in_ok-hub.ensures c.in_ok-restore.ensures.restored
     c.in_ok-standing-2.ensures (c.in_ok-standing-3.ensures.items ∙ c.as_slice-3.ensures.value) c.new.ensures.items
