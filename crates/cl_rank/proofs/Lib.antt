@@ -25,3 +25,6 @@ pub mod Taken
 pub mod Turned
 pub mod Went
 pub mod Unstepped
+pub mod QuickReceives
+pub mod QuickSends
+pub mod Same

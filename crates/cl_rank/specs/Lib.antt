@@ -14,3 +14,5 @@ pub mod Turns
 pub mod Turning
 pub mod Plains
 pub mod Views
+pub mod QuickReceives
+pub mod QuickSends

@@ -8,6 +8,8 @@ mod agreeing;
 mod desks;
 pub mod laws;
 mod plains;
+mod quick_receives;
+mod quick_sends;
 mod ranks;
 mod sides;
 mod stops;

@@ -8,7 +8,7 @@ ghost use Rattle.rv_hart.specs.Stores.{IsThere, store_range};
 ghost use Rattle.rv_hart.specs.declared.state.Mode.TheVariants.{Running};
 ghost use Rattle.rv_memory.specs.Access.{word_at};
 ghost use Rattle.mp_types.specs.declared.replies.Reply.{Reply};
-ghost use Rattle.mp_types.specs.declared.replies.Reply.TheVariants.{NotYet};
+ghost use Rattle.mp_types.specs.declared.replies.Reply.TheVariants.{NotYet, Posted};
 ghost use Rattle.part_channel.specs.Channels.{ChannelView};
 ghost use Rattle.cl_state.specs.declared.asking.Ask.TheVariants as ask;
 ghost use Rattle.cl_state.specs.declared.asking.Answer.TheVariants.{Alone, Reply as AnswerReply};
@@ -17,6 +17,8 @@ ghost use Rattle.cl_state.specs.Room.{rank_of};
 ghost use Rattle.cl_state.specs.Told.{told};
 ghost use Rattle.cl_rank.specs.Follows.{named_link as named_link_in, started_link};
 ghost use Rattle.cl_rank.specs.Anew.{WaitsAnew, waits_for_one as waits_for_one_in};
+ghost use Rattle.cl_rank.specs.QuickReceives.{Fits, MayReceive};
+ghost use Rattle.cl_rank.specs.QuickSends.{MaySend};
 ghost use Rattle.cl_rank.specs.Roomy.{IsAgain, is_anew as is_anew_in};
 ghost use Rattle.cl_rank.specs.Tidings.{HasLooked, TakeTells, TestTells};
 ghost use Rattle.cl_rank.specs.Turns.{AllStopped, IsActive};
@@ -27,10 +29,12 @@ ghost use Rattle.cl_trace.specs.declared.events.Kind.TheVariants.{Hub};
 ghost use Rattle.cl_trace.specs.Rising.{last_stamp};
 
 use crate::desks::Desk;
+use crate::quick_receives::{fits, received, tell_got, tell_waits};
+use crate::quick_sends::{sent, tell_sent};
 use crate::ranks::Rank;
 use crate::sides::{BoxId, begin, follow_receiver, follow_sender, make_ready, take, test};
 use crate::stops::{Stop, stop_of};
-use cl_calls::Call;
+use cl_calls::{Call, Receiving};
 use cl_state::{Answer, Ask, Doing, RankState};
 use cl_trace::{Event, Kind, Trace};
 use mp_request::{OpenRequest, Requests, Transfer};
@@ -302,7 +306,7 @@ impl Rank {
         self.slow_turn(channels, rt, desk, hart)
     }
 
-    /// A turn that is worked out.
+    /// A turn that is no poll made again. A SEND and a RECV are tried first, as ranks make these again and again.
     #[inline(never)]
     fn slow_turn<R, D: Desk<R>>(
         &mut self,
@@ -318,6 +322,32 @@ impl Rank {
         if all_stopped(&self.state) {
             return Err(Stop::AllEnded);
         }
+        self.roomy = None;
+        self.again = None;
+        if let Some(request) = sent(&self.state, hart) {
+            self.state.fresh = Vec::new(self.alloc);
+            return self.send(hart, request, rt, desk);
+        }
+        if let Some((receiving, request)) = received(&self.state, hart) {
+            self.state.fresh = Vec::new(self.alloc);
+            return self.receive(hart, receiving, request, rt, desk);
+        }
+        self.worked_turn(channels, rt, desk, hart)
+    }
+
+    /// A turn that is worked out by the table of calls.
+    fn worked_turn<R, D: Desk<R>>(
+        &mut self,
+        channels: &[Channel],
+        rt: &R,
+        desk: &mut D,
+        hart: u8,
+    ) -> Result<(), Stop>
+        requires has { HasTurn self.old hart }
+        requires own { IsOver self.old channels.now }
+        requires active { ¬ (AllStopped (rank_of self.old.state)) }
+        ensures { TurnEnds D.gives hart channels.now self.old desk.old result self.new desk.new }
+    {
         self.roomy = None;
         self.again = None;
         let doing = self.state.next(hart);
@@ -410,6 +440,121 @@ impl Rank {
             (reply, _) => self.tell_reply(turn, request, reply, stamp),
         }
         Ok(())
+    }
+
+    /// Makes the call of a SEND that was worked out, and tells the rank its reply. As a rule that is the message's post.
+    fn send<R, D: Desk<R>>(
+        &mut self,
+        hart: u8,
+        request: Request,
+        rt: &R,
+        desk: &mut D,
+    ) -> Result<(), Stop>
+        requires may { MaySend self.old hart request }
+        requires active { ¬ (AllStopped (rank_of self.old.state)) }
+        ensures { (channels : List ChannelView) → IsOver self.old channels
+            → TurnEnds D.gives hart channels self.old desk.old result self.new desk.new }
+    {
+        let (request, reply, stamp) = self.ask_hub(rt, desk, hart, request)?;
+        match reply {
+            Reply::Posted { post, done } => self.tell_posted(hart, request, post, done, stamp),
+            reply => {
+                let doing = self.state.next(hart);
+                self.tell_reply(Turn { hart, doing }, request, reply, stamp);
+            }
+        }
+        Ok(())
+    }
+
+    /// Tells the rank that the message of a SEND has its post.
+    fn tell_posted(&mut self, hart: u8, request: Request, post: u64, done: bool, stamp: Stamp)
+        requires may { MaySend self.old hart request }
+        requires stamp { (self.old.state.clock < stamp) × (stamp < 2 ^ 62) }
+        ensures { IsHubTurn hart request (Posted post done) stamp self.old self.new }
+    {
+        tell_sent(&mut self.state, hart, stamp);
+        let noted = called(hart, stamp, request, Reply::Posted { post, done }, None);
+        note(&mut self.trace, &mut self.asked_box, &mut self.roomy, noted);
+    }
+
+    /// Makes the call of a RECV that was worked out, and tells the rank its reply. As a rule that is a message that fits,
+    /// or a post.
+    fn receive<R, D: Desk<R>>(
+        &mut self,
+        hart: u8,
+        receiving: Receiving,
+        request: Request,
+        rt: &R,
+        desk: &mut D,
+    ) -> Result<(), Stop>
+        requires may { MayReceive self.old hart receiving request }
+        requires active { ¬ (AllStopped (rank_of self.old.state)) }
+        ensures { (channels : List ChannelView) → IsOver self.old channels
+            → TurnEnds D.gives hart channels self.old desk.old result self.new desk.new }
+    {
+        let (request, reply, stamp) = self.ask_hub(rt, desk, hart, request)?;
+        if fits(&self.state.site, &receiving, &reply) {
+            self.tell_message(hart, receiving, request, reply, stamp);
+            return Ok(());
+        }
+        match reply {
+            Reply::Posted { post, done } => {
+                self.tell_waiting(hart, receiving, request, post, done, stamp)
+            }
+            reply => {
+                let doing = self.state.next(hart);
+                self.tell_reply(Turn { hart, doing }, request, reply, stamp);
+            }
+        }
+        Ok(())
+    }
+
+    /// Tells the rank that a RECV has its message.
+    fn tell_message(
+        &mut self,
+        hart: u8,
+        receiving: Receiving,
+        request: Request,
+        reply: Reply,
+        stamp: Stamp,
+    )
+        requires may { MayReceive self.old hart receiving request }
+        requires fits { Fits self.old.state.site receiving reply }
+        requires stamp { (self.old.state.clock < stamp) × (stamp < 2 ^ 62) }
+        ensures { IsHubTurn hart request reply stamp self.old self.new }
+    {
+        let Reply::Got(message) = &reply else {
+            unreachable!()
+        };
+        tell_got(
+            &mut self.state,
+            hart,
+            receiving.buffer,
+            message.bytes.as_slice(),
+            stamp,
+        );
+        let noted = called(hart, stamp, request, reply, None);
+        note(&mut self.trace, &mut self.asked_box, &mut self.roomy, noted);
+    }
+
+    /// Tells the rank that a RECV has its post, for which the hart waits.
+    fn tell_waiting(
+        &mut self,
+        hart: u8,
+        receiving: Receiving,
+        request: Request,
+        post: u64,
+        done: bool,
+        stamp: Stamp,
+    )
+        requires may { MayReceive self.old hart receiving request }
+        requires stamp { (self.old.state.clock < stamp) × (stamp < 2 ^ 62) }
+        ensures { IsHubTurn hart request (Posted post done) stamp self.old self.new }
+    {
+        let _ = receiving;
+        tell_waits(&mut self.state, hart, post, stamp);
+        let noted = called(hart, stamp, request, Reply::Posted { post, done }, None);
+        note(&mut self.trace, &mut self.asked_box, &mut self.roomy, noted);
     }
 
     /// What a hart asks that makes a call anew, where the posts are known for which it asks.

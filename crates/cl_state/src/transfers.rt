@@ -21,7 +21,7 @@ use rv_memory::RankMemory;
 use std::alloc::{AllocError, Global};
 
 /// A source argument as a rank of the cluster; None is any.
-pub(crate) fn source(site: &Site, comm: u64, source: u64) -> Option<u8>
+pub fn source(site: &Site, comm: u64, source: u64) -> Option<u8>
     requires right { IsTrue (is_peer site.now (Some comm) (Some (source_peer source))) }
     requires there { source ≢ no_rank }
     ensures { result ≡ source_of site.now comm source }
@@ -34,7 +34,7 @@ pub(crate) fn source(site: &Site, comm: u64, source: u64) -> Option<u8>
 }
 
 /// A tag argument; None is any.
-pub(crate) fn tag(tag: u64) -> Option<u16>
+pub fn tag(tag: u64) -> Option<u16>
     requires { IsTrue (is_tag (tag_or_any tag)) }
     ensures { result ≡ tag_of tag }
 {

@@ -1,0 +1,21 @@
+use Rattle.std.proofs.Common.{refl}
+use Rattle.cl_rank.proofs.Ends.{call_ends}
+use Rattle.cl_rank.proofs.ranks.Rank.receive.Goals as goal
+
+pub returns-then-fits : goal.returns-then-fits
+returns-then-fits g c = λ channels own.
+    call_ends g.D.Desk.gives c.args.hart c.args.self.now channels c.in_ok-request.request c.in_ok-request.reply _
+    c.in_ok-request.stamp _ c.args.desk.now c.ask_hub.new.desk c.requires.active c.requires.may.has own
+    c.tell_message.ensures refl c.in_ok-request.ensures.gives
+
+pub returns-in-Posted : goal.returns-in-Posted
+returns-in-Posted g c = λ channels own.
+    call_ends g.D.Desk.gives c.args.hart c.args.self.now channels c.in_ok-request.request c.in_ok-request.reply _
+    c.in_ok-request.stamp _ c.args.desk.now c.ask_hub.new.desk c.requires.active c.requires.may.has own
+    c.tell_waiting.ensures c.in-Posted.is c.in_ok-request.ensures.gives
+
+pub returns-in_default : goal.returns-in_default
+returns-in_default g c = λ channels own.
+    call_ends g.D.Desk.gives c.args.hart c.args.self.now channels c.in_ok-request.request c.in_ok-request.reply _
+    c.in_ok-request.stamp _ c.args.desk.now c.ask_hub.new.desk c.requires.active c.requires.may.has own
+    c.tell_reply.ensures refl c.in_ok-request.ensures.gives

@@ -1,0 +1,151 @@
+//! RECVs whose buffer's pages are there, which are worked out straight from the registers.
+
+ghost use Rattle.std.specs.Prelude.{◌≡◌, ◌<◌, ◌∷◌, [], length, vec_len, IfSome, IsTrue, true};
+ghost use Rattle.rv_hart.specs.State.{read};
+ghost use Rattle.rv_hart.specs.declared.state.Mode.TheVariants.{Running};
+ghost use Rattle.rv_memory.specs.Access.{word_at};
+ghost use Rattle.mp_types.specs.declared.requests.Request.TheVariants as request;
+ghost use Rattle.cl_calls.specs.Calls.{argument, receiving_by};
+ghost use Rattle.cl_state.specs.Asked.{is_ecall as is_ecall_of};
+ghost use Rattle.cl_state.specs.Room.{rank_of};
+ghost use Rattle.cl_state.specs.Transfers.{source_of, tag_of};
+ghost use Rattle.cl_state.specs.Writes.{IsEnough, bytes_from};
+ghost use Rattle.cl_state.specs.Written.{written};
+ghost use Rattle.cl_rank.specs.QuickReceives.{Fits, IsRoomyReceive, Receives, got_at, waits_at};
+
+use crate::quick_sends::return_ok;
+use cl_calls::{ANY, NO_RANK, Peer, Receiving, Site, position};
+use cl_state::{RankState, is_ecall, source, tag};
+use mp_types::{Reply, Request, Stamp};
+use rv_decode::Reg;
+use rv_hart::{Hart, Mode, Wait};
+use rv_memory::{RankMemory, SparePages};
+
+/// The number of a RECV.
+const RECV: u64 = 18;
+
+/// Whether a running hart is at an ECALL that is a RECV which wants no status.
+fn is_at_recv(hart: &Hart, memory: &RankMemory) -> bool
+    ensures running { IsTrue result → hart.now.mode ≡ Running }
+    ensures ecall { IsTrue result → is_ecall_of (word_at memory.now hart.now.pc) ≡ true }
+    ensures number { IsTrue result → read hart.now 17 ≡ 18 }
+    ensures status { IsTrue result → read hart.now 15 ≡ 0 }
+{
+    let Mode::Running = hart.mode() else {
+        return false;
+    };
+    hart.get(Reg::new(17)) == RECV
+        && hart.get(Reg::new(15)) == 0
+        && is_ecall(memory.text_word(hart.pc()))
+}
+
+/// The arguments of a receive.
+fn receiving_of(hart: &Hart) -> Receiving
+    ensures { result ≡ receiving_by (argument hart.now) }
+{
+    Receiving {
+        buffer: hart.get(Reg::new(10)),
+        capacity: hart.get(Reg::new(11)),
+        source: hart.get(Reg::new(12)),
+        tag: hart.get(Reg::new(13)),
+        comm: hart.get(Reg::new(14)),
+    }
+}
+
+/// Whether a receive is right, doesn't name the null process, and the pages of its buffer are there.
+fn is_roomy(site: &Site, memory: &RankMemory, receiving: &Receiving) -> bool
+    ensures { IsTrue result → IsRoomyReceive site.now memory.now receiving.now }
+{
+    let peer = Peer {
+        rank: receiving.source,
+        any: true,
+        null: true,
+    };
+    receiving.capacity <= 4096
+        && (receiving.tag <= 32767 || receiving.tag == ANY)
+        && receiving.source != NO_RANK
+        && site.is_comm(Some(receiving.comm))
+        && site.is_peer(Some(receiving.comm), Some(peer))
+        && memory.in_range(receiving.buffer, receiving.capacity, true)
+        && memory.missing(receiving.buffer, receiving.capacity) == 0
+}
+
+/// What such a receive asks the hub.
+fn request_of(site: &Site, memory: &RankMemory, receiving: &Receiving) -> Request
+    requires { IsRoomyReceive site.now memory.now receiving.now }
+    ensures { result ≡ request.Recv true receiving.now.comm
+        (source_of site.now receiving.now.comm receiving.now.source) (tag_of receiving.now.tag) }
+{
+    Request::Recv {
+        now: true,
+        comm: site.comm_number(receiving.comm),
+        source: source(site, receiving.comm, receiving.source),
+        tag: tag(receiving.tag),
+    }
+}
+
+/// The receive of a hart whose turn is a RECV of this kind, and what it asks. Any other turn is left to the table of
+/// calls.
+pub(crate) fn received(state: &RankState, hart: u8) -> Option<(Receiving, Request)>
+    requires { hart < vec_len state.now.harts }
+    ensures { IfSome result (λ it. Receives state.now hart it.0 it.1) }
+{
+    let at = &state.harts[hart as usize];
+    if !is_at_recv(at, &state.memory) {
+        return None;
+    }
+    let receiving = receiving_of(at);
+    if !is_roomy(&state.site, &state.memory, &receiving) {
+        return None;
+    }
+    Some((
+        receiving,
+        request_of(&state.site, &state.memory, &receiving),
+    ))
+}
+
+/// Whether a reply is a message of a member, which the buffer takes whole.
+pub(crate) fn fits(site: &Site, receiving: &Receiving, reply: &Reply) -> bool
+    ensures { IsTrue result → Fits site.now receiving.now reply.now }
+{
+    match reply {
+        Reply::Got(message) => {
+            let members = site.members(u64::from(message.envelope.comm));
+            position(message.envelope.source, members).is_some()
+                && message.bytes.as_slice().len() as u64 <= receiving.capacity
+        }
+        _ => false,
+    }
+}
+
+/// Writes bytes where they may be, in pages that are there or are spare. Takes no memory.
+fn write(memory: &mut RankMemory, spares: &mut SparePages, address: u64, bytes: &[u8])
+    requires { IsEnough memory.old.pages spares.old (bytes_from address (length bytes.now) ∷ []) }
+    ensures { memory.new ≡ written memory.old address bytes.now }
+{
+    if !bytes.is_empty() {
+        let _ = memory.write_with(spares, address, bytes);
+    }
+}
+
+/// Tells the rank that the RECV of a hart has these bytes, at this stamp: they stand in its buffer, and the call is over.
+pub(crate) fn tell_got(state: &mut RankState, hart: u8, buffer: u64, bytes: &[u8], stamp: Stamp)
+    requires hart { hart < vec_len state.old.harts }
+    requires room { IsEnough state.old.memory.pages state.old.spares (bytes_from buffer (length bytes.now) ∷ []) }
+    ensures told { rank_of state.new ≡ got_at (rank_of state.old) hart buffer bytes.now stamp }
+    ensures harts { vec_len state.new.harts ≡ vec_len state.old.harts }
+{
+    write(&mut state.memory, &mut state.spares, buffer, bytes);
+    return_ok(&mut state.harts[hart as usize]);
+    state.clock = stamp;
+}
+
+/// Tells the rank that the RECV of a hart has its post, at this stamp: the hart waits for it.
+pub(crate) fn tell_waits(state: &mut RankState, hart: u8, post: u64, stamp: Stamp)
+    requires { hart < vec_len state.old.harts }
+    ensures told { rank_of state.new ≡ waits_at (rank_of state.old) hart post stamp }
+    ensures harts { vec_len state.new.harts ≡ vec_len state.old.harts }
+{
+    state.harts[hart as usize].set_mode(Mode::Waiting(Wait::Post(post)));
+    state.clock = stamp;
+}
