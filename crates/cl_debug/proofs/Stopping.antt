@@ -96,3 +96,10 @@ pub stop_inside : (image : ImageParts) (steps : List Step) (breaks : List Break)
     → IsStop image steps breaks from to → to ≤ length steps
 stop_inside image steps breaks from to (inl stop) = ((stop.1).here).0
 stop_inside image steps breaks from to (inr end) = (let e = end.0 in omega (arith, e))
+
+-- by the lists that the steps and the places to stop at were lent as
+pub stops_by : (steps lent : List Step) (breaks marks : List Break) (from : ℕ) (old : ClusterState) (to : ℕ)
+    (new : ClusterState) → lent ≡ steps → marks ≡ breaks → StopsAt lent marks from old to new
+    → StopsAt steps breaks from old to new
+stops_by steps lent breaks marks from old to new same alike stops =
+    subst (λ bs. StopsAt steps bs from old to new) alike (subst (λ xs. StopsAt xs marks from old to new) same stops)

@@ -4,7 +4,6 @@
 
 mod input;
 pub mod laws;
-mod numbers;
 mod replies;
 mod scans;
 mod steps;

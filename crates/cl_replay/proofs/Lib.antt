@@ -8,4 +8,5 @@ pub mod Spells
 pub mod Records
 pub mod Verdicts
 pub mod Same
+pub mod StatesThere
 pub mod Walks

@@ -43,6 +43,16 @@ more_rounds order old mid new first then_on = record {
   no_more = omega (arith, first.no_more, then_on.no_more);
 }
 
+-- one round more
+pub rounds_on : (order : List ℕ) (old mid new : Driver) → GoesRounds order old mid → AreJoined new
+    → vec_len new.seats ≡ vec_len mid.seats → ((plans : List Plan) → AreSeated plans mid → AreSeated plans new)
+    → ((image : ImageParts) (plans : List Plan) (k : ℕ) → AreSeated plans mid
+    → IsUnderWay image plans order (stations mid) mid.hub (k * length order)
+    → IsUnderWay image plans order (stations new) new.hub ((k + 1) * length order))
+    → left new ≤ left mid → GoesRounds order old new
+rounds_on order old mid new first joined count seated goes no_more =
+    more_rounds order old mid new first (one_round order mid new joined count seated goes no_more)
+
 -- a run that has taken some rounds from its start
 pub from_start : (order : List ℕ) (old new : Driver) → GoesRounds order old new → (image : ImageParts) (plans : List Plan)
     → AreSeated plans old → IsUnderWay image plans order (stations old) old.hub 0

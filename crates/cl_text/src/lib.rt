@@ -13,5 +13,6 @@ mod writing;
 
 pub use faults::RecordFault;
 pub use laws::{first_fault_law, one_spelling_law};
+pub use numbers::{u16_at, u32_at, u64_at};
 pub use reading::read_record;
 pub use writing::{RecordText, write_record};

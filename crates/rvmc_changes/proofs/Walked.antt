@@ -1,10 +1,10 @@
 -- The changes of steps that are done one after another.
 use Rattle.std.specs.Prelude.{ℕ, zero, suc, ◌≡◌, ◌+◌, ◌-◌, ◌<◌, ◌≤◌, ◌||◌, max, nat_lt, Bool, true, false, List, [], ◌∷◌, ◌++◌, drop, length}
-use Rattle.std.specs.Prelude.{map, slice_get, take, option_map, Option, None, Some}
+use Rattle.std.specs.Prelude.{map, slice_get, take, Some}
 use Rattle.std.proofs.Common.{refl, sym, ap, ◌∙◌, subst, add-one, arith, length-drop}
 use Rattle.std.proofs.lemmas.Bool.{ltb-false}
 use Rattle.std.proofs.lemmas.List.{length-take-le, map-append}
-use Rattle.std.proofs.lemmas.Option.{same_Some, slice_get-map}
+use Rattle.std.proofs.lemmas.Option.{same_Some}
 use Rattle.rv_hart.specs.State.{State}
 use Rattle.rv_hart.specs.Stepped.{stepped}
 use Rattle.rv_hart.specs.Stores.{store_range}
@@ -16,6 +16,7 @@ use Rattle.cl_machine.specs.declared.steps.Step.{Step}
 use Rattle.cl_replay.proofs.Asks.{plain_steps}
 use Rattle.cl_machine.proofs.Tables.{run_more}
 use Rattle.cl_replay.proofs.Runs.{breaks, take_next}
+use Rattle.cl_replay.proofs.StatesThere.{state_there}
 use Rattle.cl_replay.specs.InnerReplaying.{BreaksAt}
 use Rattle.cl_replay.specs.Replaying.{IsReached}
 use Rattle.cl_replay.specs.States.{ClusterStandsFor}
@@ -98,18 +99,6 @@ plain_asks : (old new : Cluster) (e : Step) (rank : Rank) (kind : Kind) → Case
 plain_asks old new e rank kind case is = (subst (λ k. CaseOf old e rank k new) is case).0
 
 -- ---- a step
-
--- the state of a rank that a cluster has
-module _ (ranks : List Rank) (states : List RankState) (are : ranks ≡ map rank_of states) (r : ℕ) (rank : Rank)
-    (there : slice_get ranks r ≡ Some rank) where
-  state_there : (s : RankState) × (slice_get states r ≡ Some s) × (rank_of s ≡ rank)
-  state_there =
-      go (slice_get states r) refl (sym (slice_get-map rank_of states r) ∙ sym (ap (λ rs. slice_get rs r) are) ∙ there)
-    where
-      go : (o : Option RankState) → slice_get states r ≡ o → option_map rank_of o ≡ Some rank
-          → (s : RankState) × (slice_get states r ≡ Some s) × (rank_of s ≡ rank)
-      go None is same = absurd (cc)
-      go (Some s) is same = (s, is, same_Some (rank_of s) rank same)
 
 -- what was known of a step before it, and what it left, make its difference
 pub looked : (e : Step) (before after : Rank) (b : Before) (change : Change) → IsLookedAt e before b

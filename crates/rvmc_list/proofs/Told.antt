@@ -1,15 +1,16 @@
 -- Steps that are told one after another.
-use Rattle.std.specs.Prelude.{ℕ, zero, suc, ◌+◌, ◌-◌, ◌<◌, ◌≤◌, ◌≡◌, List, [], ◌∷◌, ◌++◌, length, map, slice_get, take}
-use Rattle.std.specs.Prelude.{Option, Some, None, false, max, option_map}
+use Rattle.std.specs.Prelude.{ℕ, zero, suc, ◌+◌, ◌-◌, ◌<◌, ◌≤◌, ◌≡◌, List, [], ◌∷◌, ◌++◌, length, slice_get, take}
+use Rattle.std.specs.Prelude.{Option, Some, None, false, max}
 use Rattle.std.proofs.Common.{refl, sym, ap, ◌∙◌, subst, add-one, append_assoc, append-nil, arith}
 use Rattle.std.proofs.lemmas.List.{length-append}
-use Rattle.std.proofs.lemmas.Option.{same_Some, slice_get-map, slice_get_within}
+use Rattle.std.proofs.lemmas.Option.{same_Some, slice_get_within}
 use Rattle.rv_image.specs.declared.images.ImageParts.{ImageParts}
 use Rattle.cl_debug.proofs.Ranks.{run_sized}
 use Rattle.cl_machine.proofs.Tables.{run_more}
 use Rattle.cl_machine.specs.Cluster.{IsRun, loaded_cluster}
 use Rattle.cl_machine.specs.declared.steps.Step.{Step}
 use Rattle.cl_replay.proofs.Runs.{breaks, take_next}
+use Rattle.cl_replay.proofs.StatesThere.{state_there}
 use Rattle.cl_replay.specs.InnerReplaying.{BreaksAt}
 use Rattle.cl_replay.specs.Replaying.{IsReached}
 use Rattle.cl_replay.specs.Steps.{Leads}
@@ -47,18 +48,6 @@ pub is_there : {X : Type 0} (xs : List X) (n : ℕ) → n < length xs → (x : X
 is_there [] n below = absurd (omega (arith, below))
 is_there (x ∷ xs) zero below = (x, refl)
 is_there (x ∷ xs) (suc n) below = is_there xs n (omega (arith, below))
-
--- the state of a rank that a cluster has
-module _ (ranks : List Rank) (states : List RankState) (are : ranks ≡ map rank_of states) (r : ℕ) (rank : Rank)
-    (there : slice_get ranks r ≡ Some rank) where
-  state_there : (s : RankState) × (slice_get states r ≡ Some s) × (rank_of s ≡ rank)
-  state_there =
-      go (slice_get states r) refl (sym (slice_get-map rank_of states r) ∙ sym (ap (λ rs. slice_get rs r) are) ∙ there)
-    where
-      go : (o : Option RankState) → slice_get states r ≡ o → option_map rank_of o ≡ Some rank
-          → (s : RankState) × (slice_get states r ≡ Some s) × (rank_of s ≡ rank)
-      go None is same = absurd (cc)
-      go (Some s) is same = (s, is, same_Some (rank_of s) rank same)
 
 -- what was seen of one step more: the states of its rank before and after it, and its sight
 pub record IsSeen (image : ImageParts) (steps : List Step) (n : ℕ) (state : ClusterState) (e : Step) (new : ClusterState) : Type 0 where

@@ -3,9 +3,8 @@ use Rattle.std.proofs.lemmas.Result.{err_from_is_err_and}
 use Rattle.cl_debug.specs.Debugging.{Debugging, at_place}
 use Rattle.cl_debug.specs.Leads.{LeadFaultHolds}
 use Rattle.cl_debug.specs.Places.{IsStop}
-use Rattle.cl_debug.specs.Stops.{StopsAt}
 use Rattle.cl_debug.proofs.Led.{copy_reached, only_memory}
-use Rattle.cl_debug.proofs.Stopping.{stop_inside}
+use Rattle.cl_debug.proofs.Stopping.{stop_inside, stops_by}
 use Rattle.cl_debug.proofs.debugging.Debugger.run.Goals as goal
 
 pub returns-in_err-place-clause-fault : goal.returns-in_err-place-clause-fault
@@ -29,12 +28,9 @@ invariant_of-self c =
     let breaks = d.breaks.items in
     let copy = c.in_ok-state.state in
     let to = c.in_ok-place.place in
-    let steps_are : c.as_slice.result.now ≡ steps = (cc (c.as_slice.ensures.value)) in
-    let breaks_are : c.as_slice-2.result.now ≡ breaks = (cc (c.as_slice-2.ensures.value)) in
     let here = copy_reached steps d.place d.state copy c.in_ok-state.ensures.stands d.image c.self.invariant.here in
-    let stops = subst (λ bs. StopsAt steps bs d.place copy to c.run_on.new.state) breaks_are
-    (subst (λ xs. StopsAt xs c.as_slice-2.result.now d.place copy to c.run_on.new.state) steps_are
-    c.in_ok-place.ensures.stops) in
+    let stops = stops_by steps c.as_slice.result.now breaks c.as_slice-2.result.now d.place copy to c.run_on.new.state
+    (cc (c.as_slice.ensures.value)) (cc (c.as_slice-2.ensures.value)) c.in_ok-place.ensures.stops in
     let stop = stops d.image here in
     record {
       run = c.self.invariant.run;
@@ -51,12 +47,9 @@ returns-clause-stopped c =
     let breaks = d.breaks.items in
     let copy = c.in_ok-state.state in
     let to = c.in_ok-place.place in
-    let steps_are : c.as_slice.result.now ≡ steps = (cc (c.as_slice.ensures.value)) in
-    let breaks_are : c.as_slice-2.result.now ≡ breaks = (cc (c.as_slice-2.ensures.value)) in
     let here = copy_reached steps d.place d.state copy c.in_ok-state.ensures.stands d.image c.self.invariant.here in
-    let stops = subst (λ bs. StopsAt steps bs d.place copy to c.run_on.new.state) breaks_are
-    (subst (λ xs. StopsAt xs c.as_slice-2.result.now d.place copy to c.run_on.new.state) steps_are
-    c.in_ok-place.ensures.stops) in
+    let stops = stops_by steps c.as_slice.result.now breaks c.as_slice-2.result.now d.place copy to c.run_on.new.state
+    (cc (c.as_slice.ensures.value)) (cc (c.as_slice-2.ensures.value)) c.in_ok-place.ensures.stops in
     let stop = stops d.image here in (
       subst (λ (x : Debugging). IsStop x.image x.steps x.breaks x.place to) c.self.view_is stop.1,
       subst (λ (x : Debugging). record { image = d.image; steps = steps; place = to; breaks = breaks } ≡ at_place x to)

@@ -1,5 +1,5 @@
 use Rattle.std.proofs.Common.{◌<◌, All, subst, sym}
-use Rattle.cl_run.proofs.Going.{more_rounds, no_rounds, one_round}
+use Rattle.cl_run.proofs.Going.{no_rounds, rounds_on}
 use Rattle.cl_run.proofs.driver.Driver.is_quiet.Goals as goal
 
 pub round-moved-requires-clause-joined : goal.round-moved-requires-clause-joined
@@ -12,10 +12,8 @@ round-moved-requires-clause-there c =
 pub loop-round-preserved : goal.loop-round-preserved
 loop-round-preserved c =
     let goes = c.round-moved.ensures in
-    let old = c.loop-round.self in
-    let new = c.round-moved.new.self in
-    more_rounds c.args.order.now c.args.self.now old new c.loop-round.invariant
-    (one_round c.args.order.now old new goes.joined goes.count goes.seated goes.goes goes.no_more)
+    rounds_on c.args.order.now c.args.self.now c.loop-round.self c.round-moved.new.self c.loop-round.invariant goes.joined
+    goes.count goes.seated goes.goes goes.no_more
 
 pub loop-round-init : goal.loop-round-init
 loop-round-init c = no_rounds c.args.order.now c.args.self.now c.requires.joined
@@ -23,15 +21,11 @@ loop-round-init c = no_rounds c.args.order.now c.args.self.now c.requires.joined
 pub returns-then-not-moved : goal.returns-then-not-moved
 returns-then-not-moved c =
     let goes = c.round-moved.ensures in
-    let old = c.loop-round.self in
-    let new = c.round-moved.new.self in
-    more_rounds c.args.order.now c.args.self.now old new c.loop-round.invariant
-    (one_round c.args.order.now old new goes.joined goes.count goes.seated goes.goes goes.no_more)
+    rounds_on c.args.order.now c.args.self.now c.loop-round.self c.round-moved.new.self c.loop-round.invariant goes.joined
+    goes.count goes.seated goes.goes goes.no_more
 
 pub returns-then-quiet-saturating_mul : goal.returns-then-quiet-saturating_mul
 returns-then-quiet-saturating_mul c =
     let goes = c.round-moved.ensures in
-    let old = c.loop-round.self in
-    let new = c.round-moved.new.self in
-    more_rounds c.args.order.now c.args.self.now old new c.loop-round.invariant
-    (one_round c.args.order.now old new goes.joined goes.count goes.seated goes.goes goes.no_more)
+    rounds_on c.args.order.now c.args.self.now c.loop-round.self c.round-moved.new.self c.loop-round.invariant goes.joined
+    goes.count goes.seated goes.goes goes.no_more
