@@ -63,9 +63,7 @@ pub(crate) fn keep_moved(
 {
     let is_one = are_same_beside(standing.had.as_slice(), earlier.had.as_slice(), rank);
     if !is_one || rank >= standing.cluster.ranks.len() || rank >= earlier.cluster.ranks().len() {
-        return standing
-            .cluster
-            .keep_ranks(alloc, Some(&earlier.cluster));
+        return standing.cluster.keep_ranks(alloc, Some(&earlier.cluster));
     }
     standing
         .cluster
