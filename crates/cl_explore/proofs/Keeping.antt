@@ -6,10 +6,9 @@ use Rattle.rv_image.specs.declared.images.ImageParts.{ImageParts}
 use Rattle.cl_machine.specs.Cluster.{Cluster, IsRun}
 use Rattle.cl_machine.specs.declared.steps.Step.{Step}
 use Rattle.cl_replay.specs.Kept.{RanksAt, Snapshot, snapshot, with_hub}
-use Rattle.mp_hub.specs.Hub.{HubView, hub_after}
-use Rattle.cl_journal.specs.Journal.{calls_of}
 use Rattle.cl_record.specs.Keys.{ShowsAll}
 use Rattle.cl_replay.proofs.Same.{same_stands, snapshot_same}
+use Rattle.cl_order_laws.specs.Alike.{hub_of}
 use Rattle.cl_order_laws.specs.Closed.{FollowPlans, Node, Plans, Turns, had_after, one_more}
 use Rattle.cl_order_laws.specs.Laws.{IsReached}
 use Rattle.cl_moves.specs.Standing.{HaveHad, IsWay, StandsAt, by_order, first_node}
@@ -24,8 +23,8 @@ kept_cluster : (image : ImageParts) (standing : Standing) (parent : ℕ) (kept :
     → IsKeptOf standing parent kept → StandsAt image standing node → cluster_of kept ≡ snapshot standing.cluster
 kept_cluster image standing parent kept node is at =
     let journal = node.cluster.journal in
-    let its : standing.cluster.hub ≡ hub_after journal.links (calls_of journal.entries) =
-    (at.stands).hub_stands ∙ ap (λ links. hub_after links (calls_of journal.entries)) (sym ((at.stands).of).links) in
+    let its : standing.cluster.hub ≡ hub_of journal =
+    (at.stands).hub_stands ∙ ap (λ links. hub_of (record journal { links = links })) (sym ((at.stands).of).links) in
     let hub : kept.whole ≡ standing.cluster.hub = is.whole ∙ (at.whole ∙ sym its) in
     λ i. with_hub (is.cluster i) (hub i)
 
@@ -37,9 +36,9 @@ kept_stands image standing parent kept node is at = record {
   boxes_show = subst (λ (k : RanksAt). ShowsAll image k.boxes node.cluster.boxes) (sym is.cluster) (at.stands).boxes_show;
   whole = is.whole ∙ at.whole;
   stands = λ state same.
-      same_stands standing.cluster state (snapshot_same standing.cluster state
-      (same ∙ kept_cluster image standing parent kept node is at)) image node.cluster
-      at.stands;
+      same_stands standing.cluster state
+      (snapshot_same standing.cluster state (same ∙ kept_cluster image standing parent kept node is at)) image
+      node.cluster at.stands;
   had = subst (λ counts. HaveHad counts node.had) (sym is.had) at.had;
   each = ap length is.had ∙ at.each;
   few = at.few;
