@@ -78,7 +78,7 @@ module _ (image : ImageParts) (steps front : List Step) (cluster : Cluster) (e :
 
 module _ (cluster : Cluster) (e : Step) (rank : Rank) (there : slice_get cluster.ranks e.rank ≡ Some rank) where
   -- a hart looks at one box
-  looked : (link part l p : ℕ) (looks : Asks cluster e (Ask.Look link part)) → asked rank e.hart ≡ Ask.Look l p
+  pub looked : (link part l p : ℕ) (looks : Asks cluster e (Ask.Look link part)) → asked rank e.hart ≡ Ask.Look l p
       → (looks.rank ≡ rank) × (box_number link part ≡ box_number l p)
   looked link part l p looks asks =
       let same : looks.rank ≡ rank = same_Some looks.rank rank (sym looks.there ∙ there) in

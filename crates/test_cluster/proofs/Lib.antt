@@ -6,3 +6,5 @@ pub mod Merging
 pub mod Checking
 pub mod Ties
 pub mod Replaying
+pub mod Taking
+pub mod Stopping

@@ -5,3 +5,5 @@ pub mod Boxes
 pub mod Runs
 pub mod Checks
 pub mod Merges
+pub mod Taken
+pub mod Stuck
