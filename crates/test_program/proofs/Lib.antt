@@ -1,0 +1,4 @@
+pub mod Texts
+pub mod Results
+pub mod Leaving
+pub mod Inspecting
