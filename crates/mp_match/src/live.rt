@@ -139,8 +139,8 @@ pub fn count_of(body: &Option<Bytes>) -> u64
     }
 }
 
-// The bytes of a message once more, while it is held.
-fn body_copy(alloc: Global, body: &Option<Bytes>) -> Result<Option<Bytes>, AllocError>
+/// The bytes of a message once more, while it is held; they share their memory.
+pub fn body_copy(alloc: Global, body: &Option<Bytes>) -> Result<Option<Bytes>, AllocError>
     ensures { IfOk result (λ copy. copy ≡ body.now) }
 {
     match body {

@@ -5,19 +5,10 @@ ghost use Rattle.mp_match.specs.Board.{board_with};
 ghost use Rattle.mp_match.specs.PostPairs.{pairs, pairs_on, posts_of};
 
 use super::Queues;
+use crate::live::body_copy;
 use crate::posts::{Line, Post};
 use mp_types::Bytes;
 use std::alloc::{AllocError, Global};
-
-// A body once more, which shares its bytes.
-fn body_again(alloc: Global, body: &Option<Bytes>) -> Result<Option<Bytes>, AllocError>
-    ensures { IfOk result (λ copy. copy ≡ body.now) }
-{
-    match body {
-        None => Ok(None),
-        Some(bytes) => Ok(Some(bytes.try_copy(alloc)?)),
-    }
-}
 
 impl Queues {
     /// These posts, each with the place of its partner, with the messages that are held of them, in memory of its own:
@@ -69,7 +60,7 @@ impl Queues {
         requires { length self.old.lines < 2 ^ 64 - 1 }
         ensures { OnOk result (self.new ≡ board_with self.old new body.now) }
     {
-        let copy = body_again(self.alloc, body)?;
+        let copy = body_copy(self.alloc, body)?;
         let found = self.find(new);
         self.add_to(found, new, copy)
     }
