@@ -10,8 +10,6 @@ mod reading;
 mod starts;
 mod sums;
 mod telling;
-#[cfg(test)]
-mod tests;
 mod turns;
 mod using;
 mod words;

@@ -5,6 +5,7 @@
 pub mod calls;
 pub mod check;
 pub mod debug;
+pub mod ends;
 pub mod merge;
 pub mod premises;
 pub mod rank;
