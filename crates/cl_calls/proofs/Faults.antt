@@ -1,5 +1,5 @@
 -- The first check that fails of some and then others.
-use Rattle.std.proofs.Common.{◌≡◌, List, [], ◌∷◌, ◌++◌, Bool, true, false, Option, Some, None}
+use Rattle.std.proofs.Common.{◌≡◌, List, [], ◌∷◌, ◌++◌, Bool, true, false, Option, Some, None, IsNone, IsTrue, refl}
 use Rattle.std.specs.Prelude.{if◌then◌else◌}
 use Rattle.mp_types.specs.declared.codes.Code.{Code}
 use Rattle.cl_calls.specs.Checks.{first_fault}
@@ -31,3 +31,18 @@ pub none_found : (xs ys : List (Bool × Code)) (o : Option Code) → None ≡ fi
 none_found [] ys o none is = is
 none_found (x ∷ xs) ys o none is =
     none_then x.0 x.1 o (first_fault xs) (first_fault (xs ++ ys)) (λ rest. none_found xs ys o rest is) none
+
+-- where none fails, all hold
+abbrev pub all_hold : List (Bool × Code) → Type 0
+all_hold [] = IsTrue true
+all_hold (check ∷ checks) = IsTrue check.0 × all_hold checks
+
+holds_then : (b : Bool) (x : Code) (o rest : Option Code) (more : Type 0) → (o ≡ rest → more) → IsNone o →
+    o ≡ checked b x rest → IsTrue b × more
+holds_then true x o rest more go none is = (refl, go is)
+holds_then false x o rest more go none is = absurd (cc)
+
+pub none_fails : (checks : List (Bool × Code)) (o : Option Code) → IsNone o → o ≡ first_fault checks → all_hold checks
+none_fails [] o none is = refl
+none_fails (check ∷ checks) o none is =
+    holds_then check.0 check.1 o (first_fault checks) (all_hold checks) (none_fails checks o none) none is

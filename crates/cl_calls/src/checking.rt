@@ -229,11 +229,6 @@ fn name_fault(standing: &Standing, needs: &Needs) -> Option<Code>
     ensures fault { result ≡ first_fault (name_checks standing.now.site.now standing.now.memory.now
         standing.now.requests.now needs.now) }
     ensures few { IsNone result → IsTrue (is_few needs.now.handles) }
-    ensures array { IsNone result → IsTrue (is_array_of standing.now.memory.now needs.now.handles) }
-    ensures named { IsNone result → IsTrue (is_named_of standing.now.requests.now needs.now.request) }
-    ensures comm { IsNone result → IsTrue (is_comm standing.now.site.now needs.now.comm) }
-    ensures peer { IsNone result → IsTrue (is_peer standing.now.site.now needs.now.comm needs.now.peer) }
-    ensures tag { IsNone result → IsTrue (is_tag_of needs.now.tag) }
 {
     if !needs.known {
         return Some(Code::BadCall);
@@ -266,18 +261,6 @@ fn state_fault(standing: &Standing, needs: &Needs) -> Option<Code>
     requires { needs.now.statuses.count ≤ 255 }
     ensures fault { result ≡ first_fault (state_checks standing.now.site.now standing.now.memory.now
         standing.now.requests.now standing.now.phases.now standing.now.written needs.now) }
-    ensures parts { IsNone result → IsTrue (has_parts_of needs.now.region) }
-    ensures part { IsNone result →
-        IsTrue (is_part_of standing.now.requests.now standing.now.phases.now needs.now.request) }
-    ensures size { IsNone result → IsTrue (has_size_of standing.now.site.now.version needs.now.region) }
-    ensures count { IsNone result → IsTrue (is_count needs.now.buffer) }
-    ensures region { IsNone result → IsTrue (has_region_of standing.now.memory.now needs.now.region) }
-    ensures buffer { IsNone result → IsTrue (is_buffer_of standing.now.memory.now needs.now.buffer) }
-    ensures idle { IsNone result → IsTrue (is_idle_of standing.now.requests.now needs.now.request) }
-    ensures going { IsNone result →
-        IsTrue (is_going_of standing.now.requests.now standing.now.phases.now needs.now.request) }
-    ensures unready { IsNone result →
-        IsTrue (is_unready_of standing.now.requests.now standing.now.phases.now needs.now.request) }
 {
     let Standing {
         memory,

@@ -1,7 +1,7 @@
 //! What each call needs to be right.
 
-ghost use Rattle.std.specs.Prelude.{◌≡◌};
-ghost use Rattle.cl_calls.specs.Needs.{destination as destination_of, needs_of, needs_of_claimed};
+ghost use Rattle.std.specs.Prelude.{◌≡◌, Some, false};
+ghost use Rattle.cl_calls.specs.Needs.{destination as destination_of, needs_of, needs_of_claimed, nothing};
 ghost use Rattle.cl_calls.specs.Needs.{needs_of_completing, needs_of_partitioning};
 ghost use Rattle.cl_calls.specs.Needs.{needs_of_probing, needs_of_receiving, needs_of_sending, needs_of_several};
 ghost use Rattle.cl_calls.specs.Needs.{one_status, one_tag, opening as opening_of, other_side as other_side_of, reads};
@@ -198,6 +198,44 @@ impl Range {
 }
 
 impl Needs {
+    // A request alone.
+    fn naming(request: Named) -> Needs
+        ensures { result ≡ record nothing { request = request } }
+    {
+        Needs { request, ..NOTHING }
+    }
+
+    // A communicator alone.
+    fn in_comm(comm: u64) -> Needs
+        ensures { result ≡ record nothing { comm = Some comm } }
+    {
+        Needs {
+            comm: Some(comm),
+            ..NOTHING
+        }
+    }
+
+    // Bytes, and room for them behind the output.
+    fn putting(buffer: u64, count: u64) -> Needs
+        ensures { result ≡ record nothing { buffer = reads buffer count; growth = count } }
+    {
+        Needs {
+            buffer: Range::reading(buffer, count),
+            growth: count,
+            ..NOTHING
+        }
+    }
+
+    // What a number needs that is no call's.
+    fn unknown() -> Needs
+        ensures { result ≡ record nothing { known = false } }
+    {
+        Needs {
+            known: false,
+            ..NOTHING
+        }
+    }
+
     // A handle that isn't open, too.
     fn opening(self) -> Needs
         ensures { result ≡ opening_of self }
@@ -336,15 +374,8 @@ impl Call {
     {
         match *self {
             Call::Exit { .. } | Call::Hart => NOTHING,
-            Call::Put { buffer, count } => Needs {
-                buffer: Range::reading(buffer, count),
-                growth: count,
-                ..NOTHING
-            },
-            Call::Rank { comm } | Call::Size { comm } => Needs {
-                comm: Some(comm),
-                ..NOTHING
-            },
+            Call::Put { buffer, count } => Needs::putting(buffer, count),
+            Call::Rank { comm } | Call::Size { comm } => Needs::in_comm(comm),
             Call::Send(sending) | Call::Ssend(sending) => sending.needs(),
             Call::Isend(sending) | Call::Issend(sending) | Call::SendInit(sending) => {
                 sending.needs().opening()
@@ -358,29 +389,14 @@ impl Call {
             | Call::Mprobe(probing) => probing.needs(),
             Call::Imrecv(claimed) => claimed.needs(0).opening(),
             Call::Mrecv { claimed, status } => claimed.needs(status),
-            Call::Start { handle } => Needs {
-                request: Named::Persistent(handle),
-                ..NOTHING
-            },
-            Call::RequestFree { handle } => Needs {
-                request: Named::Open(handle),
-                ..NOTHING
-            },
+            Call::Start { handle } => Needs::naming(Named::Persistent(handle)),
+            Call::RequestFree { handle } => Needs::naming(Named::Open(handle)),
             Call::Testall(several) | Call::Waitall(several) => several.needs(),
             Call::PsendInit(transfer) => transfer.needs(Region::read(&transfer)).opening(),
             Call::PrecvInit(transfer) => transfer.needs(Region::written(&transfer)).opening(),
-            Call::Pready { handle, part } => Needs {
-                request: Named::SendPart { handle, part },
-                ..NOTHING
-            },
-            Call::Parrived { handle, part } => Needs {
-                request: Named::ReceivePart { handle, part },
-                ..NOTHING
-            },
-            Call::Unknown => Needs {
-                known: false,
-                ..NOTHING
-            },
+            Call::Pready { handle, part } => Needs::naming(Named::SendPart { handle, part }),
+            Call::Parrived { handle, part } => Needs::naming(Named::ReceivePart { handle, part }),
+            Call::Unknown => Needs::unknown(),
         }
     }
 }

@@ -13,7 +13,7 @@ use crate::stepping::advance;
 use cl_replay::{ClusterState, Step};
 
 /// A break: a run stops where the next step is that of this hart of this rank, and its pc is this.
-#[derive(Clone, Copy, PartialEq, Eq, Drop, Debug)]
+#[derive(Clone, Copy, Drop)]
 pub struct Break {
     pub rank: u8,
     pub hart: u8,

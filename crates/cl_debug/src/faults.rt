@@ -7,7 +7,7 @@ use std::alloc::{AllocError, AllocFailed};
 use thiserror::Error;
 
 /// Why a debugger didn't do what it was asked for. It is printed as its name and its numbers.
-#[derive(Clone, Copy, PartialEq, Eq, Debug, Drop, Error)]
+#[derive(Clone, Copy, Debug, Drop, Error)]
 pub enum DebugFault {
     /// 1: the place is behind the end. Carries the number of steps.
     #[error("PastEnd {0}")]

@@ -13,7 +13,7 @@ use rv_image::Image;
 use std::alloc::{AllocError, Global};
 
 /// What was found of a list of steps.
-#[derive(Clone, Copy, PartialEq, Eq, Drop, Debug)]
+#[derive(Clone, Copy, PartialEq, Eq, Drop)]
 pub enum Verdict {
     /// The steps are a run of the machine, in order of their stamps, and where stamps are equal of their ranks.
     Good,

@@ -1,7 +1,7 @@
 //! Why there was no step, or not all of them.
 
 /// Why a step wasn't done. Where memory was refused the cluster is as it was; else the state may be anything.
-#[derive(Clone, Copy, PartialEq, Eq, Drop, Debug)]
+#[derive(Clone, Copy, Drop)]
 pub enum StepFault {
     /// 1: the machine has no such step from here.
     NotAStep,

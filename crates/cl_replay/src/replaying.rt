@@ -11,7 +11,7 @@ use rv_image::Image;
 use std::alloc::Global;
 
 /// Why steps weren't replayed.
-#[derive(Clone, Copy, PartialEq, Eq, Drop, Debug)]
+#[derive(Clone, Copy, Drop)]
 pub enum ReplayFault {
     /// 1: there are fewer steps than were to be replayed: so many.
     PastEnd(u64),

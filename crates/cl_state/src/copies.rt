@@ -2,11 +2,35 @@
 
 ghost use Rattle.std.specs.Prelude.{◌≡◌, vec_len, IfOk};
 
-use crate::state::{RankParts, RankState};
+use crate::parts::{Core, Transfers};
+use crate::state::RankState;
 use std::alloc::{AllocError, Global};
 
 impl RankState {
     ghost use Rattle.cl_state.specs.Room.{rank_of};
+
+    /// The memory and the harts, copied.
+    fn copy_core(&self, alloc: Global) -> Result<Core, AllocError>
+        ensures memory { IfOk result (λ core. core.memory ≡ self.now.memory) }
+        ensures harts { IfOk result (λ core. core.harts.items ≡ self.now.harts.items) }
+        ensures count { IfOk result (λ core. vec_len core.harts ≡ vec_len self.now.harts) }
+    {
+        Ok(Core {
+            memory: self.memory.try_copy(alloc)?,
+            harts: Vec::from_slice(alloc, self.harts.as_slice())?,
+        })
+    }
+
+    /// The requests and the phases, copied.
+    fn copy_transfers(&self, alloc: Global) -> Result<Transfers, AllocError>
+        ensures requests { IfOk result (λ transfers. transfers.requests ≡ self.now.requests) }
+        ensures phases { IfOk result (λ transfers. transfers.phases ≡ self.now.phases) }
+    {
+        Ok(Transfers {
+            requests: self.requests.try_copy(alloc)?,
+            phases: self.phases.try_copy(alloc)?,
+        })
+    }
 
     /// The same rank in memory of its own: the same parts, output and clock. What `room` made for the next turn isn't
     /// copied. The only error is want of memory.
@@ -14,16 +38,10 @@ impl RankState {
         ensures copy { IfOk result (λ copy. rank_of copy ≡ rank_of self.now) }
         ensures harts { IfOk result (λ copy. vec_len copy.harts ≡ vec_len self.now.harts) }
     {
-        let parts = RankParts {
-            site: self.site.try_copy(alloc)?,
-            memory: self.memory.try_copy(alloc)?,
-            harts: Vec::from_slice(alloc, self.harts.as_slice())?,
-            requests: self.requests.try_copy(alloc)?,
-            phases: self.phases.try_copy(alloc)?,
-        };
-        let mut copy = RankState::new(alloc, parts);
-        copy.out = Vec::from_slice(alloc, self.out.as_slice())?;
-        copy.clock = self.clock;
-        Ok(copy)
+        let site = self.site.try_copy(alloc)?;
+        let core = self.copy_core(alloc)?;
+        let transfers = self.copy_transfers(alloc)?;
+        let copy = RankState::of(alloc, site, core, transfers);
+        copy.at(alloc, self.out.as_slice(), self.clock)
     }
 }

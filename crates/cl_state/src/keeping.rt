@@ -2,9 +2,10 @@
 
 ghost use Rattle.std.specs.Prelude.{◌≡◌, ◌↔◌, IfOk, IsTrue};
 
+use crate::parts::{Core, Transfers};
 use crate::same_harts::are_same_harts;
 use crate::same_requests::are_same_slots;
-use crate::state::{RankParts, RankState};
+use crate::state::RankState;
 use cl_calls::Site;
 use mp_request::{KeptRequests, Requests};
 use mp_types::Stamp;
@@ -67,6 +68,29 @@ fn keep_requests(
     Ok(Arc::new(alloc, kept)?)
 }
 
+/// What is copied of a rank that is kept.
+#[derive(Drop)]
+struct Copied {
+    harts: Vec<Hart>,
+    phases: Phases,
+    out: Vec<u8>,
+}
+
+impl Copied {
+    /// The harts, the phases and the output of a rank, copied.
+    fn of(alloc: Global, rank: &RankState) -> Result<Copied, AllocError>
+        ensures harts { IfOk result (λ copied. copied.harts.items ≡ rank.now.harts.items) }
+        ensures phases { IfOk result (λ copied. copied.phases ≡ rank.now.phases) }
+        ensures out { IfOk result (λ copied. copied.out.items ≡ rank.now.out.items) }
+    {
+        Ok(Copied {
+            harts: Vec::from_slice(alloc, rank.harts.as_slice())?,
+            phases: rank.phases.try_copy(alloc)?,
+            out: Vec::from_slice(alloc, rank.out.as_slice())?,
+        })
+    }
+}
+
 impl KeptBody {
     ghost use Rattle.cl_state.specs.Room.{rank_of};
     ghost use Rattle.cl_state.specs.InnerKept.{IsBodyOf};
@@ -84,13 +108,28 @@ impl KeptBody {
             Some(kept) => Some(&kept.memory),
             None => None,
         };
+        let memory = rank.memory.keep(alloc, before)?;
+        let requests = keep_requests(alloc, &rank.requests, earlier)?;
+        let Copied { harts, phases, out } = Copied::of(alloc, rank)?;
         Ok(KeptBody {
-            memory: rank.memory.keep(alloc, before)?,
-            harts: Vec::from_slice(alloc, rank.harts.as_slice())?,
-            requests: keep_requests(alloc, &rank.requests, earlier)?,
-            phases: rank.phases.try_copy(alloc)?,
-            out: Vec::from_slice(alloc, rank.out.as_slice())?,
+            memory,
+            harts,
+            requests,
+            phases,
+            out,
         })
+    }
+
+    /// What a rank holds is kept in a place of its own.
+    fn alone(
+        alloc: Global,
+        rank: &RankState,
+        earlier: Option<&KeptBody>,
+    ) -> Result<Arc<KeptBody>, AllocError>
+        ensures { IfOk result (λ body. IsBodyOf body.value (rank_of rank.now)) }
+    {
+        let body = KeptBody::of(alloc, rank, earlier)?;
+        Ok(Arc::new(alloc, body)?)
     }
 
     /// Whether a rank holds the same. It takes no memory.
@@ -114,12 +153,34 @@ impl KeptBody {
         ensures { IfOk result (λ body. IsBodyOf body.value (rank_of rank.now)) }
     {
         let Some(before) = earlier else {
-            return Ok(Arc::new(alloc, KeptBody::of(alloc, rank, None)?)?);
+            return KeptBody::alone(alloc, rank, None);
         };
         if before.is_of(rank) {
             return Arc::try_clone(before);
         }
-        Ok(Arc::new(alloc, KeptBody::of(alloc, rank, Some(before))?)?)
+        KeptBody::alone(alloc, rank, Some(before))
+    }
+
+    /// The memory and the harts, in memory of their own.
+    fn live_core(&self, alloc: Global) -> Result<Core, AllocError>
+        ensures memory { IfOk result (λ core. core.memory ≡ self.now.memory) }
+        ensures harts { IfOk result (λ core. core.harts.items ≡ self.now.harts.items) }
+    {
+        Ok(Core {
+            memory: self.memory.live(alloc)?,
+            harts: Vec::from_slice(alloc, self.harts.as_slice())?,
+        })
+    }
+
+    /// The requests and the phases, in memory of their own.
+    fn live_transfers(&self, alloc: Global) -> Result<Transfers, AllocError>
+        ensures requests { IfOk result (λ transfers. transfers.requests ≡ self.now.requests.value) }
+        ensures phases { IfOk result (λ transfers. transfers.phases ≡ self.now.phases) }
+    {
+        Ok(Transfers {
+            requests: self.requests.live(alloc)?,
+            phases: self.phases.try_copy(alloc)?,
+        })
     }
 }
 
@@ -132,17 +193,11 @@ impl KeptRank {
     pub fn live(&self, alloc: Global) -> Result<RankState, AllocError>
         ensures { IfOk result (λ rank. rank_of rank ≡ self.now) }
     {
-        let parts = RankParts {
-            site: self.site.try_copy(alloc)?,
-            memory: self.body.memory.live(alloc)?,
-            harts: Vec::from_slice(alloc, self.body.harts.as_slice())?,
-            requests: self.body.requests.live(alloc)?,
-            phases: self.body.phases.try_copy(alloc)?,
-        };
-        let mut rank = RankState::new(alloc, parts);
-        rank.out = Vec::from_slice(alloc, self.body.out.as_slice())?;
-        rank.clock = self.clock;
-        Ok(rank)
+        let site = self.site.try_copy(alloc)?;
+        let core = self.body.live_core(alloc)?;
+        let transfers = self.body.live_transfers(alloc)?;
+        let rank = RankState::of(alloc, site, core, transfers);
+        rank.at(alloc, self.body.out.as_slice(), self.clock)
     }
 
     /// The harts, in order of their numbers.

@@ -9,6 +9,7 @@ mod doing;
 mod keeping;
 mod loading;
 mod partitions;
+mod parts;
 mod pending;
 mod row;
 mod same_harts;

@@ -1,16 +1,19 @@
 //! A rank as it is loaded.
 
-ghost use Rattle.std.specs.Prelude.{◌≡◌, ◌≤◌, ◌*◌, ◌∷◌, IfOk, length, vec_len};
+ghost use Rattle.std.specs.Prelude.{◌≡◌, ◌≤◌, ◌*◌, ◌++◌, ◌∷◌, IfOk, OnOk, length, vec_len};
+ghost use Rattle.mp_request.specs.Table.{no_requests};
+ghost use Rattle.part_phase.specs.Phases.{first_phases};
 ghost use Rattle.rv_image.specs.Image.{IsImage};
 ghost use Rattle.rv_memory.specs.Memory.{loaded_memory};
-ghost use Rattle.cl_state.specs.Rank.{below, loaded, start_harts};
+ghost use Rattle.cl_state.specs.Rank.{below, loaded, site_of, start_harts};
 
-use crate::state::{RankParts, RankState};
+use crate::parts::{Core, Transfers};
+use crate::state::RankState;
 use cl_calls::{Communicators, Site};
 use mp_request::Requests;
 use part_phase::Phases;
 use rv_hart::Hart;
-use rv_image::{Comms, Image, ImageParts, Members};
+use rv_image::{Comms, Image, ImageParts, Links, Members};
 use rv_memory::RankMemory;
 use std::alloc::{AllocError, Global};
 
@@ -24,16 +27,24 @@ fn all_ranks(alloc: Global, ranks: u8) -> Result<Members, AllocError>
     Ok(Members::from_vec(list))
 }
 
+/// Copies of these communicators, behind the others.
+fn add_comms(alloc: Global, lists: &mut Vec<Members>, comms: &[Members]) -> Result<(), AllocError>
+    ensures { OnOk result (lists.new.items ≡ lists.old.items ++ comms.now) }
+{
+    for i in 0..comms.len() {
+        let comm = comms[i].try_copy(alloc)?;
+        lists.push(comm)?;
+    }
+    Ok(())
+}
+
 fn all_comms(alloc: Global, ranks: u8, comms: &Comms) -> Result<Communicators, AllocError>
     requires { length comms.now ≤ 7 }
     ensures { IfOk result (λ all. all ≡ below ranks ∷ comms.now) }
 {
-    let comms = comms.as_slice();
     let mut lists = Vec::new(alloc);
     lists.push(all_ranks(alloc, ranks)?)?;
-    for i in 0..comms.len() {
-        lists.push(comms[i].try_copy(alloc)?)?;
-    }
+    add_comms(alloc, &mut lists, comms.as_slice())?;
     Ok(Communicators::from_vec(lists))
 }
 
@@ -63,6 +74,45 @@ fn memory(alloc: Global, parts: &ImageParts) -> Result<RankMemory, AllocError>
     )
 }
 
+/// What the image fixes of a rank.
+fn site(alloc: Global, parts: &ImageParts, rank: u8) -> Result<Site, AllocError>
+    requires { IsImage parts.now }
+    ensures { IfOk result (λ site. site ≡ site_of parts.now rank) }
+{
+    Ok(Site {
+        number: rank,
+        ranks: parts.ranks,
+        comms: all_comms(alloc, parts.ranks, &parts.comms)?,
+        links: parts.links.try_copy(alloc)?,
+        version: parts.version,
+    })
+}
+
+/// The memory and the harts of a rank as it is loaded.
+fn first_core(alloc: Global, parts: &ImageParts, rank: u8) -> Result<Core, AllocError>
+    requires { IsImage parts.now }
+    ensures memory { IfOk result (λ core. core.memory
+        ≡ loaded_memory parts.now.memory parts.now.text parts.now.init) }
+    ensures harts { IfOk result (λ core. core.harts.items ≡ start_harts parts.now rank parts.now.harts) }
+    ensures count { IfOk result (λ core. vec_len core.harts ≡ parts.now.harts) }
+{
+    Ok(Core {
+        memory: memory(alloc, parts)?,
+        harts: all_harts(alloc, parts, rank)?,
+    })
+}
+
+/// No requests, and the phases of a rank as they begin.
+fn first_transfers(alloc: Global, links: &Links, rank: u8) -> Result<Transfers, AllocError>
+    ensures requests { IfOk result (λ transfers. transfers.requests ≡ no_requests) }
+    ensures phases { IfOk result (λ transfers. transfers.phases ≡ first_phases links.now rank) }
+{
+    Ok(Transfers {
+        requests: Requests::new(alloc)?,
+        phases: Phases::of(alloc, links, rank)?,
+    })
+}
+
 impl RankState {
     ghost use Rattle.cl_state.specs.Room.{rank_of};
 
@@ -72,25 +122,10 @@ impl RankState {
         ensures harts { IfOk result (λ state. vec_len state.harts ≡ image.now.harts) }
     {
         let parts = image.parts();
-        let site = Site {
-            number: rank,
-            ranks: parts.ranks,
-            comms: all_comms(alloc, parts.ranks, &parts.comms)?,
-            links: parts.links.try_copy(alloc)?,
-            version: parts.version,
-        };
-        let memory = memory(alloc, parts)?;
-        let harts = all_harts(alloc, parts, rank)?;
-        let requests = Requests::new(alloc)?;
-        let phases = Phases::of(alloc, &parts.links, rank)?;
-        let parts = RankParts {
-            site,
-            memory,
-            harts,
-            requests,
-            phases,
-        };
-        Ok(RankState::new(alloc, parts))
+        let site = site(alloc, parts, rank)?;
+        let core = first_core(alloc, parts, rank)?;
+        let transfers = first_transfers(alloc, &parts.links, rank)?;
+        Ok(RankState::of(alloc, site, core, transfers))
     }
 
     /// Decodes the words of the rank's text, each once; or by what another rank decoded, where its text is the same. The rank

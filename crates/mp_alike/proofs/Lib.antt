@@ -2,6 +2,7 @@ pub mod Waiting
 pub mod Partners
 pub mod Places
 pub mod Naming
+pub mod Ordered
 pub mod Boards
 pub mod Initialised
 pub mod Told

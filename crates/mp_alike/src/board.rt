@@ -1,13 +1,13 @@
 //! All posts with their partners, and the messages that are held.
 
-ghost use Rattle.std.specs.Prelude.{◌≡◌, ◌+◌, ◌<◌, ◌≤◌, ◌++◌, ◌∷◌, [], length, IfOk, None, OnErr, OnOk};
+ghost use Rattle.std.specs.Prelude.{◌≡◌, ◌+◌, ◌<◌, ◌≤◌, ◌++◌, ◌∷◌, [], length, IfOk, None, OnErr, OnOk, Some};
 ghost use Rattle.std.specs.Prelude.{is_some, slice_get, slice_set, vec_capacity, vec_len};
-ghost use Rattle.mp_match.specs.Board.{board_with, claim_of, collect, compared_after, envelope_at, held_count};
+ghost use Rattle.mp_match.specs.Board.{board_with, claim_at, claim_of, collect, compared_after, envelope_at, held_count};
 ghost use Rattle.mp_match.specs.Board.{is_collected, is_finished, is_receive_of, is_send_of, is_standard, line_of};
 ghost use Rattle.mp_match.specs.Board.{message_at, no_posts, partner_of, probed, without};
 ghost use Rattle.mp_match.specs.Bodies.{bytes_in};
 ghost use Rattle.mp_match.specs.InnerLive.{post_at};
-ghost use Rattle.mp_match.specs.Pairs.{partner_for as partner_for_of, partners_set};
+ghost use Rattle.mp_match.specs.Pairs.{add, partner_for as partner_for_of, partners_set};
 ghost use Rattle.mp_probe.specs.Claims.{next_number};
 
 use crate::pairing::{compared_for, partner_for};
@@ -78,10 +78,18 @@ pub fn put<T: Drop>(items: &mut Vec<T>, item: T)
     ensures many { vec_len items.new ≡ vec_len items.old + 1 }
     ensures room { vec_capacity items.old ≤ vec_capacity items.new }
 {
-    match items.push(item) {
-        Ok(()) => {}
-        Err(_) => unreachable!(),
-    }
+    items.push_reserved(item);
+}
+
+// A post more, for which there is room, paired where there is a partner for it.
+fn add_line(lines: &mut Vec<Line>, new: Post)
+    requires { vec_len lines.old < vec_capacity lines.old }
+    ensures { lines.new.items ≡ add lines.old.items new }
+{
+    let partner = partner_for(lines.as_slice(), &new);
+    let own = lines.len() as u64;
+    set_partner(lines, partner, own);
+    put(lines, Line { post: new, partner });
 }
 
 // 1 for a message that is held, else 0.
@@ -185,11 +193,7 @@ impl WholeBoard {
         self.lines.reserve(1)?;
         self.bodies.reserve(1)?;
         let compared = self.compared_after(&new);
-        let partner = partner_for(self.lines.as_slice(), &new);
-        let own = self.lines.len() as u64;
-        let line = Line { post: new, partner };
-        set_partner(&mut self.lines, partner, own);
-        put(&mut self.lines, line);
+        add_line(&mut self.lines, new);
         put(&mut self.bodies, body);
         self.compared = compared;
         Ok(())
@@ -278,7 +282,13 @@ impl WholeBoard {
     pub fn claim_of(&self, number: u64) -> Option<u64>
         ensures { result ≡ claim_of self.now number }
     {
-        let place = self.partner(number)?;
+        self.claim_at(self.partner(number)?)
+    }
+
+    // The number of the claim at the place.
+    fn claim_at(&self, place: u64) -> Option<u64>
+        ensures { result ≡ claim_at self.now (Some place) }
+    {
         let line = self.lines.get(place as usize)?;
         match line.post {
             Post::Claim(_) => Some(place + 1),

@@ -58,7 +58,16 @@ fn fits(new: &Post, line: &Line) -> bool
 fn place_for(lines: &[Line], new: &Post) -> Option<usize>
     ensures { result ≡ partner_for_of lines.now new.now }
 {
-    lines.iter().position(|line| fits(new, line))
+    let mut rest = lines;
+    let mut place = 0;
+    while let Some((line, after)) = rest.split_first() {
+        if fits(new, line) {
+            return Some(place);
+        }
+        place += 1;
+        rest = after;
+    }
+    None
 }
 
 /// The least place of a post without a partner that the new one may have.
@@ -93,7 +102,16 @@ fn waits_under(key: &Selection, line: &Line) -> bool
 fn first_waiting(lines: &[Line], key: &Selection) -> Option<usize>
     ensures { result ≡ first_waiting lines.now key.now }
 {
-    lines.iter().position(|line| waits_under(key, line))
+    let mut rest = lines;
+    let mut place = 0;
+    while let Some((line, after)) = rest.split_first() {
+        if waits_under(key, line) {
+            return Some(place);
+        }
+        place += 1;
+        rest = after;
+    }
+    None
 }
 
 // 1 where some receive waits that selects just this, else 0.

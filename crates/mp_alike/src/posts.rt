@@ -2,6 +2,7 @@
 
 ghost use Rattle.std.specs.Prelude.{◌≡◌, ◌<◌, ◌≤◌, ◌↔◌, ℕ, IfNone, IfSome, IsTrue, None, Some, length, option_map, slice_get};
 ghost use Rattle.mp_match.specs.declared.posts.Post.TheVariants as post;
+ghost use Rattle.mp_match.specs.declared.posts.Selection.{Selection};
 ghost use Rattle.mp_alike_laws.specs.Alike.{IsUnpaired};
 ghost use Rattle.mp_alike.specs.Names.{renamed as renamed_by};
 ghost use Rattle.mp_alike.specs.InnerAlike.{AreAlikeBoards, IsAlikeAt, KeepsClaim, KeepsSend, KeepsSends, line_to};
@@ -44,18 +45,23 @@ fn is_line_to(to: &[u64], mine: &Line, theirs: &Line) -> bool
     theirs.partner == partner_to(to, mine.partner) && is_same_post(&theirs.post, &mine.post)
 }
 
+// Whether the one is what the other becomes, or there is neither.
+fn are_lines_to(to: &[u64], mine: Option<Line>, theirs: Option<Line>) -> bool
+    ensures { IsTrue result ↔ (theirs ≡ option_map (line_to to.now) mine) }
+{
+    match (mine, theirs) {
+        (Some(line), Some(other)) => is_line_to(to, &line, &other),
+        (None, None) => true,
+        _ => false,
+    }
+}
+
 fn has_line(to: &[u64], mine: &[Line], theirs: &[Line], place: usize) -> bool
     ensures { IsTrue result
         ↔ (slice_get theirs.now (renamed_by to.now place) ≡ option_map (line_to to.now) (slice_get mine.now place)) }
 {
-    match (
-        mine.get(place),
-        theirs.get(renamed(to, place as u64) as usize),
-    ) {
-        (Some(line), Some(other)) => is_line_to(to, line, other),
-        (None, None) => true,
-        _ => false,
-    }
+    let there = renamed(to, place as u64) as usize;
+    are_lines_to(to, mine.get(place).copied(), theirs.get(there).copied())
 }
 
 fn is_same_body(a: &Option<Bytes>, b: &Option<Bytes>) -> bool
@@ -68,16 +74,34 @@ fn is_same_body(a: &Option<Bytes>, b: &Option<Bytes>) -> bool
     }
 }
 
+// Whether that message, or that none is held, stands at the place.
+fn has_body_at(bodies: &[Option<Bytes>], place: usize, body: &Option<Bytes>) -> bool
+    ensures { IsTrue result ↔ (slice_get bodies.now place ≡ Some body.now) }
+{
+    match bodies.get(place) {
+        Some(other) => is_same_body(other, body),
+        None => false,
+    }
+}
+
 fn has_body(to: &[u64], mine: &[Option<Bytes>], theirs: &[Option<Bytes>], place: usize) -> bool
     ensures { IsTrue result ↔ (slice_get theirs.now (renamed_by to.now place) ≡ slice_get mine.now place) }
 {
-    let there = theirs.get(renamed(to, place as u64) as usize);
+    let there = renamed(to, place as u64) as usize;
     match mine.get(place) {
-        None => there.is_none(),
-        Some(body) => match there {
-            None => false,
-            Some(other) => is_same_body(other, body),
-        },
+        Some(body) => has_body_at(theirs, there, body),
+        None => theirs.get(there).is_none(),
+    }
+}
+
+// Whether the post of the line keeps its place if it's a claim.
+fn keeps_place(to: &[u64], line: &Line, place: usize) -> bool
+    ensures { IsTrue result
+        ↔ ((what : Selection) → line.now.post ≡ post.Claim what → renamed_by to.now place ≡ place) }
+{
+    match line.post {
+        Post::Claim(_) => renamed(to, place as u64) == place as u64,
+        _ => true,
     }
 }
 
@@ -85,10 +109,7 @@ fn keeps_claim(to: &[u64], lines: &[Line], place: usize) -> bool
     ensures { IsTrue result ↔ KeepsClaim to.now lines.now place }
 {
     match lines.get(place) {
-        Some(line) => match line.post {
-            Post::Claim(_) => renamed(to, place as u64) == place as u64,
-            _ => true,
-        },
+        Some(line) => keeps_place(to, line, place),
         None => true,
     }
 }
@@ -101,18 +122,39 @@ fn is_alike_at(to: &[u64], mine: &WholeBoard, theirs: &WholeBoard, place: usize)
         && keeps_claim(to, mine.lines(), place)
 }
 
+// The send of a line that has no partner.
+fn unpaired(line: &Line) -> Option<Sent>
+    ensures some { IfSome result (λ s. line.now ≡ record { post = post.Send s; partner = None }) }
+    ensures none { IfNone result ((s : Sent) → ¬ (line.now ≡ record { post = post.Send s; partner = None })) }
+{
+    match line.post {
+        Post::Send(sent) => match line.partner {
+            None => Some(sent),
+            Some(_) => None,
+        },
+        _ => None,
+    }
+}
+
 // The send at a place, where it has no partner.
 fn unpaired_at(lines: &[Line], place: usize) -> Option<Sent>
     ensures some { IfSome result (λ s. IsUnpaired lines.now place s) }
     ensures none { IfNone result ((s : Sent) → ¬ IsUnpaired lines.now place s) }
 {
     match lines.get(place) {
-        Some(line) => match (line.post, line.partner) {
-            (Post::Send(sent), None) => Some(sent),
-            _ => None,
-        },
+        Some(line) => unpaired(line),
         None => None,
     }
+}
+
+// Whether two sends keep their order, if both are to one rank in one communicator.
+fn are_in_order(to: &[u64], place: usize, s: &Sent, behind: usize, t: &Sent) -> bool
+    ensures { IsTrue result ↔ (s.now.dest ≡ t.now.dest → s.now.envelope.comm ≡ t.now.envelope.comm
+        → renamed_by to.now place < renamed_by to.now behind) }
+{
+    s.dest != t.dest
+        || s.envelope.comm != t.envelope.comm
+        || renamed(to, place as u64) < renamed(to, behind as u64)
 }
 
 fn keeps_send(to: &[u64], lines: &[Line], place: usize, s: &Sent, behind: usize) -> bool
@@ -123,11 +165,7 @@ fn keeps_send(to: &[u64], lines: &[Line], place: usize, s: &Sent, behind: usize)
     }
     match unpaired_at(lines, behind) {
         None => true,
-        Some(t) => {
-            s.dest != t.dest
-                || s.envelope.comm != t.envelope.comm
-                || renamed(to, place as u64) < renamed(to, behind as u64)
-        }
+        Some(t) => are_in_order(to, place, s, behind, &t),
     }
 }
 

@@ -56,15 +56,6 @@ spared_twice old rank q r free links calls s nothing =
     free (subst (λ (h : HubView). TakesNothing q (outcome h rank q).0) (sym s) nothing)
 
 -- a receive that asks for its message at once
-pub received : (old new : HubView) (rank : ℕ) (q : Request) (now : Bool)
-    (comm : ℕ) (source tag : Option ℕ) (a : Selection)
-    (r : Result Reply CallFault) → q ≡ Recv now comm source tag → now ≡ true → a ≡ selecting rank comm source tag
-    → IfOk r (λ x. IsOutcome (recv_outcome old true a) x new) → IfOk r (λ x. IsOutcome (outcome old rank q) x new)
-received old new rank q now comm source tag a r asked is_now is g =
-    subst (λ (p : Request). IfOk r (λ x. IsOutcome (outcome old rank p) x new))
-    (sym (asked ∙ ap (λ b. Recv b comm source tag) is_now))
-    (subst (λ (b : Selection). IfOk r (λ x. IsOutcome (recv_outcome old true b) x new)) is g)
-
 pub received_twice : (old new : HubView) (rank : ℕ) (q : Request) (now : Bool)
     (comm : ℕ) (source tag : Option ℕ) (a : Selection) (r : Result (Reply × Reply) CallFault)
     → q ≡ Recv now comm source tag → now ≡ true → a ≡ selecting rank comm source tag

@@ -17,11 +17,11 @@ use Rattle.mp_match.specs.FreePosts.{free_post}
 use Rattle.mp_match.specs.Pairs.{is_free, partner_for, partner_of_line}
 use Rattle.mp_match.specs.Board.{Board, collect, collect_from, envelope_at, envelope_in, is_collected, is_gone, is_held}
 use Rattle.mp_match.specs.Bodies.{bytes_in}
-use Rattle.mp_match.specs.Board.{line_of, message_at, message_in, partner_of}
+use Rattle.mp_match.specs.Board.{is_receive, line_of, message_at, message_in, partner_of}
 use Rattle.mp_match.specs.Board.{claim_at, claim_of}
 use Rattle.mp_match.specs.Claimed.{holds, open_claim}
 use Rattle.mp_match.specs.Live.{IsOver, StandFor, owner_by, owner_of}
-use Rattle.mp_match.specs.InnerLive.{IsPast, awaits, body_in, kept_post, line_in, message_of, owner_in}
+use Rattle.mp_match.specs.InnerLive.{IsPast, awaits, body_in, kept_post, line_in, message_of, owner_in, receives}
 use Rattle.mp_match.specs.Live.{post_in}
 use Rattle.mp_match.specs.InnerLive.{post_at}
 use Rattle.mp_match.proofs.OrderKept.{chosen}
@@ -55,6 +55,17 @@ held_some (Some (Some x)) = refl
 owner_line : (o : Option Line) → option_map owner_of o ≡ owner_in o
 owner_line None = refl
 owner_line (Some line) = refl
+
+receives_post : (p : Post) (o : Option ℕ) → receives (Some (owner_by p o)) ≡ is_receive (Some (record { post = p; partner = o }))
+receives_post (Send s) o = refl
+receives_post (Receive a) None = refl
+receives_post (Receive a) (Some q) = refl
+receives_post (Claim a) o = refl
+
+-- the owner of a line tells whether it is a receive
+pub receives_line : (o : Option Line) → receives (owner_in o) ≡ is_receive o
+receives_line None = refl
+receives_line (Some line) = receives_post line.post line.partner
 
 pub partner_line : (b : Board) (number : ℕ) (line : Line) → line_of b number ≡ Some line
     → partner_of b number ≡ line.partner

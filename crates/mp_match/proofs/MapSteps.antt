@@ -12,7 +12,7 @@ use Rattle.mp_match.specs.Queued.{Keyed, selection_cmp, queue, places_in}
 use Rattle.mp_match.specs.InnerQueued.{Entry}
 use Rattle.mp_match.specs.Waiting.{same_key}
 use Rattle.mp_match.specs.InnerQueues.{pushed}
-use Rattle.mp_match.proofs.Keys.{cmp_is}
+use Rattle.mp_match.proofs.Keys.{cmp_is, key_same}
 
 abbrev Queue : Type 0
 Queue = VecDeque ℕ Global
@@ -39,6 +39,26 @@ pub pushed_new : (m n : Keyed) (key : Selection) (place : ℕ) (v : Queue) → g
 pushed_new m n key place v none sets items k =
     set_queue m n key (Some v) sets k
     ∙ ap (λ l. cond (same_key k key) l (queue m k)) (items ∙ ap (λ l. l ++ place ∷ []) (sym (ap places_in none)))
+
+-- a key whose queue has one place more
+pub pushed_behind : (m n : Keyed) (key : Selection) (place : ℕ) (v w : Queue) → get m key ≡ Some v
+    → Sets m n key (Some w) → w.items ≡ v.items ++ place ∷ []
+    → (k : Selection) → queue n k ≡ pushed (queue m) (Some key) place k
+pushed_behind m n key place v w had sets items k =
+    set_queue m n key (Some w) sets k
+    ∙ ap (λ l. cond (same_key k key) l (queue m k)) (items ∙ ap (λ l. l ++ place ∷ []) (sym (ap places_in had)))
+
+-- a key whose queue has the same places
+pub pushed_nothing : (m n : Keyed) (key : Selection) (v w : Queue) → get m key ≡ Some v
+    → Sets m n key (Some w) → w.items ≡ v.items → (k : Selection) → queue n k ≡ queue m k
+pushed_nothing m n key v w had sets items k =
+    set_queue m n key (Some w) sets k
+    ∙ ap (λ l. cond (same_key k key) l (queue m k)) (items ∙ sym (ap places_in had))
+    ∙ go (same_key k key) refl
+  where
+    go : (b : Bool) → same_key k key ≡ b → cond b (queue m key) (queue m k) ≡ queue m k
+    go true e = ap (queue m) (sym (key_same k key e))
+    go false e = refl
 
 -- ---- copies
 

@@ -3,7 +3,7 @@
 ghost use Rattle.std.specs.Prelude.{◌≡◌, ◌<◌, ◌∷◌, [], ℕ, IfOk, Option, Some, slice_get, vec_capacity, vec_len};
 ghost use Rattle.mp_match.specs.Board.{held_count, is_standard};
 ghost use Rattle.mp_match.specs.Live.{owner_of};
-ghost use Rattle.mp_match.specs.InnerLive.{awaits, is_sender, is_taker, owners_with, sends, told_at, told_owner};
+ghost use Rattle.mp_match.specs.InnerLive.{awaits, is_sender, is_taker, owners_with, receives, sends, told_at, told_owner};
 
 use crate::posts::{Line, Post};
 use mp_types::Bytes;
@@ -101,6 +101,13 @@ pub fn sends(owner: Option<Owner>) -> bool
     ensures { result ≡ sends owner }
 {
     matches!(owner, Some(Owner::Sends(_)))
+}
+
+/// Whether it is a receive.
+pub fn receives(owner: Option<Owner>) -> bool
+    ensures { result ≡ receives owner }
+{
+    matches!(owner, Some(Owner::Awaits(_) | Owner::Receives(_)))
 }
 
 /// Whether it is a receive that has no partner.

@@ -164,6 +164,16 @@ impl PostQueues {
                 Err(_) => Err(AllocError),
             };
         }
+        self.push_first(key, place)
+    }
+
+    // Makes a queue of the place alone, for a key that has none.
+    fn push_first(&mut self, key: Selection, place: u64) -> Result<(), AllocError>
+        requires { tree.get selection_cmp self.old.map key ≡ None }
+        ensures ok { OnOk result
+            ((k : Selection) → queue self.new.map k ≡ pushed (queue self.old.map) (Some key) place k) }
+        ensures err { OnErr result ((k : Selection) → queue self.new.map k ≡ queue self.old.map k) }
+    {
         let mut queue = VecDeque::new(self.alloc);
         match queue.push_back(place) {
             Ok(()) => {}

@@ -10,7 +10,7 @@ ghost use Rattle.mp_match.specs.Board.{envelope_at, envelope_in, held_count, is_
 ghost use Rattle.mp_match.specs.Board.{is_receive_of, is_send_of, line_of, message_at, message_in, no_posts};
 ghost use Rattle.mp_match.specs.Board.{partner_of, board_with};
 ghost use Rattle.mp_match.specs.Board.{probed, receive_posted, send_posted, without};
-ghost use Rattle.mp_match.specs.InnerLive.{IsPast, owner_in};
+ghost use Rattle.mp_match.specs.InnerLive.{IsPast, message_of, owner_in};
 ghost use Rattle.mp_match.specs.FreePosts.{free_post};
 ghost use Rattle.mp_types.specs.Carried.{carried_by_message};
 
@@ -20,7 +20,8 @@ mod live_posts;
 use crate::entering::enter;
 use crate::history::History;
 use crate::live::{
-    Live, Owner, add_owner, awaits, count_of, is_sender, is_standard, is_taker, owner_at, sends,
+    Live, Owner, add_owner, awaits, count_of, is_sender, is_standard, is_taker, owner_at, receives,
+    sends,
 };
 use crate::posts::{Line, Post, Selection, Sent};
 use crate::table::Table;
@@ -97,6 +98,28 @@ fn envelope_of(post: Post) -> Option<Envelope>
     }
 }
 
+// Whether a send with that partner is complete.
+fn is_done(sent: Sent, partner: Option<u64>) -> bool
+    ensures { result ≡ (not sent.sync || is_some partner) }
+{
+    !sent.sync || partner.is_some()
+}
+
+// The message of a send, while it is held.
+#[inline(always)]
+fn message_from(live: Live) -> Option<Message>
+    ensures { result ≡ message_of (Some live) }
+{
+    message_of(envelope_of(live.line.post), live.body)
+}
+
+// All posts and one more, which takes out the message of the send at the place.
+fn with_received(history: &History, new: &Post, place: &u64) -> History
+    ensures { result.board ≡ without (board_with history.now.board new.now None) place.now }
+{
+    history.with_post(new, &None).without(place)
+}
+
 impl Queues {
     /// No posts. Takes no memory.
     pub fn new(alloc: Global) -> Queues
@@ -130,13 +153,21 @@ impl Queues {
                 history: self.history.again(),
             });
         }
-        let mut owners = Vec::with_capacity(alloc, self.owners.len())?;
-        owners.extend_from_slice(self.owners.as_slice())?;
+        self.copy_all(alloc)
+    }
+
+    // The same posts, each with what is kept of it.
+    fn copy_all(&self, alloc: Global) -> Result<Queues, AllocError>
+        ensures { IfOk result (λ copy. copy ≡ self.now) }
+    {
+        let owners = Vec::from_slice(alloc, self.owners.as_slice())?;
+        let table = self.table.try_copy()?;
+        let waiting = self.waiting.try_copy()?;
         Ok(Queues {
             alloc,
             owners,
-            table: self.table.try_copy()?,
-            waiting: self.waiting.try_copy()?,
+            table,
+            waiting,
             held: self.held,
             compared: self.compared,
             history: self.history.again(),
@@ -245,7 +276,7 @@ impl Queues {
             return Err(PostFault::Full);
         }
         match self.add(Post::Send(sent), Some(bytes)) {
-            Ok(partner) => Ok(!sent.sync || partner.is_some()),
+            Ok(partner) => Ok(is_done(sent, partner)),
             Err(_) => Err(PostFault::Memory),
         }
     }
@@ -372,12 +403,29 @@ impl Queues {
         ensures err { OnErr result (self.new ≡ self.old) }
     {
         let copy = self.copy_at(alloc, place)?;
+        let message = self.receive_once(selection, place)?;
+        Ok((message, copy))
+    }
+
+    // Posts a receive that finds the send at the place, and takes its message out.
+    #[inline(always)]
+    fn receive_once(
+        &mut self,
+        selection: Selection,
+        place: u64,
+    ) -> Result<Option<Message>, AllocError>
+        requires few { length self.old.lines < 2 ^ 64 - 1 }
+        requires partner { Some place ≡ partner_for self.old.lines (Post.Receive selection) }
+        ensures message { IfOk result (λ message. message ≡ message_at self.old place) }
+        ensures after { OnOk result (self.new ≡ without (receive_posted self.old selection) place) }
+        ensures err { OnErr result (self.new ≡ self.old) }
+    {
         self.owners.reserve(1)?;
-        let Some(Live { line, body, .. }) = self.table.take(place) else {
+        let Some(live) = self.table.take(place) else {
             unreachable!()
         };
         let new = Post::Receive(selection);
-        self.waiting.pair(&self.history, new, line.post);
+        self.waiting.pair(&self.history, new, live.line.post);
         add_owner(
             &mut self.owners,
             Line {
@@ -385,9 +433,9 @@ impl Queues {
                 partner: Some(place),
             },
         );
-        self.held -= count_of(&body);
-        self.history = self.history.with_post(&new, &None).without(&place);
-        Ok((message_of(envelope_of(line.post), body), copy))
+        self.held -= count_of(&live.body);
+        self.history = with_received(&self.history, &new, &place);
+        Ok(message_from(live))
     }
 
     // The message of the send at the place once more, if any.
@@ -598,12 +646,7 @@ impl Queues {
     {
         match place {
             None => false,
-            Some(place) => {
-                matches!(
-                    self.owners.get(place as usize),
-                    Some(Owner::Awaits(_) | Owner::Receives(_))
-                )
-            }
+            Some(place) => receives(owner_at(self.owners.as_slice(), place)),
         }
     }
 

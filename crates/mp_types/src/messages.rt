@@ -45,7 +45,7 @@ impl Message {
 }
 
 /// What a guest finds in the 24 bytes of a status (MPI 4.1, chapter 3.2.5).
-#[derive(Clone, Copy, PartialEq, Eq, Drop)]
+#[derive(Clone, Copy, Drop)]
 pub struct Status {
     /// The sender's position in the communicator, -1 for none, -2 for the null process.
     pub source: i64,

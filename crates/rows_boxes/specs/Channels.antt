@@ -1,5 +1,5 @@
 -- The sending side of a channel.
-use Rattle.std.specs.Prelude.{ℕ, ◌≡◌, ◌*◌, ◌≤◌, map}
+use Rattle.std.specs.Prelude.{ℕ, ◌≡◌, ◌*◌, ◌%◌, ◌<◌, ◌≤◌, map}
 use Rattle.part_channel.specs.Channels.{ChannelView, sender_box}
 use Rattle.part_channel.specs.Sending.{SendView}
 
@@ -7,3 +7,7 @@ use Rattle.part_channel.specs.Sending.{SendView}
 abbrev pub IsSideOf : ChannelView → ℕ → SendView → Type 0
 IsSideOf channel size send =
     (map sender_box send.keys ≡ channel.boxes) × (send.size ≡ size) × (size ≤ 128) × (size ≤ 8 * channel.width)
+
+-- so many partitions of so many bytes each, as a side takes them
+abbrev pub AreParts : ℕ → ℕ → Type 0
+AreParts parts size = (0 < parts) × (parts ≤ 16) × (0 < size) × (size ≤ 128) × (size % 8 ≡ 0)

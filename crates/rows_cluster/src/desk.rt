@@ -52,12 +52,12 @@ fn print_journal(rt: &HostRuntime, mut entries: Entries<'_>) -> io::Result<()> {
     Ok(())
 }
 
-/// Makes the calls, and prints the journal.
-pub(crate) fn print_desk(rt: &HostRuntime) -> io::Result<()> {
-    let Ok(hub) = hub(rt.alloc()) else {
-        return println!(rt; "no hub");
+/// Makes the calls, and prints the journal. `host` is where lines are told.
+pub(crate) fn print_desk<R: Wait>(rt: &R, host: &HostRuntime) -> io::Result<()> {
+    let Ok(hub) = hub(host.alloc()) else {
+        return println!(host; "no hub");
     };
     let hub = Mutex::new(hub);
     make_calls(rt, &hub);
-    print_journal(rt, hub.lock(rt).entries())
+    print_journal(host, hub.lock(rt).entries())
 }

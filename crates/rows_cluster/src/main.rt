@@ -105,23 +105,28 @@ fn print_runs<R: Threads + Wait + Sync>(
 }
 
 /// Prints what comes to the record on standard input.
-fn print_record(rt: &HostRuntime) -> io::Result<()> {
-    let record = input(rt)?;
-    let Some((image, steps)) = read_steps(rt, record.as_slice())? else {
-        return println!(rt; "no record");
+fn print_record<R: Threads + Wait + Sync>(rt: &R, host: &HostRuntime) -> io::Result<()> {
+    let record = input(host)?;
+    let Some((image, steps)) = read_steps(host, record.as_slice())? else {
+        return println!(host; "no record");
     };
-    print_texts(rt, record.as_slice(), &image, steps.as_slice())?;
-    print_walks(rt, &image, steps.as_slice())?;
-    print_places(rt, record.as_slice())?;
-    print_runs(rt, rt, &image, steps.as_slice())
+    print_texts(host, record.as_slice(), &image, steps.as_slice())?;
+    print_walks(host, &image, steps.as_slice())?;
+    print_places(host, record.as_slice())?;
+    print_runs(rt, host, &image, steps.as_slice())
+}
+
+/// Prints the rows that stand by themselves.
+fn print_others<R: Threads + Wait + Sync>(rt: &R, host: &HostRuntime) -> io::Result<()> {
+    print_desk(rt, host)?;
+    print_meetings(rt, host)
 }
 
 fn main(rt: HostRuntime) -> io::Result<()> {
     let is_all = std::env::args(&rt)?.nth(1).is_some();
-    print_record(&rt)?;
+    print_record(&rt, &rt)?;
     if is_all {
-        print_desk(&rt)?;
-        print_meetings(&rt)?;
+        print_others(&rt, &rt)?;
     }
     Ok(())
 }

@@ -180,25 +180,39 @@ fn print_points(rt: &HostRuntime, meet: &Meet) -> io::Result<()> {
     println!(rt; "ranks that found nobody: {alone}")
 }
 
-/// Prints what runs by threads leave.
-pub(crate) fn print_meetings(rt: &HostRuntime) -> io::Result<()> {
-    let alloc = rt.alloc();
+/// Prints what two ranks leave that wait for each other, under no gate, and under a pace.
+fn print_records<R: Threads + Wait + Sync>(rt: &R, host: &HostRuntime) -> io::Result<()> {
+    let alloc = host.alloc();
     let meet = Meet::new();
-    print_record(rt, "meet", run(rt, alloc, 1000, &meet))?;
-    print_points(rt, &meet)?;
-    print_record(rt, "no gate", run(rt, alloc, 1000, &NoGate))?;
-    print_record(rt, "pace", run(rt, alloc, 3, &Pace::new(2, 1)))?;
-    print_record(rt, "no turns", run(rt, alloc, 0, &NoGate))?;
-    println!(rt;
+    print_record(host, "meet", run(rt, alloc, 1000, &meet))?;
+    print_points(host, &meet)?;
+    print_record(host, "no gate", run(rt, alloc, 1000, &NoGate))?;
+    print_record(host, "pace", run(rt, alloc, 3, &Pace::new(2, 1)))?;
+    print_record(host, "no turns", run(rt, alloc, 0, &NoGate))
+}
+
+/// Prints how many turns of ranks that loop were too far ahead. `host` is where lines are told.
+fn print_leads<R: Threads + Wait + Sync>(rt: &R, host: &HostRuntime) -> io::Result<()> {
+    let alloc = host.alloc();
+    println!(host;
         "lead 1, turns too far ahead: {:?}",
         far(rt, alloc, &LOOP, &Watched::new(2, 1), 1000)
     )?;
-    println!(rt;
+    println!(host;
         "lead 100, turns too far ahead: {:?}",
         far(rt, alloc, &LOOP, &Watched::new(2, 100), 100_000)
     )?;
-    println!(rt;
+    println!(host;
         "three ranks, lead 5, turns too far ahead: {:?}",
         far(rt, alloc, &LOOP_OF_THREE, &Watched::new(3, 5), 10_000)
     )
+}
+
+/// Prints what runs by threads leave.
+pub(crate) fn print_meetings<R: Threads + Wait + Sync>(
+    rt: &R,
+    host: &HostRuntime,
+) -> io::Result<()> {
+    print_records(rt, host)?;
+    print_leads(rt, host)
 }

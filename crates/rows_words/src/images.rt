@@ -1,6 +1,6 @@
 //! Images that are read and written, and memories that are made.
 
-use rv_image::{Image, read_image, write_image};
+use rv_image::{Image, ImageFault, read_image, write_image};
 use rv_memory::RankMemory;
 use std::alloc::{AllocError, Global};
 use std::io;
@@ -49,25 +49,66 @@ fn print_written<W: Write>(
     image: &Image,
     bytes: &[u8],
 ) -> io::Result<()> {
-    let is_same = is_written_as(alloc, image, bytes)?;
-    writeln!(out, "{}", if is_same { "image" } else { "another image" })
+    if is_written_as(alloc, image, bytes)? {
+        return out.write_all(b"image\n");
+    }
+    out.write_all(b"another image\n")
+}
+
+/// Prints a fault.
+fn print_fault<W: Write>(out: &mut W, fault: &ImageFault) -> io::Result<()> {
+    writeln!(out, "{fault}")
 }
 
 /// Prints what became of the bytes of an image.
 fn print_read<W: Write>(alloc: Global, out: &mut W, bytes: &[u8]) -> io::Result<()> {
     match read_image(alloc, bytes) {
         Ok(image) => print_written(alloc, out, &image, bytes),
-        Err(fault) => writeln!(out, "{fault}"),
+        Err(fault) => print_fault(out, &fault),
     }
 }
 
-/// Prints what became of the bytes that the words spell.
-pub fn print_image<W: Write>(alloc: Global, out: &mut W, words: &[&str]) -> io::Result<()> {
+/// The bytes that the words spell.
+fn bytes_in(alloc: Global, words: &[&str]) -> Result<Vec<u8>, AllocError> {
     let mut bytes = Vec::new(alloc);
     for word in words {
         bytes.push(u8::from_str_radix(word, 16).unwrap_or(0))?;
     }
+    Ok(bytes)
+}
+
+/// Prints what became of the bytes that the words spell.
+pub fn print_image<W: Write>(alloc: Global, out: &mut W, words: &[&str]) -> io::Result<()> {
+    let bytes = bytes_in(alloc, words)?;
     print_read(alloc, out, &bytes)
+}
+
+/// Adds the sizes of text and data, and the numbers of communicators and links.
+fn put_sizes(
+    out: &mut Vec<u8>,
+    comms: u32,
+    links: u32,
+    text: u32,
+    init: u32,
+) -> Result<(), AllocError> {
+    out.extend_from_slice(&text.to_le_bytes())?;
+    out.extend_from_slice(&init.to_le_bytes())?;
+    out.extend_from_slice(&[(comms % 256) as u8, (links % 256) as u8, 0, 0])
+}
+
+/// Adds so many communicators and links.
+fn put_lists(out: &mut Vec<u8>, comms: u32, links: u32) -> Result<(), AllocError> {
+    let end = COMM_STARTS[(comms % 8) as usize];
+    out.extend_from_slice(&COMMS[..end])?;
+    out.extend_from_slice(&LINKS[..(2 * (links % 33)) as usize])
+}
+
+/// Adds so many bytes.
+fn put_bytes(out: &mut Vec<u8>, count: u64) -> Result<(), AllocError> {
+    for place in 0..count {
+        out.push((place % 251) as u8)?;
+    }
+    Ok(())
 }
 
 /// An image of 8 ranks of 4 harts with 1,048,576 bytes of memory.
@@ -79,15 +120,9 @@ fn parts(
     init: u32,
 ) -> Result<Vec<u8>, AllocError> {
     let mut bytes = Vec::from_slice(alloc, b"RVMC\x01\0\x08\x04\0\0\x10\0\0\0\0\0")?;
-    bytes.extend_from_slice(&text.to_le_bytes())?;
-    bytes.extend_from_slice(&init.to_le_bytes())?;
-    bytes.extend_from_slice(&[(comms % 256) as u8, (links % 256) as u8, 0, 0])?;
-    let end = COMM_STARTS[(comms % 8) as usize];
-    bytes.extend_from_slice(&COMMS[..end])?;
-    bytes.extend_from_slice(&LINKS[..(2 * (links % 33)) as usize])?;
-    for place in 0..u64::from(text) + u64::from(init) {
-        bytes.push((place % 251) as u8)?;
-    }
+    put_sizes(&mut bytes, comms, links, text, init)?;
+    put_lists(&mut bytes, comms, links)?;
+    put_bytes(&mut bytes, u64::from(text) + u64::from(init))?;
     Ok(bytes)
 }
 
@@ -103,16 +138,21 @@ pub fn print_parts<W: Write>(alloc: Global, out: &mut W, words: &[&str]) -> io::
     print_read(alloc, out, &bytes)
 }
 
+/// Reads all of a memory: how many bytes that were.
+fn bytes_read(alloc: Global, memory: &RankMemory) -> Result<usize, AllocError> {
+    match memory.read_bytes(alloc, 0, memory.size()) {
+        Ok(bytes) => Ok(bytes.len()),
+        Err(_) => Err(AllocError),
+    }
+}
+
 /// Makes a memory and reads all of it: how many bytes that were.
 fn read_of(alloc: Global, size: u32) -> Result<usize, AllocError> {
     if size < 4096 || size > 1_048_576 || size % 4096 != 0 {
         return Ok(0);
     }
     let memory = RankMemory::new(alloc, size as usize, &[0x13, 0, 0, 0], &[])?;
-    match memory.read_bytes(alloc, 0, memory.size()) {
-        Ok(bytes) => Ok(bytes.len()),
-        Err(_) => Err(AllocError),
-    }
+    bytes_read(alloc, &memory)
 }
 
 /// Prints how many bytes are read of a memory.

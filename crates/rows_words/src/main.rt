@@ -17,35 +17,53 @@
 mod images;
 
 use images::{print_image, print_memory, print_parts};
-use rv_decode::{Reg, decode, encode, print_instr};
+use rv_decode::{Instr, Reg, decode, encode, print_instr};
 use rv_hart::{Hart, Mode, step};
 use rv_memory::{RankMemory, Width};
 use std::alloc::{AllocError, Global};
 use std::io;
 use std::io::Write;
 
+/// Prints an instruction as it is written again, and its text.
+fn print_instruction<W: Write>(
+    alloc: Global,
+    out: &mut W,
+    instr: &Instr,
+    written: u32,
+) -> io::Result<()> {
+    let text = print_instr(alloc, instr)?;
+    writeln!(out, "{written:08x} {text}")
+}
+
 /// Prints what a word is.
 fn print_word<W: Write>(alloc: Global, out: &mut W, word: u32) -> io::Result<()> {
     match decode(word) {
-        Some(instr) => {
-            let text = print_instr(alloc, &instr)?;
-            let written = encode(&instr);
-            writeln!(out, "{written:08x} {text}")
-        }
-        None => writeln!(out, "illegal"),
+        Some(instr) => print_instruction(alloc, out, &instr, encode(&instr)),
+        None => out.write_all(b"illegal\n"),
     }
+}
+
+/// The hart after one step from 0 in this memory.
+fn stepped(memory: &mut RankMemory, a: u64, b: u64) -> Result<Hart, AllocError> {
+    let mut hart = Hart::start(0, 4096, 0, 0);
+    hart.set(Reg::new(5), a);
+    hart.set(Reg::new(6), b);
+    if let Mode::Running = hart.mode() {
+        step(&mut hart, memory)?;
+    }
+    Ok(hart)
 }
 
 /// The hart after one step over the word, in a memory with this double word of data.
 fn after(alloc: Global, word: u32, a: u64, b: u64, cell: u64) -> Result<Hart, AllocError> {
     let mut memory = RankMemory::new(alloc, 4096, &word.to_le_bytes(), &cell.to_le_bytes())?;
-    let mut hart = Hart::start(0, 4096, 0, 0);
-    hart.set(Reg::new(5), a);
-    hart.set(Reg::new(6), b);
-    if let Mode::Running = hart.mode() {
-        step(&mut hart, &mut memory)?;
-    }
-    Ok(hart)
+    stepped(&mut memory, a, b)
+}
+
+/// Prints what x7 reads, and the pc.
+fn print_hart<W: Write>(out: &mut W, hart: &Hart) -> io::Result<()> {
+    let (read, pc) = (hart.get(Reg::new(7)), hart.pc());
+    writeln!(out, "{read:x} {pc:x}")
 }
 
 /// Prints what a step over a word does.
@@ -58,8 +76,7 @@ fn print_step<W: Write>(
     cell: u64,
 ) -> io::Result<()> {
     let hart = after(alloc, word, a, b, cell)?;
-    let (read, pc) = (hart.get(Reg::new(7)), hart.pc());
-    writeln!(out, "{read:x} {pc:x}")
+    print_hart(out, &hart)
 }
 
 /// A hex number, or 0 where the text is none.
@@ -67,25 +84,47 @@ fn number(text: &str) -> u64 {
     u64::from_str_radix(text, 16).unwrap_or(0)
 }
 
+/// The first of these as a word, or none where it is none.
+fn word_in(words: &[&str]) -> Option<u32> {
+    match words {
+        [text, ..] => u32::from_str_radix(text, 16).ok(),
+        [] => None,
+    }
+}
+
 /// Prints what a word is, or what a step over it does.
 fn print_numbers<W: Write>(alloc: Global, out: &mut W, words: &[&str]) -> io::Result<()> {
-    let word = words.first().map(|text| u32::from_str_radix(text, 16));
-    match (word, words) {
-        (Some(Ok(word)), [_]) => print_word(alloc, out, word),
-        (Some(Ok(word)), [_, a, b, cell]) => {
-            print_step(alloc, out, word, number(a), number(b), number(cell))
-        }
-        _ => writeln!(out, "no row"),
+    let Some(word) = word_in(words) else {
+        return out.write_all(b"no row\n");
+    };
+    match words {
+        [_] => print_word(alloc, out, word),
+        [_, a, b, cell] => print_step(alloc, out, word, number(a), number(b), number(cell)),
+        _ => out.write_all(b"no row\n"),
+    }
+}
+
+/// Prints what the words of a line ask for, of which the rest stands behind a name.
+fn print_named<W: Write>(
+    alloc: Global,
+    out: &mut W,
+    name: &str,
+    words: &[&str],
+    rest: &[&str],
+) -> io::Result<()> {
+    match name {
+        "image" => print_image(alloc, out, rest),
+        "parts" => print_parts(alloc, out, rest),
+        "memory" => print_memory(alloc, out, rest),
+        _ => print_numbers(alloc, out, words),
     }
 }
 
 /// Prints what the words of a line ask for.
 fn print_words<W: Write>(alloc: Global, out: &mut W, words: &[&str]) -> io::Result<()> {
     match words {
-        [name, rest @ ..] if *name == "image" => print_image(alloc, out, rest),
-        [name, rest @ ..] if *name == "parts" => print_parts(alloc, out, rest),
-        [name, rest @ ..] if *name == "memory" => print_memory(alloc, out, rest),
-        _ => print_numbers(alloc, out, words),
+        [name, rest @ ..] => print_named(alloc, out, name, words, rest),
+        [] => out.write_all(b"no row\n"),
     }
 }
 
@@ -95,21 +134,32 @@ fn print_line<W: Write>(alloc: Global, out: &mut W, line: &str) -> io::Result<()
     print_words(alloc, out, &words)
 }
 
-/// Whether the last 8 bytes of a new memory without data are present, before and after a store there.
-fn print_present<W: Write>(alloc: Global, out: &mut W) -> io::Result<()> {
-    let size: u64 = 1 << 20;
-    let mut memory = RankMemory::new(alloc, 1 << 20, &0x13u32.to_le_bytes(), &[])?;
-    let before = memory.present(size - 8, 8);
-    let stored = memory.store(size - 8, Width::Double, 7).is_ok();
-    let after = memory.present(size - 8, 8);
+/// Prints what each line of standard input asks for.
+fn print_lines(rt: &HostRuntime) -> io::Result<()> {
+    for line in rt.lines(rt.alloc()) {
+        print_line(rt.alloc(), &mut rt.stdout(), &line?)?;
+    }
+    Ok(())
+}
+
+/// The size of the memory that is asked what is present.
+const SIZE: u64 = 1 << 20;
+
+/// Prints whether the last 8 bytes are present, before and after a store there.
+fn print_stored<W: Write>(out: &mut W, memory: &mut RankMemory) -> io::Result<()> {
+    let before = memory.present(SIZE - 8, 8);
+    let stored = memory.store(SIZE - 8, Width::Double, 7).is_ok();
+    let after = memory.present(SIZE - 8, 8);
     writeln!(out, "present {before} {stored} {after}")
 }
 
+/// Whether the last 8 bytes of a new memory without data are present, before and after a store there.
+fn print_present<W: Write>(alloc: Global, out: &mut W) -> io::Result<()> {
+    let mut memory = RankMemory::new(alloc, 1 << 20, &0x13u32.to_le_bytes(), &[])?;
+    print_stored(out, &mut memory)
+}
+
 fn main(rt: HostRuntime) -> io::Result<()> {
-    let alloc = rt.alloc();
-    for line in rt.lines(alloc) {
-        let line = line?;
-        print_line(alloc, &mut rt.stdout(), line.as_str())?;
-    }
-    print_present(alloc, &mut rt.stdout())
+    print_lines(&rt)?;
+    print_present(rt.alloc(), &mut rt.stdout())
 }

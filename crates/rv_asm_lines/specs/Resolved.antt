@@ -125,12 +125,16 @@ shift_of op d s z = ranged (pos 0) (pos (2 ^ amount_bits op - 1)) z >>= λ n. Ok
 abbrev pub lui_high : ℕ → ℤ → Instr
 lui_high d z = instr.Upper Lui d (upper_immediate (int_rem_euclid (high_part z) (pos 1048576)))
 
+-- lui of a high part, and addiw of the low part unless that is 0
+abbrev pub load_parts : ℕ → ℤ → List Instr
+load_parts d z =
+    if int_eq (low_part z) (pos 0) then lui_high d z ∷ []
+    else lui_high d z ∷ instr.Imm Addiw d d (low_part z) ∷ []
+
 -- `li d, z`
 abbrev pub load_immediate : ℕ → ℤ → List Instr
 load_immediate d z =
-    if is_between (negsuc 2047) (pos 2047) z then instr.Imm Addi d 0 z ∷ []
-    else (if int_eq (low_part z) (pos 0) then lui_high d z ∷ []
-    else lui_high d z ∷ instr.Imm Addiw d d (low_part z) ∷ [])
+    if is_between (negsuc 2047) (pos 2047) z then instr.Imm Addi d 0 z ∷ [] else load_parts d z
 
 -- a number of 32 bits with a sign
 abbrev pub imm_32 : ℤ → Result ℤ AsmFaultKind
@@ -150,13 +154,23 @@ one i = i ∷ []
 abbrev pub single : Result Instr AsmFaultKind → Result (List Instr) AsmFaultKind
 single r = r >>= λ i. Ok (one i)
 
+-- jal, a branch and la: of a target, at an address
+abbrev pub jal_to : List (List ℕ × ℕ) → ℕ → Slot → Filled → Result (List Instr) AsmFaultKind
+jal_to labels at d o = goal_offset labels at o.target >>= λ n. single (jal_of (register_at d o) n)
+
+abbrev pub branch_to : List (List ℕ × ℕ) → ℕ → BranchOp → Slot → Slot → Filled → Result (List Instr) AsmFaultKind
+branch_to labels at op s t o =
+    goal_offset labels at o.target >>= λ n. single (branch_of op (register_at s o) (register_at t o) n)
+
+abbrev pub load_target : List (List ℕ × ℕ) → Slot → Filled → Result (List Instr) AsmFaultKind
+load_target labels d o = goal_offset labels 0 o.target >>= λ a. Ok (load_address (register_at d o) a)
+
 -- the instructions of a template and its operands, at an address
 unfoldable pub instrs_of : List (List ℕ × ℕ) → ℕ → Template → Filled → Result (List Instr) AsmFaultKind
 instrs_of labels at (template.Upper op d) o = single (upper_of op (register_at d o) o.target.number)
-instrs_of labels at (template.Jal d) o = goal_offset labels at o.target >>= λ n. single (jal_of (register_at d o) n)
+instrs_of labels at (template.Jal d) o = jal_to labels at d o
 instrs_of labels at (template.Jalr d s n) o = single (jalr_of (register_at d o) (register_at s o) (number_given n o))
-instrs_of labels at (template.Branch op s t) o =
-    goal_offset labels at o.target >>= λ n. single (branch_of op (register_at s o) (register_at t o) n)
+instrs_of labels at (template.Branch op s t) o = branch_to labels at op s t o
 instrs_of labels at (template.Load op d s) o = single (load_of op (register_at d o) (register_at s o) o.target.number)
 instrs_of labels at (template.Store op s t) o = single (store_of op (register_at s o) (register_at t o) o.target.number)
 instrs_of labels at (template.Imm op d s n) o = single (imm_of op (register_at d o) (register_at s o) (number_given n o))
@@ -167,8 +181,7 @@ instrs_of labels at template.Fence o = Ok (one instr.Fence)
 instrs_of labels at template.Ecall o = Ok (one instr.Ecall)
 instrs_of labels at template.Ebreak o = Ok (one instr.Ebreak)
 instrs_of labels at (template.LoadImmediate d) o = load_number (register_at d o) o.target.number
-instrs_of labels at (template.LoadAddress d) o =
-    goal_offset labels 0 o.target >>= λ a. Ok (load_address (register_at d o) a)
+instrs_of labels at (template.LoadAddress d) o = load_target labels d o
 
 -- the words of instructions
 abbrev pub all_words : Result (List Instr) AsmFaultKind → Result (List ℕ) AsmFaultKind

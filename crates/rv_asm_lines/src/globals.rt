@@ -1,6 +1,9 @@
 //! The names of `.globl`.
 
-ghost use Rattle.std.specs.Prelude.{◌≡◌, Ok, Err, Some, true, MatchResult};
+ghost use Rattle.std.specs.Prelude.{◌≡◌, Ok, Err, Some, true, MatchResult, OnOk};
+ghost use Rattle.std.specs.BTreeSet.{insert_key};
+ghost use Rattle.std.specs.Cmp.Lexicographic.{slice_cmp};
+ghost use Rattle.std.specs.Ordering.{nat_cmp};
 ghost use Rattle.rv_asm_tokens.specs.declared.fault.AsmFaultKind.TheVariants as kinds;
 ghost use Rattle.rv_asm_tokens.specs.Returned.{Fails};
 ghost use Rattle.rv_asm_lines.specs.Refused.{NoFault};
@@ -10,8 +13,17 @@ ghost use Rattle.rv_asm_lines.specs.LayoutView.{names_view};
 
 use rv_asm_statements::{Directive, Statement};
 use rv_asm_tokens::AsmFaultKind;
-use std::alloc::Global;
+use std::alloc::{AllocError, Global};
 use std::collections::BTreeSet;
+
+/// Puts a name that isn't there at its place.
+fn put_global(alloc: Global, globals: &mut BTreeSet<Vec<u8>>, name: &[u8]) -> Result<(), AllocError>
+    ensures { OnOk result (names_view globals.new ≡ insert_key (slice_cmp nat_cmp) (names_view globals.old) name.now) }
+{
+    let key = Vec::from_slice(alloc, name)?;
+    globals.insert(key)?;
+    Ok(())
+}
 
 /// Takes a name, if it isn't there: `Limit` for the 1,025th.
 fn add_global(
@@ -31,8 +43,7 @@ fn add_global(
     if globals.len() >= 1_024 {
         return Err(AsmFaultKind::Limit);
     }
-    let key = Vec::from_slice(alloc, name)?;
-    globals.insert(key)?;
+    put_global(alloc, globals, name)?;
     Ok(())
 }
 

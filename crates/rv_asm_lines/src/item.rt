@@ -5,6 +5,7 @@ ghost use Rattle.rv_asm_tokens.specs.Lexeme.{number_value};
 ghost use Rattle.rv_asm_lines.specs.Layout.{item_at};
 ghost use Rattle.rv_asm_lines.specs.ItemView.{unlabelled};
 ghost use Rattle.rv_asm_statements.specs.declared.statements.Statement.TheVariants.{Instruction, Label};
+ghost use Rattle.rv_asm_statements.specs.declared.statements.Statement.TheVariants.{Directive as Directed};
 
 use crate::parts::{Part, Place};
 use rv_asm_statements::{Directive, Filled, Integer, Statement, Target, Template, Use};
@@ -110,17 +111,44 @@ impl<'a> Item<'a> {
         })
     }
 
+    /// A directive, in a block of its own.
+    fn directed(
+        alloc: Global,
+        line: u64,
+        place: Place,
+        directive: Directive,
+    ) -> Result<Item<'a>, AllocError>
+        ensures { IfOk result (λ item. item ≡ item_at line place (Directed directive)) }
+    {
+        let directive = Box::new(alloc, directive)?;
+        Ok(Item {
+            kept: Kept::Directive(place.part, place.at, line, directive),
+        })
+    }
+
+    /// A statement, in a block of its own.
+    fn other(
+        alloc: Global,
+        statement: Statement,
+        line: u64,
+        place: Place,
+    ) -> Result<Item<'a>, AllocError>
+        ensures { IfOk result (λ item. item ≡ item_at line place statement) }
+    {
+        let stated = Box::new(alloc, statement)?;
+        Ok(Item {
+            kept: Kept::Other(place.part, place.at, line, stated),
+        })
+    }
+
     /// An instruction, in a block of its own where it names a label.
     fn used(alloc: Global, line: u64, place: Place, found: Use) -> Result<Item<'a>, AllocError>
         ensures { IfOk result (λ item. item ≡ item_at line place (Instruction found)) }
     {
-        if let Some(item) = Item::plain(line, place, &found) {
-            return Ok(item);
+        match Item::plain(line, place, &found) {
+            Some(item) => Ok(item),
+            None => Item::other(alloc, Statement::Instruction(found), line, place),
         }
-        let stated = Box::new(alloc, Statement::Instruction(found))?;
-        Ok(Item {
-            kept: Kept::Other(place.part, place.at, line, stated),
-        })
     }
 
     /// A statement, in a block of its own unless it is an instruction that names no label.
@@ -132,14 +160,11 @@ impl<'a> Item<'a> {
     ) -> Result<Item<'a>, AllocError>
         ensures { IfOk result (λ item. item ≡ item_at line place statement) }
     {
-        let kept = match statement {
-            Statement::Instruction(found) => return Item::used(alloc, line, place, found),
-            Statement::Directive(directive) => {
-                Kept::Directive(place.part, place.at, line, Box::new(alloc, directive)?)
-            }
-            other => Kept::Other(place.part, place.at, line, Box::new(alloc, other)?),
-        };
-        Ok(Item { kept })
+        match statement {
+            Statement::Instruction(found) => Item::used(alloc, line, place, found),
+            Statement::Directive(directive) => Item::directed(alloc, line, place, directive),
+            label => Item::other(alloc, label, line, place),
+        }
     }
 
     /// The number of its line.

@@ -1,6 +1,7 @@
 //! The labels of a source, in the order in which they stand.
 
-ghost use Rattle.std.specs.Prelude.{◌≡◌, ◌<◌, ◌^◌, IfSome, MatchOption, MatchResult, OnOk, None, Some, Ok, length};
+ghost use Rattle.std.specs.Prelude.{◌≡◌, ◌<◌, ◌^◌, ◌++◌, ◌∷◌, [], IfSome, MatchOption, MatchResult, OnOk};
+ghost use Rattle.std.specs.Prelude.{None, Some, Ok, length};
 ghost use Rattle.rv_asm_tokens.specs.Returned.{Fails};
 ghost use Rattle.rv_asm_lines.specs.Layout.{labels_at, place_in, with_label};
 ghost use Rattle.rv_asm_lines.specs.LayoutView.{addresses_view, labels_view, layout_view, front_label};
@@ -47,13 +48,27 @@ fn first_label<'a>(tokens: &mut Tokens<'a>) -> Option<&'a [u8]>
     Some(name)
 }
 
+/// Adds a name, which is new, behind the labels.
+fn put_label<'a>(
+    labels: &mut IndexMap<&'a [u8], Place>,
+    name: &'a [u8],
+    place: Place,
+) -> Result<(), AllocError>
+    requires { place_in name.now (labels_view labels.old.entries) ≡ None }
+    ensures { OnOk result
+        (labels_view labels.new.entries ≡ labels_view labels.old.entries ++ (name.now, place) ∷ []) }
+{
+    labels.insert(name, place)?;
+    Ok(())
+}
+
 /// Adds a label, which is new, at the end of the part.
 fn add_label<'a>(line: u64, layout: &mut Layout<'a>, name: &'a [u8]) -> Result<(), AllocError>
     requires { place_in name.now (labels_view layout.old.labels.entries) ≡ None }
     ensures { OnOk result (layout_view layout.new ≡ with_label line (layout_view layout.old) name.now) }
 {
     let place = next_place(layout);
-    layout.labels.insert(name, place)?;
+    put_label(&mut layout.labels, name, place)?;
     layout.items.push(Item::label(line, place, name))?;
     Ok(())
 }

@@ -7,38 +7,17 @@ ghost use Rattle.rv_asm_tokens.specs.Returned.{Is};
 ghost use Rattle.rv_asm_lines.specs.LayoutView.{addresses_view};
 ghost use Rattle.rv_asm_lines.specs.Places.{AllWritten, IfRight};
 ghost use Rattle.rv_asm_lines.specs.WordsView.{words_list};
-ghost use Rattle.rv_asm_lines.specs.Resolved.{register_at, number_given, lui_high, low_part, high_part, load_immediate};
+ghost use Rattle.rv_asm_lines.specs.Resolved.{load_target, lui_high, low_part, high_part, load_parts, load_immediate};
 ghost use Rattle.rv_asm_lines.specs.Resolved.{all_words, load_address, load_number as load_meant, use_length};
 ghost use Rattle.rv_asm_lines.specs.Resolved.{instrs_of, words_of as resolved_words};
 
-use crate::instructions::{branch, imm, jal, jalr, load, shift, store, upper};
+use crate::instructions::{arith, branch, imm, jal, jalr, load, register, shift, store, upper};
 use crate::layout::Layout;
 use crate::offsets::{offset, upper_immediate, within};
 use crate::words::{Words, one, two};
-use rv_asm_statements::{Amount, Filled, Slot, Template, Use};
+use rv_asm_statements::{Filled, Slot, Template, Use};
 use rv_asm_tokens::AsmFaultKind;
 use rv_decode::{ImmOp, Instr, Reg, UpperOp};
-
-fn register(slot: Slot, o: &Filled) -> Reg
-    ensures { result ≡ register_at slot o.now }
-{
-    match slot {
-        Slot::First => o.first,
-        Slot::Second => o.second,
-        Slot::Third => o.third,
-        Slot::Zero => Reg::new(0),
-        Slot::Link => Reg::new(1),
-    }
-}
-
-fn number(amount: Amount, o: &Filled) -> i128
-    ensures { result ≡ number_given amount o.now }
-{
-    match amount {
-        Amount::Written => o.target.number.value(),
-        Amount::Given(given) => i128::from(given),
-    }
-}
 
 /// 4096 times the high part is within 2048 of the number.
 fn high(z: i128) -> i128
@@ -90,20 +69,13 @@ fn load_high(d: Reg, z: i128) -> Instr
     }
 }
 
-/// `li`, of a number of 32 bits with a sign.
-fn immediate_words(d: Reg, z: i32) -> Words
-    ensures words { words_list result ≡ map written_word (load_immediate d z) }
-    ensures written { AllWritten (load_immediate d z) }
+/// The parts of a number, the low one unless it is 0.
+fn words_of_parts(d: Reg, z: i128) -> Words
+    requires low { neg_ℤ (pos (2 ^ 70)) ≤ℤ z }
+    requires high { z ≤ℤ pos (2 ^ 70) }
+    ensures words { words_list result ≡ map written_word (load_parts d z) }
+    ensures written { AllWritten (load_parts d z) }
 {
-    if z >= -2048 && z <= 2047 {
-        return one(Instr::Imm {
-            op: ImmOp::Addi,
-            rd: d,
-            rs1: Reg::new(0),
-            imm: z,
-        });
-    }
-    let z = i128::from(z);
     let first = load_high(d, z);
     let imm = low(z);
     if imm == 0 {
@@ -118,6 +90,22 @@ fn immediate_words(d: Reg, z: i32) -> Words
             imm,
         },
     )
+}
+
+/// `li`, of a number of 32 bits with a sign.
+fn immediate_words(d: Reg, z: i32) -> Words
+    ensures words { words_list result ≡ map written_word (load_immediate d z) }
+    ensures written { AllWritten (load_immediate d z) }
+{
+    if z >= -2048 && z <= 2047 {
+        return one(Instr::Imm {
+            op: ImmOp::Addi,
+            rd: d,
+            rs1: Reg::new(0),
+            imm: z,
+        });
+    }
+    words_of_parts(d, i128::from(z))
 }
 
 /// `li`, of a number that fits 32 bits with a sign, else `Range`.
@@ -147,6 +135,15 @@ fn address_words(d: Reg, z: i128) -> Words
     )
 }
 
+/// `la`, of a target.
+fn target_words(layout: &Layout<'_>, d: Slot, o: &Filled) -> Result<Words, AsmFaultKind>
+    ensures value { Is words_list result (all_words (load_target (addresses_view layout.now) d o.now)) }
+    ensures written { OnOk result (IfRight (load_target (addresses_view layout.now) d o.now) AllWritten) }
+{
+    let address = offset(layout, 0, &o.target)?;
+    Ok(address_words(register(d, o), address))
+}
+
 /// The words of a template and its operands, at an address.
 #[tactic(auto, unfolding(crate::specs::Resolved::instrs_of))]
 pub fn words_of(
@@ -158,33 +155,21 @@ pub fn words_of(
     ensures value { Is words_list result (resolved_words (addresses_view layout.now) at template o.now) }
     ensures written { OnOk result (IfRight (instrs_of (addresses_view layout.now) at template o.now) AllWritten) }
 {
-    let written = o.target.number.value();
     match template {
-        Template::Upper(op, d) => upper(op, register(d, o), written),
-        Template::Jal(d) => jal(register(d, o), offset(layout, at, &o.target)?),
-        Template::Jalr(d, s, n) => jalr(register(d, o), register(s, o), number(n, o)),
-        Template::Branch(op, s, t) => {
-            let far = offset(layout, at, &o.target)?;
-            branch(op, register(s, o), register(t, o), far)
-        }
-        Template::Load(op, d, s) => load(op, register(d, o), register(s, o), written),
-        Template::Store(op, s, t) => store(op, register(s, o), register(t, o), written),
-        Template::Imm(op, d, s, n) => imm(op, register(d, o), register(s, o), number(n, o)),
-        Template::Shift(op, d, s) => shift(op, register(d, o), register(s, o), written),
-        Template::Arith(op, d, s, t) => Ok(one(Instr::Arith {
-            op,
-            rd: register(d, o),
-            rs1: register(s, o),
-            rs2: register(t, o),
-        })),
+        Template::Upper(op, d) => upper(op, d, o),
+        Template::Jal(d) => jal(layout, at, d, o),
+        Template::Jalr(d, s, n) => jalr(d, s, n, o),
+        Template::Branch(op, s, t) => branch(layout, at, op, s, t, o),
+        Template::Load(op, d, s) => load(op, d, s, o),
+        Template::Store(op, s, t) => store(op, s, t, o),
+        Template::Imm(op, d, s, n) => imm(op, d, s, n, o),
+        Template::Shift(op, d, s) => shift(op, d, s, o),
+        Template::Arith(op, d, s, t) => Ok(arith(op, d, s, t, o)),
         Template::Fence => Ok(one(Instr::Fence)),
         Template::Ecall => Ok(one(Instr::Ecall)),
         Template::Ebreak => Ok(one(Instr::Ebreak)),
-        Template::LoadImmediate(d) => load_number(register(d, o), written),
-        Template::LoadAddress(d) => {
-            let address = offset(layout, 0, &o.target)?;
-            Ok(address_words(register(d, o), address))
-        }
+        Template::LoadImmediate(d) => load_number(register(d, o), o.target.number.value()),
+        Template::LoadAddress(d) => target_words(layout, d, o),
     }
 }
 

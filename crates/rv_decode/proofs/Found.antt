@@ -9,36 +9,50 @@ use Rattle.rv_decode.specs.WordOf.{IsWordOf, Fits, IsSigned}
 use Rattle.rv_decode.specs.Decoded.{decoded, has_row, readings, same_pair, same_triple, uppers, branches, loads, stores, imms, shifts, ariths}
 use Rattle.rv_decode.specs.declared.instruction.Instr.{Instr}
 use Rattle.rv_decode.specs.declared.instruction.Instr.TheVariants.{Upper, Jal, Jalr, Branch, Load, Store, Imm, Shift, Arith, Fence, Ecall, Ebreak}
-use Rattle.rv_decode.specs.declared.instruction.UpperOp.TheVariants.{Lui}
+use Rattle.rv_decode.specs.declared.instruction.UpperOp.TheVariants.{Lui, Auipc}
 use Rattle.rv_decode.specs.declared.instruction.BranchOp.TheVariants.{Beq}
 use Rattle.rv_decode.specs.declared.instruction.LoadOp.TheVariants.{Lb}
 use Rattle.rv_decode.specs.declared.instruction.StoreOp.TheVariants.{Sb}
-use Rattle.rv_decode.specs.declared.instruction.ImmOp.TheVariants.{Addi}
-use Rattle.rv_decode.specs.declared.instruction.ShiftOp.TheVariants.{Slli}
-use Rattle.rv_decode.specs.declared.instruction.ArithOp.TheVariants.{Add}
+use Rattle.rv_decode.specs.declared.instruction.ImmOp.TheVariants.{Addi, Addiw}
+use Rattle.rv_decode.specs.declared.instruction.ShiftOp.TheVariants.{Slli, Slliw, Srliw, Sraiw}
+use Rattle.rv_decode.specs.declared.instruction.ArithOp.TheVariants.{Add, Addw, Subw, Sllw, Srlw, Sraw, Mulw, Divw, Divuw, Remw, Remuw}
+use Rattle.rv_decode.proofs.Lookup.{decoded_lui, decoded_auipc, decoded_jal, decoded_jalr, decoded_branch, decoded_load, decoded_store, decoded_imm, decoded_word_imm, decoded_arith, decoded_word_arith, decoded_fence, decoded_system}
 
--- each row is found from a word that has it
+-- each row is found from a word that has it, by the look-up of its opcode
 pub found : (w : ℕ) (i : Instr) → IsWordOf w i → decoded w ≡ Some i
-unfolding decoded
-found w (Upper Lui d imm) h = rw (h.0, h.1, h.2)
-found w (Upper _ d imm) h = rw (h.0, h.1, h.2)
-found w (Jal d off) h = rw (h.0, h.1, h.2)
-found w (Jalr d s off) h = rw (h.0.0, h.0.1, h.1, h.2, h.3)
-found w (Branch Beq s t off) h = rw (h.0.0, h.0.1, h.1, h.2, h.3)
-found w (Branch _ s t off) h = rw (h.0.0, h.0.1, h.1, h.2, h.3)
-found w (Load Lb d s off) h = rw (h.0.0, h.0.1, h.1, h.2, h.3)
-found w (Load _ d s off) h = rw (h.0.0, h.0.1, h.1, h.2, h.3)
-found w (Store Sb s t off) h = rw (h.0.0, h.0.1, h.1, h.2, h.3)
-found w (Store _ s t off) h = rw (h.0.0, h.0.1, h.1, h.2, h.3)
-found w (Imm Addi d s imm) h = rw (h.0.0, h.0.1, h.1, h.2, h.3)
-found w (Imm _ d s imm) h = rw (h.0.0, h.0.1, h.1, h.2, h.3)
-found w (Shift Slli d s amount) h = rw (h.0.0, h.0.1, h.0.2, h.1, h.2, h.3)
-found w (Shift _ d s amount) h = rw (h.0.0, h.0.1, h.0.2, h.1, h.2, h.3)
-found w (Arith Add d s t) h = rw (h.0.0, h.0.1, h.0.2, h.1, h.2, h.3)
-found w (Arith _ d s t) h = rw (h.0.0, h.0.1, h.0.2, h.1, h.2, h.3)
-found w Fence h = rw (h.0, h.1)
-found w Ecall h = rw h
-found w Ebreak h = rw h
+found w (Upper Lui d imm) h = rw (decoded_lui w h.0, h.1, h.2)
+found w (Upper Auipc d imm) h = rw (decoded_auipc w h.0, h.1, h.2)
+found w (Jal d off) h = rw (decoded_jal w h.0, h.1, h.2)
+found w (Jalr d s off) h = rw (decoded_jalr w h.0.0, h.0.1, h.1, h.2, h.3)
+found w (Branch Beq s t off) h = rw (decoded_branch w h.0.0, h.0.1, h.1, h.2, h.3)
+found w (Branch _ s t off) h = rw (decoded_branch w h.0.0, h.0.1, h.1, h.2, h.3)
+found w (Load Lb d s off) h = rw (decoded_load w h.0.0, h.0.1, h.1, h.2, h.3)
+found w (Load _ d s off) h = rw (decoded_load w h.0.0, h.0.1, h.1, h.2, h.3)
+found w (Store Sb s t off) h = rw (decoded_store w h.0.0, h.0.1, h.1, h.2, h.3)
+found w (Store _ s t off) h = rw (decoded_store w h.0.0, h.0.1, h.1, h.2, h.3)
+found w (Imm Addiw d s imm) h = rw (decoded_word_imm w h.0.0, h.0.1, h.1, h.2, h.3)
+found w (Imm Addi d s imm) h = rw (decoded_imm w h.0.0, h.0.1, h.1, h.2, h.3)
+found w (Imm _ d s imm) h = rw (decoded_imm w h.0.0, h.0.1, h.1, h.2, h.3)
+found w (Shift Slliw d s amount) h = rw (decoded_word_imm w h.0.0, h.0.1, h.0.2, h.1, h.2, h.3)
+found w (Shift Srliw d s amount) h = rw (decoded_word_imm w h.0.0, h.0.1, h.0.2, h.1, h.2, h.3)
+found w (Shift Sraiw d s amount) h = rw (decoded_word_imm w h.0.0, h.0.1, h.0.2, h.1, h.2, h.3)
+found w (Shift Slli d s amount) h = rw (decoded_imm w h.0.0, h.0.1, h.0.2, h.1, h.2, h.3)
+found w (Shift _ d s amount) h = rw (decoded_imm w h.0.0, h.0.1, h.0.2, h.1, h.2, h.3)
+found w (Arith Addw d s t) h = rw (decoded_word_arith w h.0.0, h.0.1, h.0.2, h.1, h.2, h.3)
+found w (Arith Subw d s t) h = rw (decoded_word_arith w h.0.0, h.0.1, h.0.2, h.1, h.2, h.3)
+found w (Arith Sllw d s t) h = rw (decoded_word_arith w h.0.0, h.0.1, h.0.2, h.1, h.2, h.3)
+found w (Arith Srlw d s t) h = rw (decoded_word_arith w h.0.0, h.0.1, h.0.2, h.1, h.2, h.3)
+found w (Arith Sraw d s t) h = rw (decoded_word_arith w h.0.0, h.0.1, h.0.2, h.1, h.2, h.3)
+found w (Arith Mulw d s t) h = rw (decoded_word_arith w h.0.0, h.0.1, h.0.2, h.1, h.2, h.3)
+found w (Arith Divw d s t) h = rw (decoded_word_arith w h.0.0, h.0.1, h.0.2, h.1, h.2, h.3)
+found w (Arith Divuw d s t) h = rw (decoded_word_arith w h.0.0, h.0.1, h.0.2, h.1, h.2, h.3)
+found w (Arith Remw d s t) h = rw (decoded_word_arith w h.0.0, h.0.1, h.0.2, h.1, h.2, h.3)
+found w (Arith Remuw d s t) h = rw (decoded_word_arith w h.0.0, h.0.1, h.0.2, h.1, h.2, h.3)
+found w (Arith Add d s t) h = rw (decoded_arith w h.0.0, h.0.1, h.0.2, h.1, h.2, h.3)
+found w (Arith _ d s t) h = rw (decoded_arith w h.0.0, h.0.1, h.0.2, h.1, h.2, h.3)
+found w Fence h = rw (decoded_fence w h.0, h.1)
+found w Ecall h = rw (decoded_system w (omega (arith, h)), h)
+found w Ebreak h = rw (decoded_system w (omega (arith, h)), h)
 
 and-true : (a b : Bool) → (a && b) ≡ true → (a ≡ true) × (b ≡ true)
 and-true true b e = (refl, e)

@@ -21,4 +21,4 @@ with_operands name [] = name
 with_operands name (x ∷ xs) = statement_text name (x ∷ xs)
 
 abbrev pub written : Statement → List ℕ
-written s = with_operands s.name.now (operand_texts s.operands)
+written s = with_operands s.0.now (operand_texts s.1)

@@ -174,41 +174,45 @@ impl fmt::Display for Operands {
 
 /// A mnemonic and its operands.
 #[derive(Clone, Copy)]
-struct Statement {
-    name: &'static str,
-    operands: Operands,
-}
+struct Statement(&'static str, Operands);
 
 impl Instr {
     /// The mnemonic and the operands that an instruction is written with.
     fn statement(&self) -> Statement
         ensures { written result ≡ instr_text self.now }
     {
-        let (name, operands) = match *self {
+        match *self {
             Instr::Upper { op, rd, imm } => {
-                (
-                    op.mnemonic(),
-                    Operands::Upper(rd, imm.cast_unsigned() / 0x1000),
-                )
+                let field = imm.cast_unsigned() / 0x1000;
+                Statement(op.mnemonic(), Operands::Upper(rd, field))
             }
-            Instr::Jal { rd, off } => ("jal", Operands::Target(rd, off)),
-            Instr::Jalr { rd, rs1, off } => ("jalr", Operands::Address(rd, off, rs1)),
-            Instr::Branch { op, rs1, rs2, off } => (op.mnemonic(), Operands::Number(rs1, rs2, off)),
-            Instr::Load { op, rd, rs1, off } => (op.mnemonic(), Operands::Address(rd, off, rs1)),
-            Instr::Store { op, rs1, rs2, off } => (op.mnemonic(), Operands::Address(rs2, off, rs1)),
-            Instr::Imm { op, rd, rs1, imm } => (op.mnemonic(), Operands::Number(rd, rs1, imm)),
+            Instr::Jal { rd, off } => Statement("jal", Operands::Target(rd, off)),
+            Instr::Jalr { rd, rs1, off } => Statement("jalr", Operands::Address(rd, off, rs1)),
+            Instr::Branch { op, rs1, rs2, off } => {
+                Statement(op.mnemonic(), Operands::Number(rs1, rs2, off))
+            }
+            Instr::Load { op, rd, rs1, off } => {
+                Statement(op.mnemonic(), Operands::Address(rd, off, rs1))
+            }
+            Instr::Store { op, rs1, rs2, off } => {
+                Statement(op.mnemonic(), Operands::Address(rs2, off, rs1))
+            }
+            Instr::Imm { op, rd, rs1, imm } => {
+                Statement(op.mnemonic(), Operands::Number(rd, rs1, imm))
+            }
             Instr::Shift {
                 op,
                 rd,
                 rs1,
                 amount,
-            } => { (op.mnemonic(), Operands::Number(rd, rs1, i32::from(amount))) }
-            Instr::Arith { op, rd, rs1, rs2 } => (op.mnemonic(), Operands::Registers(rd, rs1, rs2)),
-            Instr::Fence => ("fence", Operands::Nothing),
-            Instr::Ecall => ("ecall", Operands::Nothing),
-            Instr::Ebreak => ("ebreak", Operands::Nothing),
-        };
-        Statement { name, operands }
+            } => Statement(op.mnemonic(), Operands::Number(rd, rs1, i32::from(amount))),
+            Instr::Arith { op, rd, rs1, rs2 } => {
+                Statement(op.mnemonic(), Operands::Registers(rd, rs1, rs2))
+            }
+            Instr::Fence => Statement("fence", Operands::Nothing),
+            Instr::Ecall => Statement("ecall", Operands::Nothing),
+            Instr::Ebreak => Statement("ebreak", Operands::Nothing),
+        }
     }
 }
 
@@ -216,7 +220,7 @@ impl fmt::Display for Instr {
     ghost output = { λ i. Some (instr_text i) };
 
     fn fmt<W: fmt::Write>(&self, f: &mut fmt::Formatter<W>) -> fmt::Result {
-        let Statement { name, operands } = self.statement();
+        let Statement(name, operands) = self.statement();
         match operands {
             Operands::Nothing => write!(f, "{name}"),
             _ => write!(f, "{name} {operands}"),

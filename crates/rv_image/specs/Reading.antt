@@ -46,19 +46,28 @@ header_at bytes = record {
   symbols = number_at w16 26 bytes;
 }
 
--- the tests of the header's numbers in their order: what has to hold, and the fault where it doesn't
-abbrev pub number_tests : Header → List (Bool × ImageFault)
-number_tests h =
+-- Tests in their order: what has to hold, and the fault where it doesn't. First those of the numbers' limits.
+abbrev pub limit_tests : Header → List (Bool × ImageFault)
+limit_tests h =
     (is_within 1 8 h.ranks, Limit 6 h.ranks)
     ∷ (is_within 1 4 h.harts, Limit 7 h.harts)
     ∷ (is_within 4096 1048576 h.memory && (h.memory % 4096 == 0 && nat_le (4096 * h.harts) h.memory), Limit 8 h.memory)
     ∷ (nat_le h.comms 7, Limit 24 h.comms)
     ∷ (nat_le h.links 32, Limit 25 h.links)
     ∷ (nat_le h.symbols (most_symbols h.version), Limit 26 h.symbols)
-    ∷ (nat_lt 0 h.text_length && (h.text_length % 4 == 0 && nat_le h.text_length h.memory), Text 16)
+    ∷ []
+
+-- those of what the memory holds: the text, the initial data, and the entry in the text
+abbrev pub place_tests : Header → List (Bool × ImageFault)
+place_tests h =
+    (nat_lt 0 h.text_length && (h.text_length % 4 == 0 && nat_le h.text_length h.memory), Text 16)
     ∷ (nat_le (data_start h.text_length + h.init_length) h.memory, Text 20)
     ∷ (h.entry % 4 == 0 && nat_lt h.entry h.text_length, Text 12)
     ∷ []
+
+-- the tests of the header's numbers in their order
+abbrev pub number_tests : Header → List (Bool × ImageFault)
+number_tests h = limit_tests h ++ place_tests h
 
 -- all tests of the header in their order; Short has the input's length
 abbrev pub header_tests : List ℕ → List (Bool × ImageFault)

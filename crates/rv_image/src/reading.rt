@@ -1,6 +1,6 @@
 //! From bytes to an image, or to the first fault.
 
-ghost use Rattle.std.specs.Prelude.{◌≡◌, [], ◌≤◌, None, length, Ok, Err, IfOk, IsOk};
+ghost use Rattle.std.specs.Prelude.{◌≡◌, [], ◌∷◌, ◌++◌, ◌≤◌, None, length, Ok, Err, OnOk, IfOk, IsOk};
 ghost use Rattle.rv_image.specs.declared.faults.ImageFault.{ImageFault};
 ghost use Rattle.rv_image.specs.declared.images.ImageParts.{ImageParts};
 ghost use Rattle.rv_image.specs.Image.{IsImage};
@@ -8,15 +8,15 @@ ghost use Rattle.rv_image.specs.Text.{image_text};
 ghost use Rattle.rv_image.specs.Reading.{next_byte, next_bytes};
 ghost use Rattle.rv_image.specs.ReadingAnswers.{GivesBy, rest_of, AnswersBy, IsReadAs, Accepts};
 ghost use Rattle.rv_image.specs.Reading.{first_fault, number_tests, header_tests, repeated, is_new_rank, next_member};
-ghost use Rattle.rv_image.specs.Reading.{comm_at, next_comm, link_at, next_link, is_next_symbol, symbol_at};
-ghost use Rattle.rv_image.specs.Reading.{next_symbol, body_at, reading};
+ghost use Rattle.rv_image.specs.Reading.{comm_at, next_comm, second_rank, link_at, next_link, is_next_symbol};
+ghost use Rattle.rv_image.specs.Reading.{named_at, symbol_at, next_symbol, body_at, reading};
 
 use crate::faults::ImageFault;
 use crate::header::{HEADER_LENGTH, Header, header_fault, header_of, u32_at};
 use crate::images::{Image, ImageParts, Link, Symbol};
 use crate::lists::{Comms, Links, Members, Segment, SymbolName, Symbols};
 use crate::names::{is_symbol_name, name_before};
-use std::alloc::Global;
+use std::alloc::{AllocError, Global};
 
 // Below, `total` is the length of the whole input, which Short carries, and `bytes` what is left of it. What is handed
 // no allocator answers just what is read, value or fault. All tests stand there, and are done before anything is
@@ -96,6 +96,14 @@ fn skip_comms(total: usize, ranks: u8, count: u8, bytes: &[u8]) -> Result<&[u8],
     Ok(rest)
 }
 
+/// Adds a copy of the members of one more communicator.
+fn push_members(alloc: Global, done: &mut Vec<Members>, members: &[u8]) -> Result<(), AllocError>
+    ensures { OnOk result (done.new.items ≡ done.old.items ++ members.now ∷ []) }
+{
+    done.push(Members::from_vec(Vec::from_slice(alloc, members)?))?;
+    Ok(())
+}
+
 /// A copy of the communicators, `count` of them, and what follows.
 fn take_comms(
     alloc: Global,
@@ -110,10 +118,27 @@ fn take_comms(
     let mut rest = bytes;
     for _ in 0..count {
         let (members, after) = take_comm(total, ranks, done.len() + 1, rest)?;
-        done.push(Members::from_vec(Vec::from_slice(alloc, members)?))?;
+        push_members(alloc, &mut done, members)?;
         rest = after;
     }
     Ok((done, rest))
+}
+
+/// Link `n`, of which the sending rank is read, and what follows.
+fn take_receiver(
+    total: usize,
+    ranks: u8,
+    n: usize,
+    from: u8,
+    bytes: &[u8],
+) -> Result<(Link, &[u8]), ImageFault>
+    ensures { GivesBy (λ x. (x.0, x.1.now)) result (second_rank total ranks n from bytes.now) }
+{
+    let (to, rest) = take_byte(total, bytes)?;
+    if to >= ranks || to == from {
+        return Err(ImageFault::Link(n));
+    }
+    Ok((Link { from, to }, rest))
 }
 
 /// Link `n` and what follows.
@@ -125,11 +150,7 @@ fn take_link(total: usize, ranks: u8, n: usize, bytes: &[u8]) -> Result<(Link, &
     if from >= ranks {
         return Err(ImageFault::Link(n));
     }
-    let (to, rest) = take_byte(total, rest)?;
-    if to >= ranks || to == from {
-        return Err(ImageFault::Link(n));
-    }
-    Ok((Link { from, to }, rest))
+    take_receiver(total, ranks, n, from, rest)
 }
 
 /// What follows the links, `count` of them.
@@ -171,6 +192,26 @@ fn may_follow(memory: u32, last: &[u8], name: &[u8], address: u32) -> bool
     is_symbol_name(name) && name_before(last, name) && address <= memory
 }
 
+/// The name, of `size` bytes, and the address of symbol `n`, behind one of the name `last`, and what follows.
+fn take_named<'a>(
+    total: usize,
+    memory: u32,
+    n: usize,
+    last: &[u8],
+    address: u32,
+    size: u8,
+    bytes: &'a [u8],
+) -> Result<(&'a [u8], u32, &'a [u8]), ImageFault>
+    ensures { GivesBy (λ x. (record { name = x.0.now; address = x.1 }, x.2.now)) result
+        (named_at total memory n last.now address size bytes.now) }
+{
+    let (name, rest) = take_bytes(u32::from(size), total, bytes)?;
+    if !may_follow(memory, last, name, address) {
+        return Err(ImageFault::Symbol(n));
+    }
+    Ok((name, address, rest))
+}
+
 /// The name and address of symbol `n`, behind one of the name `last`, and what follows.
 #[tactic(auto, unfolding(crate::specs::Reading::symbol_at))]
 fn take_symbol<'a>(
@@ -188,12 +229,7 @@ fn take_symbol<'a>(
     if size < 1 || size > 31 {
         return Err(ImageFault::Symbol(n));
     }
-    let address = u32_at(front, 0);
-    let (name, rest) = take_bytes(u32::from(size), total, rest)?;
-    if !may_follow(memory, last, name, address) {
-        return Err(ImageFault::Symbol(n));
-    }
-    Ok((name, address, rest))
+    take_named(total, memory, n, last, u32_at(front, 0), size, rest)
 }
 
 /// What follows the symbols, `count` of them.
@@ -208,6 +244,20 @@ fn skip_symbols(total: usize, memory: u32, count: u16, bytes: &[u8]) -> Result<&
         rest = after;
     }
     Ok(rest)
+}
+
+/// Adds a copy of one more symbol.
+fn push_symbol(
+    alloc: Global,
+    done: &mut Vec<Symbol>,
+    name: &[u8],
+    address: u32,
+) -> Result<(), AllocError>
+    ensures { OnOk result (done.new.items ≡ done.old.items ++ record { name = name.now; address = address } ∷ []) }
+{
+    let name = SymbolName::from_vec(Vec::from_slice(alloc, name)?);
+    done.push(Symbol { name, address })?;
+    Ok(())
 }
 
 /// A copy of the symbols, `count` of them, and what follows.
@@ -225,14 +275,19 @@ fn take_symbols(
     let mut last: &[u8] = &[];
     for _ in 0..count {
         let (name, address, after) = take_symbol(total, memory, done.len(), last, rest)?;
-        done.push(Symbol {
-            name: SymbolName::from_vec(Vec::from_slice(alloc, name)?),
-            address,
-        })?;
+        push_symbol(alloc, &mut done, name, address)?;
         last = name;
         rest = after;
     }
     Ok((done, rest))
+}
+
+/// What follows the next bytes, `length` of them.
+fn skip_bytes(length: u32, total: usize, bytes: &[u8]) -> Result<&[u8], ImageFault>
+    ensures { GivesBy (λ x. x.now) result (rest_of (next_bytes length total bytes.now)) }
+{
+    let (_, rest) = take_bytes(length, total, bytes)?;
+    Ok(rest)
 }
 
 /// Tests all that stands behind a right header.
@@ -242,14 +297,63 @@ fn test_body(total: usize, h: &Header, bytes: &[u8]) -> Result<(), ImageFault>
 {
     let rest = skip_comms(total, h.ranks, h.comms, bytes)?;
     let rest = skip_links(total, h.ranks, h.links, rest)?;
-    let (_, rest) = take_bytes(h.text_length, total, rest)?;
-    let (_, rest) = take_bytes(h.init_length, total, rest)?;
+    let rest = skip_bytes(h.text_length, total, rest)?;
+    let rest = skip_bytes(h.init_length, total, rest)?;
     let rest = skip_symbols(total, h.memory, h.symbols, rest)?;
     if !rest.is_empty() {
         // It never saturates: what is left is the input's end.
         return Err(ImageFault::Long(total.saturating_sub(rest.len())));
     }
     Ok(())
+}
+
+/// A copy of the next bytes, `length` of them, and what follows.
+fn take_segment(
+    alloc: Global,
+    length: u32,
+    total: usize,
+    bytes: &[u8],
+) -> Result<(Segment, &[u8]), ImageFault>
+    ensures { AnswersBy (λ x. (x.0, x.1.now)) result (next_bytes length total bytes.now) }
+{
+    let (front, rest) = take_bytes(length, total, bytes)?;
+    Ok((Segment::from_vec(Vec::from_slice(alloc, front)?)?, rest))
+}
+
+/// The parts of a header's numbers and of what stands behind it.
+fn parts_from(
+    h: &Header,
+    text: Segment,
+    init: Segment,
+    comms: Vec<Members>,
+    links: Vec<Link>,
+    symbols: Vec<Symbol>,
+) -> ImageParts
+    ensures { result ≡ record {
+      version = h.now.version;
+      ranks = h.now.ranks;
+      harts = h.now.harts;
+      memory = h.now.memory;
+      entry = h.now.entry;
+      text = text;
+      init = init;
+      comms = comms.items;
+      links = links.items;
+      symbols = symbols.items;
+    } }
+{
+    ImageParts {
+        version: h.version,
+        ranks: h.ranks,
+        harts: h.harts,
+        memory: h.memory,
+        entry: h.entry,
+        text,
+        init,
+        comms: Comms::from_vec(comms),
+        links: Links::from_vec(links),
+        symbols: Symbols::from_vec(symbols),
+    }
 }
 
 /// A copy of the parts that a right header and the bytes behind it make, which are tested.
@@ -265,21 +369,10 @@ fn take_body(
 {
     let (comms, rest) = take_comms(alloc, total, h.ranks, h.comms, bytes)?;
     let (links, rest) = take_links(alloc, total, h.ranks, h.links, rest)?;
-    let (text, rest) = take_bytes(h.text_length, total, rest)?;
-    let (init, rest) = take_bytes(h.init_length, total, rest)?;
+    let (text, rest) = take_segment(alloc, h.text_length, total, rest)?;
+    let (init, rest) = take_segment(alloc, h.init_length, total, rest)?;
     let (symbols, _) = take_symbols(alloc, total, h.memory, h.symbols, rest)?;
-    Ok(ImageParts {
-        version: h.version,
-        ranks: h.ranks,
-        harts: h.harts,
-        memory: h.memory,
-        entry: h.entry,
-        text: Segment::from_vec(Vec::from_slice(alloc, text)?)?,
-        init: Segment::from_vec(Vec::from_slice(alloc, init)?)?,
-        comms: Comms::from_vec(comms),
-        links: Links::from_vec(links),
-        symbols: Symbols::from_vec(symbols),
-    })
+    Ok(parts_from(h, text, init, comms, links, symbols))
 }
 
 /// The parts that the bytes spell.

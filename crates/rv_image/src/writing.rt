@@ -1,9 +1,10 @@
 //! From an image to its one text of bytes.
 
-ghost use Rattle.std.specs.Prelude.{◌≡◌, ◌≤◌, ◌++◌, ◌^◌, ◌<◌, length, All, OnOk, IfOk, Ok};
+ghost use Rattle.std.specs.Prelude.{◌≡◌, ◌≤◌, ◌++◌, ◌^◌, ◌<◌, ◌∷◌, [], length, codes, All, OnOk, IfOk, Ok};
+ghost use Rattle.std.specs.Int.{w16, w32, to_le_bytes};
 ghost use Rattle.std.specs.List.{flat_map};
 ghost use Rattle.rv_image.specs.Image.{IsImage};
-ghost use Rattle.rv_image.specs.Text.{comm_text, link_text, symbol_text, version_number, header_text, image_text};
+ghost use Rattle.rv_image.specs.Text.{comm_text, link_text, symbol_text, version_number, header_text, body_text, image_text};
 ghost use Rattle.rv_image.specs.Reading.{reading};
 
 use crate::images::{Image, ImageParts, ImageVersion, Link, Symbol};
@@ -20,25 +21,58 @@ fn number_of(version: ImageVersion) -> u16
     }
 }
 
+/// Adds the magic, the version, and the numbers of ranks and harts.
+fn put_front(out: &mut Vec<u8>, parts: &ImageParts) -> Result<(), AllocError>
+    ensures { OnOk result (out.new.items ≡ out.old.items ++ (codes "RVMC"
+        ++ to_le_bytes w16 (version_number parts.now.version) ++ (parts.now.ranks ∷ parts.now.harts ∷ []))) }
+{
+    out.extend_from_slice(b"RVMC")?;
+    out.extend_from_slice(&number_of(parts.version).to_le_bytes())?;
+    out.extend_from_slice(&[parts.ranks, parts.harts])
+}
+
+/// Adds a number of four bytes, low byte first.
+fn put_u32(out: &mut Vec<u8>, number: u32) -> Result<(), AllocError>
+    ensures { OnOk result (out.new.items ≡ out.old.items ++ to_le_bytes w32 number) }
+{
+    out.extend_from_slice(&number.to_le_bytes())
+}
+
+/// Adds the numbers that have four bytes.
+fn put_sizes(out: &mut Vec<u8>, parts: &ImageParts) -> Result<(), AllocError>
+    requires { IsImage parts.now }
+    ensures { OnOk result (out.new.items ≡ out.old.items ++ (to_le_bytes w32 parts.now.memory
+        ++ to_le_bytes w32 parts.now.entry ++ to_le_bytes w32 (length parts.now.text)
+        ++ to_le_bytes w32 (length parts.now.init))) }
+{
+    put_u32(out, parts.memory)?;
+    put_u32(out, parts.entry)?;
+    put_u32(out, parts.text.as_slice().len() as u32)?;
+    put_u32(out, parts.init.as_slice().len() as u32)?;
+    Ok(())
+}
+
+/// Adds the numbers of communicators, links and symbols.
+fn put_counts(out: &mut Vec<u8>, parts: &ImageParts) -> Result<(), AllocError>
+    requires { IsImage parts.now }
+    ensures { OnOk result (out.new.items ≡ out.old.items ++ ((length parts.now.comms ∷ length parts.now.links ∷ [])
+        ++ to_le_bytes w16 (length parts.now.symbols))) }
+{
+    let comms = parts.comms.as_slice().len() as u8;
+    let links = parts.links.as_slice().len() as u8;
+    out.extend_from_slice(&[comms, links])?;
+    out.extend_from_slice(&(parts.symbols.as_slice().len() as u16).to_le_bytes())
+}
+
 /// Adds the 28 bytes of the header.
 #[tactic(auto, unfolding(crate::specs::Text::header_text))]
 fn put_header(out: &mut Vec<u8>, parts: &ImageParts) -> Result<(), AllocError>
     requires { IsImage parts.now }
     ensures { OnOk result (out.new.items ≡ out.old.items ++ header_text parts.now) }
 {
-    out.extend_from_slice(b"RVMC")?;
-    out.extend_from_slice(&number_of(parts.version).to_le_bytes())?;
-    out.extend_from_slice(&[parts.ranks, parts.harts])?;
-    out.extend_from_slice(&parts.memory.to_le_bytes())?;
-    out.extend_from_slice(&parts.entry.to_le_bytes())?;
-    out.extend_from_slice(&(parts.text.as_slice().len() as u32).to_le_bytes())?;
-    out.extend_from_slice(&(parts.init.as_slice().len() as u32).to_le_bytes())?;
-    out.extend_from_slice(&[
-        parts.comms.as_slice().len() as u8,
-        parts.links.as_slice().len() as u8,
-    ])?;
-    out.extend_from_slice(&(parts.symbols.as_slice().len() as u16).to_le_bytes())?;
-    Ok(())
+    put_front(out, parts)?;
+    put_sizes(out, parts)?;
+    put_counts(out, parts)
 }
 
 /// Adds one communicator.
@@ -93,6 +127,25 @@ fn put_symbols(out: &mut Vec<u8>, symbols: &[Symbol]) -> Result<(), AllocError>
     Ok(())
 }
 
+/// Adds the text and the initial data.
+fn put_segments(out: &mut Vec<u8>, parts: &ImageParts) -> Result<(), AllocError>
+    ensures { OnOk result (out.new.items ≡ out.old.items ++ parts.now.text ++ parts.now.init) }
+{
+    out.extend_from_slice(parts.text.as_slice())?;
+    out.extend_from_slice(parts.init.as_slice())
+}
+
+/// Adds what stands behind the header.
+fn put_body(out: &mut Vec<u8>, parts: &ImageParts) -> Result<(), AllocError>
+    requires { IsImage parts.now }
+    ensures { OnOk result (out.new.items ≡ out.old.items ++ body_text parts.now) }
+{
+    put_comms(out, parts.comms.as_slice())?;
+    put_links(out, parts.links.as_slice())?;
+    put_segments(out, parts)?;
+    put_symbols(out, parts.symbols.as_slice())
+}
+
 /// The text of the parts.
 #[tactic(auto, unfolding(crate::specs::Text::image_text))]
 fn text_of(alloc: Global, parts: &ImageParts) -> Result<Vec<u8>, AllocError>
@@ -101,11 +154,7 @@ fn text_of(alloc: Global, parts: &ImageParts) -> Result<Vec<u8>, AllocError>
 {
     let mut out = Vec::new(alloc);
     put_header(&mut out, parts)?;
-    put_comms(&mut out, parts.comms.as_slice())?;
-    put_links(&mut out, parts.links.as_slice())?;
-    out.extend_from_slice(parts.text.as_slice())?;
-    out.extend_from_slice(parts.init.as_slice())?;
-    put_symbols(&mut out, parts.symbols.as_slice())?;
+    put_body(&mut out, parts)?;
     Ok(out)
 }
 

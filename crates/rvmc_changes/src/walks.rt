@@ -16,7 +16,7 @@ pub struct Walk {
 }
 
 /// Why there is no walk.
-#[derive(Clone, Copy, PartialEq, Eq, Drop, Debug)]
+#[derive(Clone, Copy, Drop)]
 pub enum WalkFault {
     /// 1: a place is behind the end. Carries the number of steps.
     PastEnd(u64),

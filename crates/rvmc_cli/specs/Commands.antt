@@ -73,6 +73,12 @@ abbrev pub run_by : Bool → ℕ → Option (List ℕ) → ℕ → Written → I
 run_by false budget plan lead written = Run budget plan lead written
 run_by true budget plan lead written = RunUntilStuck budget plan lead written
 
+-- the same by what is to be written, and by `--plan HARTS`
+abbrev pub run_with : ℕ → ℕ → List Row → Option ImageCommand
+run_with budget lead rows =
+    option_and_then (λ written. option_map (λ plan. run_by (flag_in (codes "until-stuck") rows) budget plan lead written)
+    (list_option (codes "plan") rows)) (written_in rows)
+
 -- `run [--source] [--budget N] [--plan HARTS] [--record] [--why] [--lead N] [--until-stuck]`
 abbrev pub run_row : CommandRow
 run_row =
@@ -80,15 +86,21 @@ run_row =
       name = codes "run";
       rules = runner_rules ++ option (codes "lead") ∷ flag (codes "until-stuck") ∷ [];
       meaning = λ rows.
-          option_and_then (λ budget. option_and_then (λ lead. option_and_then (λ written. option_map (λ plan.
-          OfImage (flag_in (codes "source") rows) (run_by (flag_in (codes "until-stuck") rows) budget plan lead written))
-          (list_option (codes "plan") rows)) (written_in rows)) (lead_in rows)) (budget_in rows);
+          option_and_then (λ budget. option_and_then (λ lead. option_map (λ command.
+          OfImage (flag_in (codes "source") rows) command) (run_with budget lead rows)) (lead_in rows))
+          (budget_in rows);
     }
 
 -- a run on one thread, to the end of its plans or `until_stuck`
 abbrev pub one_by : Bool → ℕ → Option (List ℕ) → Option (List ℕ) → Written → ImageCommand
 one_by false budget plan order written = One budget plan order written
 one_by true budget plan order written = OneUntilStuck budget plan order written
+
+-- the same by `--plan HARTS` and `--order RANKS`
+abbrev pub one_with : ℕ → Written → List Row → Option ImageCommand
+one_with budget written rows =
+    option_and_then (λ plan. option_map (λ order. one_by (flag_in (codes "until-stuck") rows) budget plan order written)
+    (list_option (codes "order") rows)) (list_option (codes "plan") rows)
 
 -- `one [--source] [--budget N] [--plan HARTS] [--record] [--why] [--order RANKS] [--until-stuck]`
 abbrev pub one_row : CommandRow
@@ -97,9 +109,9 @@ one_row =
       name = codes "one";
       rules = runner_rules ++ option (codes "order") ∷ flag (codes "until-stuck") ∷ [];
       meaning = λ rows.
-          option_and_then (λ budget. option_and_then (λ written. option_and_then (λ plan. option_map (λ order.
-          OfImage (flag_in (codes "source") rows) (one_by (flag_in (codes "until-stuck") rows) budget plan order written))
-          (list_option (codes "order") rows)) (list_option (codes "plan") rows)) (written_in rows)) (budget_in rows);
+          option_and_then (λ budget. option_and_then (λ written. option_map (λ command.
+          OfImage (flag_in (codes "source") rows) command) (one_with budget written rows)) (written_in rows))
+          (budget_in rows);
     }
 
 -- `--states N`, from 1 to 2^24; without it 1,000,000
@@ -269,10 +281,15 @@ why_row =
 
 -- ---- all of them
 
--- in the order in which help lists them
+-- in the order in which help lists them, in three parts: the third alone, those from the second on, and all
+abbrev pub from_third : List CommandRow
+from_third = debug_row ∷ gdb_row ∷ why_row ∷ explore_row ∷ []
+
+abbrev pub from_second : List CommandRow
+from_second = check_row ∷ report_row ∷ list_row ∷ draw_row ∷ page_row ∷ from_third
+
 abbrev pub commands : List CommandRow
-commands = asm_row ∷ dis_row ∷ run_row ∷ one_row ∷ check_row ∷ report_row ∷ list_row ∷ draw_row ∷ page_row ∷ debug_row
-    ∷ gdb_row ∷ why_row ∷ explore_row ∷ []
+commands = asm_row ∷ dis_row ∷ run_row ∷ one_row ∷ from_second
 
 -- what clap reads of a command
 abbrev pub app_of : CommandRow → App

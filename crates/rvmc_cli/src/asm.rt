@@ -7,7 +7,7 @@ ghost use Rattle.rvmc_cli.specs.Built.{StandsFor};
 ghost use Rattle.rvmc_cli.specs.Commands.{app_of, asm_row};
 ghost use Rattle.rvmc_cli.specs.Parsing.{Finds};
 
-use crate::parts::{command as new_command, flag};
+use crate::parts::{Part, command as new_command};
 use crate::values;
 use crate::wrong::Wrong;
 use clap::{ArgMatches, Command};
@@ -32,6 +32,12 @@ Examples:
   rvmc asm <hi.s >hi.image
   rvmc asm --from <old.image >new.image";
 
+/// Its parts, in the order in which help lists them.
+static PARTS: &[Part] = &[Part::Flag(
+    "from",
+    "Takes an image of either version in place of a source",
+)];
+
 /// The command as clap builds it.
 pub fn command<'a>(alloc: Global) -> Result<Command<'a>, AllocError>
     ensures { IfOk result (StandsFor (app_of asm_row)) }
@@ -41,12 +47,8 @@ pub fn command<'a>(alloc: Global) -> Result<Command<'a>, AllocError>
         "asm",
         "Assembles the source on standard input into an image",
         EXAMPLES,
+        PARTS,
     )
-    .arg(flag(
-        alloc,
-        "from",
-        "Takes an image of either version in place of a source",
-    ))
 }
 
 /// What it asks for, of what clap found.

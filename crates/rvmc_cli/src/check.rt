@@ -40,12 +40,13 @@ Examples:
 pub fn command<'a>(alloc: Global) -> Result<Command<'a>, AllocError>
     ensures { IfOk result (StandsFor (app_of check_row)) }
 {
-    Ok(new_command(
+    new_command(
         alloc,
         "check",
         "Tells whether the record on standard input is a run of its image",
         EXAMPLES,
-    ))
+        &[],
+    )
 }
 
 /// What it asks for, of what clap found.

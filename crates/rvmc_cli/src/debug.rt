@@ -8,7 +8,7 @@ ghost use Rattle.rvmc_cli.specs.Commands.{app_of, debug_row};
 ghost use Rattle.rvmc_cli.specs.Parsing.{Finds};
 ghost use Rattle.rvmc_words.specs.Debug.{debug_words_in};
 
-use crate::parts::{command as new_command, texts};
+use crate::parts::{Part, command as new_command};
 use crate::values;
 use crate::wrong::Wrong;
 use clap::{ArgMatches, Command};
@@ -67,6 +67,9 @@ fn words<'a>(alloc: Global, texts: &[&'a str]) -> Result<DebugWords, Wrong<'a>>
     Ok(words)
 }
 
+/// Its parts, in the order in which help lists them.
+static PARTS: &[Part] = &[Part::Texts("words", "CMD", "What to do, and show, as go=2")];
+
 /// The command as clap builds it.
 pub fn command<'a>(alloc: Global) -> Result<Command<'a>, AllocError>
     ensures { IfOk result (StandsFor (app_of debug_row)) }
@@ -76,8 +79,8 @@ pub fn command<'a>(alloc: Global) -> Result<Command<'a>, AllocError>
         "debug",
         "Walks through the record on standard input, forwards and back",
         EXAMPLES,
+        PARTS,
     )
-    .arg(texts(alloc, "words", "CMD", "What to do, and show, as go=2"))
 }
 
 /// What it asks for, of what clap found.

@@ -33,12 +33,13 @@ Examples:
 pub fn command<'a>(alloc: Global) -> Result<Command<'a>, AllocError>
     ensures { IfOk result (StandsFor (app_of dis_row)) }
 {
-    Ok(new_command(
+    new_command(
         alloc,
         "dis",
         "Lists the instructions of the image on standard input",
         EXAMPLES,
-    ))
+        &[],
+    )
 }
 
 /// What it asks for, of what clap found.

@@ -7,6 +7,7 @@ ghost use Rattle.rvmc_cli.specs.Built.{StandsFor};
 ghost use Rattle.rvmc_cli.specs.Commands.{app_of, draw_row};
 ghost use Rattle.rvmc_cli.specs.Parsing.{Finds};
 
+use crate::parts::Help;
 use crate::places::{placed, places_of};
 use crate::wrong::Wrong;
 use clap::{ArgMatches, Command};
@@ -53,8 +54,11 @@ pub fn command<'a>(alloc: Global) -> Result<Command<'a>, AllocError>
     placed(
         alloc,
         "draw",
-        "Draws the record on standard input as a picture, an SVG image",
-        EXAMPLES,
+        Help {
+            about: "Draws the record on standard input as a picture, an SVG image",
+            examples: EXAMPLES,
+        },
+        &[],
     )
 }
 

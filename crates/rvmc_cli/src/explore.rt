@@ -8,7 +8,7 @@ ghost use Rattle.rvmc_cli.specs.Commands.{app_of, beginning_in, count_in, end_in
 ghost use Rattle.rvmc_cli.specs.Commands.{search_in, states_in, turns_alone_in};
 ghost use Rattle.rvmc_cli.specs.Parsing.{Finds, Reads};
 
-use crate::parts::{command as new_command, flag, option};
+use crate::parts::{Part, command as new_command};
 use crate::values::{self, apart, list, number, optional_number};
 use crate::wrong::Wrong;
 use clap::{ArgMatches, Command};
@@ -79,6 +79,45 @@ Examples:
   rvmc explore --record 2 <hi.image | rvmc why
                                        what each hart waits for at end 2";
 
+/// Its parts, in the order in which help lists them.
+static PARTS: &[Part] = &[
+    Part::Flag("source", "Takes a source in place of an image"),
+    Part::Option(
+        "plan",
+        "HARTS",
+        "The harts that take a rank's turns, as 0,1 [default: all in order]",
+    ),
+    Part::Option(
+        "states",
+        "N",
+        "Goes on from N states at most, from 1 to 16777216 [default: 1000000]",
+    ),
+    Part::Option(
+        "turns",
+        "N",
+        "Takes N turns of a rank at once, from 1 to 16777216 [default: 1000000]",
+    ),
+    Part::Option(
+        "record",
+        "K",
+        "Writes the record of end K in place of the text",
+    ),
+    Part::Option(
+        "split",
+        "N",
+        "Writes N starts or more in place of the ends, from 1 to 16777216",
+    ),
+    Part::Option(
+        "from",
+        "START",
+        "Tells the ends behind a start that --split wrote",
+    ),
+    Part::Flag(
+        "join",
+        "Reads what --from told of each start, and tells all ends",
+    ),
+];
+
 /// The command as clap builds it.
 pub fn command<'a>(alloc: Global) -> Result<Command<'a>, AllocError>
     ensures { IfOk result (StandsFor (app_of explore_row)) }
@@ -88,49 +127,8 @@ pub fn command<'a>(alloc: Global) -> Result<Command<'a>, AllocError>
         "explore",
         "Tells all ends of the image on standard input, over all orders of turns",
         EXAMPLES,
+        PARTS,
     )
-    .arg(flag(alloc, "source", "Takes a source in place of an image"))?
-    .arg(option(
-        alloc,
-        "plan",
-        "HARTS",
-        "The harts that take a rank's turns, as 0,1 [default: all in order]",
-    ))?
-    .arg(option(
-        alloc,
-        "states",
-        "N",
-        "Goes on from N states at most, from 1 to 16777216 [default: 1000000]",
-    ))?
-    .arg(option(
-        alloc,
-        "turns",
-        "N",
-        "Takes N turns of a rank at once, from 1 to 16777216 [default: 1000000]",
-    ))?
-    .arg(option(
-        alloc,
-        "record",
-        "K",
-        "Writes the record of end K in place of the text",
-    ))?
-    .arg(option(
-        alloc,
-        "split",
-        "N",
-        "Writes N starts or more in place of the ends, from 1 to 16777216",
-    ))?
-    .arg(option(
-        alloc,
-        "from",
-        "START",
-        "Tells the ends behind a start that --split wrote",
-    ))?
-    .arg(flag(
-        alloc,
-        "join",
-        "Reads what --from told of each start, and tells all ends",
-    ))
 }
 
 /// From how many states the search goes on.

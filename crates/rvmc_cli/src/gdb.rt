@@ -7,7 +7,7 @@ ghost use Rattle.rvmc_cli.specs.Built.{StandsFor};
 ghost use Rattle.rvmc_cli.specs.Commands.{app_of, gdb_row};
 ghost use Rattle.rvmc_cli.specs.Parsing.{Finds};
 
-use crate::parts::{command as new_command, option};
+use crate::parts::{Part, command as new_command};
 use crate::values::number;
 use crate::wrong::Wrong;
 use clap::{ArgMatches, Command};
@@ -45,6 +45,9 @@ Examples:
   gdb-multiarch -ex 'target remote | cat hi.record - | rvmc gdb'
   gdb-multiarch -ex 'target remote | cat hi.record - | rvmc gdb --rank 1'";
 
+/// Its parts, in the order in which help lists them.
+static PARTS: &[Part] = &[Part::Option("rank", "R", "Shows this rank [default: 0]")];
+
 /// The command as clap builds it.
 pub fn command<'a>(alloc: Global) -> Result<Command<'a>, AllocError>
     ensures { IfOk result (StandsFor (app_of gdb_row)) }
@@ -54,8 +57,8 @@ pub fn command<'a>(alloc: Global) -> Result<Command<'a>, AllocError>
         "gdb",
         "Answers gdb, which walks the record on standard input forwards and back",
         EXAMPLES,
+        PARTS,
     )
-    .arg(option(alloc, "rank", "R", "Shows this rank [default: 0]"))
 }
 
 /// What it asks for, of what clap found.

@@ -7,7 +7,7 @@ ghost use Rattle.rvmc_cli.specs.Built.{StandsFor};
 ghost use Rattle.rvmc_cli.specs.Commands.{app_of, list_row, listing_in};
 ghost use Rattle.rvmc_cli.specs.Parsing.{Finds, Reads};
 
-use crate::parts::{flag, option};
+use crate::parts::{Help, Part};
 use crate::places::{Places, placed, places_of};
 use crate::values::{self, optional_number};
 use crate::wrong::Wrong;
@@ -50,6 +50,16 @@ Examples:
   rvmc list --calls --rank 0 <hi.record
   rvmc list --stats <hi.record         what was done how often";
 
+/// Its parts, in the order in which help lists them.
+static PARTS: &[Part] = &[
+    Part::Option("rank", "R", "Lists the steps of this rank alone"),
+    Part::Flag("calls", "Leaves instructions out, and folds looks in vain"),
+    Part::Flag(
+        "stats",
+        "Counts the steps, and prints tables in place of lines",
+    ),
+];
+
 /// The command as clap builds it.
 pub fn command<'a>(alloc: Global) -> Result<Command<'a>, AllocError>
     ensures { IfOk result (StandsFor (app_of list_row)) }
@@ -57,20 +67,12 @@ pub fn command<'a>(alloc: Global) -> Result<Command<'a>, AllocError>
     placed(
         alloc,
         "list",
-        "Prints the record on standard input in words, one line a step",
-        EXAMPLES,
-    )?
-    .arg(option(alloc, "rank", "R", "Lists the steps of this rank alone"))?
-    .arg(flag(
-        alloc,
-        "calls",
-        "Leaves instructions out, and folds looks in vain",
-    ))?
-    .arg(flag(
-        alloc,
-        "stats",
-        "Counts the steps, and prints tables in place of lines",
-    ))
+        Help {
+            about: "Prints the record on standard input in words, one line a step",
+            examples: EXAMPLES,
+        },
+        PARTS,
+    )
 }
 
 /// Lines or tables.

@@ -4,10 +4,10 @@ ghost use Rattle.std.specs.Prelude.{◌≡◌, IfOk};
 ghost use Rattle.clap.specs.Walk.{rows_of};
 ghost use Rattle.clap.specs.Words.{found_of};
 ghost use Rattle.rvmc_cli.specs.Built.{StandsFor};
-ghost use Rattle.rvmc_cli.specs.Commands.{app_of, one_by, one_row};
+ghost use Rattle.rvmc_cli.specs.Commands.{app_of, one_by, one_row, one_with};
 ghost use Rattle.rvmc_cli.specs.Parsing.{Finds};
 
-use crate::parts::{flag, option};
+use crate::parts::{Help, Part};
 use crate::runner::{budget, runner, written};
 use crate::values::{self, list};
 use crate::wrong::Wrong;
@@ -50,6 +50,16 @@ Examples:
   rvmc one --why <hi.image             a deadlock is told behind the report
   rvmc one --until-stuck <hi.image     and at once";
 
+/// Its parts, in the order in which help lists them.
+static PARTS: &[Part] = &[
+    Part::Option(
+        "order",
+        "RANKS",
+        "The ranks that take turns, as 0,1 [default: all in order]",
+    ),
+    Part::Flag("until-stuck", "Ends the run at a deadlock, and tells of it"),
+];
+
 /// The command as clap builds it.
 pub fn command<'a>(alloc: Global) -> Result<Command<'a>, AllocError>
     ensures { IfOk result (StandsFor (app_of one_row)) }
@@ -57,20 +67,12 @@ pub fn command<'a>(alloc: Global) -> Result<Command<'a>, AllocError>
     runner(
         alloc,
         "one",
-        "Runs the image on standard input on one thread and reports",
-        EXAMPLES,
-    )?
-    .arg(option(
-        alloc,
-        "order",
-        "RANKS",
-        "The ranks that take turns, as 0,1 [default: all in order]",
-    ))?
-    .arg(flag(
-        alloc,
-        "until-stuck",
-        "Ends the run at a deadlock, and tells of it",
-    ))
+        Help {
+            about: "Runs the image on standard input on one thread and reports",
+            examples: EXAMPLES,
+        },
+        PARTS,
+    )
 }
 
 /// A run on one thread, to the end of its plans or `until_stuck`.
@@ -100,22 +102,30 @@ fn one_by(
     }
 }
 
+/// A run on one thread by its budget and what is to be written: of its plan, and the order of the ranks.
+fn one_with<'a>(
+    alloc: Global,
+    matches: &ArgMatches<'a>,
+    budget: u64,
+    written: Written,
+) -> Result<ImageCommand, Wrong<'a>>
+    ensures { Finds (one_with budget written (rows_of (found_of matches.now))) result }
+{
+    let plan = list(alloc, matches, "plan")?;
+    let order = list(alloc, matches, "order")?;
+    let until_stuck = values::flag(matches, "until-stuck");
+    Ok(one_by(until_stuck, budget, plan, order, written))
+}
+
 /// What it asks for, of what clap found.
 pub fn line<'a>(alloc: Global, matches: &ArgMatches<'a>) -> Result<CommandLine, Wrong<'a>>
     ensures { Finds (one_row.meaning (rows_of (found_of matches.now))) result }
 {
     let budget = budget(matches)?;
     let written = written(matches)?;
-    let plan = list(alloc, matches, "plan")?;
-    let order = list(alloc, matches, "order")?;
+    let command = one_with(alloc, matches, budget, written)?;
     Ok(CommandLine::OfImage {
         source: values::flag(matches, "source"),
-        command: one_by(
-            values::flag(matches, "until-stuck"),
-            budget,
-            plan,
-            order,
-            written,
-        ),
+        command,
     })
 }

@@ -7,6 +7,7 @@ ghost use Rattle.rvmc_cli.specs.Built.{StandsFor};
 ghost use Rattle.rvmc_cli.specs.Commands.{app_of, page_row};
 ghost use Rattle.rvmc_cli.specs.Parsing.{Finds};
 
+use crate::parts::Help;
 use crate::places::{placed, places_of};
 use crate::wrong::Wrong;
 use clap::{ArgMatches, Command};
@@ -50,8 +51,11 @@ pub fn command<'a>(alloc: Global) -> Result<Command<'a>, AllocError>
     placed(
         alloc,
         "page",
-        "Makes a page that walks the record on standard input, for a browser",
-        EXAMPLES,
+        Help {
+            about: "Makes a page that walks the record on standard input, for a browser",
+            examples: EXAMPLES,
+        },
+        &[],
     )
 }
 

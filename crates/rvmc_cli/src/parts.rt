@@ -1,15 +1,25 @@
 //! The parts of a command as clap builds it: its flags, options and texts.
 
-ghost use Rattle.std.specs.Prelude.{◌≡◌, false};
+ghost use Rattle.std.specs.Prelude.{◌≡◌, ◌∷◌, IfOk, [], false, map};
 ghost use Rattle.clap.specs.Words.{new_app, rule_of};
-ghost use Rattle.rvmc_cli.specs.App.{flag, option, texts};
-ghost use Rattle.rvmc_cli.specs.Built.{StandsFor};
+ghost use Rattle.rvmc_cli.specs.App.{flag, option, texts, with_rules};
+ghost use Rattle.rvmc_cli.specs.Built.{AddsRules, StandsFor, rule_of_part};
 
 use clap::{Arg, ArgAction, Command};
-use std::alloc::Global;
+use std::alloc::{AllocError, Global};
+
+/// A part of a command: its name, that of its value, and what help says of it.
+pub enum Part {
+    /// `--name`.
+    Flag(&'static str, &'static str),
+    /// `--name VALUE`.
+    Option(&'static str, &'static str, &'static str),
+    /// `VALUE..`, one or more.
+    Texts(&'static str, &'static str, &'static str),
+}
 
 /// `--name`.
-pub fn flag<'a>(alloc: Global, name: &'a str, help: &'a str) -> Arg<'a>
+fn flag<'a>(alloc: Global, name: &'a str, help: &'a str) -> Arg<'a>
     ensures rule { rule_of result ≡ flag name.entry.now }
     ensures local { result.global ≡ false }
 {
@@ -20,7 +30,7 @@ pub fn flag<'a>(alloc: Global, name: &'a str, help: &'a str) -> Arg<'a>
 }
 
 /// `--name VALUE`. Its text is read by this crate's own parsers: clap's would take `+5` for 5.
-pub fn option<'a>(alloc: Global, name: &'a str, value: &'a str, help: &'a str) -> Arg<'a>
+fn option<'a>(alloc: Global, name: &'a str, value: &'a str, help: &'a str) -> Arg<'a>
     ensures rule { rule_of result ≡ option name.entry.now }
     ensures local { result.global ≡ false }
 {
@@ -31,7 +41,7 @@ pub fn option<'a>(alloc: Global, name: &'a str, value: &'a str, help: &'a str) -
 }
 
 /// `VALUE..`, one or more.
-pub fn texts<'a>(alloc: Global, name: &'a str, value: &'a str, help: &'a str) -> Arg<'a>
+fn texts<'a>(alloc: Global, name: &'a str, value: &'a str, help: &'a str) -> Arg<'a>
     ensures rule { rule_of result ≡ texts name.entry.now }
     ensures local { result.global ≡ false }
 {
@@ -42,9 +52,67 @@ pub fn texts<'a>(alloc: Global, name: &'a str, value: &'a str, help: &'a str) ->
         .help(help)
 }
 
-/// A command without flags, options and texts, and what help says of it: a line, and what stands below its options.
-pub fn command<'a>(alloc: Global, name: &'a str, about: &'a str, examples: &'a str) -> Command<'a>
+/// A part as clap takes it.
+fn argument<'a>(alloc: Global, part: &Part) -> Arg<'a>
+    ensures rule { rule_of result ≡ rule_of_part part.now }
+    ensures local { result.global ≡ false }
+{
+    match part {
+        Part::Flag(name, help) => flag(alloc, name, help),
+        Part::Option(name, value, help) => option(alloc, name, value, help),
+        Part::Texts(name, value, help) => texts(alloc, name, value, help),
+    }
+}
+
+/// The command with one more part.
+fn with_part<'a>(
+    alloc: Global,
+    command: Command<'a>,
+    part: &Part,
+) -> Result<Command<'a>, AllocError>
+    ensures { IfOk result (AddsRules (rule_of_part part.now ∷ []) command.entry) }
+{
+    command.arg(argument(alloc, part))
+}
+
+/// The command with these parts.
+pub fn with_parts<'a>(
+    alloc: Global,
+    command: Command<'a>,
+    parts: &[Part],
+) -> Result<Command<'a>, AllocError>
+    ensures { IfOk result (AddsRules (map rule_of_part parts.now) command.entry) }
+{
+    let mut command = command;
+    for part in parts {
+        command = with_part(alloc, command, part)?;
+    }
+    Ok(command)
+}
+
+/// A command without parts, and what help says of it: a line, and what stands below its options.
+pub fn bare<'a>(alloc: Global, name: &'a str, about: &'a str, examples: &'a str) -> Command<'a>
     ensures { StandsFor (new_app name.entry.now) result }
 {
     Command::new(alloc, name).about(about).after_help(examples)
+}
+
+/// What help says of a command: a line, and what stands below its options.
+#[derive(Clone, Copy, Drop)]
+pub struct Help<'a> {
+    pub about: &'a str,
+    pub examples: &'a str,
+}
+
+/// A command of these parts, and what help says of it.
+pub fn command<'a>(
+    alloc: Global,
+    name: &'a str,
+    about: &'a str,
+    examples: &'a str,
+    parts: &[Part],
+) -> Result<Command<'a>, AllocError>
+    ensures { IfOk result (StandsFor (with_rules (new_app name.entry.now) (map rule_of_part parts.now))) }
+{
+    with_parts(alloc, bare(alloc, name, about, examples), parts)
 }

@@ -1,14 +1,14 @@
 //! Two places of a record, from which and to which a command tells of its steps: `--from N` and `--to N`.
 
-ghost use Rattle.std.specs.Prelude.{IfOk};
+ghost use Rattle.std.specs.Prelude.{◌++◌, IfOk, map};
 ghost use Rattle.clap.specs.Walk.{rows_of};
 ghost use Rattle.clap.specs.Words.{found_of, new_app};
 ghost use Rattle.rvmc_cli.specs.App.{with_rules};
-ghost use Rattle.rvmc_cli.specs.Built.{StandsFor};
+ghost use Rattle.rvmc_cli.specs.Built.{StandsFor, rule_of_part};
 ghost use Rattle.rvmc_cli.specs.Commands.{place_rules, places_given};
 ghost use Rattle.rvmc_cli.specs.Parsing.{Reads};
 
-use crate::parts::{command as new_command, option};
+use crate::parts::{Help, Part, command as new_command, with_parts};
 use crate::values::{number, optional_number};
 use crate::wrong::Wrong;
 use clap::{ArgMatches, Command};
@@ -22,28 +22,32 @@ pub struct Places {
     pub to: Option<u64>,
 }
 
-/// A command that reads a record, with its two options.
+/// The two options.
+static PARTS: &[Part] = &[
+    Part::Option(
+        "from",
+        "N",
+        "Begins at the place with N steps done [default: 0]",
+    ),
+    Part::Option(
+        "to",
+        "N",
+        "Ends at the place with N steps done [default: all steps]",
+    ),
+];
+
+/// A command that reads a record: with the two options, and behind them these parts.
 pub fn placed<'a>(
     alloc: Global,
     name: &'a str,
-    about: &'a str,
-    examples: &'a str,
+    help: Help<'a>,
+    parts: &[Part],
 ) -> Result<Command<'a>, AllocError>
-    ensures { IfOk result (StandsFor (with_rules (new_app name.entry.now) place_rules)) }
+    ensures { IfOk result (StandsFor (with_rules (new_app name.entry.now)
+        (place_rules ++ map rule_of_part parts.now))) }
 {
-    new_command(alloc, name, about, examples)
-        .arg(option(
-            alloc,
-            "from",
-            "N",
-            "Begins at the place with N steps done [default: 0]",
-        ))?
-        .arg(option(
-            alloc,
-            "to",
-            "N",
-            "Ends at the place with N steps done [default: all steps]",
-        ))
+    let command = new_command(alloc, name, help.about, help.examples, PARTS)?;
+    with_parts(alloc, command, parts)
 }
 
 /// The places that were given.

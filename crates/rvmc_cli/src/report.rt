@@ -42,12 +42,13 @@ Examples:
 pub fn command<'a>(alloc: Global) -> Result<Command<'a>, AllocError>
     ensures { IfOk result (StandsFor (app_of report_row)) }
 {
-    Ok(new_command(
+    new_command(
         alloc,
         "report",
         "Tells the report of the run in the record on standard input",
         EXAMPLES,
-    ))
+        &[],
+    )
 }
 
 /// What it asks for, of what clap found.

@@ -4,10 +4,10 @@ ghost use Rattle.std.specs.Prelude.{◌≡◌, IfOk};
 ghost use Rattle.clap.specs.Walk.{rows_of};
 ghost use Rattle.clap.specs.Words.{found_of};
 ghost use Rattle.rvmc_cli.specs.Built.{StandsFor};
-ghost use Rattle.rvmc_cli.specs.Commands.{app_of, lead_in, run_by, run_row};
+ghost use Rattle.rvmc_cli.specs.Commands.{app_of, lead_in, run_by, run_row, run_with};
 ghost use Rattle.rvmc_cli.specs.Parsing.{Finds, Reads};
 
-use crate::parts::{flag, option};
+use crate::parts::{Help, Part};
 use crate::runner::{budget, runner, written};
 use crate::values::{self, list, number};
 use crate::wrong::Wrong;
@@ -53,6 +53,16 @@ Examples:
   rvmc run --why <hi.image             a deadlock is told behind the report
   rvmc run --until-stuck <hi.image     and at once";
 
+/// Its parts, in the order in which help lists them.
+static PARTS: &[Part] = &[
+    Part::Option(
+        "lead",
+        "N",
+        "Holds back a rank more than N turns ahead, from 1 to 65536 [default: 64]",
+    ),
+    Part::Flag("until-stuck", "Ends the run at a deadlock, and tells of it"),
+];
+
 /// The command as clap builds it.
 pub fn command<'a>(alloc: Global) -> Result<Command<'a>, AllocError>
     ensures { IfOk result (StandsFor (app_of run_row)) }
@@ -60,20 +70,12 @@ pub fn command<'a>(alloc: Global) -> Result<Command<'a>, AllocError>
     runner(
         alloc,
         "run",
-        "Runs the image on standard input with a thread for each rank and reports",
-        EXAMPLES,
-    )?
-    .arg(option(
-        alloc,
-        "lead",
-        "N",
-        "Holds back a rank more than N turns ahead, from 1 to 65536 [default: 64]",
-    ))?
-    .arg(flag(
-        alloc,
-        "until-stuck",
-        "Ends the run at a deadlock, and tells of it",
-    ))
+        Help {
+            about: "Runs the image on standard input with a thread for each rank and reports",
+            examples: EXAMPLES,
+        },
+        PARTS,
+    )
 }
 
 /// A run with threads, to the end of its plans or `until_stuck`.
@@ -110,22 +112,30 @@ fn lead<'a>(matches: &ArgMatches<'a>) -> Result<u64, Wrong<'a>>
     number(matches, "lead", 1, 65_536, 64)
 }
 
+/// A run with threads by its budget and lead: of what is to be written, and its plan.
+fn run_with<'a>(
+    alloc: Global,
+    matches: &ArgMatches<'a>,
+    budget: u64,
+    lead: u64,
+) -> Result<ImageCommand, Wrong<'a>>
+    ensures { Finds (run_with budget lead (rows_of (found_of matches.now))) result }
+{
+    let written = written(matches)?;
+    let plan = list(alloc, matches, "plan")?;
+    let until_stuck = values::flag(matches, "until-stuck");
+    Ok(run_by(until_stuck, budget, plan, lead, written))
+}
+
 /// What it asks for, of what clap found.
 pub fn line<'a>(alloc: Global, matches: &ArgMatches<'a>) -> Result<CommandLine, Wrong<'a>>
     ensures { Finds (run_row.meaning (rows_of (found_of matches.now))) result }
 {
     let budget = budget(matches)?;
     let lead = lead(matches)?;
-    let written = written(matches)?;
-    let plan = list(alloc, matches, "plan")?;
+    let command = run_with(alloc, matches, budget, lead)?;
     Ok(CommandLine::OfImage {
         source: values::flag(matches, "source"),
-        command: run_by(
-            values::flag(matches, "until-stuck"),
-            budget,
-            plan,
-            lead,
-            written,
-        ),
+        command,
     })
 }

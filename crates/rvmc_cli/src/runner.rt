@@ -1,49 +1,49 @@
 //! What `run` and `one` have in common.
 
-ghost use Rattle.std.specs.Prelude.{IfOk};
+ghost use Rattle.std.specs.Prelude.{◌++◌, IfOk, map};
 ghost use Rattle.clap.specs.Walk.{rows_of};
 ghost use Rattle.clap.specs.Words.{found_of, new_app};
 ghost use Rattle.rvmc_cli.specs.App.{with_rules};
-ghost use Rattle.rvmc_cli.specs.Built.{StandsFor};
+ghost use Rattle.rvmc_cli.specs.Built.{StandsFor, rule_of_part};
 ghost use Rattle.rvmc_cli.specs.Commands.{budget_in, runner_rules, written_in};
 ghost use Rattle.rvmc_cli.specs.Parsing.{Reads};
 
-use crate::parts::{command as new_command, flag, option};
+use crate::parts::{Help, Part, command as new_command, with_parts};
 use crate::values::{self, number};
 use crate::wrong::Wrong;
 use clap::{ArgMatches, Command};
 use rvmc_line::Written;
 use std::alloc::{AllocError, Global};
 
-/// A command that runs an image, with the options that `run` and `one` share.
+/// The options that `run` and `one` share, in the order in which help lists them.
+static PARTS: &[Part] = &[
+    Part::Flag("source", "Takes a source in place of an image"),
+    Part::Option(
+        "budget",
+        "N",
+        "Stops a rank after N turns, from 1 to 16777216 [default: 1000000]",
+    ),
+    Part::Option(
+        "plan",
+        "HARTS",
+        "The harts that take a rank's turns, as 0,1 [default: all in order]",
+    ),
+    Part::Flag("record", "Writes the record in place of the report"),
+    Part::Flag("why", "Tells behind the report what each hart waits for"),
+];
+
+/// A command that runs an image: with the shared options, and behind them these.
 pub fn runner<'a>(
     alloc: Global,
     name: &'a str,
-    about: &'a str,
-    examples: &'a str,
+    help: Help<'a>,
+    others: &[Part],
 ) -> Result<Command<'a>, AllocError>
-    ensures { IfOk result (StandsFor (with_rules (new_app name.entry.now) runner_rules)) }
+    ensures { IfOk result (StandsFor (with_rules (new_app name.entry.now)
+        (runner_rules ++ map rule_of_part others.now))) }
 {
-    new_command(alloc, name, about, examples)
-        .arg(flag(alloc, "source", "Takes a source in place of an image"))?
-        .arg(option(
-            alloc,
-            "budget",
-            "N",
-            "Stops a rank after N turns, from 1 to 16777216 [default: 1000000]",
-        ))?
-        .arg(option(
-            alloc,
-            "plan",
-            "HARTS",
-            "The harts that take a rank's turns, as 0,1 [default: all in order]",
-        ))?
-        .arg(flag(alloc, "record", "Writes the record in place of the report"))?
-        .arg(flag(
-            alloc,
-            "why",
-            "Tells behind the report what each hart waits for",
-        ))
+    let command = new_command(alloc, name, help.about, help.examples, PARTS)?;
+    with_parts(alloc, command, others)
 }
 
 /// The turns that a rank may take.

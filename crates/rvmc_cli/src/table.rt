@@ -1,33 +1,69 @@
 //! The table of commands, and what is made of it: the whole command line, a command by its name, and what a command asks
 //! for.
 
-ghost use Rattle.std.specs.Prelude.{IfOk, IsOkAnd, map};
+ghost use Rattle.std.specs.Prelude.{◌≡◌, IfOk, IsOkAnd, find, map, option_map};
+ghost use Rattle.std.specs.Str.{bytes_eq};
 ghost use Rattle.clap.specs.Walk.{rows_of};
 ghost use Rattle.clap.specs.Words.{AddsSubcommand, found_of};
 ghost use Rattle.rvmc_cli.specs.App.{top_app, with_commands};
-ghost use Rattle.rvmc_cli.specs.Built.{StandsFor, app_below, app_named};
-ghost use Rattle.rvmc_cli.specs.Commands.{line_in, rvmc_app};
+ghost use Rattle.rvmc_cli.specs.Built.{StandsFor, app_below, app_below_from_second, app_below_from_third, app_named};
+ghost use Rattle.rvmc_cli.specs.Commands.{from_second, from_third, line_among, line_in, rvmc_app};
 ghost use Rattle.rvmc_cli.specs.Parsing.{Finds};
 
-use crate::parts::command as new_command;
+use crate::parts::bare;
 use crate::wrong::Wrong;
 use crate::{asm, check, debug, dis, draw, explore, gdb, list, one, page, report, run, why};
 use clap::{ArgMatches, Command};
 use rvmc_line::CommandLine;
 use std::alloc::{AllocError, Global};
 
-/// The commands, one row each, in the order in which help lists them. A row is the command's name, which is that of the
-/// module that builds and reads it too.
+/// The commands, one row each, in the order in which help lists them, in three parts. A row is the command's name, which
+/// is that of the module that builds and reads it too.
 macro_rules! commands {
     ($made:ident($($given:tt)*)) => {
-        $made!($($given)*; asm, dis, run, one, check, report, list, draw, page, debug, gdb, why, explore)
+        $made!(
+            $($given)*;
+            asm, dis, run, one;
+            check, report, list, draw, page;
+            debug, gdb, why, explore
+        )
     };
+}
+
+/// What is made of the commands of the first part.
+macro_rules! first {
+    ($made:ident($($given:tt)*); $($command:ident),*; $($later:tt)*) => {
+        $made!($($given)*; $($command),*)
+    };
+}
+
+/// What is made of the commands of the second part.
+macro_rules! second {
+    ($made:ident($($given:tt)*); $($earlier:ident),*; $($command:ident),*; $($later:tt)*) => {
+        $made!($($given)*; $($command),*)
+    };
+}
+
+/// What is made of the commands of the third part.
+macro_rules! third {
+    ($made:ident($($given:tt)*); $($earliest:ident),*; $($earlier:ident),*; $($command:ident),*) => {
+        $made!($($given)*; $($command),*)
+    };
+}
+
+/// A command's name, and how its usage names it.
+struct Name {
+    short: &'static str,
+    whole: &'static str,
 }
 
 /// The names of the commands.
 macro_rules! names {
-    (; $($command:ident),*) => {
-        &[$(stringify!($command)),*]
+    (; $($($command:ident),*);*) => {
+        &[$($(Name {
+            short: stringify!($command),
+            whole: concat!("rvmc ", stringify!($command)),
+        }),*),*]
     };
 }
 
@@ -40,16 +76,7 @@ macro_rules! of_command {
     };
 }
 
-/// Returns the command of this name, if there is one, as it is by itself.
-macro_rules! alone {
-    ($name:ident, $alloc:ident; $($command:ident),*) => {
-        $(if $name == stringify!($command) {
-            return $command::command($alloc)?.bin_name(concat!("rvmc ", stringify!($command)));
-        })*
-    };
-}
-
-static NAMES: &[&str] = commands!(names());
+static NAMES: &[Name] = commands!(names());
 
 const EXAMPLES: &str = "\
 Without a command rvmc does as `rvmc one --source`.
@@ -82,7 +109,7 @@ Status:
 fn top<'a>(alloc: Global) -> Result<Command<'a>, AllocError>
     ensures { IfOk result (StandsFor top_app) }
 {
-    new_command(
+    bare(
         alloc,
         "rvmc",
         "Emulates a small cluster of RISC-V machines (RV64IM) that pass messages",
@@ -98,8 +125,24 @@ fn top<'a>(alloc: Global) -> Result<Command<'a>, AllocError>
 fn below<'a>(alloc: Global, name: &'a str) -> Result<Command<'a>, AllocError>
     ensures { IfOk result (StandsFor (app_below name.entry.now)) }
 {
-    commands!(of_command(name, command, (alloc)));
-    Ok(new_command(alloc, name, "", ""))
+    commands!(first(of_command(name, command, (alloc))));
+    below_from_second(alloc, name)
+}
+
+/// The same of the second part and the third.
+fn below_from_second<'a>(alloc: Global, name: &'a str) -> Result<Command<'a>, AllocError>
+    ensures { IfOk result (StandsFor (app_below_from_second name.entry.now)) }
+{
+    commands!(second(of_command(name, command, (alloc))));
+    below_from_third(alloc, name)
+}
+
+/// The same of the third part.
+fn below_from_third<'a>(alloc: Global, name: &'a str) -> Result<Command<'a>, AllocError>
+    ensures { IfOk result (StandsFor (app_below_from_third name.entry.now)) }
+{
+    commands!(third(of_command(name, command, (alloc))));
+    Ok(bare(alloc, name, "", ""))
 }
 
 /// The command with another below it, where there was memory to build that one.
@@ -113,12 +156,12 @@ fn with_command<'a>(
 }
 
 /// The whole command line, with the commands of these names.
-fn with_all<'a>(alloc: Global, names: &[&'a str]) -> Result<Command<'a>, AllocError>
-    ensures { IfOk result (StandsFor (with_commands top_app (map (λ name. app_below name.now) names.now))) }
+fn with_all<'a>(alloc: Global, names: &[Name]) -> Result<Command<'a>, AllocError>
+    ensures { IfOk result (StandsFor (with_commands top_app (map (λ name. app_below name.short.now) names.now))) }
 {
     let mut command = top(alloc)?;
     for name in names {
-        command = with_command(command, below(alloc, name))?;
+        command = with_command(command, below(alloc, name.short))?;
     }
     Ok(command)
 }
@@ -130,12 +173,29 @@ pub fn rvmc<'a>(alloc: Global) -> Result<Command<'a>, AllocError>
     with_all(alloc, NAMES)
 }
 
+/// The one of these names that is this text, if there is one.
+fn name_in(names: &'static [Name], text: &str) -> Option<&'static Name>
+    ensures { option_map (λ name. name.now.short.now) result
+        ≡ find (λ short. bytes_eq text.now short) (map (λ name. name.short.now) names.now) }
+{
+    for name in names {
+        if text == name.short {
+            return Some(name);
+        }
+    }
+    None
+}
+
 /// The command of this name by itself, whose usage a refusal shows; any other name stands for the whole command line.
 pub fn named<'a>(alloc: Global, name: &str) -> Result<Command<'a>, AllocError>
     ensures { IfOk result (StandsFor (app_named name.now)) }
 {
-    commands!(alone(name, alloc));
-    rvmc(alloc)
+    let Some(found) = name_in(NAMES, name) else {
+        return rvmc(alloc);
+    };
+    let short: &'a str = found.short;
+    let command = below(alloc, short)?;
+    command.bin_name(found.whole)
 }
 
 /// The command line of the command that clap found.
@@ -147,6 +207,30 @@ pub fn line<'a>(
 ) -> Result<CommandLine, Wrong<'a>>
     ensures { Finds (line_in name.now (rows_of (found_of matches.now))) result }
 {
-    commands!(of_command(name, line, (alloc, matches)));
+    commands!(first(of_command(name, line, (alloc, matches))));
+    line_from_second(alloc, name, matches)
+}
+
+/// The same of the second part and the third.
+fn line_from_second<'a>(
+    alloc: Global,
+    name: &str,
+    matches: &ArgMatches<'a>,
+) -> Result<CommandLine, Wrong<'a>>
+    ensures { Finds (line_among from_second name.now (rows_of (found_of matches.now))) result }
+{
+    commands!(second(of_command(name, line, (alloc, matches))));
+    line_from_third(alloc, name, matches)
+}
+
+/// The same of the third part.
+fn line_from_third<'a>(
+    alloc: Global,
+    name: &str,
+    matches: &ArgMatches<'a>,
+) -> Result<CommandLine, Wrong<'a>>
+    ensures { Finds (line_among from_third name.now (rows_of (found_of matches.now))) result }
+{
+    commands!(third(of_command(name, line, (alloc, matches))));
     Err(Wrong::Command)
 }

@@ -7,7 +7,7 @@ ghost use Rattle.rvmc_cli.specs.Built.{StandsFor};
 ghost use Rattle.rvmc_cli.specs.Commands.{app_of, why_row};
 ghost use Rattle.rvmc_cli.specs.Parsing.{Finds};
 
-use crate::parts::{command as new_command, flag, option};
+use crate::parts::{Part, command as new_command};
 use crate::values::{self, optional_number};
 use crate::wrong::Wrong;
 use clap::{ArgMatches, Command};
@@ -53,6 +53,16 @@ Examples:
   rvmc why --at 6 <hi.record           what each hart waits for after six steps
   rvmc why --frames <hi.record         and which calls led there";
 
+/// Its parts, in the order in which help lists them.
+static PARTS: &[Part] = &[
+    Part::Option(
+        "at",
+        "N",
+        "Tells of the place with N steps done [default: all steps]",
+    ),
+    Part::Flag("frames", "Tells also which calls led to where each hart is"),
+];
+
 /// The command as clap builds it.
 pub fn command<'a>(alloc: Global) -> Result<Command<'a>, AllocError>
     ensures { IfOk result (StandsFor (app_of why_row)) }
@@ -62,18 +72,8 @@ pub fn command<'a>(alloc: Global) -> Result<Command<'a>, AllocError>
         "why",
         "Tells what each hart waits for, in the record on standard input",
         EXAMPLES,
+        PARTS,
     )
-    .arg(option(
-        alloc,
-        "at",
-        "N",
-        "Tells of the place with N steps done [default: all steps]",
-    ))?
-    .arg(flag(
-        alloc,
-        "frames",
-        "Tells also which calls led to where each hart is",
-    ))
 }
 
 /// What it asks for, of what clap found.

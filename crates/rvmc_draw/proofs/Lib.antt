@@ -8,5 +8,6 @@ pub mod Pairs
 pub mod Partitions
 pub mod Sources
 pub mod Tables
+pub mod Taken
 pub mod Waits
 pub mod Walked

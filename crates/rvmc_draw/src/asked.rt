@@ -1,9 +1,10 @@
 //! What a call of the hub made, and the numbers of the posts whose messages it brought.
 
-ghost use Rattle.std.specs.Prelude.{◌≡◌, ◌++◌, IfOk, OnOk, option_to_list};
+ghost use Rattle.std.specs.Prelude.{◌≡◌, ◌++◌, ℕ, IfOk, OnOk, option_to_list};
 ghost use Rattle.mp_hub.specs.Histories.{got_by as got_by_of, got_of, post_made};
 ghost use Rattle.std.specs.List.{slice_get};
 ghost use Rattle.rvmc_draw.specs.Asked.{got_at, got_if};
+ghost use Rattle.mp_types.specs.declared.messages.Message.{Message as MessageView};
 
 use mp_match::{Post, Selection, Sent};
 use mp_types::{Envelope, Message, Reply, Request};
@@ -101,6 +102,43 @@ fn put_gots(
     Ok(())
 }
 
+/// The number of the post whose message a call brings that gets one.
+fn number_of(next: u64, request: &Request) -> Option<u64>
+    ensures { (m : MessageView) → option_to_list result ≡ got_by_of next request.now (Reply.Got m) }
+{
+    match request {
+        Request::Recv { .. } => Some(next),
+        Request::Collect { post } => Some(*post),
+        Request::Claimed { message, .. } => Some(*message),
+        _ => None,
+    }
+}
+
+/// Adds it, if there is one.
+fn put_number(numbers: &mut Vec<u64>, number: Option<u64>) -> Result<(), AllocError>
+    ensures { OnOk result (numbers.new.items ≡ numbers.old.items ++ option_to_list number) }
+{
+    if let Some(number) = number {
+        numbers.push(number)?;
+    }
+    Ok(())
+}
+
+/// Adds the numbers of the posts whose messages a call brings that asks for all.
+fn put_all_got(
+    numbers: &mut Vec<u64>,
+    request: &Request,
+    gots: &[Option<Message>],
+) -> Result<(), AllocError>
+    ensures { OnOk result ((next : ℕ) → numbers.new.items
+        ≡ numbers.old.items ++ got_by_of next request.now (Reply.AllGot gots.now)) }
+{
+    match request {
+        Request::All { posts } => put_gots(numbers, posts.as_slice(), gots),
+        _ => Ok(()),
+    }
+}
+
 /// The numbers of the posts whose messages the reply to a call brings; a receive's own is the next number. The only error
 /// is want of memory.
 pub fn got_by(
@@ -113,16 +151,8 @@ pub fn got_by(
 {
     let mut numbers = Vec::new(alloc);
     match reply {
-        Reply::Got(_) => match request {
-            Request::Recv { .. } => numbers.push(next)?,
-            Request::Collect { post } => numbers.push(*post)?,
-            Request::Claimed { message, .. } => numbers.push(*message)?,
-            _ => {}
-        },
-        Reply::AllGot(gots) => match request {
-            Request::All { posts } => put_gots(&mut numbers, posts.as_slice(), gots.as_slice())?,
-            _ => {}
-        },
+        Reply::Got(_) => put_number(&mut numbers, number_of(next, request))?,
+        Reply::AllGot(gots) => put_all_got(&mut numbers, request, gots.as_slice())?,
         _ => {}
     }
     Ok(numbers)

@@ -440,6 +440,18 @@ impl Board {
         }
     }
 
+    /// Adds the arrows of what a step claimed, and of what it got.
+    fn put_taken(&self, arrows: &mut Vec<Arrow>, deed: &Deed) -> Result<(), AllocError>
+        ensures { OnOk result
+            (arrows.new.items
+            ≡ arrows.old.items
+            ++ (claim_arrows self.now.lines.items self.now.spots.items deed.now.spot deed.now.made
+            ++ messages self.now.lines.items self.now.spots.items deed.now.spot deed.now.got.items)) }
+    {
+        self.put_claim(arrows, deed.made, deed.spot)?;
+        self.put_messages(arrows, deed.spot, deed.got.as_slice())
+    }
+
     /// Adds the post of a step, if it made one.
     fn add_if(&mut self, made: Option<Post>, spot: Spot) -> Result<(), AllocError>
         ensures lines { OnOk result (self.new.lines.items ≡ lines_with self.old.lines.items made) }
@@ -525,8 +537,7 @@ impl Board {
     {
         self.put_could(arrows, wildcard_in(deed.made), deed.spot)?;
         self.add_if(deed.made, deed.spot)?;
-        self.put_claim(arrows, deed.made, deed.spot)?;
-        self.put_messages(arrows, deed.spot, deed.got.as_slice())?;
+        self.put_taken(arrows, deed)?;
         self.note_got(deed.got.as_slice())
     }
 }

@@ -1,7 +1,7 @@
 //! A picture of a record, as data.
 
 /// A step, by the place before it, and the hart that took it.
-#[derive(Clone, Copy, PartialEq, Eq, Drop)]
+#[derive(Clone, Copy, Drop)]
 pub struct Spot {
     pub place: u64,
     /// From 0 to 7.
@@ -65,7 +65,7 @@ pub struct Mark {
 }
 
 /// What an arrow carries.
-#[derive(Clone, Copy, PartialEq, Eq, Drop)]
+#[derive(Clone, Copy, Drop)]
 pub enum Carried {
     /// A message from its send to the step that got it.
     Message { tag: u16, count: u16 },
@@ -78,7 +78,7 @@ pub enum Carried {
 }
 
 /// A line from one step to another.
-#[derive(Clone, Copy, PartialEq, Eq, Drop)]
+#[derive(Clone, Copy, Drop)]
 pub struct Arrow {
     pub from: Spot,
     /// None where nobody got it.
@@ -89,7 +89,7 @@ pub struct Arrow {
 }
 
 /// Looks in vain of a hart that follow one another.
-#[derive(Clone, Copy, PartialEq, Eq, Drop)]
+#[derive(Clone, Copy, Drop)]
 pub struct Bar {
     /// The first of them.
     pub first: Spot,

@@ -1,6 +1,7 @@
 //! Marks: the steps that are shown by a shape of their own.
 
-ghost use Rattle.std.specs.Prelude.{◌≡◌, ◌++◌, ◌+◌, ◌-◌, ◌<◌, ◌^◌, ◌∷◌, ◌*◌, [], IfOk, None, OnOk, length, map, replicate};
+ghost use Rattle.std.specs.Prelude.{◌≡◌, ◌++◌, ◌+◌, ◌-◌, ◌<◌, ◌^◌, ◌∷◌, ◌*◌, [], IfOk, None, OnOk, if◌then◌else◌};
+ghost use Rattle.std.specs.Prelude.{length, map, nat_lt, replicate};
 ghost use Rattle.std.specs.List.{slice_get, slice_set};
 ghost use Rattle.rvmc_draw.specs.Looks.{lane_of};
 ghost use Rattle.rvmc_draw.specs.Marks.{is_marked as is_marked_of, is_row as is_row_of, marks_by};
@@ -63,12 +64,52 @@ fn shape_behind(view: View, last: Option<Shape>, deed: &Deed) -> Option<Shape>
     }
 }
 
+/// The mark of a step, with what is told of it and what stands beside it, behind so many steps without one.
+fn mark_of(deed: &Deed, shape: Shape, tip: Vec<u8>, note: Vec<u8>, quiet: u64) -> Mark
+    ensures { told_by result ≡ (sign_by deed.now shape, tip.items) }
+{
+    Mark {
+        spot: deed.spot,
+        shape,
+        wild: wildcard_in(deed.made).is_some(),
+        note,
+        tip,
+        times: 1,
+        quiet,
+    }
+}
+
+/// Adds a mark behind so many, if it is one of the first 5,000.
+fn keep(kept: &mut Vec<Mark>, count: u64, mark: Mark) -> Result<(), AllocError>
+    ensures { OnOk result
+        (map told_by kept.new.items
+        ≡ map told_by kept.old.items ++ (if nat_lt count 5000 then told_by mark ∷ [] else [])) }
+{
+    if count < MARKS_MAX {
+        kept.push(mark)?;
+    }
+    Ok(())
+}
+
 /// Adds a step to a mark that stands for several.
 fn join(mark: &mut Mark, note: &[u8]) -> Result<(), AllocError>
     ensures { told_by mark.new ≡ told_by mark.old }
 {
     mark.times = mark.times.saturating_add(1);
     mark.note.extend_from_slice(note)
+}
+
+/// Adds a step to the mark at a place, if there is one.
+#[tactic(auto, using(crate::proofs::Walked::told_set))]
+fn join_at(kept: &mut Vec<Mark>, row: Option<usize>, note: &[u8]) -> Result<(), AllocError>
+    ensures { OnOk result (map told_by kept.new.items ≡ map told_by kept.old.items) }
+{
+    if let Some(row) = row {
+        if row < kept.len() {
+            join(&mut kept[row], note)?;
+        }
+    }
+    Ok(())
 }
 
 impl Marks {
@@ -115,6 +156,28 @@ impl Marks {
             && !is_row(deed.shape, self.last(deed))
     }
 
+    /// How many steps the step's hart took since its last mark, or since it last looked in vain.
+    fn quiet_of(&self, deed: &Deed) -> u64 {
+        self.quiet
+            .get(lane(self.harts, deed.spot))
+            .copied()
+            .unwrap_or(0)
+    }
+
+    /// Notes that the last mark of the step's hart is the next that is kept.
+    fn note_row(&mut self, deed: &Deed)
+        ensures kept { self.new.kept.items ≡ self.old.kept.items }
+        ensures count { self.new.count ≡ self.old.count }
+        ensures shapes { self.new.shapes.items ≡ self.old.shapes.items }
+        ensures view { self.new.view ≡ self.old.view }
+        ensures harts { self.new.harts ≡ self.old.harts }
+    {
+        let place = lane(self.harts, deed.spot);
+        if place < self.rows.len() {
+            self.rows[place] = Some(self.kept.len());
+        }
+    }
+
     /// Adds a mark, if it is one of the first 5,000.
     fn put(
         &mut self,
@@ -132,28 +195,22 @@ impl Marks {
         ensures harts { self.new.harts ≡ self.old.harts }
         ensures view { self.new.view ≡ self.old.view }
     {
-        let place = lane(self.harts, deed.spot);
-        let quiet = self.quiet.get(place).copied().unwrap_or(0);
-        if place < self.rows.len() {
-            self.rows[place] = Some(self.kept.len());
-        }
-        if self.count < MARKS_MAX {
-            self.kept.push(Mark {
-                spot: deed.spot,
-                shape,
-                wild: wildcard_in(deed.made).is_some(),
-                note,
-                tip,
-                times: 1,
-                quiet,
-            })?;
-        }
+        let mark = mark_of(deed, shape, tip, note, self.quiet_of(deed));
+        self.note_row(deed);
+        keep(&mut self.kept, self.count, mark)?;
         self.count += 1;
         Ok(())
     }
 
+    /// Where the last mark of the step's hart is kept.
+    fn row_of(&self, deed: &Deed) -> Option<usize> {
+        match self.rows.get(lane(self.harts, deed.spot)) {
+            None => None,
+            Some(row) => *row,
+        }
+    }
+
     /// Adds a step to the row with which it goes on, if it does.
-    #[tactic(auto, using(crate::proofs::Walked::told_set))]
     fn go_on(&mut self, deed: &Deed, note: &[u8]) -> Result<(), AllocError>
         ensures kept { OnOk result (map told_by self.new.kept.items ≡ map told_by self.old.kept.items) }
         ensures count { self.new.count ≡ self.old.count }
@@ -161,17 +218,9 @@ impl Marks {
         ensures harts { self.new.harts ≡ self.old.harts }
         ensures view { self.new.view ≡ self.old.view }
     {
-        if !is_row(deed.shape, self.last(deed)) || !self.view.has(deed.spot) {
-            return Ok(());
-        }
-        let row = match self.rows.get(lane(self.harts, deed.spot)) {
-            None => None,
-            Some(row) => *row,
-        };
-        if let Some(row) = row {
-            if row < self.kept.len() {
-                join(&mut self.kept[row], note)?;
-            }
+        if is_row(deed.shape, self.last(deed)) && self.view.has(deed.spot) {
+            let row = self.row_of(deed);
+            join_at(&mut self.kept, row, note)?;
         }
         Ok(())
     }

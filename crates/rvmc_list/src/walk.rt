@@ -20,7 +20,7 @@ use std::alloc::{AllocError, Global};
 use std::io;
 
 /// Why a record isn't listed.
-#[derive(Clone, Copy, PartialEq, Eq, Drop, Debug)]
+#[derive(Clone, Copy, Drop)]
 pub enum ListFault {
     /// 1: the image has no such rank.
     NoRank,

@@ -122,6 +122,28 @@ impl Reader {
         }
     }
 
+    /// The next byte outside a packet.
+    fn take_outside(&mut self, byte: u8)
+        ensures { self.new ≡ place_after self.old.most Stage.Outside self.old.text byte }
+    {
+        if byte == b'$' {
+            self.begin();
+        } else {
+            self.leave();
+        }
+    }
+
+    /// The last byte of a packet's sum, behind this one: what the packet tells.
+    fn take_end(&mut self, alloc: Global, high: u8, byte: u8) -> Result<Message, AllocError>
+        ensures told { IfOk result (λ message. message ≡ message_of self.old.text high byte) }
+        ensures read { OnOk result (self.new ≡ outside_of self.old.most) }
+        ensures unchanged { OnErr result (self.new ≡ self.old) }
+    {
+        let message = message_of(alloc, self.text.as_slice(), high, byte)?;
+        self.leave();
+        Ok(message)
+    }
+
     /// Takes the next byte of the stream, and tells what it ends, if it does. Where memory is refused the stream stands
     /// where it stood, as if the byte hadn't come.
     pub fn take(&mut self, alloc: Global, byte: u8) -> Result<Option<Message>, AllocError>
@@ -131,11 +153,7 @@ impl Reader {
     {
         match self.stage {
             Stage::Outside => {
-                if byte == b'$' {
-                    self.begin();
-                } else {
-                    self.leave();
-                }
+                self.take_outside(byte);
                 Ok(asked(byte))
             }
             Stage::Text => {
@@ -151,8 +169,7 @@ impl Reader {
                 Ok(None)
             }
             Stage::Digit(high) => {
-                let message = message_of(alloc, self.text.as_slice(), high, byte)?;
-                self.leave();
+                let message = self.take_end(alloc, high, byte)?;
                 Ok(Some(message))
             }
         }

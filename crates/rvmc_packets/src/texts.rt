@@ -1,6 +1,6 @@
 //! The payload that the text of a packet carries.
 
-ghost use Rattle.std.specs.Prelude.{◌≡◌, ◌++◌, IfOk, OnOk, false, option_map, replicate};
+ghost use Rattle.std.specs.Prelude.{◌≡◌, ◌==◌, ◌++◌, ◌∷◌, [], IfOk, OnOk, false, if◌then◌else◌, option_map, replicate};
 ghost use Rattle.rvmc_packets.specs.Texts.{escape_added, escape_next, expanded, is_special, payload_in, run_added, run_next, unescaped};
 
 use std::alloc::{AllocError, Global};
@@ -57,33 +57,43 @@ fn put_times(done: &mut Vec<u8>, byte: u8, times: u8) -> Result<(), AllocError>
     Ok(())
 }
 
+/// Adds a byte that is no `*`, and tells that it is behind the next one; of a `*` it tells this.
+fn put_plain(
+    done: &mut Vec<u8>,
+    starred: Option<Behind>,
+    byte: u8,
+) -> Result<Option<Behind>, AllocError>
+    ensures after { IfOk result (λ after. after ≡ (if byte == 42 then starred else Some (Behind.Byte byte))) }
+    ensures added { OnOk result (done.new.items ≡ done.old.items ++ (if byte == 42 then [] else byte ∷ [])) }
+{
+    if byte == b'*' {
+        return Ok(starred);
+    }
+    done.push(byte)?;
+    Ok(Some(Behind::Byte(byte)))
+}
+
+/// Adds the run of a byte that a number behind `*` stands for, and tells what is behind it.
+fn put_starred(done: &mut Vec<u8>, last: u8, byte: u8) -> Result<Option<Behind>, AllocError>
+    ensures after { IfOk result (λ after. after ≡ run_next (Behind.Star last) byte) }
+    ensures added { OnOk result (done.new.items ≡ done.old.items ++ run_added (Behind.Star last) byte) }
+{
+    if byte < 32 || 126 < byte {
+        return Ok(None);
+    }
+    put_times(done, last, byte - 29)?;
+    Ok(Some(Behind::Byte(last)))
+}
+
 /// Adds what the next byte of a text stands for, and tells what is behind it; None where it can't stand there.
 fn put_run(done: &mut Vec<u8>, behind: Behind, byte: u8) -> Result<Option<Behind>, AllocError>
     ensures after { IfOk result (λ after. after ≡ run_next behind byte) }
     ensures added { OnOk result (done.new.items ≡ done.old.items ++ run_added behind byte) }
 {
     match behind {
-        Behind::Start => {
-            if byte == b'*' {
-                return Ok(None);
-            }
-            done.push(byte)?;
-            Ok(Some(Behind::Byte(byte)))
-        }
-        Behind::Byte(last) => {
-            if byte == b'*' {
-                return Ok(Some(Behind::Star(last)));
-            }
-            done.push(byte)?;
-            Ok(Some(Behind::Byte(byte)))
-        }
-        Behind::Star(last) => {
-            if byte < 32 || 126 < byte {
-                return Ok(None);
-            }
-            put_times(done, last, byte - 29)?;
-            Ok(Some(Behind::Byte(last)))
-        }
+        Behind::Start => put_plain(done, None, byte),
+        Behind::Byte(last) => put_plain(done, Some(Behind::Star(last)), byte),
+        Behind::Star(last) => put_starred(done, last, byte),
     }
 }
 

@@ -23,7 +23,7 @@ use std::io;
 pub const STEPS_MAX: u64 = 200_000;
 
 /// Why there is no page.
-#[derive(Clone, Copy, PartialEq, Eq, Drop, Debug)]
+#[derive(Clone, Copy, Drop)]
 pub enum PageFault {
     /// 1: a place is behind the end. Carries the number of steps.
     PastEnd(u64),

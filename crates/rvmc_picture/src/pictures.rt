@@ -18,7 +18,7 @@ use std::alloc::{AllocError, Global};
 use std::io;
 
 /// Why a record isn't drawn.
-#[derive(Clone, Copy, PartialEq, Eq, Drop, Debug)]
+#[derive(Clone, Copy, Drop)]
 pub enum DrawFault {
     /// 1: a place is behind the end. Carries the number of steps.
     PastEnd(u64),

@@ -1,10 +1,18 @@
 //! Parts of a text that is told piece by piece, as the description of the registers is (GDB manual, 'General Query
 //! Packets').
 
-ghost use Rattle.std.specs.Prelude.{◌≡◌, ◌++◌, OnOk};
+ghost use Rattle.std.specs.Prelude.{◌≡◌, ◌++◌, ◌∷◌, OnOk};
 ghost use Rattle.rvmc_replies.specs.Parts.{part_of};
 
 use std::alloc::AllocError;
+
+/// Adds a part behind its mark.
+fn put_marked(text: &mut Vec<u8>, mark: u8, part: &[u8]) -> Result<(), AllocError>
+    ensures { OnOk result (text.new.items ≡ text.old.items ++ mark ∷ part.now) }
+{
+    text.push(mark)?;
+    text.extend_from_slice(part)
+}
 
 /// Adds a part of a text from this byte on, of at most so many bytes: behind `l` where it is the last one, and else
 /// behind `m`.
@@ -15,11 +23,8 @@ pub fn put_part(text: &mut Vec<u8>, whole: &[u8], from: u64, count: u64) -> Resu
     let begin = from.min(length) as usize;
     let rest = &whole[begin..];
     if rest.len() as u64 <= count {
-        text.push(b'l')?;
-        text.extend_from_slice(rest)?;
+        put_marked(text, b'l', rest)
     } else {
-        text.push(b'm')?;
-        text.extend_from_slice(&rest[..count as usize])?;
+        put_marked(text, b'm', &rest[..count as usize])
     }
-    Ok(())
 }

@@ -1,7 +1,9 @@
 //! Why threads stand.
 
-ghost use Rattle.std.specs.Prelude.{◌≡◌, ◌++◌, OnOk};
+ghost use Rattle.std.specs.Prelude.{◌≡◌, ◌++◌, OnOk, codes, false};
+ghost use Rattle.std.specs.Fmt.{digits};
 ghost use Rattle.rvmc_replies.specs.Stops.{cause_text, stop_text};
+ghost use Rattle.rvmc_replies.specs.Threads.{thread_number};
 
 use crate::threads::put_thread;
 use std::io;
@@ -28,20 +30,48 @@ pub enum Stop {
     End,
 }
 
+/// Adds a word.
+fn put_word(text: &mut Vec<u8>, word: &[u8]) -> io::Result<()>
+    ensures { OnOk result (text.new.items ≡ text.old.items ++ word.now) }
+{
+    text.extend_from_slice(word)?;
+    Ok(())
+}
+
+/// Adds a word and the address of which it tells.
+fn put_touched(text: &mut Vec<u8>, word: &[u8], address: u64) -> io::Result<()>
+    ensures { OnOk result (text.new.items
+        ≡ text.old.items ++ (word.now ++ digits 16 false address ++ codes ";")) }
+{
+    text.extend_from_slice(word)?;
+    write!(text, "{address:x};")
+}
+
 /// Adds why, if there is a cause to tell.
 fn put_cause(text: &mut Vec<u8>, stop: Stop) -> io::Result<()>
     ensures { OnOk result (text.new.items ≡ text.old.items ++ cause_text stop) }
 {
     match stop {
         Stop::Step => Ok(()),
-        Stop::Before => write!(text, "swbreak:;"),
-        Stop::HardwareBefore => write!(text, "hwbreak:;"),
-        Stop::Written(address) => write!(text, "watch:{address:x};"),
-        Stop::Read(address) => write!(text, "rwatch:{address:x};"),
-        Stop::Touched(address) => write!(text, "awatch:{address:x};"),
-        Stop::Begin => write!(text, "replaylog:begin;"),
-        Stop::End => write!(text, "replaylog:end;"),
+        Stop::Before => put_word(text, b"swbreak:;"),
+        Stop::HardwareBefore => put_word(text, b"hwbreak:;"),
+        Stop::Written(address) => put_touched(text, b"watch:", address),
+        Stop::Read(address) => put_touched(text, b"rwatch:", address),
+        Stop::Touched(address) => put_touched(text, b"awatch:", address),
+        Stop::Begin => put_word(text, b"replaylog:begin;"),
+        Stop::End => put_word(text, b"replaylog:end;"),
     }
+}
+
+/// Adds which thread is meant.
+fn put_meant(text: &mut Vec<u8>, hart: u8) -> io::Result<()>
+    ensures { OnOk result (text.new.items
+        ≡ text.old.items ++ (codes "thread:" ++ thread_number hart ++ codes ";")) }
+{
+    text.extend_from_slice(b"thread:")?;
+    put_thread(text, hart)?;
+    text.extend_from_slice(b";")?;
+    Ok(())
 }
 
 /// Adds that the threads stand, why, and which of them is meant from now on.
@@ -50,8 +80,5 @@ pub fn put_stop(text: &mut Vec<u8>, stop: Stop, hart: u8) -> io::Result<()>
 {
     text.extend_from_slice(b"T05")?;
     put_cause(text, stop)?;
-    text.extend_from_slice(b"thread:")?;
-    put_thread(text, hart)?;
-    text.extend_from_slice(b";")?;
-    Ok(())
+    put_meant(text, hart)
 }

@@ -1,22 +1,20 @@
 -- What stands on the output is what is answered to the messages behind the record.
-use Rattle.std.specs.Prelude.{ℕ, ◌≡◌, ◌⊎◌, true, Bool, List, [], ◌∷◌, ◌++◌, length, take, drop, Option, Some, None, Ok}
+use Rattle.std.specs.Prelude.{ℕ, ◌≡◌, true, Bool, List, [], ◌∷◌, ◌++◌, length, take, drop, Option, Some, None, Ok}
 use Rattle.std.proofs.Common.{refl, sym, ap, subst, ◌∙◌, inl, inr}
 use Rattle.std.proofs.Math.Seq.{drop-append_seam, take-append_seam}
 use Rattle.std.proofs.lemmas.List.{append-nil}
-use Rattle.cl_front.specs.End.{record_end}
-use Rattle.cl_front.specs.Laws.{EndLaw}
 use Rattle.cl_machine.specs.declared.steps.Step.{Step}
 use Rattle.cl_text.specs.Reading.{reading_record}
 use Rattle.rv_image.specs.declared.images.ImageParts.{ImageParts}
 use Rattle.rvmc_gdb.proofs.Heard.{heard_law}
 use Rattle.rvmc_gdb.proofs.Walks.{joined}
 use Rattle.rvmc_gdb.specs.Serving.{Serving, opened}
-use Rattle.rvmc_gdb.specs.Talks.{Connection, Converses, MeetsTold, MeetsUnless, Serves, Takes, Talk, talk_begun, connected}
+use Rattle.rvmc_gdb.specs.Talks.{Connection, MeetsTold, MeetsUnless, Serves, Takes, Talk, connected}
 use Rattle.rvmc_packets.specs.Reading.{next_place, told}
 use Rattle.rvmc_packets.specs.declared.reader.Message.{Message}
 use Rattle.rvmc_serve.proofs.Ends.{end_law}
 use Rattle.rvmc_serve.specs.Laws.{AnswersLaw, QuietLaw}
-use Rattle.rvmc_serve.specs.Sessions.{DecidesAt, HearsAll, IsOpened, IsSession, IsStream, IsWhole, Reading}
+use Rattle.rvmc_serve.specs.Sessions.{DecidesAt, HearsAll, IsSession, IsStream, IsWhole, Reading}
 
 -- ---- where the client has left, nothing more is written
 

@@ -1,5 +1,5 @@
 -- From what is read as a record to the session that it opens, or its fault.
-use Rattle.std.specs.Prelude.{ℕ, ◌≡◌, ◌<◌, ◌≤◌, List, [], length, Result, Ok, Err}
+use Rattle.std.specs.Prelude.{ℕ, ◌≡◌, ◌<◌, ◌≤◌, List, [], length, Ok}
 use Rattle.std.proofs.Common.{refl, sym, ap, subst, ◌∙◌}
 use Rattle.cl_debug.specs.Debugging.{Debugging}
 use Rattle.cl_debug.specs.Faults.{OpenFaultHolds}
@@ -15,10 +15,9 @@ use Rattle.rvmc_gdb.specs.Serving.{Serving, opened}
 use Rattle.rvmc_gdb.specs.Talks.{Connection, connected}
 use Rattle.rvmc_report.specs.Faults.{fault_of_debug}
 use Rattle.rvmc_report.specs.OtherFaults.{fault_of_record}
-use Rattle.rvmc_report.specs.declared.faults.Fault.{Fault}
 use Rattle.rvmc_report.specs.declared.faults.Fault.TheVariants as faults
 use Rattle.rvmc_serve.specs.Serving.{IsFaultOf, IsOpenedAs}
-use Rattle.rvmc_serve.specs.Sessions.{IsOpened, IsOpenedOn, Reading, Refuses}
+use Rattle.rvmc_serve.specs.Sessions.{IsOpened, Reading}
 
 -- a fault of the record
 pub unread : (rank : ℕ) (read : Reading) (fault : RecordFault) → IsRecordFaultOf read fault

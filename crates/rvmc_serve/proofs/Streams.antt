@@ -1,20 +1,17 @@
 -- All the bytes of an input as a record and what is behind it.
-use Rattle.std.specs.Prelude.{ℕ, ◌≡◌, ◌≢◌, ◌⊎◌, List, [], ◌++◌, length, take, drop, Option, Some, None}
+use Rattle.std.specs.Prelude.{ℕ, ◌≡◌, ◌≢◌, ◌⊎◌, List, [], ◌++◌, length, take, drop, Option, Some, None, Result, Ok, Err, IfOk, IfErr}
 use Rattle.std.proofs.Common.{refl, sym, ap, subst, ◌∙◌, append_assoc, inl, inr, take-append-drop}
 use Rattle.std.proofs.lemmas.List.{append-nil, length-take-le}
-use Rattle.std.specs.Io.KnownBytes.{Appends, Consumes, IsAtEnd, Keeps}
+use Rattle.std.specs.Io.KnownBytes.{Appends, Consumes, IsAtEnd}
 use Rattle.cl_front.specs.End.{record_end}
-use Rattle.cl_front.specs.Input.{IsAllThere, IsFront}
+use Rattle.cl_front.specs.Input.{IsFront}
 use Rattle.cl_front.specs.Laws.{EndLaw}
 use Rattle.cl_text.specs.Reading.{reading_record}
-use Rattle.rvmc_gdb.specs.Serving.{Serving}
-use Rattle.rvmc_gdb.specs.Talks.{Connection, connected}
+use Rattle.rvmc_gdb.specs.Talks.{Connection}
 use Rattle.rvmc_report.specs.declared.faults.Fault.{Fault}
 use Rattle.rvmc_report.specs.declared.faults.Fault.TheVariants as faults
-use Rattle.cl_front.specs.declared.input.FrontFault.{FrontFault}
-use Rattle.cl_front.specs.declared.input.FrontFault.TheVariants as front_faults
-use Rattle.rvmc_serve.specs.Serving.{CutsShort, IsFaultOf, IsOpenedAs, fault_of_front}
-use Rattle.rvmc_serve.specs.Sessions.{DecidesAt, HearsAll, HearsSome, IsCut, IsOpened, IsSession, IsStream, IsWhole, Reading, Refuses, Writes}
+use Rattle.rvmc_serve.specs.Serving.{CutsShort, IsFaultOf, IsOpenedAs, IsOfFront}
+use Rattle.rvmc_serve.specs.Sessions.{DecidesAt, HearsAll, HearsSome, IsSession, IsStream, Reading, Writes}
 use Rattle.rvmc_serve.proofs.Ends.{end_law}
 use Rattle.rvmc_serve.proofs.Hearing.{appended_none, kept, left_behind}
 
@@ -110,15 +107,22 @@ of_cut rank read other cut = absurd cut
 
 -- ---- the whole of it
 
-pub front_which : (f : FrontFault) (fault : Fault) → fault ≡ fault_of_front f
-    → (fault ≡ faults.Memory) ⊎ (fault ≡ faults.Read)
-front_which front_faults.Read fault is = inr is
-front_which front_faults.Memory fault is = inl is
+-- what holds of what is left, where it is known, makes a whole
+pub whole_if : {A E : Type 0} (r : Result A E) (Known All : List ℕ → Type 0) (Whole : Type 0)
+    → (((rest : List ℕ) → Known rest → All rest) → Whole)
+    → ((rest : List ℕ) → Known rest → IfOk r (λ _. All rest)) → IfOk r (λ _. Whole)
+whole_if (Ok x) Known All Whole makes all = makes all
+whole_if (Err e) Known All Whole makes all = tt
 
-pub no_front : (rank : ℕ) (bytes : List ℕ) (f : FrontFault) (fault : Fault) (w : Option (List ℕ))
-    → fault ≡ fault_of_front f → (text : List ℕ) × IsSession rank bytes text (Some fault) × Appends w w text
-no_front rank bytes f fault w is =
-    ([], cut_before end_law rank bytes fault (front_which f fault is), appended_none w w (kept w))
+pub cut_if : {A E : Type 0} (r : Result A E) (Known : List ℕ → Type 0) (Heard : E → List ℕ → Type 0) (Cut : E → Type 0)
+    → ((e : E) → ((rest : List ℕ) → Known rest → Heard e rest) → Cut e)
+    → ((rest : List ℕ) → Known rest → IfErr r (λ e. Heard e rest)) → IfErr r Cut
+cut_if (Ok x) Known Heard Cut makes heard = tt
+cut_if (Err e) Known Heard Cut makes heard = makes e heard
+
+pub no_front : (rank : ℕ) (bytes : List ℕ) (fault : Fault) (w : Option (List ℕ)) → IsOfFront fault
+    → (text : List ℕ) × IsSession rank bytes text (Some fault) × Appends w w text
+no_front rank bytes fault w is = ([], cut_before end_law rank bytes fault is, appended_none w w (kept w))
 
 pub not_opened : (rank : ℕ) (a b : Option (List ℕ)) (bytes front behind : List ℕ) (fault : Fault) (w : Option (List ℕ))
     → a ≡ Some bytes → Consumes a b (front ++ behind) → IsFront front behind b

@@ -1,5 +1,5 @@
 -- What the code says of a session, step by step.
-use Rattle.std.specs.Prelude.{◌≡◌, ⊤, ℕ, List}
+use Rattle.std.specs.Prelude.{◌≡◌, ◌⊎◌, ⊤, ℕ}
 use Rattle.cl_front.specs.declared.input.FrontFault.{FrontFault}
 use Rattle.cl_front.specs.declared.input.FrontFault.TheVariants as front
 use Rattle.rvmc_gdb.specs.Serving.{Serving}
@@ -12,6 +12,10 @@ use Rattle.rvmc_serve.specs.Sessions.{IsOpened, Reading, Refuses}
 abbrev pub fault_of_front : FrontFault → Fault
 fault_of_front front.Read = faults.Read
 fault_of_front front.Memory = faults.Memory
+
+-- a fault of the front: memory was refused, or a read failed
+abbrev pub IsOfFront : Fault → Type 0
+IsOfFront fault = (fault ≡ faults.Memory) ⊎ (fault ≡ faults.Read)
 
 -- a session was opened, of which nothing is heard yet
 abbrev pub IsOpenedAs : ℕ → Reading → Connection → Type 0

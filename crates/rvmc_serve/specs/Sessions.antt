@@ -1,6 +1,5 @@
 -- What a session is of all the bytes of an input: a record, and behind it what a client sends.
 use Rattle.std.specs.Prelude.{◌≡◌, ◌⊎◌, ℕ, ◌<◌, ◌≤◌, true, List, [], ◌++◌, length, Option, Some, None, Result, Ok, Err}
-use Rattle.cl_debug.specs.Debugging.{Debugging}
 use Rattle.cl_debug.specs.declared.faults.DebugFault.TheVariants.{NoRank, NotARun}
 use Rattle.cl_front.specs.End.{record_end}
 use Rattle.cl_machine.specs.declared.steps.Step.{Step}

@@ -1,14 +1,15 @@
 //! The session of a stream.
 
-ghost use Rattle.std.specs.Prelude.{◌≡◌, ◌≢◌, ◌<◌, ◌≤◌, ◌+◌, ◌++◌, IfErr, IfOk, List, None, OnOk, Some, ⊤, ℕ};
-ghost use Rattle.std.specs.Io.KnownBytes.{Appends, Keeps};
+ghost use Rattle.std.specs.Prelude.{◌≡◌, ◌≢◌, ◌<◌, ◌≤◌, ◌+◌, ◌++◌, IfErr, IfOk, List, None, OnOk, Some, length, ⊤, ℕ};
+ghost use Rattle.std.specs.Io.KnownBytes.{Appends, Consumes, Keeps};
+ghost use Rattle.cl_front.specs.Input.{IsFront};
 ghost use Rattle.cl_debug.specs.declared.faults.DebugFault.TheVariants.{NoRank};
 ghost use Rattle.cl_text.specs.Reading.{reading_record};
 ghost use Rattle.rvmc_gdb.specs.Serving.{opened as opened_at};
 ghost use Rattle.rvmc_gdb.specs.Talks.{Serves, flow_of};
 ghost use Rattle.rvmc_report.specs.Input.{TakesAtMost};
 ghost use Rattle.rvmc_report.specs.declared.faults.Fault.TheVariants as faults;
-ghost use Rattle.rvmc_serve.specs.Serving.{CutsShort, IsFaultOf, IsOpenedAs, fault_of_front};
+ghost use Rattle.rvmc_serve.specs.Serving.{CutsShort, IsFaultOf, IsOfFront, IsOpenedAs, fault_of_front};
 ghost use Rattle.rvmc_serve.specs.Sessions.{HearsAll, HearsSome, IsSession};
 
 use cl_debug::{DebugFault, Debugger};
@@ -172,6 +173,53 @@ fn talk_behind<I: Read, O: Write>(
     }
 }
 
+/// The same; a fault stands beside no bytes.
+fn talked<I: Read, O: Write>(
+    alloc: Global,
+    server: &mut Server,
+    behind: &[u8],
+    most: usize,
+    input: &mut I,
+    out: &mut O,
+) -> Result<(), Refused>
+    ensures whole { (bytes : List ℕ) → I.remaining input.old ≡ Some bytes → IfOk result (λ _.
+        (text : List ℕ) × HearsAll server.old (behind.now ++ bytes) text
+        × Appends (O.contents out.old) (O.contents out.new) text) }
+    ensures cut { (bytes : List ℕ) → I.remaining input.old ≡ Some bytes → IfErr result (λ refused.
+        CutsShort refused.fault ((text : List ℕ) × HearsSome server.old (behind.now ++ bytes) text
+        × Appends (O.contents out.old) (O.contents out.new) text)) }
+    ensures fault { IfErr result (λ refused. CutsShort refused.fault ⊤) }
+    ensures front { TakesAtMost (most + 4096) (I.remaining input.old) (I.remaining input.new) }
+{
+    match talk_behind(alloc, server, behind, most, input, out) {
+        Ok(()) => Ok(()),
+        Err(fault) => Err(Refused {
+            fault,
+            bytes: Vec::new(alloc),
+        }),
+    }
+}
+
+/// The front of an input. A fault stands beside no bytes.
+fn front_of<I: Read>(alloc: Global, input: &mut I) -> Result<Front, Refused>
+    ensures taken { IfOk result (λ front. Consumes (I.remaining input.old) (I.remaining input.new)
+        (front.record.items ++ front.behind.items)) }
+    ensures front { IfOk result (λ front.
+        IsFront front.record.items front.behind.items (I.remaining input.new)) }
+    ensures short { IfOk result (λ front. length (front.record.items ++ front.behind.items) ≤ 67108864) }
+    ensures fault { IfErr result (λ refused. IsOfFront refused.fault) }
+    ensures hint { (rank : ℕ) → IfErr result (λ refused. IsFaultOf rank (reading_record refused.bytes.items) refused.fault) }
+    ensures most { TakesAtMost 67112960 (I.remaining input.old) (I.remaining input.new) }
+{
+    match read_front(alloc, input) {
+        Ok(front) => Ok(front),
+        Err(fault) => Err(Refused {
+            fault: front_fault(fault),
+            bytes: Vec::new(alloc),
+        }),
+    }
+}
+
 /// Serves a client of gdb's remote serial protocol: the input is a record, and behind it what the client sends, each
 /// piece of which is answered on the output at once. The session is that of the record's rank `rank`, before its first
 /// step; it ends where the client leaves, or with the input.
@@ -200,25 +248,14 @@ pub fn serve<I: Read, O: Write>(
     // Whatever is answered: bytes are taken from the front alone, and 4,096 beyond the limit at most.
     ensures front { TakesAtMost 67112960 (I.remaining input.old) (I.remaining input.new) }
 {
-    let Front { record, behind } = match read_front(alloc, input) {
+    let Front { record, behind } = match front_of(alloc, input) {
         Ok(front) => front,
-        Err(fault) => {
-            return Err(Refused {
-                fault: front_fault(fault),
-                bytes: Vec::new(alloc),
-            });
-        }
+        Err(refused) => return Err(refused),
     };
     let most = MOST - record.len() - behind.len();
     let mut server = match opened_or_kept(alloc, rank, record) {
         Ok(server) => server,
         Err(refused) => return Err(refused),
     };
-    match talk_behind(alloc, &mut server, behind.as_slice(), most, input, out) {
-        Ok(()) => Ok(()),
-        Err(fault) => Err(Refused {
-            fault,
-            bytes: Vec::new(alloc),
-        }),
-    }
+    talked(alloc, &mut server, behind.as_slice(), most, input, out)
 }

@@ -14,7 +14,7 @@ use crate::using::{lacking, used};
 use std::alloc::{AllocError, Global};
 
 /// Why texts weren't joined.
-#[derive(Clone, Copy, PartialEq, Eq, Drop, Debug)]
+#[derive(Clone, Copy, Drop)]
 pub enum JoinFault {
     /// 1: memory was refused.
     Memory,

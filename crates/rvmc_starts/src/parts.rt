@@ -1,8 +1,9 @@
 //! What was told of one start, as a text.
 
-ghost use Rattle.std.specs.Prelude.{◌≡◌, ◌++◌, ◌∷◌, [], IfOk, OnOk, length, string_bytes};
+ghost use Rattle.std.specs.Prelude.{◌≡◌, ◌++◌, ◌∷◌, [], IfOk, OnOk, codes, length, string_bytes};
 ghost use Rattle.std.specs.List.{flat_map};
-ghost use Rattle.rvmc_starts.specs.Parts.{counts_end, counts_line, end_text, image_line, part_text, split_line, verdict_of_part};
+ghost use Rattle.std.specs.Fmt.{decimal};
+ghost use Rattle.rvmc_starts.specs.Parts.{counts_end, counts_line, end_text, image_line, lines_above, lines_below, part_text, split_line, verdict_of_part};
 ghost use Rattle.rvmc_starts.specs.Telling.{summary};
 
 use crate::hex::put_word;
@@ -166,6 +167,14 @@ fn put_counts_line(alloc: Global, text: &mut Vec<u8>, part: &Part) -> Result<(),
     Ok(())
 }
 
+/// Adds the line that says how many bytes a text has.
+fn put_size(alloc: Global, text: &mut Vec<u8>, size: u64) -> Result<(), AllocError>
+    ensures { OnOk result (text.new.items ≡ text.old.items ++ (decimal size ++ codes " bytes\n")) }
+{
+    put_number(alloc, text, size)?;
+    text.extend_from_slice(b" bytes\n")
+}
+
 /// Adds an end: its line, a line that says how many bytes its text has, and the text.
 fn put_end(alloc: Global, text: &mut Vec<u8>, end: &EndText) -> Result<(), AllocError>
     ensures { OnOk result (text.new.items ≡ text.old.items ++ end_text end.now) }
@@ -173,8 +182,7 @@ fn put_end(alloc: Global, text: &mut Vec<u8>, end: &EndText) -> Result<(), Alloc
     text.extend_from_slice(end.head.as_slice())?;
     text.push(b'\n')?;
     let body = end.body.as_slice();
-    put_number(alloc, text, body.len() as u64)?;
-    text.extend_from_slice(b" bytes\n")?;
+    put_size(alloc, text, body.len() as u64)?;
     text.extend_from_slice(body)?;
     Ok(())
 }
@@ -216,16 +224,30 @@ fn put_last_line(alloc: Global, text: &mut Vec<u8>, part: &Part) -> Result<(), A
     Ok(())
 }
 
+/// Adds the lines above the ends.
+fn put_lines_above(alloc: Global, text: &mut Vec<u8>, part: &Part) -> Result<(), AllocError>
+    ensures { OnOk result (text.new.items ≡ text.old.items ++ lines_above part.now) }
+{
+    put_split_line(alloc, text, part)?;
+    put_image_line(alloc, text, part)?;
+    put_counts_line(alloc, text, part)
+}
+
+/// Adds the lines below the ends.
+fn put_lines_below(alloc: Global, text: &mut Vec<u8>, part: &Part) -> Result<(), AllocError>
+    ensures { OnOk result (text.new.items ≡ text.old.items ++ lines_below part.now) }
+{
+    put_unending(text, part.unending)?;
+    put_last_line(alloc, text, part)
+}
+
 /// Adds what was told of a start: the split, the image and the harts, the counts; each end, of which a line says how many
 /// bytes its text has; whether some runs go on for ever; and whether these are all ends.
 #[tactic(auto, unfolding(crate::specs::Parts::part_text))]
 pub fn put_part(alloc: Global, text: &mut Vec<u8>, part: &Part) -> Result<(), AllocError>
     ensures { OnOk result (text.new.items ≡ text.old.items ++ part_text part.now) }
 {
-    put_split_line(alloc, text, part)?;
-    put_image_line(alloc, text, part)?;
-    put_counts_line(alloc, text, part)?;
+    put_lines_above(alloc, text, part)?;
     put_ends(alloc, text, part.ends.as_slice())?;
-    put_unending(text, part.unending)?;
-    put_last_line(alloc, text, part)
+    put_lines_below(alloc, text, part)
 }

@@ -28,7 +28,7 @@ pub struct Start {
 }
 
 /// A number from 1 to the count.
-#[derive(Clone, Copy, PartialEq, Eq, Drop)]
+#[derive(Clone, Copy, Drop)]
 pub(crate) struct Place {
     pub number: u64,
     pub count: u64,

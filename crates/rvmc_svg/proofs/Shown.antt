@@ -93,15 +93,13 @@ marks_more ms k m old new inside is all adds =
 
 -- ---- the page
 
-pub page_shown : (drawing : Drawing) (text under arrows marks over : List ℕ)
-    → text ≡ (((under ++ arrows) ++ marks) ++ over)
+pub page_shown : (drawing : Drawing) (text under marks over : List ℕ) → text ≡ ((under ++ marks) ++ over)
     → All (λ (m : Mark). HasTitle marks m.tip.items) drawing.marks.items → IsShown drawing text
-page_shown drawing text under arrows marks over is all_marks = record {
+page_shown drawing text under marks over is all_marks = record {
   marks = all_so (λ (m : Mark). HasTitle marks m.tip.items) (λ (m : Mark). HasTitle text m.tip.items)
       drawing.marks.items
       (λ m s. subst (λ l. HasTitle l m.tip.items) (sym is)
-      (shows_before ((under ++ arrows) ++ marks) over m.tip.items
-      (shows_behind marks (under ++ arrows) m.tip.items s))) all_marks;
+      (shows_before (under ++ marks) over m.tip.items (shows_behind marks under m.tip.items s))) all_marks;
 }
 
 -- ---- what was made safe once stays as it is

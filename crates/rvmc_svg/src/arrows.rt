@@ -1,6 +1,6 @@
 //! Arrows: messages, claims, what a wildcard receive could have taken, and partitions.
 
-ghost use Rattle.std.specs.Prelude.{◌≡◌, ◌++◌, OnOk};
+ghost use Rattle.std.specs.Prelude.{◌≡◌, ◌++◌, OnOk, codes};
 ghost use Rattle.rvmc_svg.specs.Adding.{Adds, AddsIf, is_could as is_could_of, is_wanted as is_wanted_of};
 ghost use Rattle.rvmc_svg.specs.Titles.{arrow_title, cargo_text, arrow_end_text, spot_text};
 
@@ -21,18 +21,28 @@ struct Line {
     to_row: u64,
 }
 
-/// Adds the head that each sender's arrows have.
+/// Adds the closed head of a sender's arrows.
+fn put_closed(text: &mut Vec<u8>, rank: u8) -> io::Result<()> {
+    writeln!(
+        text,
+        "<marker id=\"h{rank}\" refX=\"13\" refY=\"4\" markerWidth=\"9\" markerHeight=\"8\" markerUnits=\"userSpaceOnUse\" orient=\"auto\"><path class=\"f{rank}\" d=\"M0,.6L8,4L0,7.4z\"/></marker>"
+    )
+}
+
+/// Adds the open one.
+fn put_open(text: &mut Vec<u8>, rank: u8) -> io::Result<()> {
+    writeln!(
+        text,
+        "<marker id=\"o{rank}\" refX=\"8\" refY=\"4\" markerWidth=\"9\" markerHeight=\"8\" markerUnits=\"userSpaceOnUse\" orient=\"auto\"><path class=\"s{rank} none\" d=\"M1,.8L8,4L1,7.2\"/></marker>"
+    )
+}
+
+/// Adds the heads that each sender's arrows have.
 pub(crate) fn put_heads(text: &mut Vec<u8>, ranks: u8) -> io::Result<()> {
     text.extend_from_slice(b"<defs>\n")?;
     for rank in 0..ranks {
-        writeln!(
-            text,
-            "<marker id=\"h{rank}\" refX=\"13\" refY=\"4\" markerWidth=\"9\" markerHeight=\"8\" markerUnits=\"userSpaceOnUse\" orient=\"auto\"><path class=\"f{rank}\" d=\"M0,.6L8,4L0,7.4z\"/></marker>"
-        )?;
-        writeln!(
-            text,
-            "<marker id=\"o{rank}\" refX=\"8\" refY=\"4\" markerWidth=\"9\" markerHeight=\"8\" markerUnits=\"userSpaceOnUse\" orient=\"auto\"><path class=\"s{rank} none\" d=\"M1,.8L8,4L1,7.2\"/></marker>"
-        )?;
+        put_closed(text, rank)?;
+        put_open(text, rank)?;
     }
     text.extend_from_slice(b"</defs>\n")?;
     Ok(())
@@ -72,15 +82,24 @@ fn put_end(text: &mut Vec<u8>, to: Option<Spot>, dest: u8) -> io::Result<()>
     }
 }
 
+/// Where it goes to, and what it carries.
+fn put_rest(text: &mut Vec<u8>, arrow: &Arrow) -> io::Result<()>
+    ensures { OnOk result (text.new.items
+        ≡ text.old.items
+        ++ (arrow_end_text arrow.now.to arrow.now.dest ++ (codes ": " ++ cargo_text arrow.now.carried))) }
+{
+    put_end(text, arrow.to, arrow.dest)?;
+    text.extend_from_slice(b": ")?;
+    put_carried(text, &arrow.carried)
+}
+
 /// What is told of an arrow.
 fn put_title(text: &mut Vec<u8>, arrow: &Arrow) -> io::Result<()>
     ensures { OnOk result (text.new.items ≡ text.old.items ++ arrow_title arrow.now) }
 {
     put_spot(text, arrow.from)?;
     text.extend_from_slice(b" to ")?;
-    put_end(text, arrow.to, arrow.dest)?;
-    text.extend_from_slice(b": ")?;
-    put_carried(text, &arrow.carried)
+    put_rest(text, arrow)
 }
 
 /// How its line is drawn.
@@ -111,37 +130,52 @@ fn put_head(text: &mut Vec<u8>, arrow: &Arrow) -> io::Result<()> {
     write!(text, " marker-end=\"url(#{head}{rank})\"")
 }
 
-/// Adds a line from one lane to another.
-fn put_straight(text: &mut Vec<u8>, arrow: &Arrow, line: &Line) -> io::Result<()> {
-    let class = class_of(arrow);
-    let rank = arrow.from.rank;
+/// Adds where a line begins and ends.
+fn put_ends(text: &mut Vec<u8>, line: &Line) -> io::Result<()> {
     let Line {
         from_row,
         to_row,
         ..
     } = *line;
-    write!(text, "<line class=\"{class} s{rank}\" x1=\"")?;
     put_across(text, line.from)?;
     write!(text, "\" y1=\"{from_row}\" x2=\"")?;
     put_across(text, line.to)?;
-    write!(text, "\" y2=\"{to_row}\"")?;
+    write!(text, "\" y2=\"{to_row}\"")
+}
+
+/// Adds a line from one lane to another.
+fn put_straight(text: &mut Vec<u8>, arrow: &Arrow, line: &Line) -> io::Result<()> {
+    let class = class_of(arrow);
+    let rank = arrow.from.rank;
+    write!(text, "<line class=\"{class} s{rank}\" x1=\"")?;
+    put_ends(text, line)?;
     put_head(text, arrow)?;
     text.extend_from_slice(b"/>")?;
     Ok(())
 }
 
-/// Adds a bow beside a lane.
-fn put_bow(text: &mut Vec<u8>, arrow: &Arrow, line: &Line) -> io::Result<()> {
-    let class = class_of(arrow);
-    let rank = arrow.from.rank;
-    let down = line.to_row.saturating_sub(line.from_row);
+/// Adds where a bow begins.
+fn put_begin(text: &mut Vec<u8>, line: &Line) -> io::Result<()> {
     let from_row = line.from_row;
     text.extend_from_slice(b"<svg overflow=\"visible\" x=\"")?;
     put_across(text, line.from)?;
+    write!(text, "\" y=\"{from_row}\">")
+}
+
+/// Adds its way, so far down.
+fn put_bend(text: &mut Vec<u8>, arrow: &Arrow, down: u64) -> io::Result<()> {
+    let class = class_of(arrow);
+    let rank = arrow.from.rank;
     write!(
         text,
-        "\" y=\"{from_row}\"><path class=\"{class} s{rank}\" d=\"M0,0C26,0 26,{down} 0,{down}\""
-    )?;
+        "<path class=\"{class} s{rank}\" d=\"M0,0C26,0 26,{down} 0,{down}\""
+    )
+}
+
+/// Adds a bow beside a lane.
+fn put_bow(text: &mut Vec<u8>, arrow: &Arrow, line: &Line) -> io::Result<()> {
+    put_begin(text, line)?;
+    put_bend(text, arrow, line.to_row.saturating_sub(line.from_row))?;
     put_head(text, arrow)?;
     text.extend_from_slice(b"/></svg>")?;
     Ok(())
@@ -156,6 +190,17 @@ fn part_way(from: u64, to: u64, hundredths: u64) -> u64 {
     }
 }
 
+/// Where an arrow that nobody got begins and ends, if it begins here.
+fn lost_line(layout: &Layout<'_>, arrow: &Arrow, from: u64, from_row: u64) -> Line {
+    let dest = rank_at(layout.drawing, arrow.dest);
+    Line {
+        from,
+        from_row,
+        to: part_way(from, dest, 25),
+        to_row: from_row.saturating_add(12),
+    }
+}
+
 /// Where an arrow begins and ends. Where one of its steps isn't shown it goes to the picture's border.
 fn line_of(layout: &Layout<'_>, arrow: &Arrow) -> Line {
     let from = layout.lane_of(arrow.from);
@@ -167,48 +212,45 @@ fn line_of(layout: &Layout<'_>, arrow: &Arrow) -> Line {
             to: layout.lane_of(to),
             to_row: layout.row_at(to.place).unwrap_or(layout.foot),
         },
-        None => {
-            let dest = rank_at(layout.drawing, arrow.dest);
-            Line {
-                from,
-                from_row,
-                to: part_way(from, dest, 25),
-                to_row: from_row.saturating_add(12),
-            }
-        }
+        None => lost_line(layout, arrow, from, from_row),
     }
+}
+
+/// Adds the number of a step beside an arrow's end.
+fn put_number(text: &mut Vec<u8>, at: u64, row: u64, place: u64) -> io::Result<()> {
+    let down = row.saturating_add(3);
+    text.extend_from_slice(b"<text class=\"dim halo\" font-size=\"9\" dx=\"5\" x=\"")?;
+    put_across(text, at)?;
+    write!(text, "\" y=\"{down}\">{place}</text>")
 }
 
 /// Adds at the border the number of a step that isn't shown.
 fn put_border(text: &mut Vec<u8>, drawing: &Drawing, line: &Line, arrow: &Arrow) -> io::Result<()> {
-    let place = arrow.from.place;
-    if place < drawing.from {
-        let row = line.from_row.saturating_add(3);
-        text.extend_from_slice(b"<text class=\"dim halo\" font-size=\"9\" dx=\"5\" x=\"")?;
-        put_across(text, line.from)?;
-        write!(text, "\" y=\"{row}\">{place}</text>")?;
+    if arrow.from.place < drawing.from {
+        put_number(text, line.from, line.from_row, arrow.from.place)?;
     }
     if let Some(to) = arrow.to {
-        let place = to.place;
-        if place >= drawing.to {
-            let row = line.to_row.saturating_add(3);
-            text.extend_from_slice(b"<text class=\"dim halo\" font-size=\"9\" dx=\"5\" x=\"")?;
-            put_across(text, line.to)?;
-            write!(text, "\" y=\"{row}\">{place}</text>")?;
+        if to.place >= drawing.to {
+            put_number(text, line.to, line.to_row, to.place)?;
         }
     }
     Ok(())
+}
+
+/// Adds an arrow's line: a bow where it begins and ends in one lane.
+fn put_line(text: &mut Vec<u8>, arrow: &Arrow, line: &Line) -> io::Result<()> {
+    if line.from == line.to {
+        put_bow(text, arrow, line)
+    } else {
+        put_straight(text, arrow, line)
+    }
 }
 
 /// Adds what stands behind an arrow's title: its line, and the numbers at the border.
 fn put_drawn(text: &mut Vec<u8>, layout: &Layout<'_>, arrow: &Arrow) -> io::Result<()> {
     let line = line_of(layout, arrow);
     text.extend_from_slice(b"</title>")?;
-    if line.from == line.to {
-        put_bow(text, arrow, &line)?;
-    } else {
-        put_straight(text, arrow, &line)?;
-    }
+    put_line(text, arrow, &line)?;
     put_border(text, layout.drawing, &line, arrow)?;
     text.extend_from_slice(b"</g>\n")?;
     Ok(())
@@ -303,19 +345,23 @@ fn message_of(arrow: &Arrow) -> Option<(u16, u16)> {
     }
 }
 
+/// Whether a message has another tag or another size than those before it.
+fn differs(kind: Option<(u16, u16)>, own: (u16, u16)) -> bool {
+    match kind {
+        None => false,
+        Some(other) => own.0 != other.0 || own.1 != other.1,
+    }
+}
+
 /// The tag and the size that all messages have, if they have one and there are two at least.
 pub(crate) fn shared_kind(arrows: &[Arrow]) -> Option<(u16, u16)> {
     let mut kind: Option<(u16, u16)> = None;
     for arrow in arrows {
         if let Some(own) = message_of(arrow) {
-            match kind {
-                None => kind = Some(own),
-                Some(other) => {
-                    if own.0 != other.0 || own.1 != other.1 {
-                        return None;
-                    }
-                }
+            if differs(kind, own) {
+                return None;
             }
+            kind = Some(own);
         }
     }
     kind
@@ -323,6 +369,17 @@ pub(crate) fn shared_kind(arrows: &[Arrow]) -> Option<(u16, u16)> {
 
 /// How far along an arrow its label is tried.
 static TRIED: [u64; 4] = [18, 32, 50, 68];
+
+/// Adds a message's tag and size at this place.
+fn put_kind(text: &mut Vec<u8>, at: u64, row: u64, rank: u8, kind: (u16, u16)) -> io::Result<()> {
+    let (tag, count) = kind;
+    write!(
+        text,
+        "<text class=\"f{rank} halo wide\" font-size=\"9.5\" text-anchor=\"middle\" x=\""
+    )?;
+    put_across(text, at)?;
+    writeln!(text, "\" y=\"{row}\">t{tag} {count}B</text>")
+}
 
 /// Adds a message's tag and size beside its arrow, where there is room.
 fn put_label(
@@ -332,18 +389,12 @@ fn put_label(
     rank: u8,
     kind: (u16, u16),
 ) -> io::Result<()> {
-    let (tag, count) = kind;
     let width = places.letters(9);
     for way in &TRIED {
         let at = part_way(line.from, line.to, *way);
         let row = part_way(line.from_row, line.to_row, *way).saturating_sub(2);
         if places.take(at.saturating_sub(width / 2), width, row)? {
-            write!(
-                text,
-                "<text class=\"f{rank} halo wide\" font-size=\"9.5\" text-anchor=\"middle\" x=\""
-            )?;
-            put_across(text, at)?;
-            return writeln!(text, "\" y=\"{row}\">t{tag} {count}B</text>");
+            return put_kind(text, at, row, rank, kind);
         }
     }
     Ok(())
@@ -352,25 +403,40 @@ fn put_label(
 /// How far below an open head its label is tried.
 static LOWER: [u64; 3] = [4, 16, 28];
 
-/// Adds at the open head of a message that nobody got that it wasn't, where there is room.
-fn put_lost(text: &mut Vec<u8>, places: &mut Places, line: &Line, arrow: &Arrow) -> io::Result<()> {
+/// Adds at an open head that nobody got the message, in this row.
+fn put_not_got(text: &mut Vec<u8>, line: &Line, arrow: &Arrow, row: u64) -> io::Result<()> {
     let rank = arrow.from.rank;
     let dest = arrow.dest;
-    let width = places.pixels(78);
-    let (anchor, dx, left) = if line.to >= line.from {
-        ("start", "4", line.to)
+    let (anchor, dx) = if line.to >= line.from {
+        ("start", "4")
     } else {
-        ("end", "-4", line.to.saturating_sub(width))
+        ("end", "-4")
     };
+    write!(
+        text,
+        "<text class=\"f{rank} halo wide\" font-size=\"9.5\" text-anchor=\"{anchor}\" dx=\"{dx}\" x=\""
+    )?;
+    put_across(text, line.to)?;
+    writeln!(text, "\" y=\"{row}\">to {dest}: not got</text>")
+}
+
+/// Where that begins: behind the head.
+fn behind_head(line: &Line, width: u64) -> u64 {
+    if line.to >= line.from {
+        line.to
+    } else {
+        line.to.saturating_sub(width)
+    }
+}
+
+/// Adds at the open head of a message that nobody got that it wasn't, where there is room.
+fn put_lost(text: &mut Vec<u8>, places: &mut Places, line: &Line, arrow: &Arrow) -> io::Result<()> {
+    let width = places.pixels(78);
+    let left = behind_head(line, width);
     for lower in &LOWER {
         let row = line.to_row.saturating_add(*lower);
         if places.take(left, width, row)? {
-            write!(
-                text,
-                "<text class=\"f{rank} halo wide\" font-size=\"9.5\" text-anchor=\"{anchor}\" dx=\"{dx}\" x=\""
-            )?;
-            put_across(text, line.to)?;
-            return writeln!(text, "\" y=\"{row}\">to {dest}: not got</text>");
+            return put_not_got(text, line, arrow, row);
         }
     }
     Ok(())
@@ -391,6 +457,22 @@ pub(crate) fn put_losses(
     Ok(())
 }
 
+/// Adds the label of a message that was got.
+fn put_label_of(
+    text: &mut Vec<u8>,
+    places: &mut Places,
+    layout: &Layout<'_>,
+    arrow: &Arrow,
+) -> io::Result<()> {
+    if let Some(kind) = message_of(arrow) {
+        let line = line_of(layout, arrow);
+        if line.from != line.to && arrow.to.is_some() {
+            put_label(text, places, &line, arrow.from.rank, kind)?;
+        }
+    }
+    Ok(())
+}
+
 /// Adds the labels of messages that were got, unless all have one kind.
 pub(crate) fn put_labels(
     text: &mut Vec<u8>,
@@ -402,12 +484,7 @@ pub(crate) fn put_labels(
         return Ok(());
     }
     for arrow in arrows {
-        if let Some(kind) = message_of(arrow) {
-            let line = line_of(layout, arrow);
-            if line.from != line.to && arrow.to.is_some() {
-                put_label(text, places, &line, arrow.from.rank, kind)?;
-            }
-        }
+        put_label_of(text, places, layout, arrow)?;
     }
     Ok(())
 }

@@ -7,28 +7,52 @@ use rvmc_draw::Bar;
 use std::io;
 use std::io::Write;
 
+/// Where it ends.
+fn put_end(text: &mut Vec<u8>, bar: &Bar) -> io::Result<()> {
+    let last = bar.last;
+    if bar.went_on {
+        write!(text, "step {last}")
+    } else {
+        write!(text, "the end")
+    }
+}
+
 /// What is told of a bar.
 fn put_title(text: &mut Vec<u8>, bar: &Bar) -> io::Result<()> {
     let first = bar.first.place;
-    let last = bar.last;
     let looks = bar.looks;
     let rank = bar.first.rank;
     let hart = bar.first.hart;
-    if bar.went_on {
-        write!(
-            text,
-            "<title>rank {rank} hart {hart} waits from step {first} to step {last}: {looks} looks in vain</title>"
-        )
-    } else {
-        write!(
-            text,
-            "<title>rank {rank} hart {hart} waits from step {first} to the end: {looks} looks in vain</title>"
-        )
-    }
+    write!(
+        text,
+        "<title>rank {rank} hart {hart} waits from step {first} to "
+    )?;
+    put_end(text, bar)?;
+    write!(text, ": {looks} looks in vain</title>")
 }
 
 /// The least number of looks that is written beside a bar.
 const MANY: u64 = 40;
+
+/// The row where a bar ends.
+fn foot_of(layout: &Layout<'_>, bar: &Bar) -> u64 {
+    if bar.went_on {
+        layout.row_at(bar.last).unwrap_or(layout.foot)
+    } else {
+        layout.foot
+    }
+}
+
+/// Adds a bar's shape, so far across and down, and so high.
+fn put_shape(text: &mut Vec<u8>, bar: &Bar, at: u64, above: u64, high: u64) -> io::Result<()> {
+    let class = if bar.went_on { "wait" } else { "ever" };
+    write!(
+        text,
+        "<rect class=\"{class}\" rx=\"2\" width=\"6\" transform=\"translate(-3 0)\" x=\""
+    )?;
+    put_across(text, at)?;
+    writeln!(text, "\" y=\"{above}\" height=\"{high}\"/></g>")
+}
 
 /// Adds a bar.
 fn put_bar(
@@ -38,22 +62,11 @@ fn put_bar(
     bar: &Bar,
 ) -> io::Result<()> {
     let above = layout.row_at(bar.first.place).unwrap_or(TOP);
-    let below = if bar.went_on {
-        layout.row_at(bar.last).unwrap_or(layout.foot)
-    } else {
-        layout.foot
-    };
-    let high = below.saturating_sub(above);
-    let class = if bar.went_on { "wait" } else { "ever" };
+    let high = foot_of(layout, bar).saturating_sub(above);
+    let at = layout.lane_of(bar.first);
     text.extend_from_slice(b"<g>")?;
     put_title(text, bar)?;
-    write!(
-        text,
-        "<rect class=\"{class}\" rx=\"2\" width=\"6\" transform=\"translate(-3 0)\" x=\""
-    )?;
-    let at = layout.lane_of(bar.first);
-    put_across(text, at)?;
-    writeln!(text, "\" y=\"{above}\" height=\"{high}\"/></g>")?;
+    put_shape(text, bar, at, above, high)?;
     if bar.looks < MANY {
         return Ok(());
     }

@@ -65,16 +65,22 @@ fn reach(drawing: &Drawing, own: u64, awaited: &[u8]) -> (u64, u64) {
     (least, most)
 }
 
+/// The ranks that are waited for.
+fn put_awaited(text: &mut Vec<u8>, awaited: &[u8]) -> io::Result<()> {
+    if awaited.is_empty() {
+        text.extend_from_slice(b" its own rank")?;
+    }
+    for rank in awaited {
+        write!(text, " rank {rank}")?;
+    }
+    Ok(())
+}
+
 /// What is told of a row: the ranks that are waited for.
 fn put_title(text: &mut Vec<u8>, row: &Row) -> io::Result<()> {
     let Row { rank, hart, .. } = row;
     write!(text, "<title>rank {rank} hart {hart} waits for")?;
-    if row.awaited.is_empty() {
-        text.extend_from_slice(b" its own rank")?;
-    }
-    for rank in row.awaited.as_slice() {
-        write!(text, " rank {rank}")?;
-    }
+    put_awaited(text, row.awaited.as_slice())?;
     if row.stuck {
         text.extend_from_slice(b": in a deadlock")?;
     }
@@ -90,40 +96,75 @@ fn put_itself(text: &mut Vec<u8>, own: u64, down: u64) -> io::Result<()> {
     write!(text, "\" y=\"{down}\">for its own rank</text>")
 }
 
-/// Adds a row: from the hart's lane to each rank that it waits for.
-fn put_row(text: &mut Vec<u8>, drawing: &Drawing, row: &Row, down: u64) -> io::Result<()> {
-    let own = lane_at(drawing, row.rank, row.hart);
+/// Adds a row's line: over the hart's lane and each rank that it waits for.
+fn put_span(
+    text: &mut Vec<u8>,
+    drawing: &Drawing,
+    row: &Row,
+    own: u64,
+    down: u64,
+) -> io::Result<()> {
     let (least, most) = reach(drawing, own, row.awaited.as_slice());
-    let Colours { line, begin, head } = colours_of(row.stuck);
-    text.extend_from_slice(b"<g>")?;
-    put_title(text, row)?;
-    write!(text, "<line class=\"{line}\" x1=\"")?;
+    let class = colours_of(row.stuck).line;
+    write!(text, "<line class=\"{class}\" x1=\"")?;
     put_across(text, least)?;
-    write!(text, "\" x2=\"")?;
+    text.extend_from_slice(b"\" x2=\"")?;
     put_across(text, most)?;
-    write!(text, "\" y1=\"{down}\" y2=\"{down}\"/>")?;
-    write!(text, "<circle class=\"{begin}\" r=\"4\" cx=\"")?;
+    write!(text, "\" y1=\"{down}\" y2=\"{down}\"/>")
+}
+
+/// Adds its begin, at the hart's lane.
+fn put_begin(text: &mut Vec<u8>, row: &Row, own: u64, down: u64) -> io::Result<()> {
+    let class = colours_of(row.stuck).begin;
+    write!(text, "<circle class=\"{class}\" r=\"4\" cx=\"")?;
     put_across(text, own)?;
-    write!(text, "\" cy=\"{down}\"/>")?;
+    write!(text, "\" cy=\"{down}\"/>")
+}
+
+/// Adds its heads, at each rank that the hart waits for.
+fn put_heads(
+    text: &mut Vec<u8>,
+    row: &Row,
+    own: u64,
+    down: u64,
+    drawing: &Drawing,
+) -> io::Result<()> {
+    let class = colours_of(row.stuck).head;
     for rank in row.awaited.as_slice() {
-        put_head(text, drawing, own, *rank, down, head)?;
+        put_head(text, drawing, own, *rank, down, class)?;
     }
     if row.awaited.is_empty() {
         put_itself(text, own, down)?;
     }
+    Ok(())
+}
+
+/// Adds a row: from the hart's lane to each rank that it waits for.
+fn put_row(text: &mut Vec<u8>, drawing: &Drawing, row: &Row, down: u64) -> io::Result<()> {
+    let own = lane_at(drawing, row.rank, row.hart);
+    text.extend_from_slice(b"<g>")?;
+    put_title(text, row)?;
+    put_span(text, drawing, row, own, down)?;
+    put_begin(text, row, own, down)?;
+    put_heads(text, row, own, down, drawing)?;
     text.extend_from_slice(b"</g>\n")?;
     Ok(())
+}
+
+/// Adds what the rows are.
+fn put_heading(text: &mut Vec<u8>, down: u64) -> io::Result<()> {
+    let beside = down.saturating_add(3);
+    writeln!(
+        text,
+        "<text class=\"dim\" font-size=\"9\" x=\"3\" y=\"{beside}\">waits for</text>"
+    )
 }
 
 /// Adds the rows, from this one on, and tells where they end.
 pub(crate) fn put_rows(text: &mut Vec<u8>, drawing: &Drawing, from: u64) -> io::Result<u64> {
     let mut down = from;
     if !drawing.rows.is_empty() {
-        let beside = down.saturating_add(3);
-        writeln!(
-            text,
-            "<text class=\"dim\" font-size=\"9\" x=\"3\" y=\"{beside}\">waits for</text>"
-        )?;
+        put_heading(text, down)?;
     }
     for row in drawing.rows.as_slice() {
         put_row(text, drawing, row, down)?;
@@ -164,12 +205,8 @@ fn is_verdict(line: &[u8]) -> bool {
     line.starts_with(b"deadlock: ")
 }
 
-/// Adds one line in one or two, and tells where the next begins.
-fn put_told_line(text: &mut Vec<u8>, line: &[u8], down: u64) -> io::Result<u64> {
-    if is_verdict(line) {
-        put_line(text, line, 12, down, "red bold")?;
-        return Ok(down.saturating_add(LINE));
-    }
+/// Adds a line that is no verdict in one or two, and tells where the next begins.
+fn put_parted(text: &mut Vec<u8>, line: &[u8], down: u64) -> io::Result<u64> {
     let part = parted(line).min(line.len());
     put_line(text, &line[..part], 12, down, "ink")?;
     if part == line.len() {
@@ -177,6 +214,15 @@ fn put_told_line(text: &mut Vec<u8>, line: &[u8], down: u64) -> io::Result<u64> 
     }
     put_line(text, &line[part..], 28, down.saturating_add(LINE), "ink")?;
     Ok(down.saturating_add(LINE).saturating_add(LINE))
+}
+
+/// Adds one line in one or two, and tells where the next begins.
+fn put_told_line(text: &mut Vec<u8>, line: &[u8], down: u64) -> io::Result<u64> {
+    if is_verdict(line) {
+        put_line(text, line, 12, down, "red bold")?;
+        return Ok(down.saturating_add(LINE));
+    }
+    put_parted(text, line, down)
 }
 
 /// Adds what is told, from this row on, and tells where it ends.

@@ -118,18 +118,28 @@ fn put_meaning(text: &mut Vec<u8>, pen: &mut Pen, meaning: &'static str) -> io::
     Ok(())
 }
 
+/// Adds the sign of a mark of this shape.
+fn put_shape(
+    text: &mut Vec<u8>,
+    pen: &mut Pen,
+    shape: Shape,
+    meaning: &'static str,
+) -> io::Result<()> {
+    let name = shape_name(shape);
+    let across = pen.across();
+    let down = pen.down();
+    write!(
+        text,
+        "<use href=\"#{name}\" class=\"f0\" transform=\"translate(14 0)\" x=\"{across}%\" y=\"{down}\"/>"
+    )?;
+    put_meaning(text, pen, meaning)
+}
+
 /// Adds the signs of the marks.
 fn put_shapes(text: &mut Vec<u8>, drawing: &Drawing, pen: &mut Pen) -> io::Result<()> {
     for sign in &SIGNS_OF {
         if has(drawing, sign.0) {
-            let name = shape_name(sign.0);
-            let across = pen.across();
-            let down = pen.down();
-            write!(
-                text,
-                "<use href=\"#{name}\" class=\"f0\" transform=\"translate(14 0)\" x=\"{across}%\" y=\"{down}\"/>"
-            )?;
-            put_meaning(text, pen, sign.1)?;
+            put_shape(text, pen, sign.0, sign.1)?;
         }
     }
     Ok(())
@@ -210,23 +220,32 @@ fn bytes_word(count: u16) -> &'static str {
     if count == 1 { "byte" } else { "bytes" }
 }
 
+/// Adds how a message is told.
+fn put_example(text: &mut Vec<u8>, down: u64) -> io::Result<()> {
+    writeln!(
+        text,
+        "<text class=\"dim wide\" font-size=\"10\" x=\"12\" y=\"{down}\">t7 8B: a message with tag 7 and 8 bytes</text>"
+    )
+}
+
+/// Adds what all messages share.
+fn put_shared(text: &mut Vec<u8>, down: u64, kind: (u16, u16)) -> io::Result<()> {
+    let (tag, count) = kind;
+    let bytes = bytes_word(count);
+    writeln!(
+        text,
+        "<text class=\"dim\" font-size=\"10\" x=\"12\" y=\"{down}\">each message: tag {tag}, {count} {bytes}</text>"
+    )
+}
+
 /// Adds what all messages share, or how one is told, and where the next line stands.
 fn put_kind(text: &mut Vec<u8>, drawing: &Drawing, down: u64) -> io::Result<u64> {
     if !has_message(drawing) {
         return Ok(down);
     }
     match shared_kind(drawing.arrows.as_slice()) {
-        None => writeln!(
-            text,
-            "<text class=\"dim wide\" font-size=\"10\" x=\"12\" y=\"{down}\">t7 8B: a message with tag 7 and 8 bytes</text>"
-        )?,
-        Some((tag, count)) => {
-            let bytes = bytes_word(count);
-            writeln!(
-                text,
-                "<text class=\"dim\" font-size=\"10\" x=\"12\" y=\"{down}\">each message: tag {tag}, {count} {bytes}</text>"
-            )?;
-        }
+        None => put_example(text, down)?,
+        Some(kind) => put_shared(text, down, kind)?,
     }
     Ok(down.saturating_add(LINE))
 }
@@ -285,6 +304,13 @@ fn put_lines(text: &mut Vec<u8>, drawing: &Drawing, pen: &mut Pen) -> io::Result
     Ok(())
 }
 
+/// Adds all signs.
+fn put_signs(text: &mut Vec<u8>, drawing: &Drawing, pen: &mut Pen) -> io::Result<()> {
+    put_shapes(text, drawing, pen)?;
+    put_waits(text, drawing, pen)?;
+    put_lines(text, drawing, pen)
+}
+
 /// Adds the legend, from this row on, and tells where it ends.
 pub(crate) fn put_legend(text: &mut Vec<u8>, drawing: &Drawing, from: u64) -> io::Result<u64> {
     let down = put_kind(text, drawing, from)?;
@@ -293,8 +319,6 @@ pub(crate) fn put_legend(text: &mut Vec<u8>, drawing: &Drawing, from: u64) -> io
         number: 0,
         from: down.saturating_add(18),
     };
-    put_shapes(text, drawing, &mut pen)?;
-    put_waits(text, drawing, &mut pen)?;
-    put_lines(text, drawing, &mut pen)?;
+    put_signs(text, drawing, &mut pen)?;
     Ok(pen.down().saturating_add(ROW))
 }

@@ -80,6 +80,37 @@ fn room(
     Ok(None)
 }
 
+/// The colour of what is written beside a mark of this shape.
+fn note_class(shape: Shape) -> &'static str {
+    match shape {
+        Shape::Refused | Shape::Trap => "red",
+        _ => "dim",
+    }
+}
+
+/// Adds how and where it is written.
+fn put_beside(text: &mut Vec<u8>, shape: Shape, left: bool, at: u64, row: u64) -> io::Result<()> {
+    let class = note_class(shape);
+    let (anchor, sign) = if left { ("end", "-") } else { ("start", "") };
+    write!(
+        text,
+        "<text class=\"{class} halo wide\" font-size=\"10\" text-anchor=\"{anchor}\" dx=\"{sign}{BESIDE}\" dy=\"3.5\" x=\""
+    )?;
+    put_across(text, at)?;
+    write!(text, "\" y=\"{row}\">")
+}
+
+/// Adds so many letters of it.
+fn put_letters(text: &mut Vec<u8>, shown: &[u8], letters: usize) -> io::Result<()> {
+    let letters = letters.min(shown.len());
+    put_text(text, &shown[..letters])?;
+    if letters < shown.len() {
+        text.extend_from_slice(b"..")?;
+    }
+    text.extend_from_slice(b"</text>\n")?;
+    Ok(())
+}
+
 /// What is written beside a mark: to its right, or to its left where an arrow comes from the right.
 fn put_note(
     text: &mut Vec<u8>,
@@ -97,24 +128,23 @@ fn put_note(
     let Some(letters) = room(places, left, at, row, shown.len())? else {
         return Ok(());
     };
-    let letters = letters.min(shown.len());
-    let class = match mark.shape {
-        Shape::Refused | Shape::Trap => "red",
-        _ => "dim",
-    };
-    let (anchor, sign) = if left { ("end", "-") } else { ("start", "") };
-    write!(
-        text,
-        "<text class=\"{class} halo wide\" font-size=\"10\" text-anchor=\"{anchor}\" dx=\"{sign}{BESIDE}\" dy=\"3.5\" x=\""
+    put_beside(text, mark.shape, left, at, row)?;
+    put_letters(text, shown, letters)
+}
+
+/// Adds how many of these there were, at this place.
+fn put_counted(
+    text: &mut Vec<u8>,
+    at: u64,
+    row: u64,
+    count: u64,
+    these: &'static str,
+) -> io::Result<()> {
+    text.extend_from_slice(
+        b"<text class=\"dim halo wide\" font-size=\"9\" dx=\"-7\" text-anchor=\"end\" x=\"",
     )?;
     put_across(text, at)?;
-    write!(text, "\" y=\"{row}\">")?;
-    put_text(text, &shown[..letters])?;
-    if letters < shown.len() {
-        text.extend_from_slice(b"..")?;
-    }
-    text.extend_from_slice(b"</text>\n")?;
-    Ok(())
+    writeln!(text, "\" y=\"{row}\">{count} {these}</text>")
 }
 
 /// Adds how many of these there were, at the left of a lane, where there is room.
@@ -131,12 +161,7 @@ pub(crate) fn put_count(
     if !places.take(at.saturating_sub(wide.saturating_add(beside)), wide, row)? {
         return Ok(());
     }
-    write!(
-        text,
-        "<text class=\"dim halo wide\" font-size=\"9\" dx=\"-7\" text-anchor=\"end\" x=\""
-    )?;
-    put_across(text, at)?;
-    writeln!(text, "\" y=\"{row}\">{count} {these}</text>")
+    put_counted(text, at, row, count, these)
 }
 
 /// Adds a title of these bytes, each of them escaped, with what stands before its tag and what stands behind the bytes.
@@ -156,6 +181,46 @@ pub(crate) fn put_titled(
     Ok(())
 }
 
+/// Adds how many steps a mark stands for, and the end of its title.
+fn put_times(text: &mut Vec<u8>, mark: &Mark) -> io::Result<()> {
+    if mark.times > 1 {
+        let more = mark.times;
+        write!(text, "\nand more of its kind: {more} in a row")?;
+    }
+    text.extend_from_slice(b"</title>")?;
+    Ok(())
+}
+
+/// Adds its shape, in the ring of a receive of any source if it is one.
+fn put_shape(text: &mut Vec<u8>, mark: &Mark, at: u64, row: u64) -> io::Result<()> {
+    if mark.wild {
+        put_use(text, "ring", mark.spot.rank, at, row)?;
+    }
+    put_use(text, shape_name(mark.shape), mark.spot.rank, at, row)
+}
+
+/// Adds how many steps the hart took without a mark, if they are many.
+fn put_quiet(
+    text: &mut Vec<u8>,
+    mark: &Mark,
+    row: u64,
+    places: &mut Places,
+    layout: &Layout<'_>,
+) -> io::Result<()> {
+    let above = row.saturating_sub(11);
+    if mark.quiet < long(layout.drawing) || above < TOP {
+        return Ok(());
+    }
+    put_count(
+        text,
+        places,
+        layout.lane_of(mark.spot),
+        above,
+        mark.quiet,
+        "steps",
+    )
+}
+
 /// Adds what stands behind a mark's title: how many steps it stands for, its shape, and what is written beside it.
 fn put_behind(
     text: &mut Vec<u8>,
@@ -165,23 +230,11 @@ fn put_behind(
     row: u64,
 ) -> io::Result<()> {
     let at = layout.lane_of(mark.spot);
-    if mark.times > 1 {
-        let more = mark.times;
-        write!(text, "\nand more of its kind: {more} in a row")?;
-    }
-    text.extend_from_slice(b"</title>")?;
-    if mark.wild {
-        put_use(text, "ring", mark.spot.rank, at, row)?;
-    }
-    put_use(text, shape_name(mark.shape), mark.spot.rank, at, row)?;
+    put_times(text, mark)?;
+    put_shape(text, mark, at, row)?;
     put_note(text, places, layout, mark, at, row)?;
     text.extend_from_slice(b"</g>\n")?;
-    // how many steps the hart took without a mark
-    let above = row.saturating_sub(11);
-    if mark.quiet < long(layout.drawing) || above < TOP {
-        return Ok(());
-    }
-    put_count(text, places, at, above, mark.quiet, "steps")
+    put_quiet(text, mark, row, places, layout)
 }
 
 /// Adds a mark, with what is told of it.

@@ -20,6 +20,25 @@ use std::alloc::Global;
 use std::io;
 use std::io::Write;
 
+/// Adds a lane's line, so far across.
+fn put_line(text: &mut Vec<u8>, at: u64, foot: u64) -> io::Result<()> {
+    text.extend_from_slice(b"<line class=\"lane\" x1=\"")?;
+    put_across(text, at)?;
+    text.extend_from_slice(b"\" x2=\"")?;
+    put_across(text, at)?;
+    writeln!(text, "\" y1=\"{TOP}\" y2=\"{foot}\"/>")
+}
+
+/// Adds the name of a hart above its lane.
+fn put_hart(text: &mut Vec<u8>, at: u64, hart: u8) -> io::Result<()> {
+    text.extend_from_slice(b"<text class=\"dim\" font-size=\"9\" text-anchor=\"middle\" x=\"")?;
+    put_across(text, at)?;
+    writeln!(
+        text,
+        "\" y=\"38\"><tspan class=\"wide\">hart </tspan>{hart}</text>"
+    )
+}
+
 /// Adds the lane of a hart.
 fn put_lane(
     text: &mut Vec<u8>,
@@ -29,34 +48,26 @@ fn put_lane(
     foot: u64,
 ) -> io::Result<()> {
     let at = lane_at(drawing, rank, hart);
-    text.extend_from_slice(b"<line class=\"lane\" x1=\"")?;
-    put_across(text, at)?;
-    text.extend_from_slice(b"\" x2=\"")?;
-    put_across(text, at)?;
-    writeln!(text, "\" y1=\"{TOP}\" y2=\"{foot}\"/>")?;
+    put_line(text, at, foot)?;
     if drawing.harts > 1 {
-        text.extend_from_slice(b"<text class=\"dim\" font-size=\"9\" text-anchor=\"middle\" x=\"")?;
-        put_across(text, at)?;
-        writeln!(
-            text,
-            "\" y=\"38\"><tspan class=\"wide\">hart </tspan>{hart}</text>"
-        )?;
+        put_hart(text, at, hart)?;
     }
     Ok(())
 }
 
-/// Adds a rank: its name above, a band behind every second one, and its lanes.
-fn put_rank(text: &mut Vec<u8>, drawing: &Drawing, rank: u8, foot: u64) -> io::Result<()> {
-    let at = rank_at(drawing, rank);
+/// Adds the band behind a rank, whose middle stands so far across.
+fn put_band(text: &mut Vec<u8>, drawing: &Drawing, at: u64, foot: u64) -> io::Result<()> {
     let share = share(drawing);
     let high = foot.saturating_sub(8);
-    if rank % 2 == 1 {
-        text.extend_from_slice(b"<rect class=\"band\" x=\"")?;
-        put_across(text, at.saturating_sub(share / 2))?;
-        text.extend_from_slice(b"\" width=\"")?;
-        put_across(text, share)?;
-        writeln!(text, "\" y=\"8\" height=\"{high}\"/>")?;
-    }
+    text.extend_from_slice(b"<rect class=\"band\" x=\"")?;
+    put_across(text, at.saturating_sub(share / 2))?;
+    text.extend_from_slice(b"\" width=\"")?;
+    put_across(text, share)?;
+    writeln!(text, "\" y=\"8\" height=\"{high}\"/>")
+}
+
+/// Adds the name of a rank.
+fn put_name(text: &mut Vec<u8>, drawing: &Drawing, rank: u8, at: u64) -> io::Result<()> {
     write!(
         text,
         "<text class=\"f{rank} bold\" font-size=\"12\" text-anchor=\"middle\" x=\""
@@ -67,7 +78,16 @@ fn put_rank(text: &mut Vec<u8>, drawing: &Drawing, rank: u8, foot: u64) -> io::R
     writeln!(
         text,
         "\" y=\"24\"><tspan class=\"{class}\">rank </tspan>{rank}</text>"
-    )?;
+    )
+}
+
+/// Adds a rank: its name above, a band behind every second one, and its lanes.
+fn put_rank(text: &mut Vec<u8>, drawing: &Drawing, rank: u8, foot: u64) -> io::Result<()> {
+    let at = rank_at(drawing, rank);
+    if rank % 2 == 1 {
+        put_band(text, drawing, at, foot)?;
+    }
+    put_name(text, drawing, rank, at)?;
     for hart in 0..drawing.harts {
         put_lane(text, drawing, rank, hart, foot)?;
     }
@@ -115,22 +135,59 @@ fn put_front(text: &mut Vec<u8>, drawing: &Drawing, high: u64) -> io::Result<()>
     Ok(())
 }
 
-/// The parts of a page, one behind another.
-fn joined(
-    alloc: Global,
-    under: &[u8],
-    arrows: &[u8],
-    marks: &[u8],
-    over: &[u8],
-) -> io::Result<Vec<u8>>
-    ensures { IfOk result (λ text. text.items ≡ ((under.now ++ arrows.now) ++ marks.now) ++ over.now) }
-{
+/// What lies below the arrows.
+fn below(alloc: Global, places: &mut Places, layout: &Layout<'_>) -> io::Result<Vec<u8>> {
     let mut text = Vec::new(alloc);
-    text.extend_from_slice(under)?;
-    text.extend_from_slice(arrows)?;
+    put_under(&mut text, places, layout)?;
+    Ok(text)
+}
+
+/// What lies above the marks or stands below them, to the end of the page, and the page's height.
+#[derive(Drop)]
+struct Upper {
+    text: Vec<u8>,
+    high: u64,
+}
+
+/// That of a page.
+fn over(alloc: Global, places: &mut Places, layout: &Layout<'_>) -> io::Result<Upper> {
+    let mut text = Vec::new(alloc);
+    let high = put_over(&mut text, places, layout)?;
+    text.extend_from_slice(b"</svg>\n")?;
+    Ok(Upper { text, high })
+}
+
+/// All that lies below the marks, on a page of this height: what stands before all that is drawn, what lies below the
+/// arrows, and these.
+fn under(alloc: Global, layout: &Layout<'_>, high: u64, below: &[u8]) -> io::Result<Vec<u8>> {
+    let mut text = Vec::new(alloc);
+    put_front(&mut text, layout.drawing, high)?;
+    text.extend_from_slice(below)?;
+    let arrows = all_arrows(alloc, layout, layout.drawing.arrows.as_slice())?;
+    text.extend_from_slice(arrows.as_slice())?;
+    Ok(text)
+}
+
+/// The parts of a page, one behind another.
+fn joined(under: Vec<u8>, marks: &[u8], over: &[u8]) -> io::Result<Vec<u8>>
+    ensures { IfOk result (λ text. text.items ≡ (under.items ++ marks.now) ++ over.now) }
+{
+    let mut text = under;
     text.extend_from_slice(marks)?;
     text.extend_from_slice(over)?;
     Ok(text)
+}
+
+/// The page of a drawing that is laid out so.
+fn laid_out(alloc: Global, drawing: &Drawing, layout: &Layout<'_>) -> io::Result<Vec<u8>>
+    ensures { IfOk result (λ text. IsShown drawing.now text.items) }
+{
+    let mut places = Places::new(alloc, page_wide(drawing));
+    let below = below(alloc, &mut places, layout)?;
+    let marks = all_marks(alloc, &mut places, layout, drawing.marks.as_slice())?;
+    let over = over(alloc, &mut places, layout)?;
+    let under = under(alloc, layout, over.high, below.as_slice())?;
+    joined(under, marks.as_slice(), over.text.as_slice())
 }
 
 /// The page before its bytes are made safe.
@@ -144,24 +201,7 @@ fn page(alloc: Global, drawing: &Drawing) -> io::Result<Vec<u8>>
         rows: rows.as_slice(),
         foot: last.saturating_add(34),
     };
-    let mut places = Places::new(alloc, page_wide(drawing));
-    let mut below = Vec::new(alloc);
-    put_under(&mut below, &mut places, &layout)?;
-    let arrows = all_arrows(alloc, &layout, drawing.arrows.as_slice())?;
-    let marks = all_marks(alloc, &mut places, &layout, drawing.marks.as_slice())?;
-    let mut over = Vec::new(alloc);
-    let high = put_over(&mut over, &mut places, &layout)?;
-    over.extend_from_slice(b"</svg>\n")?;
-    let mut under = Vec::new(alloc);
-    put_front(&mut under, drawing, high)?;
-    under.extend_from_slice(below.as_slice())?;
-    joined(
-        alloc,
-        under.as_slice(),
-        arrows.as_slice(),
-        marks.as_slice(),
-        over.as_slice(),
-    )
+    laid_out(alloc, drawing, &layout)
 }
 
 /// The picture as an SVG image: what the drawing tells of each mark stands in it as a title, each of its bytes escaped. Each

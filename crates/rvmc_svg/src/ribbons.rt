@@ -2,7 +2,7 @@
 
 use crate::layout::{Layout, TOP};
 use crate::marks::put_across;
-use rvmc_draw::{Arrow, Carried};
+use rvmc_draw::{Arrow, Carried, Spot};
 use std::io;
 use std::io::Write;
 
@@ -39,32 +39,82 @@ struct Reach {
     from_foot: u64,
     to_top: u64,
     to_foot: u64,
+    /// How many arrows there are.
+    count: u64,
+}
+
+/// The reach with an arrow more, between these rows.
+fn reach_with(reach: Reach, from: u64, to: u64) -> Reach {
+    Reach {
+        from_top: reach.from_top.min(from),
+        from_foot: reach.from_foot.max(from),
+        to_top: reach.to_top.min(to),
+        to_foot: reach.to_foot.max(to),
+        count: reach.count.saturating_add(1),
+    }
+}
+
+/// The row where an arrow of a partition ends.
+fn end_of(layout: &Layout<'_>, arrow: &Arrow) -> u64 {
+    match arrow.to {
+        Some(spot) => layout.row_at(spot.place).unwrap_or(layout.foot),
+        None => layout.foot,
+    }
 }
 
 /// The reach of the arrows of a phase, and how many there are.
-fn reach_of(layout: &Layout<'_>, arrows: &[Arrow], phase: (u8, u64)) -> (Reach, u64) {
+fn reach_of(layout: &Layout<'_>, arrows: &[Arrow], phase: (u8, u64)) -> Reach {
     let mut reach = Reach {
         from_top: u64::MAX,
         from_foot: 0,
         to_top: u64::MAX,
         to_foot: 0,
+        count: 0,
     };
-    let mut count: u64 = 0;
     for arrow in arrows {
         if is_of(arrow, phase) {
             let from = layout.row_at(arrow.from.place).unwrap_or(TOP);
-            let to = match arrow.to {
-                Some(spot) => layout.row_at(spot.place).unwrap_or(layout.foot),
-                None => layout.foot,
-            };
-            reach.from_top = reach.from_top.min(from);
-            reach.from_foot = reach.from_foot.max(from);
-            reach.to_top = reach.to_top.min(to);
-            reach.to_foot = reach.to_foot.max(to);
-            count = count.saturating_add(1);
+            reach = reach_with(reach, from, end_of(layout, arrow));
         }
     }
-    (reach, count)
+    reach
+}
+
+/// Adds where a ribbon stands across.
+fn put_sides(text: &mut Vec<u8>, from: u64, to: u64) -> io::Result<()> {
+    text.extend_from_slice(b"<svg x=\"")?;
+    put_across(text, from.min(to))?;
+    text.extend_from_slice(b"\" width=\"")?;
+    put_across(text, from.max(to).saturating_sub(from.min(to)))
+}
+
+/// Adds where it stands down.
+fn put_rows(text: &mut Vec<u8>, top: u64, high: u64) -> io::Result<()> {
+    write!(
+        text,
+        "\" y=\"{top}\" height=\"{high}\" viewBox=\"0 0 100 {high}\" preserveAspectRatio=\"none\">"
+    )
+}
+
+/// Adds its side at the senders' lane, from the row at the top on.
+fn put_begin(text: &mut Vec<u8>, rank: u8, begin: u64, from: u64) -> io::Result<()> {
+    write!(text, "<path class=\"f{rank} ribbon\" d=\"M{begin},{from}")
+}
+
+/// Adds its side at the other lane.
+fn put_other(text: &mut Vec<u8>, end: u64, reach: Reach, top: u64) -> io::Result<()> {
+    let b = reach.to_top.saturating_sub(top);
+    let c = reach.to_foot.saturating_sub(top);
+    write!(text, "L{end},{b}L{end},{c}")
+}
+
+/// Adds its shape: from the one side to the other, and back.
+fn put_shape(text: &mut Vec<u8>, rank: u8, right: bool, reach: Reach, top: u64) -> io::Result<()> {
+    let (begin, end) = if right { (0, 100) } else { (100, 0) };
+    put_begin(text, rank, begin, reach.from_top.saturating_sub(top))?;
+    put_other(text, end, reach, top)?;
+    let d = reach.from_foot.saturating_sub(top);
+    writeln!(text, "L{begin},{d}z\"/></svg>")
 }
 
 /// Adds a ribbon from the one lane to the other.
@@ -75,19 +125,25 @@ fn put_ribbon(text: &mut Vec<u8>, rank: u8, from: u64, to: u64, reach: Reach) ->
         .max(reach.to_foot)
         .saturating_sub(top)
         .max(1);
-    let (begin, end) = if from < to { (0, 100) } else { (100, 0) };
-    text.extend_from_slice(b"<svg x=\"")?;
-    put_across(text, from.min(to))?;
-    text.extend_from_slice(b"\" width=\"")?;
-    put_across(text, from.max(to).saturating_sub(from.min(to)))?;
-    let a = reach.from_top.saturating_sub(top);
-    let b = reach.to_top.saturating_sub(top);
-    let c = reach.to_foot.saturating_sub(top);
-    let d = reach.from_foot.saturating_sub(top);
-    writeln!(
-        text,
-        "\" y=\"{top}\" height=\"{high}\" viewBox=\"0 0 100 {high}\" preserveAspectRatio=\"none\"><path class=\"f{rank} ribbon\" d=\"M{begin},{a}L{end},{b}L{end},{c}L{begin},{d}z\"/></svg>"
-    )
+    put_sides(text, from, to)?;
+    put_rows(text, top, high)?;
+    put_shape(text, rank, from < to, reach, top)
+}
+
+/// Adds the ribbon that begins with an arrow, which goes to this step, if its phase has several.
+fn put_phase(
+    text: &mut Vec<u8>,
+    layout: &Layout<'_>,
+    arrow: &Arrow,
+    to: Spot,
+    phase: (u8, u64),
+) -> io::Result<()> {
+    let reach = reach_of(layout, layout.drawing.arrows.as_slice(), phase);
+    if reach.count > 1 {
+        let from = layout.lane_of(arrow.from);
+        put_ribbon(text, arrow.from.rank, from, layout.lane_of(to), reach)?;
+    }
+    Ok(())
 }
 
 /// Adds a ribbon for each phase of a link that has several arrows.
@@ -98,11 +154,7 @@ pub(crate) fn put_ribbons(text: &mut Vec<u8>, layout: &Layout<'_>) -> io::Result
         if let Some(phase) = phase_of(arrow) {
             if let Some(to) = arrow.to {
                 if is_first(&arrows[..number], phase) {
-                    let (reach, count) = reach_of(layout, arrows, phase);
-                    if count > 1 {
-                        let from = layout.lane_of(arrow.from);
-                        put_ribbon(text, arrow.from.rank, from, layout.lane_of(to), reach)?;
-                    }
+                    put_phase(text, layout, arrow, to, phase)?;
                 }
             }
         }

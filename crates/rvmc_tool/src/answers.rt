@@ -1,7 +1,8 @@
 //! What each command answers to its input.
 
-ghost use Rattle.std.specs.Prelude.{◌≡◌, IfErr, IfOk, false};
+ghost use Rattle.std.specs.Prelude.{◌≡◌, ◌≢◌, IfErr, IfOk, false, true};
 ghost use Rattle.rv_image.specs.Text.{image_text};
+ghost use Rattle.rvmc_line.specs.declared.line.ImageCommand.TheVariants as asked;
 ghost use Rattle.rvmc_report.specs.Listing.{listing};
 ghost use Rattle.rvmc_tool.specs.Answers.{Makes, Says, SaysOfImage};
 ghost use Rattle.rvmc_tool.specs.Ends.{IsDone, end_status};
@@ -86,6 +87,49 @@ fn listed(alloc: Global, image: &Image) -> Result<Answer, AllocError>
     Ok(Answer { output, end })
 }
 
+/// What a command makes of its image that needs no threads, and that takes the image as it is.
+fn made_of(alloc: Global, command: &ImageCommand, image: &Image) -> Result<Answer, Fault>
+    requires alone { runs_threads command.now ≡ false }
+    requires kept { command.now ≢ asked.Asm true }
+    ensures says { IfOk result (λ answer.
+        Makes command.now image.now (output_bytes answer.output) (end_status answer.end)) }
+    ensures whole { IfOk result (λ answer. IsWhole answer.end) }
+    ensures fault { IfErr result (RefusesImage command.now image.now) }
+{
+    match command {
+        ImageCommand::Asm { from: false } => Ok(written(alloc, image)?),
+        ImageCommand::Dis => Ok(listed(alloc, image)?),
+        ImageCommand::One {
+            budget,
+            plan,
+            order,
+            written,
+        } => one(alloc, image, *budget, plan, order, false, *written),
+        ImageCommand::OneUntilStuck {
+            budget,
+            plan,
+            order,
+            written,
+        } => one(alloc, image, *budget, plan, order, true, *written),
+        ImageCommand::Explore {
+            plan,
+            states,
+            turns,
+            record,
+        } => explore(alloc, image, plan, *states, *turns, *record),
+        ImageCommand::Split { plan, count, turns } => split(alloc, image, plan, *count, *turns),
+        ImageCommand::ExploreFrom {
+            start,
+            states,
+            turns,
+            record,
+        } => explore_from(alloc, image, start, *states, *turns, *record),
+        ImageCommand::Asm { from: true }
+        | ImageCommand::Run { .. }
+        | ImageCommand::RunUntilStuck { .. } => unreachable!(),
+    }
+}
+
 /// What a command makes of its image that needs no threads.
 fn made(alloc: Global, command: &ImageCommand, image: Image) -> Result<Answer, Fault>
     requires { runs_threads command.now ≡ false }
@@ -95,35 +139,8 @@ fn made(alloc: Global, command: &ImageCommand, image: Image) -> Result<Answer, F
     ensures fault { IfErr result (RefusesImage command.now image) }
 {
     match command {
-        ImageCommand::Asm { from: false } => Ok(written(alloc, &image)?),
         ImageCommand::Asm { from: true } => Ok(written(alloc, &image.into_version_two())?),
-        ImageCommand::Dis => Ok(listed(alloc, &image)?),
-        ImageCommand::One {
-            budget,
-            plan,
-            order,
-            written,
-        } => one(alloc, &image, *budget, plan, order, false, *written),
-        ImageCommand::OneUntilStuck {
-            budget,
-            plan,
-            order,
-            written,
-        } => one(alloc, &image, *budget, plan, order, true, *written),
-        ImageCommand::Explore {
-            plan,
-            states,
-            turns,
-            record,
-        } => explore(alloc, &image, plan, *states, *turns, *record),
-        ImageCommand::Split { plan, count, turns } => split(alloc, &image, plan, *count, *turns),
-        ImageCommand::ExploreFrom {
-            start,
-            states,
-            turns,
-            record,
-        } => explore_from(alloc, &image, start, *states, *turns, *record),
-        ImageCommand::Run { .. } | ImageCommand::RunUntilStuck { .. } => unreachable!(),
+        _ => made_of(alloc, command, &image),
     }
 }
 

@@ -38,6 +38,29 @@ fn drawn(
     }
 }
 
+/// The picture of an image's steps, as an answer.
+fn picture_of(
+    alloc: Global,
+    from: u64,
+    to: Option<u64>,
+    image: &Image,
+    steps: &[Step],
+) -> Result<Answer, Fault>
+    ensures tells { IfOk result (λ answer.
+        IsPicture image.now steps.now from to (output_bytes answer.output) × (answer.end ≡ Status 0)) }
+    ensures fault { IfErr result (IsStepsFault (command.Draw from to) image.now steps.now) }
+{
+    let picture = drawn(alloc, from, to, image, steps)?;
+    // nothing but memory is refused where a text is put together
+    let Ok(text) = svg(alloc, &picture) else {
+        return Err(Fault::Memory);
+    };
+    Ok(Answer {
+        output: Output::Text(text),
+        end: End::Status(0),
+    })
+}
+
 /// `draw`: the steps from one place to another as a picture. A place that isn't there, a wrong step, and more marks than a
 /// picture may have are faults of the input.
 pub(crate) fn pictured(
@@ -51,13 +74,5 @@ pub(crate) fn pictured(
         IsPicture image steps.items from to (output_bytes answer.output) × (answer.end ≡ Status 0)) }
     ensures fault { IfErr result (IsStepsFault (command.Draw from to) image steps.items) }
 {
-    let picture = drawn(alloc, from, to, &image, &steps)?;
-    // nothing but memory is refused where a text is put together
-    let Ok(text) = svg(alloc, &picture) else {
-        return Err(Fault::Memory);
-    };
-    Ok(Answer {
-        output: Output::Text(text),
-        end: End::Status(0),
-    })
+    picture_of(alloc, from, to, &image, &steps)
 }

@@ -9,8 +9,7 @@ ghost use Rattle.rvmc_tool.specs.Outputs.{output_bytes};
 ghost use Rattle.rvmc_tool.specs.Records.{IsWhyAt, place_asked};
 ghost use Rattle.rvmc_tool.specs.declared.answers.End.TheVariants.{Status};
 
-use crate::answers::{Answer, End};
-use crate::outputs::Output;
+use crate::answers::Answer;
 use cl_machine::Step;
 use cl_merge::merge;
 use cl_record::Record;
@@ -50,6 +49,24 @@ fn told_at(
     }
 }
 
+/// What the harts wait for at a place that is asked for, as an answer.
+fn answered_at(
+    alloc: Global,
+    at: Option<u64>,
+    framed: bool,
+    image: &Image,
+    steps: &[Step],
+) -> Result<Answer, Fault>
+    ensures tells { IfOk result (λ answer.
+        IsWhyAt framed image.now steps.now (place_asked at steps.now) (output_bytes answer.output)
+        × (answer.end ≡ Status 0)) }
+    ensures fault { IfErr result (IsStepsFault (command.Why at framed) image.now steps.now) }
+{
+    let place = place_in(at, steps);
+    let text = told_at(alloc, framed, image, steps, place)?;
+    Ok(Answer::done(text))
+}
+
 /// `why`: what the harts wait for where the first `at` steps of the record lead, or else all of them. A place that isn't
 /// there, or before which a step is wrong, is a fault of the input.
 pub(crate) fn explained(
@@ -64,12 +81,7 @@ pub(crate) fn explained(
         × (answer.end ≡ Status 0)) }
     ensures fault { IfErr result (IsStepsFault (command.Why at framed) image steps.items) }
 {
-    let place = place_in(at, &steps);
-    let text = told_at(alloc, framed, &image, &steps, place)?;
-    Ok(Answer {
-        output: Output::Text(text),
-        end: End::Status(0),
-    })
+    answered_at(alloc, at, framed, &image, &steps)
 }
 
 /// What the harts wait for where a record ends. The record is dropped as soon as its steps are copied, so that only one

@@ -15,6 +15,27 @@ use rvmc_page::{PageFault, page};
 use rvmc_report::faults::{DrawRefusal, Fault};
 use std::alloc::Global;
 
+/// The page of an image and its steps, as an answer.
+fn page_of(
+    from: u64,
+    to: Option<u64>,
+    alloc: Global,
+    image: &Image,
+    steps: &[Step],
+) -> Result<Answer, Fault>
+    ensures tells { IfOk result (λ answer.
+        IsPage image.now steps.now (view_of from to steps.now) (output_bytes answer.output) × (answer.end ≡ Status 0)) }
+    ensures fault { IfErr result (IsStepsFault (command.Page from to) image.now steps.now) }
+{
+    match page(alloc, image, steps, from, to) {
+        Ok(text) => Ok(Answer::done(text)),
+        Err(PageFault::PastEnd(count)) => Err(Fault::Page(DrawRefusal::PastEnd(count))),
+        Err(PageFault::NotARun(number)) => Err(Fault::Page(DrawRefusal::NotARun(number))),
+        Err(PageFault::TooMany(count)) => Err(Fault::Page(DrawRefusal::TooMany(count))),
+        Err(PageFault::Memory) => Err(Fault::Memory),
+    }
+}
+
 /// `page`: the steps from one place to another as a page that walks them. A place that isn't there, a wrong step, and more
 /// steps than a page may have are faults of the input.
 pub(crate) fn paged(
@@ -28,11 +49,5 @@ pub(crate) fn paged(
         IsPage image steps.items (view_of from to steps.items) (output_bytes answer.output) × (answer.end ≡ Status 0)) }
     ensures fault { IfErr result (IsStepsFault (command.Page from to) image steps.items) }
 {
-    match page(alloc, &image, &steps, from, to) {
-        Ok(text) => Ok(Answer::done(text)),
-        Err(PageFault::PastEnd(count)) => Err(Fault::Page(DrawRefusal::PastEnd(count))),
-        Err(PageFault::NotARun(number)) => Err(Fault::Page(DrawRefusal::NotARun(number))),
-        Err(PageFault::TooMany(count)) => Err(Fault::Page(DrawRefusal::TooMany(count))),
-        Err(PageFault::Memory) => Err(Fault::Memory),
-    }
+    page_of(from, to, alloc, &image, &steps)
 }

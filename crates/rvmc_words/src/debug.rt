@@ -1,8 +1,10 @@
 //! The words of the command `debug`.
 
-ghost use Rattle.std.specs.Prelude.{◌≡◌, ◌++◌, ◌∷◌, [], IfOk, OnErr, OnOk, map};
-ghost use Rattle.std.specs.List.{list_all};
+ghost use Rattle.std.specs.Prelude.{◌≡◌, ◌==◌, ◌++◌, ◌∷◌, [], IfOk, OnErr, OnOk, map};
+ghost use Rattle.std.specs.Prelude.{Some, option_and_then, option_map};
+ghost use Rattle.std.specs.List.{list_all, slice_split};
 ghost use Rattle.rv_image.specs.Names as names;
+ghost use Rattle.rvmc_words.specs.declared.debug.DebugWord.TheVariants.{Break, Bytes};
 ghost use Rattle.rvmc_words.specs.Debug.{bare_word, break_in, bytes_word_in, debug_word_in, frames_in, go_in, is_name};
 ghost use Rattle.rvmc_words.specs.Debug.{large_number_in, output_in, regs_in, small_number_in, spot_in, word_of, word_with};
 
@@ -172,6 +174,16 @@ fn go_in(arguments: &[&str]) -> Option<DebugWord>
     Some(DebugWord::Go(large_number_in(n)?))
 }
 
+/// A break at what a text writes.
+fn break_at(alloc: Global, rank: u8, hart: u8, at: &str) -> Result<Option<DebugWord>, AllocError>
+    ensures { IfOk result (λ found. found ≡ option_map (λ spot. Break rank hart spot) (spot_in at.now)) }
+{
+    let Some(at) = spot_in(alloc, at)? else {
+        return Ok(None);
+    };
+    Ok(Some(DebugWord::Break { rank, hart, at }))
+}
+
 fn break_in(alloc: Global, arguments: &[&str]) -> Result<Option<DebugWord>, AllocError>
     ensures { IfOk result (λ found. found ≡ break_in (map (λ argument. argument.now) arguments.now)) }
 {
@@ -181,10 +193,7 @@ fn break_in(alloc: Global, arguments: &[&str]) -> Result<Option<DebugWord>, Allo
     let (Some(rank), Some(hart)) = (small_number_in(r), small_number_in(h)) else {
         return Ok(None);
     };
-    let Some(at) = spot_in(alloc, at)? else {
-        return Ok(None);
-    };
-    Ok(Some(DebugWord::Break { rank, hart, at }))
+    break_at(alloc, rank, hart, at)
 }
 
 fn regs_in(arguments: &[&str]) -> Option<DebugWord>
@@ -219,6 +228,17 @@ fn output_in(arguments: &[&str]) -> Option<DebugWord>
     Some(DebugWord::Output(rank))
 }
 
+/// So many bytes from what a text writes.
+fn bytes_at(alloc: Global, rank: u8, at: &str, count: u64) -> Result<Option<DebugWord>, AllocError>
+    ensures { IfOk result
+        (λ found. found ≡ option_and_then (λ spot. Some (Bytes rank spot count)) (spot_in at.now)) }
+{
+    let Some(at) = spot_in(alloc, at)? else {
+        return Ok(None);
+    };
+    Ok(Some(DebugWord::Bytes { rank, at, count }))
+}
+
 fn bytes_in(alloc: Global, arguments: &[&str]) -> Result<Option<DebugWord>, AllocError>
     ensures { IfOk result (λ found. found ≡ bytes_word_in (map (λ argument. argument.now) arguments.now)) }
 {
@@ -228,10 +248,7 @@ fn bytes_in(alloc: Global, arguments: &[&str]) -> Result<Option<DebugWord>, Allo
     let (Some(rank), Some(count)) = (small_number_in(r), large_number_in(n)) else {
         return Ok(None);
     };
-    let Some(at) = spot_in(alloc, at)? else {
-        return Ok(None);
-    };
-    Ok(Some(DebugWord::Bytes { rank, at, count }))
+    bytes_at(alloc, rank, at, count)
 }
 
 /// A word that stands alone.
@@ -264,6 +281,26 @@ fn word_with(alloc: Global, name: &str, arguments: &[&str]) -> Result<Option<Deb
     }
 }
 
+/// A word with what stands behind the equals sign.
+fn word_before(alloc: Global, name: &str, arguments: &str) -> Result<Option<DebugWord>, AllocError>
+    ensures { IfOk result
+        (λ found. found ≡ word_with name.now (slice_split (λ byte. byte == 44) arguments.now)) }
+{
+    let arguments = parts(alloc, ',', arguments)?;
+    word_with(alloc, name, &arguments)
+}
+
+/// The word of what stands before, between and behind the equals signs.
+fn word_of(alloc: Global, sides: &[&str]) -> Result<Option<DebugWord>, AllocError>
+    ensures { IfOk result (λ found. found ≡ word_of (map (λ side. side.now) sides.now)) }
+{
+    match sides {
+        [name] => Ok(bare_word(name)),
+        [name, arguments] => word_before(alloc, name, arguments),
+        _ => Ok(None),
+    }
+}
+
 /// The word that a text writes: `step`, `back`, `run` or `place`, or `go=N`, `break=R,H,PC`, `break=R,H,NAME`,
 /// `regs=R,H`, `frames=R,H`, `output=R`, `bytes=R,A,N` or `bytes=R,NAME,N`. R and H are numbers from 0 to 255, the others are up to 2^64-1; each
 /// is in decimal, or in hexadecimal behind `0x`. A name is one of the source language, of any length. Any other text is
@@ -273,12 +310,5 @@ pub fn debug_word_in(alloc: Global, text: &str) -> Result<Option<DebugWord>, All
     ensures { IfOk result (λ found. found ≡ debug_word_in text.now) }
 {
     let sides = parts(alloc, '=', text)?;
-    match sides.as_slice() {
-        [name] => Ok(bare_word(name)),
-        [name, arguments] => {
-            let arguments = parts(alloc, ',', arguments)?;
-            word_with(alloc, name, &arguments)
-        }
-        _ => Ok(None),
-    }
+    word_of(alloc, &sides)
 }

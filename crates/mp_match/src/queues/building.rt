@@ -30,9 +30,16 @@ impl Queues {
     {
         let mut queues = Queues::new(alloc);
         queues.add_all(lines, bodies)?;
-        queues.compared = compared;
-        queues.history = queues.history.with_compared(&compared);
+        queues.set_compared(compared);
         Ok(queues)
+    }
+
+    // The last send compared so many waiting receives.
+    fn set_compared(&mut self, compared: u64)
+        ensures { self.new ≡ record { lines = self.old.lines; bodies = self.old.bodies; compared = compared } }
+    {
+        self.compared = compared;
+        self.history = self.history.with_compared(&compared);
     }
 
     // The posts of the lines in turn, each with a copy of its body.

@@ -1,13 +1,10 @@
-use Rattle.std.proofs.Common.{◌≡◌, ◌≤◌, ◌<◌, ◌∙◌, length, map, ap, sym, arith, Ok}
+use Rattle.std.proofs.Common.{◌≡◌, ◌≤◌, ◌<◌, ◌∙◌, length, ap, sym, arith, Ok}
 use Rattle.std.specs.Prelude.{not}
 use Rattle.std.proofs.lemmas.Bool.{le-ltb, lt-ltb}
 use Rattle.std.proofs.lemmas.List.{length-map}
-use Rattle.std.specs.BTreeSet.{insert_key}
-use Rattle.std.specs.Cmp.Lexicographic.{slice_cmp}
-use Rattle.std.specs.Ordering.{nat_cmp}
 use Rattle.rv_asm_lines.specs.Globals.{most_globals}
 use Rattle.rv_asm_lines.specs.LayoutView.{names_view}
-use Rattle.rv_asm_lines.proofs.GlobalNames.{found_view, inserted_view, known_name, new_name, too_many}
+use Rattle.rv_asm_lines.proofs.GlobalNames.{found_view, known_name, new_name, too_many}
 use Rattle.rv_asm_lines.proofs.globals.add_global.Goals as goal
 
 pub returns-then-contains-clause-names : goal.returns-then-contains-clause-names
@@ -24,13 +21,8 @@ returns-clause-names c =
     let names = names_view c.args.globals.now in
     let few : length names < most_globals = omega (arith, length-map c.args.globals.now.keys (λ w. w.items), c.len.ensures.len, c.if-len-ge1024.false) in
     let new = new_name c.args.name.now names (sym (found_view c.args.name.now c.args.globals.now.keys) ∙ sym c.contains.ensures ∙ c.if-contains.false) (lt-ltb (length names) most_globals few) in
-    let keys : names_view c.insert.new.self ≡ insert_key (slice_cmp nat_cmp) names c.in_ok-key.key.items = ap (map (λ w. w.items)) c.in_ok-insert.ensures.keys ∙ inserted_view c.in_ok-key.key c.args.globals.now.keys in
-    new ∙ ap Ok (ap (insert_key (slice_cmp nat_cmp) names) (sym c.in_ok-key.ensures.items) ∙ sym keys)
+    new ∙ ap Ok (sym c.in_ok-put_global.ensures)
 
-pub returns-in_err-key-clause-asked : goal.returns-in_err-key-clause-asked
-returns-in_err-key-clause-asked c told =
-    ap not (sym (found_view c.args.name.now c.args.globals.now.keys) ∙ sym c.contains.ensures ∙ c.if-contains.false)
-
-pub returns-in_err-insert-clause-asked : goal.returns-in_err-insert-clause-asked
-returns-in_err-insert-clause-asked c told =
+pub returns-in_err-put_global-clause-asked : goal.returns-in_err-put_global-clause-asked
+returns-in_err-put_global-clause-asked c told =
     ap not (sym (found_view c.args.name.now c.args.globals.now.keys) ∙ sym c.contains.ensures ∙ c.if-contains.false)

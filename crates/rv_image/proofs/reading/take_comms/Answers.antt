@@ -24,7 +24,7 @@ loop-preserved c =
     let members = c.in_ok-members.members.now in
     let number : length done ≡ c.len.result = omega (arith, c.loop.done.ok.0, c.len.ensures) in
     let goes : step done c.loop.rest.now ≡ Ok (done ++ members ∷ [], c.in_ok-members.after.now) = rw (number, c.in_ok-members.ensures) refl in
-    rw (c.in_ok-push.ensures.items, c.from_vec.ensures, c.in_ok-from_slice.ensures.items) (step_goes step a.count c.loop.counter done c.loop.rest.now (done ++ members ∷ []) c.in_ok-members.after.now (repeated step a.count [] a.bytes.now) c.loop-test.true goes c.loop.invariant)
+    rw c.in_ok-push_members.ensures (step_goes step a.count c.loop.counter done c.loop.rest.now (done ++ members ∷ []) c.in_ok-members.after.now (repeated step a.count [] a.bytes.now) c.loop-test.true goes c.loop.invariant)
 
 pub returns : goal.returns
 returns c = let a = c.args in steps_done (next_comm a.total a.ranks) a.count c.loop.counter c.loop.done.items c.loop.rest.now (repeated (next_comm a.total a.ranks) a.count [] a.bytes.now) c.loop-test.false c.loop.invariant

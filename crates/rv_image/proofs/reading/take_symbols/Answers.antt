@@ -28,8 +28,8 @@ loop-preserved c =
     let number : length done ≡ c.len.result = omega (arith, c.loop.done.ok.0, c.len.ensures) in
     let goes : step done c.loop.rest.now ≡ Ok (then, c.in_ok-name.after.now) = rw (number, c.loop.invariant.last, c.in_ok-name.ensures) refl in
     record {
-      last = rw (c.in_ok-push.ensures.items, c.from_vec.ensures, c.in_ok-from_slice.ensures.items) (last_name-push done symbol);
-      same = rw (c.in_ok-push.ensures.items, c.from_vec.ensures, c.in_ok-from_slice.ensures.items) (step_goes step a.count c.loop.counter done c.loop.rest.now then c.in_ok-name.after.now (repeated step a.count [] a.bytes.now) c.loop-test.true goes c.loop.invariant.same);
+      last = rw c.in_ok-push_symbol.ensures (last_name-push done symbol);
+      same = rw c.in_ok-push_symbol.ensures (step_goes step a.count c.loop.counter done c.loop.rest.now then c.in_ok-name.after.now (repeated step a.count [] a.bytes.now) c.loop-test.true goes c.loop.invariant.same);
     }
 
 pub returns : goal.returns

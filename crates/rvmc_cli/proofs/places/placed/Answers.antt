@@ -1,8 +1,5 @@
 use Rattle.std.proofs.lemmas.Result.{IfOk-weaker}
-use Rattle.rvmc_cli.proofs.Building.{with_arg}
 use Rattle.rvmc_cli.proofs.places.placed.Goals as goal
 
 pub returns : goal.returns
-returns c =
-    let from = with_arg _ _ _ _ _ c.command.ensures c.option.ensures.rule c.option.ensures.local c.in_ok-arg.ensures in
-    IfOk-weaker c.arg-2.result _ _ (λ new adds. with_arg _ _ _ new _ from c.option-2.ensures.rule c.option-2.ensures.local adds) c.arg-2.ensures
+returns c = IfOk-weaker c.with_parts.result _ _ (λ new adds. adds _ c.in_ok-command.ensures) c.with_parts.ensures

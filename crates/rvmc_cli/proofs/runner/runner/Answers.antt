@@ -1,11 +1,5 @@
 use Rattle.std.proofs.lemmas.Result.{IfOk-weaker}
-use Rattle.rvmc_cli.proofs.Building.{with_arg}
 use Rattle.rvmc_cli.proofs.runner.runner.Goals as goal
 
 pub returns : goal.returns
-returns c =
-    let source = with_arg _ _ _ _ _ c.command.ensures c.flag.ensures.rule c.flag.ensures.local c.in_ok-arg.ensures in
-    let budget = with_arg _ _ _ _ _ source c.option.ensures.rule c.option.ensures.local c.in_ok-arg-2.ensures in
-    let plan = with_arg _ _ _ _ _ budget c.option-2.ensures.rule c.option-2.ensures.local c.in_ok-arg-3.ensures in
-    let recorded = with_arg _ _ _ _ _ plan c.flag-2.ensures.rule c.flag-2.ensures.local c.in_ok-arg-4.ensures in
-    IfOk-weaker c.arg-5.result _ _ (λ new adds. with_arg _ _ _ new _ recorded c.flag-3.ensures.rule c.flag-3.ensures.local adds) c.arg-5.ensures
+returns c = IfOk-weaker c.with_parts.result _ _ (λ new adds. adds _ c.in_ok-command.ensures) c.with_parts.ensures

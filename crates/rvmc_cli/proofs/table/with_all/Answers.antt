@@ -1,18 +1,22 @@
 use Rattle.std.proofs.Common.{◌∙◌, Bor, [], ◌∷◌, ap, get_or, map, take}
 use Rattle.std.proofs.lemmas.List.{map-append, take_more}
-use Rattle.clap.specs.Words.{Text}
+use Rattle.clap.specs.Words.{App, Text}
 use Rattle.rvmc_cli.specs.App.{top_app}
 use Rattle.rvmc_cli.specs.Built.{app_below}
+use Rattle.rvmc_cli.specs.declared.table.Name.{Name}
 use Rattle.rvmc_cli.proofs.Building.{with_next}
 use Rattle.rvmc_cli.proofs.table.with_all.Goals as goal
+
+abbrev app_of_name : Name → App
+app_of_name name = app_below name.short.now
 
 pub loop-name-preserved : goal.loop-name-preserved
 loop-name-preserved c =
     let names = c.args.names.now in
     let k = c.loop-name.name-index in
-    let none : Bor Text = record { ref_ptr = (0, 0); now = [] } in
+    let nothing : Bor Text = record { ref_ptr = (0, 0); now = [] } in
+    let none : Name = record { short = nothing; whole = nothing } in
     let more = take_more names k none c.loop-name-test.true in
-    with_next top_app names k (app_below (get_or names k none).now) c.loop-name.command c.in_ok-command-2.command
-    c.below.result c.loop-name.invariant c.below.ensures c.in_ok-command-2.ensures
-    (ap (map (λ n. app_below n.now)) more
-    ∙ map-append (λ n. app_below n.now) (take k names) (get_or names k none ∷ []))
+    with_next top_app (map app_of_name (take k names)) _ (app_of_name (get_or names k none)) c.loop-name.command
+    c.in_ok-command-2.command c.below.result c.loop-name.invariant c.below.ensures c.in_ok-command-2.ensures
+    (ap (map app_of_name) more ∙ map-append app_of_name (take k names) (get_or names k none ∷ []))

@@ -6,4 +6,4 @@ use Rattle.rvmc_cli.proofs.table.with_all.Given as goal
 -- the commands so far
 abbrev pub invariant-loop-name : goal.invariant-loop-name
 invariant-loop-name l =
-    StandsFor (with_commands top_app (map (λ name. app_below name.now) (take l.name-index l.names))) l.command
+    StandsFor (with_commands top_app (map (λ name. app_below name.short.now) (take l.name-index l.names))) l.command
