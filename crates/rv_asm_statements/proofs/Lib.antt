@@ -1,4 +1,5 @@
 pub mod Walks
+pub mod Alike
 pub mod OtherCounts
 pub mod Pieces
 pub mod Few

@@ -1,6 +1,6 @@
 //! An instruction by its mnemonic and operands.
 
-ghost use Rattle.std.specs.Prelude.{◌≡◌, List, map, is_some, IsTrue, Err};
+ghost use Rattle.std.specs.Prelude.{◌≡◌, ◌∷◌, [], List, MatchOption, map, is_some, IsTrue, Err};
 ghost use Rattle.rv_asm_tokens.specs.declared.fault.AsmFaultKind.TheVariants as kinds;
 ghost use Rattle.rv_asm_tokens.specs.Returned.{Gives};
 ghost use Rattle.std.specs.Option.{option_map};
@@ -79,30 +79,66 @@ fn has_row(table: &[Row], name: &[u8]) -> bool
     false
 }
 
-/// The rows of the names that begin as a name does. No other row has the name.
+/// A name's first letter, and what stands behind it.
+fn first_letter(name: &[u8]) -> Option<(u8, &[u8])>
+    ensures { MatchOption result (name.now ≡ []) (λ x. name.now ≡ x.0 ∷ x.1.now) }
+{
+    match name {
+        [] => None,
+        [first, rest @ ..] => Some((*first, rest)),
+    }
+}
+
+/// The rows of the names that begin with s and what stands behind it. No other row has the name.
 #[tactic(auto, unfolding(crate::specs::Mnemonics::row_use))]
+fn s_rows(behind: &[u8]) -> &'static [Row]
+    ensures uses { (xs : List Argument)
+        → first_given (row_use (115 ∷ behind.now) xs) (map row_view result.now) ≡ use_meant (115 ∷ behind.now) xs }
+    ensures named { is_some (first_given (row_named (115 ∷ behind.now)) (map row_view result.now))
+        ≡ is_mnemonic_meant (115 ∷ behind.now) }
+{
+    match behind {
+        [b'l', ..] => &SL_ROWS,
+        [b'r', ..] => &SR_ROWS,
+        _ => &S_ROWS,
+    }
+}
+
+/// The rows of the names that begin with a letter and what stands behind it. No other row has the name.
+#[tactic(auto, unfolding(crate::specs::Mnemonics::row_use))]
+fn rows_from(letter: u8, behind: &[u8]) -> &'static [Row]
+    ensures uses { (xs : List Argument)
+        → first_given (row_use (letter ∷ behind.now) xs) (map row_view result.now) ≡ use_meant (letter ∷ behind.now) xs }
+    ensures named { is_some (first_given (row_named (letter ∷ behind.now)) (map row_view result.now))
+        ≡ is_mnemonic_meant (letter ∷ behind.now) }
+{
+    match letter {
+        b'a' => &A_ROWS,
+        b'b' => &B_ROWS,
+        b'd' => &D_ROWS,
+        b'e' => &E_ROWS,
+        b'f' => &F_ROWS,
+        b'j' => &J_ROWS,
+        b'l' => &L_ROWS,
+        b'm' => &M_ROWS,
+        b'n' => &N_ROWS,
+        b'o' => &O_ROWS,
+        b'r' => &R_ROWS,
+        b's' => s_rows(behind),
+        b'x' => &X_ROWS,
+        _ => &[],
+    }
+}
+
+/// The rows of the names that begin as a name does. No other row has the name.
 fn rows_like(name: &[u8]) -> &'static [Row]
     ensures uses { (xs : List Argument)
         → first_given (row_use name.now xs) (map row_view result.now) ≡ use_meant name.now xs }
     ensures named { is_some (first_given (row_named name.now) (map row_view result.now)) ≡ is_mnemonic_meant name.now }
 {
-    match name {
-        [b'a', ..] => &A_ROWS,
-        [b'b', ..] => &B_ROWS,
-        [b'd', ..] => &D_ROWS,
-        [b'e', ..] => &E_ROWS,
-        [b'f', ..] => &F_ROWS,
-        [b'j', ..] => &J_ROWS,
-        [b'l', ..] => &L_ROWS,
-        [b'm', ..] => &M_ROWS,
-        [b'n', ..] => &N_ROWS,
-        [b'o', ..] => &O_ROWS,
-        [b'r', ..] => &R_ROWS,
-        [b's', b'l', ..] => &SL_ROWS,
-        [b's', b'r', ..] => &SR_ROWS,
-        [b's', ..] => &S_ROWS,
-        [b'x', ..] => &X_ROWS,
-        _ => &[],
+    match first_letter(name) {
+        None => &[],
+        Some((letter, behind)) => rows_from(letter, behind),
     }
 }
 

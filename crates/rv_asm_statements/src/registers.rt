@@ -153,7 +153,6 @@ fn number_of(name: &[u8]) -> Option<u8>
 
 /// The register of a name: `x0` to `x31`, or `zero`, `ra`, `sp`, `gp`, `tp`, `t0` to `t6`, `s0` to `s11`, `fp`, `a0` to
 /// `a7`.
-#[tactic(auto, using(crate::proofs::RegisterNumbers::register_small))]
 pub fn register(name: &[u8]) -> Option<Reg>
     ensures { result ≡ register_named name.now }
 {
