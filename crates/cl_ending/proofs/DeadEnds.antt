@@ -42,11 +42,15 @@ module _ (image : ImageParts) (left : Record) (sorted steps : List Step) (n : �
   if_found items None verdict = tt
   if_found items (Some ranks) verdict = dead_end (items ranks) verdict
 
--- none of a record's steps, in order, is refused as one that isn't the machine's
-pub no_break : (image : ImageParts) (left : Record) (sorted steps : List Step) (n k : ℕ) (fault : ReplayFault)
-    → IsMergedRun image left → IsMerge (steps_in left) sorted → steps ≡ sorted → fault ≡ replay.Step k
-    → ReplayFaultHolds image steps n fault → ⊥
-no_break image left sorted steps n k fault merged is same at_step holds =
+-- a step is wrong at which a replay ended
+pub breaks_at : (image : ImageParts) (steps : List Step) (n k : ℕ) (fault : ReplayFault) → fault ≡ replay.Step k
+    → ReplayFaultHolds image steps n fault → BreaksAt image steps k
+breaks_at image steps n k fault at_step holds =
     let at : ReplayFaultHolds image steps n (replay.Step k) =
-    subst (λ (f : ReplayFault). ReplayFaultHolds image steps n f) at_step holds in
-    (merged_replays image left sorted merged is).unbroken k (subst (λ (s : List Step). BreaksAt image s k) same at.2)
+    subst (λ (f : ReplayFault). ReplayFaultHolds image steps n f) at_step holds in at.2
+
+-- none of a record's steps, in order, is refused as one that isn't the machine's
+pub no_break : (image : ImageParts) (left : Record) (sorted steps : List Step) → IsMergedRun image left
+    → IsMerge (steps_in left) sorted → steps ≡ sorted → (k : ℕ) → ¬ (BreaksAt image steps k)
+no_break image left sorted steps merged is same k breaks =
+    (merged_replays image left sorted merged is).unbroken k (subst (λ (s : List Step). BreaksAt image s k) same breaks)

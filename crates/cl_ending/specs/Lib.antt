@@ -1,1 +1,2 @@
 pub mod DeadEnds
+pub mod Judged

@@ -1,16 +1,18 @@
 //! Whether a run ended in a deadlock.
 
-ghost use Rattle.std.specs.Prelude.{◌≡◌, ◌≤◌, IfOk, IfSome, length, true};
+ghost use Rattle.std.specs.Prelude.{◌≡◌, ◌≤◌, ℕ, IfOk, IfSome, length, true};
 ghost use Rattle.cl_deadlock_laws.specs.Stuck.{is_among as is_among_of};
 ghost use Rattle.cl_ending.specs.DeadEnds.{HasAll, IsDeadEnd, IsStuckAt};
 ghost use Rattle.cl_rank.specs.declared.stops.Stop.TheVariants as stops;
 ghost use Rattle.cl_record.specs.Records.{IsMergedRun};
+ghost use Rattle.cl_replay.specs.InnerReplaying.{BreaksAt};
+ghost use Rattle.cl_replay.specs.Replaying.{IsReached};
 
 use cl_deadlock::deadlock;
 use cl_merge::merge;
 use cl_rank::Stop;
 use cl_record::Record;
-use cl_replay::{ReplayFault, replay};
+use cl_replay::{ClusterState, ReplayFault, Step, replay};
 use rv_image::Image;
 use std::alloc::{AllocError, Global};
 
@@ -40,6 +42,19 @@ fn has_all(among: &[u8], stops: &[Stop]) -> bool
     true
 }
 
+/// The state to which steps lead of which none is wrong. The only error is want of memory.
+fn state_after(alloc: Global, image: &Image, steps: &[Step]) -> Result<ClusterState, AllocError>
+    requires { (k : ℕ) → ¬ (BreaksAt image.now steps.now k) }
+    ensures { IfOk result (IsReached image.now steps.now (length steps.now)) }
+{
+    match replay(alloc, image, steps, steps.len() as u64) {
+        Ok(state) => Ok(state),
+        Err(ReplayFault::Memory) => Err(AllocError),
+        Err(ReplayFault::PastEnd(_)) => unreachable!(),
+        Err(ReplayFault::Step(_)) => unreachable!(),
+    }
+}
+
 /// The ranks of the deadlock to which the steps of a record lead, if they lead to one. The only error is want of memory.
 fn dead_end(alloc: Global, image: &Image, left: &Record) -> Result<Option<Vec<u8>>, AllocError>
     requires merged { IsMergedRun image.now left.now }
@@ -49,12 +64,8 @@ fn dead_end(alloc: Global, image: &Image, left: &Record) -> Result<Option<Vec<u8
     // whoever asks for the parts knows that they are an image's
     let _parts = image.parts();
     let steps = merge(alloc, left)?;
-    match replay(alloc, image, steps.as_slice(), steps.len() as u64) {
-        Ok(state) => deadlock(alloc, &state),
-        Err(ReplayFault::Memory) => Err(AllocError),
-        Err(ReplayFault::PastEnd(_)) => unreachable!(),
-        Err(ReplayFault::Step(_)) => unreachable!(),
-    }
+    let state = state_after(alloc, image, steps.as_slice())?;
+    deadlock(alloc, &state)
 }
 
 /// Whether all ranks of a record that have a hart that isn't stopped are in a deadlock. The only error is want of memory.

@@ -1,8 +1,9 @@
 //! A run on one thread that ends where nobody can go on.
 
-ghost use Rattle.std.specs.Prelude.{◌≡◌, ◌↔◌, ◌⊎◌, Err, IfErr, IfOk, OnOk, false, true};
+ghost use Rattle.std.specs.Prelude.{◌≡◌, ◌↔◌, ◌⊎◌, ◌≤◌, Err, IfErr, IfOk, OnOk, false, length, true};
 ghost use Rattle.cl_arrival_laws.specs.Runs.{IsArrivedRun};
 ghost use Rattle.cl_ending.specs.DeadEnds.{IsStuckAt};
+ghost use Rattle.cl_ending.specs.Judged.{IsJudged};
 ghost use Rattle.cl_record.specs.Plans.{ArePlans};
 ghost use Rattle.cl_record.specs.Records.{IsMergedRun};
 ghost use Rattle.cl_run.specs.Cuts.{IsEndedRun};
@@ -12,7 +13,7 @@ use crate::judging::is_stuck;
 use cl_record::{Plan, Record, RunFault};
 use cl_run::{Ended, run_one, run_one_until_quiet};
 use rv_image::Image;
-use std::alloc::Global;
+use std::alloc::{AllocError, Global};
 
 /// What a run leaves, and whether it was ended at a deadlock.
 #[derive(Drop)]
@@ -21,6 +22,58 @@ pub struct Stuck {
     /// Each rank that has a hart that isn't stopped is in a deadlock. Of such a rank the record says Budget, with fewer
     /// turns than its plan gives where it was told to stop.
     pub stuck: bool,
+}
+
+/// Whether a run that was ended is in a deadlock. One that went by its plans to the end isn't looked at. The only error is
+/// want of memory.
+fn is_ended_stuck(alloc: Global, image: &Image, ended: &Ended) -> Result<bool, AllocError>
+    requires merged { IsMergedRun image.now ended.now.left }
+    requires few { length ended.now.left.traces.items ≤ 256 }
+    ensures { IfOk result (λ stuck. stuck ≡ true → IsStuckAt image.now ended.now.left) }
+{
+    if !ended.quiet {
+        return Ok(false);
+    }
+    is_stuck(alloc, image, &ended.left)
+}
+
+/// What a run leaves that goes by its plans to the end.
+fn run_whole(alloc: Global, image: &Image, plans: &[Plan], order: &[u8]) -> Result<Stuck, RunFault>
+    requires { ArePlans image.now plans.now order.now }
+    ensures judged { IfOk result (IsJudged image.now plans.now order.now) }
+    ensures fault { IfErr result (λ fault. fault ≡ RunFault.Memory) }
+{
+    let left = run_one(alloc, image, plans, order)?;
+    Ok(Stuck { left, stuck: false })
+}
+
+/// What a run leaves, once it's judged: this one, or another to the end of its plans where this was ended for nothing.
+fn judge(
+    alloc: Global,
+    image: &Image,
+    plans: &[Plan],
+    order: &[u8],
+    ended: Ended,
+) -> Result<Stuck, RunFault>
+    requires right { ArePlans image.now plans.now order.now }
+    requires run { IsEndedRun image.now plans.now order.now ended.left }
+    requires whole { ended.quiet ≡ false → IsOneRun image.now plans.now order.now ended.left }
+    requires merged { IsMergedRun image.now ended.left }
+    requires arrived { IsArrivedRun image.now ended.left }
+    ensures judged { IfOk result (IsJudged image.now plans.now order.now) }
+    ensures fault { IfErr result (λ fault. fault ≡ RunFault.Memory) }
+{
+    // whoever asks for the parts knows that there are few ranks
+    let _parts = image.parts();
+    let Ok(stuck) = is_ended_stuck(alloc, image, &ended) else {
+        return Err(RunFault::Memory);
+    };
+    if stuck || !ended.quiet {
+        let Ended { left, quiet: _ } = ended;
+        return Ok(Stuck { left, stuck });
+    }
+    drop(ended);
+    run_whole(alloc, image, plans, order)
 }
 
 /// Runs all ranks of the image on one thread, as `run_one` does, but that the run ends once each rank that has a running
@@ -47,19 +100,6 @@ pub fn run_one_until_stuck(
     ensures plans { (result ≡ Err RunFault.Plans) ↔ ¬ ArePlans image.now plans.now order.now }
     ensures fault { IfErr result (λ fault. (fault ≡ RunFault.Plans) ⊎ (fault ≡ RunFault.Memory)) }
 {
-    // whoever asks for the parts knows that there are few ranks
-    let _parts = image.parts();
-    let Ended { left, quiet } = run_one_until_quiet(alloc, image, plans, order)?;
-    if !quiet {
-        return Ok(Stuck { left, stuck: false });
-    }
-    let Ok(stuck) = is_stuck(alloc, image, &left) else {
-        return Err(RunFault::Memory);
-    };
-    if stuck {
-        return Ok(Stuck { left, stuck });
-    }
-    drop(left);
-    let left = run_one(alloc, image, plans, order)?;
-    Ok(Stuck { left, stuck })
+    let ended = run_one_until_quiet(alloc, image, plans, order)?;
+    judge(alloc, image, plans, order, ended)
 }

@@ -6,3 +6,4 @@ pub mod Leaving
 pub mod Wiring
 pub mod Settling
 pub mod Seats
+pub mod Loading

@@ -1,13 +1,14 @@
 //! All seats before the first turn.
 
-ghost use Rattle.std.specs.Prelude.{◌≡◌, ◌≤◌, List, All, IfOk, length, map};
+ghost use Rattle.std.specs.Prelude.{◌≡◌, ◌<◌, ◌≤◌, List, [], All, IfOk, OnOk, length, map, vec_len};
 ghost use Rattle.rv_image.specs.Image.{IsLink};
 ghost use Rattle.part_channel.specs.Channels.{ChannelView};
 ghost use Rattle.cl_state.specs.Rank.{below, loaded};
 ghost use Rattle.cl_state.specs.Room.{rank_of};
+ghost use Rattle.cl_record.specs.Loading.{AreLoaded, HasNext};
 ghost use Rattle.cl_record.specs.Plans.{HasPlans};
 ghost use Rattle.cl_record.specs.Seats.{AreAt, AreFresh};
-ghost use Rattle.cl_record.specs.Wiring.{AreAllNew};
+ghost use Rattle.cl_record.specs.Wiring.{AreAllNew, AreNewEnds, sides_in};
 
 use crate::plans::Plan;
 use crate::seats::Seat;
@@ -16,11 +17,71 @@ use cl_rank::RankState;
 use rv_image::Image;
 use std::alloc::{AllocError, Global};
 
-/// A rank whose text is decoded, for all ranks of the image, which have the same text.
-fn decoded(alloc: Global, image: &Image) -> Result<RankState, AllocError> {
-    let mut first = RankState::load(alloc, image, 0)?;
+/// The next rank as it is loaded, at its plan, with its ends of the links, behind those before it.
+fn load_next<'a>(
+    seats: &mut Vec<Seat<'a>>,
+    alloc: Global,
+    image: &Image,
+    plans: &'a [Plan],
+    own: Ends,
+    decoded: &RankState,
+) -> Result<(), AllocError>
+    requires plans { HasPlans image.now plans.now }
+    requires few { image.now.ranks ≤ 8 }
+    requires joined { All (IsLink image.now.ranks) image.now.links }
+    requires there { vec_len seats.old < image.now.ranks }
+    requires own { (channels : List ChannelView)
+        × AreNewEnds image.now.version image.now.links channels (vec_len seats.old) (sides_in own) }
+    ensures { OnOk result (HasNext image.now plans.now own (vec_len seats.old) seats.old.items seats.new.items) }
+{
+    let rank = seats.len();
+    let seat = Seat::load(alloc, image, rank as u8, &plans[rank], own, decoded)?;
+    seats.push(seat)?;
+    Ok(())
+}
+
+/// All ranks as they are loaded, one behind another.
+fn load_each<'a>(
+    seats: &mut Vec<Seat<'a>>,
+    alloc: Global,
+    image: &Image,
+    plans: &'a [Plan],
+    ends: Vec<Ends>,
+    decoded: &RankState,
+) -> Result<(), AllocError>
+    requires none { seats.old.items ≡ [] }
+    requires plans { HasPlans image.now plans.now }
+    requires few { image.now.ranks ≤ 8 }
+    requires joined { All (IsLink image.now.ranks) image.now.links }
+    requires count { length ends.items ≡ image.now.ranks }
+    requires ends { (channels : List ChannelView) × AreAllNew image.now channels ends.items }
+    ensures { OnOk result (AreLoaded image.now plans.now ends.items (length ends.items) seats.new.items) }
+{
+    for own in ends {
+        load_next(seats, alloc, image, plans, own, decoded)?;
+    }
+    Ok(())
+}
+
+/// All ranks as they are loaded. The first decodes the image's text, for all of them, which have the same text.
+fn load_as<'a>(
+    first: &mut RankState,
+    alloc: Global,
+    image: &Image,
+    plans: &'a [Plan],
+    ends: Vec<Ends>,
+) -> Result<Vec<Seat<'a>>, AllocError>
+    requires plans { HasPlans image.now plans.now }
+    requires few { image.now.ranks ≤ 8 }
+    requires joined { All (IsLink image.now.ranks) image.now.links }
+    requires count { length ends.items ≡ image.now.ranks }
+    requires ends { (channels : List ChannelView) × AreAllNew image.now channels ends.items }
+    ensures { IfOk result (λ seats. AreLoaded image.now plans.now ends.items (length ends.items) seats.items) }
+{
     first.decode_text(None)?;
-    Ok(first)
+    let mut seats: Vec<Seat<'a>> = Vec::new(alloc);
+    load_each(&mut seats, alloc, image, plans, ends, first)?;
+    Ok(seats)
 }
 
 /// All ranks as they are loaded, by their numbers, at their plans, with these ends of the links. The
@@ -43,12 +104,6 @@ pub fn load_seats<'a>(
     ensures fresh { IfOk result (λ seats. (channels : List ChannelView) → AreAllNew image.now channels ends.items
         → AreFresh image.now channels seats.items) }
 {
-    let decoded = decoded(alloc, image)?;
-    let mut seats: Vec<Seat<'a>> = Vec::new(alloc);
-    for own in ends {
-        let rank = seats.len();
-        let seat = Seat::load(alloc, image, rank as u8, &plans[rank], own, &decoded)?;
-        seats.push(seat)?;
-    }
-    Ok(seats)
+    let mut first = RankState::load(alloc, image, 0)?;
+    load_as(&mut first, alloc, image, plans, ends)
 }

@@ -1,9 +1,11 @@
 //! A rank at its plan, from its first turn to its end.
 
-ghost use Rattle.std.specs.Prelude.{◌≡◌, ◌<◌, ◌≤◌, ◌+◌, ◌%◌, List, All, None, Some, IfOk, IsTrue, IsFalse, length, vec_len, is_some};
+ghost use Rattle.std.specs.Prelude.{◌≡◌, ◌<◌, ◌≤◌, ◌+◌, ◌%◌, List, [], All, None, Some, IfOk, IsTrue, IsFalse, length, vec_len, is_some};
 ghost use Rattle.rv_image.specs.Image.{IsLink};
 ghost use Rattle.part_channel.specs.Channels.{ChannelView};
-ghost use Rattle.cl_rank.specs.RankSides.{AreChannelsOf};
+ghost use Rattle.cl_state.specs.Rank.{loaded};
+ghost use Rattle.cl_rank.specs.RankSides.{AreChannelsOf, AreNewSides};
+ghost use Rattle.cl_rank.specs.Views.{view_of};
 ghost use Rattle.cl_record.specs.Plans.{IsPlan};
 ghost use Rattle.cl_record.specs.Wiring.{AreNewEnds, sides_in};
 
@@ -41,6 +43,36 @@ fn place_after(place: usize, count: usize) -> usize
     if next == count { 0 } else { next }
 }
 
+/// Has the words of the rank's text stand for what they were decoded to in another rank of the image.
+fn decode_as(rank: &mut Rank, decoded: &RankState) -> Result<(), AllocError>
+    ensures view { view_of rank.new ≡ view_of rank.old }
+    ensures harts { vec_len rank.new.state.harts ≡ vec_len rank.old.state.harts }
+    ensures budget { rank.new.budget ≡ rank.old.budget }
+{
+    rank.state.decode_text(Some(decoded))
+}
+
+/// A rank as it is loaded, with its ends of the links, and with its text decoded as in another rank of the image.
+fn load_rank(
+    alloc: Global,
+    image: &Image,
+    rank: u8,
+    budget: u64,
+    ends: Ends,
+    decoded: &RankState,
+) -> Result<Rank, AllocError>
+    requires { AreNewSides image.now.links rank (sides_in ends) }
+    ensures view { IfOk result (λ new. view_of new
+        ≡ record { rank = loaded image.now rank; events = []; sides = sides_in ends; asked_box = None }) }
+    ensures harts { IfOk result (λ new. vec_len new.state.harts ≡ image.now.harts) }
+    ensures budget { IfOk result (λ new. new.budget ≡ budget) }
+{
+    let Ends { sends, recvs } = ends;
+    let mut own = Rank::new(alloc, image, rank, budget, sends, recvs)?;
+    decode_as(&mut own, decoded)?;
+    Ok(own)
+}
+
 impl<'a> Seat<'a> {
     ghost use Rattle.cl_rank.specs.Plains.{Repeats};
     ghost use Rattle.cl_record.specs.Seats.{GoesOn, IsFresh, TakesPlainTurn, station};
@@ -64,9 +96,7 @@ impl<'a> Seat<'a> {
             → AreNewEnds image.now.version image.now.links channels rank (sides_in ends)
             → IsFresh image.now channels rank seat) }
     {
-        let Ends { sends, recvs } = ends;
-        let mut rank = Rank::new(alloc, image, rank, plan.budget, sends, recvs)?;
-        rank.state.decode_text(Some(decoded))?;
+        let rank = load_rank(alloc, image, rank, plan.budget, ends, decoded)?;
         Ok(Seat {
             rank,
             plan,

@@ -1,0 +1,41 @@
+-- Runs on one thread that go by their plans to the end, and faults.
+use Rattle.std.specs.Prelude.{ℕ, ◌≡◌, ◌≤◌, List, slice_get, Some, false, Result, Err, IfErr}
+use Rattle.std.proofs.Common.{refl, ap, sym, ◌∙◌, subst, arith}
+use Rattle.std.proofs.lemmas.Option.{same_Some}
+use Rattle.std.proofs.lemmas.Result.{IfErr-at_err}
+use Rattle.rv_image.specs.declared.images.ImageParts.{ImageParts}
+use Rattle.cl_arrival_laws.specs.Runs.{IsArrivedRun}
+use Rattle.cl_ending.specs.Judged.{IsJudged}
+use Rattle.cl_record.specs.Records.{IsMergedRun}
+use Rattle.cl_record.specs.declared.plans.Plan.{Plan}
+use Rattle.cl_record.specs.declared.records.Record.{Record}
+use Rattle.cl_record.specs.declared.records.RunFault.{RunFault}
+use Rattle.cl_record.specs.declared.records.RunFault.TheVariants as faults
+use Rattle.cl_run.specs.Runs.{IsOneRun}
+
+pub whole_judged : (image : ImageParts) (plans : List Plan) (order : List ℕ) (left : Record)
+    → IsOneRun image plans order left → IsMergedRun image left → IsArrivedRun image left
+    → IsJudged image plans order (record { left = left; stuck = false })
+whole_judged image plans order left run merged arrived = record {
+  run = record {
+    cuts = plans;
+    are_cuts = record {
+      one_each = refl;
+      each = λ r plan cut at at_cut.
+          let same = same_Some plan cut (sym at ∙ at_cut) in record {
+            order_stays = ap (λ (p : Plan). p.order) (sym same);
+            no_more = subst (λ (p : Plan). p.budget ≤ plan.budget) same (omega arith);
+          };
+    };
+    run = run;
+  };
+  whole = λ none. run;
+  stuck = λ e. absurd (cc);
+  merged = merged;
+  arrived = arrived;
+}
+
+-- for want of memory alone there is no fault of the plans
+pub no_plans : {X : Type 0} (r : Result X RunFault) → IfErr r (λ fault. fault ≡ faults.Memory) → r ≡ Err faults.Plans → ⊥
+no_plans r fault e =
+    let bad : faults.Plans ≡ faults.Memory = IfErr-at_err (λ (f : RunFault). f ≡ faults.Memory) e fault in absurd (cc)
