@@ -1,16 +1,22 @@
 -- The two keys are the box's own, and the box has the channel's width.
-use Rattle.std.proofs.Common.{◌≡◌, length, map, sym, ap, ◌∙◌, subst, arith}
+use Rattle.std.proofs.Common.{◌≡◌, ℕ, List, length, map, set, get_or, sym, ap, ◌∙◌, subst, arith}
 use Rattle.std.specs.Prelude.{slice_get}
-use Rattle.part_box.specs.Keys.{Place}
+use Rattle.std.proofs.lemmas.List.{set-get_or}
+use Rattle.part_box.specs.Keys.{Place, Sender, Receiver}
 use Rattle.part_box.specs.Rule.{GateRule}
 use Rattle.part_channel.specs.Channels.{ChannelView, sender_box, receiver_box}
-use Rattle.part_channel.specs.Sending.{SendView}
-use Rattle.part_channel.specs.Receiving.{RecvView}
+use Rattle.part_channel.specs.Sending.{SendView, IsSendSide}
+use Rattle.part_channel.specs.Receiving.{RecvView, IsRecvSide, round_of}
 use Rattle.part_channel.proofs.Lists.{some_same, read_at}
 use Rattle.part_channel.proofs.Leaves.{wide_at}
 use Rattle.part_channel.proofs.Sent as sent
 use Rattle.part_channel.proofs.Received as received
 use Rattle.part_channel.proofs.channel.Channel.agree.Goals as goal
+
+-- a key that is put back as it was
+put_back : {A : Type 0} (keys : List A) (i : ℕ) (lent back : A) → lent ≡ get_or keys i lent → back ≡ lent
+    → set keys i back ≡ keys
+put_back keys i lent back read same = ap (set keys i) (same ∙ read) ∙ set-get_or keys i lent
 
 pub agree-requires-clause-sender : goal.agree-requires-clause-sender
 agree-requires-clause-sender c =
@@ -64,3 +70,40 @@ returns-clause-agreed c s r at_s at_r =
           (subst (λ k. GateRule place.width words k.view r.view) same_s
           (subst (λ k. GateRule place.width words c.index_mut.result.now.view k.view) same_r told.1)),
     )
+
+pub invariant_of-send : goal.invariant_of-send
+invariant_of-send c =
+    let side = c.send.inside in
+    let keys =
+    put_back side.keys.items c.args.part c.index_mut.result.now c.agree.new.send c.index_mut.ensures.value
+    c.agree.ensures.sender in
+    subst (λ (l : List Sender). IsSendSide l side.parts side.size side.freed side.ready) (sym keys) c.send.invariant
+
+pub invariant_of-recv : goal.invariant_of-recv
+invariant_of-recv c =
+    let side = c.recv.inside in
+    let keys =
+    put_back side.keys.items c.args.part c.index_mut-2.result.now c.agree.new.recv c.index_mut-2.ensures.value
+    c.agree.ensures.receiver in
+    subst
+    (λ (l : List Receiver). IsRecvSide l side.parts side.size side.boxes side.bytes side.active side.taken)
+    (sym keys) c.recv.invariant
+
+pub returns-clause-sender : goal.returns-clause-sender
+returns-clause-sender c =
+    let side = c.send.inside in
+    let keys =
+    put_back side.keys.items c.args.part c.index_mut.result.now c.agree.new.send c.index_mut.ensures.value
+    c.agree.ensures.sender in
+    ap (λ (l : List Sender). sent.send_view l side.parts side.size side.freed side.ready) keys ∙ c.send.view_is
+
+pub returns-clause-receiver : goal.returns-clause-receiver
+returns-clause-receiver c =
+    let side = c.recv.inside in
+    let keys =
+    put_back side.keys.items c.args.part c.index_mut-2.result.now c.agree.new.recv c.index_mut-2.ensures.value
+    c.agree.ensures.receiver in
+    ap
+    (λ (l : List Receiver).
+    received.recv_view l side.parts side.size side.boxes side.bytes (round_of l side.taken) side.active side.taken)
+    keys ∙ c.recv.view_is

@@ -1,11 +1,11 @@
 -- The last box that is left is settled with its two keys.
 use Rattle.std.proofs.Common.{◌≡◌, ℕ, suc, ◌+◌, ◌-◌, ◌<◌, List, ◌++◌, length, map, set, take, replicate, false, Option}
-use Rattle.std.proofs.Common.{Some, refl, sym, ap, ◌∙◌, subst, arith}
+use Rattle.std.proofs.Common.{Some, refl, sym, ap, ◌∙◌, subst, arith, Vec, Global, vec_len}
 use Rattle.std.specs.Prelude.{slice_get, option_to_list}
-use Rattle.std.proofs.lemmas.List.{length-map, length-set}
+use Rattle.std.proofs.lemmas.List.{length-map, length-set, length-take-le}
 use Rattle.part_box.specs.declared.settled.Settled.{Settled}
 use Rattle.part_box.specs.Settling.{IsSettled}
-use Rattle.part_box.specs.Keys.{Place}
+use Rattle.part_box.specs.Keys.{BoxId, Place}
 use Rattle.part_channel.specs.Channels.{ChannelView, box_of, sender_box, receiver_box}
 use Rattle.part_channel.specs.Settling.{AreSettled}
 use Rattle.part_channel.proofs.Sent as sent
@@ -25,6 +25,50 @@ popped_at from xs rest o x i long low is split some =
     popped from rest x (15 - i) (omega (arith, low, long))
     (ap (λ p. rest ++ option_to_list p) (sym some) ∙ (sym split ∙ (is ∙ ap (λ m. take m from) n)))
 
+-- one of the first so many
+some_left : {A : Type 0} (v : Vec A Global) (from : List A) (i : ℕ) → length from ≡ 16 → i < 16
+    → v.items ≡ take (16 - i) from → 0 < vec_len v
+some_left v from i long low is =
+    let left : length v.items ≡ 16 - i = ap length is ∙ length-take-le (16 - i) from (omega (arith, long)) in
+    let count : vec_len v ≡ length v.items = v.ok.0 in
+    omega (arith, count, left, low)
+
+-- as many keys as boxes
+as_many : {K : Type 0} (at : K → BoxId) (keys : List K) (places : List Place) (boxes : List BoxId)
+    → map box_of places ≡ boxes → map at keys ≡ boxes → length places ≡ 16 → length keys ≡ 16
+as_many at keys places boxes here own long =
+    sym (length-map keys at) ∙ (ap length (own ∙ sym here) ∙ (length-map places box_of ∙ long))
+
+pub unwrap-place-requires : goal.unwrap-place-requires
+unwrap-place-requires c =
+    c.pop.ensures.variant.1
+    (some_left c.loop-i.boxes c.self.inside.boxes.items c.loop-i.i c.self.invariant.long c.loop-i-test.true
+    c.loop-i.invariant.boxes)
+
+pub unwrap-send-requires : goal.unwrap-send-requires
+unwrap-send-requires c =
+    let boxes = c.self.inside.boxes.items in
+    let sends = c.into_keys-sends.result.items in
+    let places : map box_of boxes ≡ c.args.self.boxes = ap (λ (v : ChannelView). v.boxes) c.self.view_is in
+    let own : map sender_box sends ≡ c.args.self.boxes =
+    ap (map sender_box) c.into_keys-sends.ensures ∙ c.requires.sender in
+    c.pop-in-loop-i.ensures.variant.1
+    (some_left c.loop-i.sends sends c.loop-i.i
+    (as_many sender_box sends boxes c.args.self.boxes places own c.self.invariant.long) c.loop-i-test.true
+    c.loop-i.invariant.sends)
+
+pub unwrap-recv-requires : goal.unwrap-recv-requires
+unwrap-recv-requires c =
+    let boxes = c.self.inside.boxes.items in
+    let recvs = c.into_keys-recvs.result.items in
+    let places : map box_of boxes ≡ c.args.self.boxes = ap (λ (v : ChannelView). v.boxes) c.self.view_is in
+    let own : map receiver_box recvs ≡ c.args.self.boxes =
+    ap (map receiver_box) c.into_keys-recvs.ensures ∙ c.requires.receiver in
+    c.pop-in-loop-i-2.ensures.variant.1
+    (some_left c.loop-i.recvs recvs c.loop-i.i
+    (as_many receiver_box recvs boxes c.args.self.boxes places own c.self.invariant.long) c.loop-i-test.true
+    c.loop-i.invariant.recvs)
+
 pub settle-requires-clause-sender : goal.settle-requires-clause-sender
 settle-requires-clause-sender c =
     let boxes = c.self.inside.boxes.items in
@@ -33,8 +77,7 @@ settle-requires-clause-sender c =
     let own : map sender_box sends ≡ c.args.self.boxes =
     ap (map sender_box) c.into_keys-sends.ensures ∙ c.requires.sender in
     let long : length sends ≡ 16 =
-    sym (length-map sends sender_box)
-    ∙ (ap length (own ∙ sym places) ∙ (length-map boxes box_of ∙ c.self.invariant.long)) in
+    as_many sender_box sends boxes c.args.self.boxes places own c.self.invariant.long in
     let b = popped_at boxes c.loop-i.boxes.items c.pop.new.self.items c.pop.result c.unwrap-place.result c.loop-i.i
     c.self.invariant.long c.loop-i-test.true c.loop-i.invariant.boxes c.pop.ensures.items c.unwrap-place.ensures in
     let s = popped_at sends c.loop-i.sends.items c.pop-in-loop-i.new.self.items c.pop-in-loop-i.result
@@ -51,8 +94,7 @@ settle-requires-clause-receiver c =
     let own : map receiver_box recvs ≡ c.args.self.boxes =
     ap (map receiver_box) c.into_keys-recvs.ensures ∙ c.requires.receiver in
     let long : length recvs ≡ 16 =
-    sym (length-map recvs receiver_box)
-    ∙ (ap length (own ∙ sym places) ∙ (length-map boxes box_of ∙ c.self.invariant.long)) in
+    as_many receiver_box recvs boxes c.args.self.boxes places own c.self.invariant.long in
     let b = popped_at boxes c.loop-i.boxes.items c.pop.new.self.items c.pop.result c.unwrap-place.result c.loop-i.i
     c.self.invariant.long c.loop-i-test.true c.loop-i.invariant.boxes c.pop.ensures.items c.unwrap-place.ensures in
     let r = popped_at recvs c.loop-i.recvs.items c.pop-in-loop-i-2.new.self.items c.pop-in-loop-i-2.result
