@@ -1,5 +1,5 @@
 //! The text of an instruction.
-ghost use Rattle.std.specs.Prelude.{◌≡◌, IfOk, Some, string_bytes};
+ghost use Rattle.std.specs.Prelude.{◌≡◌, IfOk, Some, drop, string_bytes};
 ghost use Rattle.rv_decode.specs.Written.{operand_texts, written};
 ghost use Rattle.rv_decode.specs.Text.{instr_text, operands_text, register_text, upper_name, branch_name, load_name};
 ghost use Rattle.rv_decode.specs.Text.{store_name, imm_name, shift_name, arith_name};
@@ -161,13 +161,33 @@ impl fmt::Display for Operands {
     ghost output = { λ operands. Some (operands_text (operand_texts operands)) };
 
     fn fmt<W: fmt::Write>(&self, f: &mut fmt::Formatter<W>) -> fmt::Result {
+        let rest = Rest(*self);
         match *self {
             Operands::Nothing => Ok(()),
-            Operands::Upper(rd, field) => write!(f, "{rd}, 0x{field:x}"),
-            Operands::Target(rd, off) => write!(f, "{rd}, {off}"),
-            Operands::Address(rd, off, rs1) => write!(f, "{rd}, {off}({rs1})"),
-            Operands::Number(rd, rs1, number) => write!(f, "{rd}, {rs1}, {number}"),
-            Operands::Registers(rd, rs1, rs2) => write!(f, "{rd}, {rs1}, {rs2}"),
+            Operands::Upper(first, _)
+            | Operands::Target(first, _)
+            | Operands::Address(first, _, _)
+            | Operands::Number(first, _, _)
+            | Operands::Registers(first, _, _) => write!(f, "{first}, {rest}"),
+        }
+    }
+}
+
+/// What stands behind the first operand and its comma.
+#[derive(Clone, Copy)]
+struct Rest(Operands);
+
+impl fmt::Display for Rest {
+    ghost output = { λ rest. Some (operands_text (drop 1 (operand_texts rest.0))) };
+
+    fn fmt<W: fmt::Write>(&self, f: &mut fmt::Formatter<W>) -> fmt::Result {
+        match self.0 {
+            Operands::Nothing => Ok(()),
+            Operands::Upper(_, field) => write!(f, "0x{field:x}"),
+            Operands::Target(_, off) => write!(f, "{off}"),
+            Operands::Address(_, off, rs1) => write!(f, "{off}({rs1})"),
+            Operands::Number(_, rs1, number) => write!(f, "{rs1}, {number}"),
+            Operands::Registers(_, rs1, rs2) => write!(f, "{rs1}, {rs2}"),
         }
     }
 }
