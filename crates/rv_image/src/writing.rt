@@ -72,7 +72,8 @@ fn put_header(out: &mut Vec<u8>, parts: &ImageParts) -> Result<(), AllocError>
 {
     put_front(out, parts)?;
     put_sizes(out, parts)?;
-    put_counts(out, parts)
+    put_counts(out, parts)?;
+    Ok(())
 }
 
 /// Adds one communicator.
