@@ -1,5 +1,6 @@
 -- A rank's phases, of which one is changed.
-use Rattle.std.proofs.Common.{◌≡◌, ℕ, zero, suc, List, [], ◌∷◌, set, get_or, refl, ap, ◌∙◌}
+use Rattle.std.proofs.Common.{◌≡◌, ℕ, zero, suc, List, [], ◌∷◌, set, get_or, Option, Some, None, refl, ap, ◌∙◌}
+use Rattle.std.specs.Prelude.{slice_get}
 use Rattle.part_phase.specs.declared.phases.Phase.{Phase}
 use Rattle.part_phase.specs.declared.phases.Phase.TheVariants.{Apart, Sending, Receiving}
 use Rattle.part_phase.specs.declared.receiving.RecvPhase.{RecvPhase}
@@ -18,6 +19,13 @@ pub set_is : (phases now : List Phase) (link : ℕ) (change : Phase → Phase) (
     now ≡ changed_at link change phases
 set_is phases now link change new old put made from =
     put ∙ (ap (set phases link) (made ∙ ap change from) ∙ set_changed phases link change)
+
+-- what is told of a link that isn't there is what is told of one that joins two other ranks
+pub told_at : {T : Type 0} (tells : Option Phase → T) → tells (Some Apart) ≡ tells None → (phases : List Phase)
+    (link : ℕ) (phase : Phase) → phase ≡ get_or phases link Apart → tells (Some phase) ≡ tells (slice_get phases link)
+told_at tells same [] link phase from = ap (λ p. tells (Some p)) from ∙ same
+told_at tells same (p ∷ ps) zero phase from = ap (λ p. tells (Some p)) from
+told_at tells same (p ∷ ps) (suc link) phase from = told_at tells same ps link phase from
 
 -- to put in what a change makes of a side is that change
 pub sending_changed : (phases : List Phase) (link : ℕ) (change : SendPhase → SendPhase) →

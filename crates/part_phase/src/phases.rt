@@ -128,9 +128,9 @@ impl Phases {
         ensures phase { result ≡ sending_at self.now link }
         ensures limits { IsSendPhase result }
     {
-        match self.list.get(link as usize) {
-            Some(Phase::Sending(phase)) => *phase,
-            _ => SendPhase::unshaped(),
+        match self.at(link) {
+            Phase::Sending(phase) => phase,
+            Phase::Apart | Phase::Receiving(_) => SendPhase::unshaped(),
         }
     }
 
@@ -139,9 +139,9 @@ impl Phases {
         ensures phase { result ≡ receiving_at self.now link }
         ensures limits { IsRecvPhase result }
     {
-        match self.list.get(link as usize) {
-            Some(Phase::Receiving(phase)) => *phase,
-            _ => RecvPhase::unshaped(),
+        match self.at(link) {
+            Phase::Receiving(phase) => phase,
+            Phase::Apart | Phase::Sending(_) => RecvPhase::unshaped(),
         }
     }
 
@@ -149,9 +149,9 @@ impl Phases {
     pub fn has_unshaped_sending(&self, link: u8) -> bool
         ensures { result ≡ is_unshaped_sending (slice_get self.now link) }
     {
-        match self.list.get(link as usize) {
-            Some(Phase::Sending(phase)) => phase.parts == 0,
-            _ => false,
+        match self.at(link) {
+            Phase::Sending(phase) => phase.parts == 0,
+            Phase::Apart | Phase::Receiving(_) => false,
         }
     }
 
@@ -159,9 +159,9 @@ impl Phases {
     pub fn has_unshaped_receiving(&self, link: u8) -> bool
         ensures { result ≡ is_unshaped_receiving (slice_get self.now link) }
     {
-        match self.list.get(link as usize) {
-            Some(Phase::Receiving(phase)) => phase.parts == 0,
-            _ => false,
+        match self.at(link) {
+            Phase::Receiving(phase) => phase.parts == 0,
+            Phase::Apart | Phase::Sending(_) => false,
         }
     }
 
