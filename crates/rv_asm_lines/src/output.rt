@@ -6,6 +6,8 @@ ghost use Rattle.rv_asm_lines.specs.Output.{is_text_address, with_entry_point, l
 ghost use Rattle.rv_asm_lines.specs.LayoutView.{addresses_view, layout_view};
 ghost use Rattle.rv_asm_lines.specs.Places.{IsSound};
 ghost use Rattle.rv_asm_lines.specs.OutputView.{output_view};
+ghost use Rattle.rv_asm_lines.specs.declared.parts.Place.{Place};
+ghost use Rattle.rv_asm_statements.specs.declared.directives.Directive.TheVariants as directives;
 
 use crate::cluster::{link_of, members_of};
 use crate::data::put_directive;
@@ -15,7 +17,7 @@ use crate::item::{Item, Kept, plain_use};
 use crate::labels::find_label;
 use crate::layout::Layout;
 use crate::parts::{Part, Place, address_of};
-use rv_asm_statements::{Directive, Statement};
+use rv_asm_statements::{Directive, Integer, Statement};
 use rv_asm_tokens::{AsmFaultKind, Number};
 use rv_image::{Link, Members};
 use std::alloc::Global;
@@ -63,6 +65,44 @@ fn take_label(
     Ok(())
 }
 
+/// Adds a communicator.
+#[tactic(auto, unfolding(crate::specs::Output::directive_step))]
+fn take_members(
+    alloc: Global,
+    layout: &Layout<'_>,
+    numbers: &[Integer],
+    output: &mut Output,
+) -> Result<(), AsmFaultKind>
+    ensures { (place : Place) → MatchResult result
+        (λ _. directive_step (layout_view layout.now) place (directives.Comm numbers.now) (output_view output.old)
+        ≡ Ok (output_view output.new))
+        (λ e. Fails e
+        (directive_step (layout_view layout.now) place (directives.Comm numbers.now) (output_view output.old))) }
+{
+    let members = members_of(alloc, ranks_of(&layout.fields), numbers)?;
+    output.comms.push(Members::from_vec(members))?;
+    Ok(())
+}
+
+/// Adds a link.
+#[tactic(auto, unfolding(crate::specs::Output::directive_step))]
+fn take_link(
+    layout: &Layout<'_>,
+    from: &Integer,
+    to: &Integer,
+    output: &mut Output,
+) -> Result<(), AsmFaultKind>
+    ensures { (place : Place) → MatchResult result
+        (λ _. directive_step (layout_view layout.now) place (directives.Link from.now to.now) (output_view output.old)
+        ≡ Ok (output_view output.new))
+        (λ e. Fails e
+        (directive_step (layout_view layout.now) place (directives.Link from.now to.now) (output_view output.old))) }
+{
+    let link = link_of(ranks_of(&layout.fields), from, to)?;
+    output.links.push(link)?;
+    Ok(())
+}
+
 /// Adds what a directive is: the entry, a communicator, a link, or bytes. The label of a symbol has to be there.
 #[tactic(auto, unfolding(crate::specs::Output::directive_step))]
 fn take_directive(
@@ -86,16 +126,8 @@ fn take_directive(
             None => Err(AsmFaultKind::LabelMissing),
             Some(_) => Ok(()),
         },
-        Directive::Comm(numbers) => {
-            let members = members_of(alloc, ranks_of(&layout.fields), numbers.as_slice())?;
-            output.comms.push(Members::from_vec(members))?;
-            Ok(())
-        }
-        Directive::Link(from, to) => {
-            let link = link_of(ranks_of(&layout.fields), from, to)?;
-            output.links.push(link)?;
-            Ok(())
-        }
+        Directive::Comm(numbers) => take_members(alloc, layout, numbers.as_slice(), output),
+        Directive::Link(from, to) => take_link(layout, from, to, output),
         _ => match place.part {
             Part::Text => put_directive(layout, place.at, directive, &mut output.text),
             Part::Data => put_directive(layout, place.at, directive, &mut output.init),
@@ -142,10 +174,11 @@ pub fn take_item(
         (stated_step (layout_view layout.now) item.now.place item.now.statement (output_view output.old))) }
     ensures sound { OnOk result (IsSound (addresses_view layout.now) item.now.place.at item.now.statement) }
 {
-    match &item.kept {
-        Kept::Label(_, _, _, name) => take_label(layout, name, item.place(), output),
-        Kept::Directive(_, _, _, directive) => {
-            take_directive(alloc, layout, item.place(), directive, output)
+    let place = item.place();
+    match item.kept {
+        Kept::Label(_, _, _, name) => take_label(layout, name, place, output),
+        Kept::Directive(_, _, _, ref directive) => {
+            take_directive(alloc, layout, place, directive, output)
         }
         Kept::Plain {
             template,
@@ -158,14 +191,14 @@ pub fn take_item(
             ..
         } => {
             let number = Number {
-                negative: *negative,
-                magnitude: *magnitude,
+                negative,
+                magnitude,
             };
-            let found = plain_use(*template, *first, *second, *third, number);
-            put_use(layout, u64::from(*at), &found, &mut output.text)
+            let found = plain_use(template, first, second, third, number);
+            put_use(layout, u64::from(at), &found, &mut output.text)
         }
-        Kept::Other(_, _, _, statement) => {
-            take_statement(alloc, layout, item.place(), statement, output)
+        Kept::Other(_, _, _, ref statement) => {
+            take_statement(alloc, layout, place, statement, output)
         }
     }
 }

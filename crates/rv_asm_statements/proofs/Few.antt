@@ -1,5 +1,5 @@
 -- More operands than a statement takes.
-use Rattle.std.proofs.Common.{◌≡◌, ℕ, Bool, true, false, List, [], ◌∷◌, Option, None, refl}
+use Rattle.std.proofs.Common.{◌≡◌, ℕ, Bool, true, false, List, [], ◌∷◌, Option, None, refl, sym, ap, ◌∙◌}
 use Rattle.std.specs.Str.{bytes_eq}
 use Rattle.rv_asm_statements.specs.declared.rows.Shape.{Shape}
 use Rattle.rv_asm_statements.specs.declared.rows.Shape.TheVariants as shape
@@ -8,6 +8,7 @@ use Rattle.rv_asm_statements.specs.declared.directive_rows.Form.TheVariants as f
 use Rattle.rv_asm_statements.specs.Arguments.{Argument, word, value, quoted, sum, place}
 use Rattle.rv_asm_statements.specs.Directives.{directive_by, only_name, only_number, only_text}
 use Rattle.rv_asm_statements.specs.Kept.{takes_two}
+use Rattle.rv_asm_statements.specs.declared.mnemonics.Use.{Use}
 use Rattle.rv_asm_statements.specs.Mnemonics.{row_use, use_of}
 use Rattle.rv_asm_statements.specs.Rows.{Row, rows}
 use Rattle.rv_asm_statements.specs.Shapes.{filled_by}
@@ -95,3 +96,7 @@ no_directive_of_three form.Data a b c xs h = refl
 no_directive_of_three form.Link a b c xs h = no_link a b c xs
 no_directive_of_three form.Comm a b c xs h = absurd cc
 no_directive_of_three (form.Items w) a b c xs h = absurd cc
+
+-- what a name's rows make of all operands
+pub uses_all : (table : List Row) (found : Option Use) (w : List ℕ) → ((xs : List Argument) → first_given (row_use w xs) table ≡ use_of w xs) → (xs ys : List Argument) → found ≡ first_given (row_use w xs) table → ys ≡ xs → found ≡ use_of w ys
+uses_all table found w uses xs ys is all = is ∙ uses xs ∙ ap (use_of w) (sym all)

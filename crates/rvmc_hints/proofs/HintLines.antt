@@ -61,3 +61,11 @@ nothing_taken text (Some xs) (Some ys) appends = appends ∙ append-nil xs
 pub beginning_stays : (line : List ℕ) (old mid new : Option (List ℕ)) (done : ℕ) → Appends old mid (take done line) → Keeps mid new
     → AppendsBeginning line old new
 beginning_stays line old mid new done before keeps = (done, Appends-kept old mid new (take done line) before keeps)
+
+nothing_appended : (old : Option (List ℕ)) → Appends old old []
+nothing_appended None = tt
+nothing_appended (Some xs) = sym (append-nil xs)
+
+-- nothing at all
+pub no_hint : (old : Option (List ℕ)) → AppendsHint old old
+no_hint old = ([], record { text = []; one_line = refl; begins = refl }, nothing_appended old)

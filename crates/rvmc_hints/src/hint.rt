@@ -168,15 +168,14 @@ impl fmt::Display for Kind {
     }
 }
 
-impl fmt::Display for Place {
-    fn fmt<W: fmt::Write>(&self, f: &mut fmt::Formatter<W>) -> fmt::Result {
-        match self {
-            Place::Register => write!(f, "register"),
-            Place::Number => write!(f, "number"),
-            Place::Target => write!(f, "target"),
-            Place::Label => write!(f, "label"),
-            Place::Orders => write!(f, "iorw"),
-        }
+/// What is wrong with a word that isn't of the kind that its place asks for.
+fn misplaced(kind: Place) -> &'static str {
+    match kind {
+        Place::Register => "is no register",
+        Place::Number => "is no number",
+        Place::Target => "is no target",
+        Place::Label => "is no label",
+        Place::Orders => "is no iorw",
     }
 }
 
@@ -257,64 +256,105 @@ fn put_unknown<W: fmt::Write>(
     }
 }
 
+/// A mnemonic of other assemblers.
+fn put_foreign<W: fmt::Write>(f: &mut fmt::Formatter<W>, word: &[u8], here: &str) -> fmt::Result {
+    write!(f, "{} isn't known here: {here} does the same", Shown(word))
+}
+
+/// The name of a call where a number is wanted.
+fn put_call<W: fmt::Write>(f: &mut fmt::Formatter<W>, word: &[u8], number: u8) -> fmt::Result {
+    write!(f, "{} is no number: it is call {number}", Shown(word))
+}
+
+/// A word, what is wrong with it, and what its statement takes.
+fn put_wrong<W: fmt::Write>(
+    f: &mut fmt::Formatter<W>,
+    word: &[u8],
+    wrong: &str,
+    name: &str,
+    operands: &str,
+) -> fmt::Result {
+    write!(f, "{} {wrong}: {name} takes {operands}", Shown(word))
+}
+
+/// What a directive takes, behind the words that stand at it.
+fn put_at<W: fmt::Write>(
+    f: &mut fmt::Formatter<W>,
+    words: &[u8],
+    name: &str,
+    operands: &str,
+) -> fmt::Result {
+    write!(f, "at `{}`: {name} takes {operands}", Shown(words))
+}
+
+/// What a mnemonic or a directive takes.
+fn put_takes<W: fmt::Write>(f: &mut fmt::Formatter<W>, name: &str, operands: &str) -> fmt::Result {
+    write!(f, "{name} takes {operands}")
+}
+
+/// A name that isn't there, and the one that was meant, perhaps.
+fn put_missing<W: fmt::Write>(
+    f: &mut fmt::Formatter<W>,
+    lacks: &str,
+    word: &[u8],
+    near: Option<&[u8]>,
+) -> fmt::Result {
+    write!(f, "{lacks} {}", Shown(word))?;
+    put_near(f, near)
+}
+
+/// A label that an earlier line defines.
+fn put_twice<W: fmt::Write>(f: &mut fmt::Formatter<W>, word: &[u8], line: u64) -> fmt::Result {
+    write!(f, "line {line} defines {} already", Shown(word))
+}
+
 impl fmt::Display for Hint<'_> {
     fn fmt<W: fmt::Write>(&self, f: &mut fmt::Formatter<W>) -> fmt::Result {
         match *self {
             Hint::Nothing(wanted) => write!(f, "the input is empty: {wanted} is wanted"),
-            Hint::Image => write!(f, "this is an image: rvmc one reads it"),
-            Hint::Record => write!(f, "this is a record: rvmc check reads it"),
+            Hint::Image => f.write_str("this is an image: rvmc one reads it"),
+            Hint::Record => f.write_str("this is a record: rvmc check reads it"),
             Hint::Source(wanted) => write!(f, "this is an assembler source: {}", remedy(wanted)),
             Hint::Text(wanted) => write!(f, "this looks like text: {}", advice(wanted)),
-            Hint::Input => write!(f, "a file or a pipe is read, of at most 67108864 bytes"),
+            Hint::Input => f.write_str("a file or a pipe is read, of at most 67108864 bytes"),
             Hint::Ranks(ranks) => put_ranks(f, ranks),
             Hint::Harts(harts) => put_harts(f, harts),
             Hint::File { words, file } => put_file(f, words, file),
-            Hint::Form(form) => write!(f, "{form}"),
+            Hint::Form(form) => f.write_str(form),
             Hint::Unknown { word, kind, near } => put_unknown(f, word, kind, near),
-            Hint::Foreign { word, here } => {
-                write!(f, "{} isn't known here: {here} does the same", Shown(word))
-            }
-            Hint::Takes { name, operands } => write!(f, "{name} takes {operands}"),
+            Hint::Foreign { word, here } => put_foreign(f, word, here),
+            Hint::Takes { name, operands } => put_takes(f, name, operands),
             Hint::Misplaced {
                 word,
                 kind,
                 name,
                 operands,
-            } => write!(f, "{} is no {kind}: {name} takes {operands}", Shown(word)),
-            Hint::Call { word, number } => {
-                write!(f, "{} is no number: it is call {number}", Shown(word))
-            }
+            } => put_wrong(f, word, misplaced(kind), name, operands),
+            Hint::Call { word, number } => put_call(f, word, number),
             Hint::Unfit {
                 word,
                 name,
                 operands,
-            } => write!(f, "{} doesn't fit: {name} takes {operands}", Shown(word)),
+            } => put_wrong(f, word, "doesn't fit", name, operands),
             Hint::At {
                 words,
                 name,
                 operands,
-            } => write!(f, "at `{}`: {name} takes {operands}", Shown(words)),
+            } => put_at(f, words, name, operands),
             Hint::NoNumber(word) => write!(f, "{} is no number", Shown(word)),
             Hint::Character(byte) => put_character(f, byte),
-            Hint::NoString => write!(
-                f,
-                "a string ends on its line, and has the escapes \\n, \\t, \\0, \\\\ and \\\""
+            Hint::NoString => f.write_str(
+                "a string ends on its line, and has the escapes \\n, \\t, \\0, \\\\ and \\\"",
             ),
-            Hint::NoLabel { word, near } => {
-                write!(f, "no line defines {}", Shown(word))?;
-                put_near(f, near)
-            }
-            Hint::Twice { word, line } => {
-                write!(f, "line {line} defines {} already", Shown(word))
-            }
-            Hint::NoText => write!(f, "no line has an instruction"),
-            Hint::Most(most) => write!(f, "{most}"),
+            Hint::NoLabel { word, near } => put_missing(f, "no line defines", word, near),
+            Hint::Twice { word, line } => put_twice(f, word, line),
+            Hint::NoText => f.write_str("no line has an instruction"),
+            Hint::Most(most) => f.write_str(most),
             Hint::NoSymbol { word, near } => {
-                write!(f, "the image has no symbol {word}")?;
-                put_near(f, near)
+                put_missing(f, "the image has no symbol", word.as_bytes(), near)
             }
             Hint::Least(bytes) => { write!(f, "a record that begins so has {bytes} bytes or more") }
-            Hint::Version => write!(f, "a record begins with RVMR and version 2"),
+            Hint::Version => f.write_str("a record begins with RVMR and version 2"),
         }
     }
 }

@@ -18,7 +18,7 @@ macro_rules! rows {
 }
 
 /// The mnemonics, each once.
-pub static MNEMONICS: [Row; 90] = rows! {
+static MNEMONICS: [Row; 90] = rows! {
     "lui" [Register Number] "rd, n with n from 0 to 1048575";
     "auipc" [Register Number] "rd, n with n from 0 to 1048575";
     "jal" [Register Target] "rd, target or target alone";
@@ -112,7 +112,7 @@ pub static MNEMONICS: [Row; 90] = rows! {
 };
 
 /// The directives. What stands behind one is no list of kinds.
-pub static DIRECTIVES: [Row; 17] = rows! {
+static DIRECTIVES: [Row; 17] = rows! {
     ".ranks" [] "a number from 1 to 8, once";
     ".harts" [] "a number from 1 to 4, once";
     ".memory" [] "a number from 4096 to 1048576 in whole 4096s, once";
@@ -131,6 +131,16 @@ pub static DIRECTIVES: [Row; 17] = rows! {
     ".balign" [] "1, 2, 4, 8 or 16, in the data part";
     ".globl" [] "one name of at most 31 bytes";
 };
+
+/// The rows of the mnemonics.
+pub fn mnemonics() -> &'static [Row] {
+    &MNEMONICS
+}
+
+/// The rows of the directives.
+pub fn directives() -> &'static [Row] {
+    &DIRECTIVES
+}
 
 /// A mnemonic of other assemblers, and one that does the same here.
 pub struct Foreign {

@@ -80,7 +80,7 @@ fn put_beginning<W: Write>(out: &mut W, line: &[u8])
 
 /// Writes the line of a hint. One that can't be written as a whole, or for which memory is refused, changes nothing
 /// else: as much of it stands there as was taken.
-#[tactic(auto, using(crate::proofs::HintLines::hint_from_beginning))]
+#[tactic(auto, using(crate::proofs::HintLines::no_hint))]
 pub fn put_run_hint<W: Write>(alloc: Global, out: &mut W, hint: RunHint)
     ensures { AppendsHint (W.contents out.old) (W.contents out.new) }
 {

@@ -4,7 +4,7 @@ use crate::calls::call_number;
 use crate::hint::{Hint, Kind, Place};
 use crate::labels::{missing_hint, twice_hint};
 use crate::lines::{first_word, is_number, line_at, statement};
-use crate::mnemonics::{DIRECTIVES, MNEMONICS, Row, here_for, row_of};
+use crate::mnemonics::{Row, directives, here_for, mnemonics, row_of};
 use crate::near::is_near;
 use crate::seen::are_printable;
 use crate::tokens::token_hint;
@@ -24,10 +24,10 @@ fn near_in(table: &'static [Row], word: &[u8]) -> Option<&'static str> {
 /// A name near to a word, of the mnemonics or the directives, first of the kind that it looks like.
 fn near_name(word: &[u8]) -> Option<&'static str> {
     match word {
-        [b'.', ..] => near_in(&DIRECTIVES, word),
-        _ => match near_in(&MNEMONICS, word) {
+        [b'.', ..] => near_in(directives(), word),
+        _ => match near_in(mnemonics(), word) {
             Some(name) => Some(name),
-            None => near_in(&DIRECTIVES, word),
+            None => near_in(directives(), word),
         },
     }
 }
@@ -35,8 +35,8 @@ fn near_name(word: &[u8]) -> Option<&'static str> {
 /// The row of a word that begins a statement.
 fn row_named(word: &[u8]) -> Option<&'static Row> {
     match word {
-        [b'.', ..] => row_of(&DIRECTIVES, word),
-        _ => row_of(&MNEMONICS, word),
+        [b'.', ..] => row_of(directives(), word),
+        _ => row_of(mnemonics(), word),
     }
 }
 
@@ -104,7 +104,7 @@ fn operand_hint<'a>(row: &Row, operands: &'a [u8]) -> Hint<'a> {
 /// A mnemonic doesn't take the operands behind it.
 fn operands_hint(line: &[u8]) -> Option<Hint<'_>> {
     let first = statement(line)?;
-    let row = row_of(&MNEMONICS, first.text)?;
+    let row = row_of(mnemonics(), first.text)?;
     Some(operand_hint(row, first.behind))
 }
 
@@ -132,7 +132,7 @@ fn directive_hint(line: &[u8]) -> Option<Hint<'_>> {
     let first = statement(line)?;
     let word = first.text;
     if let [b'.', ..] = word {
-        let Some(row) = row_of(&DIRECTIVES, word) else {
+        let Some(row) = row_of(directives(), word) else {
             return Some(Hint::Unknown {
                 word,
                 kind: Kind::Directive,

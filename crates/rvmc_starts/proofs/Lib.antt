@@ -6,3 +6,4 @@ pub mod Separators
 pub mod Shapes
 pub mod StartBack
 pub mod Steps
+pub mod RunSteps

@@ -1,6 +1,6 @@
 //! One start of a split, in one word.
 
-ghost use Rattle.std.specs.Prelude.{◌≡◌, ◌++◌, IfOk, OnOk, map};
+ghost use Rattle.std.specs.Prelude.{◌≡◌, ◌++◌, ◌∷◌, [], IfOk, OnOk, map};
 ghost use Rattle.rvmc_starts.specs.Starts.{place_in, place_of, place_of_parts, place_text, start_in, start_of_parts, start_text};
 
 use crate::hex::{hex_in, put_word};
@@ -60,12 +60,18 @@ fn place_in(alloc: Global, text: &str) -> Result<Option<Place>, AllocError>
     Ok(place_of_parts(&parts))
 }
 
-fn start_of_parts(alloc: Global, parts: &[&str]) -> Result<Option<Start>, AllocError>
-    ensures { IfOk result (λ found. found ≡ start_of_parts (map (λ part. part.now) parts.now)) }
+/// The start that the texts of its parts write.
+fn start_of(
+    alloc: Global,
+    place: &str,
+    image: &str,
+    split: &str,
+    harts: &str,
+    turns: &str,
+) -> Result<Option<Start>, AllocError>
+    ensures { IfOk result
+        (λ found. found ≡ start_of_parts (place.now ∷ image.now ∷ split.now ∷ harts.now ∷ turns.now ∷ [])) }
 {
-    let [place, image, split, harts, turns] = parts else {
-        return Ok(None);
-    };
     let Some(place) = place_in(alloc, place)? else {
         return Ok(None);
     };
@@ -89,6 +95,15 @@ fn start_of_parts(alloc: Global, parts: &[&str]) -> Result<Option<Start>, AllocE
         harts,
         turns,
     }))
+}
+
+fn start_of_parts(alloc: Global, parts: &[&str]) -> Result<Option<Start>, AllocError>
+    ensures { IfOk result (λ found. found ≡ start_of_parts (map (λ part. part.now) parts.now)) }
+{
+    match parts {
+        [place, image, split, harts, turns] => start_of(alloc, place, image, split, harts, turns),
+        _ => Ok(None),
+    }
 }
 
 /// The start that a word writes: `K/M:SIZE-DIGEST:SPLIT:HARTS:TURNS`, as
