@@ -55,6 +55,13 @@ fn all_again(alloc: Global, bodies: &[Option<Bytes>]) -> Result<Vec<Option<Bytes
     Ok(copies)
 }
 
+/// The line at the place, if any.
+pub fn line_at(lines: &[Line], place: usize) -> Option<Line>
+    ensures { result ≡ slice_get lines.now place }
+{
+    lines.get(place).copied()
+}
+
 // The post at the place, if any, has that partner.
 #[tactic(auto, using(crate::proofs::Partners::set_is, crate::proofs::Partners::past_is))]
 fn set_partner(lines: &mut Vec<Line>, place: Option<u64>, partner: u64)
@@ -206,7 +213,7 @@ impl WholeBoard {
         if number == 0 {
             return None;
         }
-        self.lines.get((number - 1) as usize).copied()
+        line_at(self.lines.as_slice(), (number - 1) as usize)
     }
 
     /// The place of the post's partner.
@@ -223,7 +230,7 @@ impl WholeBoard {
     fn post_at(&self, place: Option<u64>) -> Option<Post>
         ensures { result ≡ post_at self.now.lines place }
     {
-        match self.lines.get(place? as usize) {
+        match line_at(self.lines.as_slice(), place? as usize) {
             None => None,
             Some(line) => Some(line.post),
         }
@@ -289,7 +296,7 @@ impl WholeBoard {
     fn claim_at(&self, place: u64) -> Option<u64>
         ensures { result ≡ claim_at self.now (Some place) }
     {
-        let line = self.lines.get(place as usize)?;
+        let line = line_at(self.lines.as_slice(), place as usize)?;
         match line.post {
             Post::Claim(_) => Some(place + 1),
             _ => None,

@@ -7,7 +7,7 @@ ghost use Rattle.mp_alike_laws.specs.Alike.{IsUnpaired};
 ghost use Rattle.mp_alike.specs.Names.{renamed as renamed_by};
 ghost use Rattle.mp_alike.specs.InnerAlike.{AreAlikeBoards, IsAlikeAt, KeepsClaim, KeepsSend, KeepsSends, line_to};
 
-use crate::board::WholeBoard;
+use crate::board::{WholeBoard, line_at};
 use crate::names::renamed;
 use mp_match::{Line, Post, Sent};
 use mp_types::Bytes;
@@ -61,7 +61,7 @@ fn has_line(to: &[u64], mine: &[Line], theirs: &[Line], place: usize) -> bool
         ↔ (slice_get theirs.now (renamed_by to.now place) ≡ option_map (line_to to.now) (slice_get mine.now place)) }
 {
     let there = renamed(to, place as u64) as usize;
-    are_lines_to(to, mine.get(place).copied(), theirs.get(there).copied())
+    are_lines_to(to, line_at(mine, place), line_at(theirs, there))
 }
 
 fn is_same_body(a: &Option<Bytes>, b: &Option<Bytes>) -> bool

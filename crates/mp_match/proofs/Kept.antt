@@ -6,6 +6,7 @@ use Rattle.std.specs.Prelude.{Option, Some, None}
 use Rattle.std.specs.List.{slice_get, slice_set}
 use Rattle.std.specs.Option.{is_some}
 use Rattle.std.proofs.Common.{refl, sym, ap, ◌∙◌, subst, arith, length-append}
+use Rattle.std.proofs.lemmas.List.{nil_from_length}
 use Rattle.std.proofs.lemmas.Bool.{cases_eq, eq-eqb, ne_eqb, and_parts, eqb-true}
 use mathlib.Core.Logic.{inl, inr}
 use Rattle.mp_match.specs.declared.posts.Post.{Post}
@@ -42,6 +43,34 @@ stand_same os f g b s same = record {
   bodies = s.bodies;
   live = λ k live h. s.live k live (sym (same k) ∙ h);
   over = λ k line h l. s.over k line (sym (same k) ∙ h) l;
+}
+
+-- ---- no posts
+
+pub record HasNone (b : Board) : Type 0 where
+  pub lines : b.lines ≡ []
+  pub bodies : b.bodies ≡ []
+
+no_lines : (lines : List Line) → [] ≡ owners_of lines → lines ≡ []
+no_lines [] h = refl
+no_lines (line ∷ lines) h = absurd (cc)
+
+-- where nobody made one there are none
+pub has_none : (os : List Owner) (f : Table) (b : Board) → StandFor os f b → os ≡ [] → HasNone b
+has_none os f b s none =
+    let lines : b.lines ≡ [] = no_lines b.lines (sym none ∙ s.owners) in record {
+      lines = lines;
+      bodies = nil_from_length b.bodies (s.bodies ∙ ap (λ (ms : List Line). length ms) lines);
+    }
+
+pub stand_none : (g : Table) (b : Board) → HasNone b → ((k : ℕ) → g k ≡ None) → StandFor [] g b
+stand_none g b none free = record {
+  owners = ap (λ (ms : List Line). owners_of ms) (sym none.lines);
+  bodies = ap (λ (xs : List (Option (List ℕ))). length xs) none.bodies
+      ∙ ap (λ (ms : List Line). length ms) (sym none.lines);
+  live = λ k live h. (let bad : None ≡ Some live = sym (free k) ∙ h in absurd (cc));
+  over = λ k line h l.
+      (let bad : None ≡ Some line = sym (ap (λ (ms : List Line). slice_get ms k) none.lines) ∙ l in absurd (cc));
 }
 
 -- how many receives were compared is nothing that is kept

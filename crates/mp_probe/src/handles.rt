@@ -102,14 +102,10 @@ impl Claims {
         }
         match queues.claim(selection) {
             Ok(Some(envelope)) => {
-                let waiting = Waiting {
+                self.waiting.push_reserved(Waiting {
                     message,
                     rank: selection.rank,
-                };
-                match self.waiting.push(waiting) {
-                    Ok(()) => {}
-                    Err(_) => unreachable!(),
-                }
+                });
                 Ok(Some((message, envelope)))
             }
             Ok(None) => Ok(None),

@@ -35,12 +35,16 @@ impl HubState {
         requires held { AreHeld (board_in parts.now) parts.now.claims.now }
         ensures { IfOk result (λ hub. hub ≡ hub_in parts.now) }
     {
+        let links = Vec::from_slice(alloc, parts.links)?;
+        let sides = Vec::from_slice(alloc, parts.sides)?;
+        let claims = Claims::of(alloc, parts.claims)?;
+        let queues = Queues::of(alloc, parts.lines, parts.bodies, parts.compared)?;
         Ok(HubState {
             alloc,
-            links: Vec::from_slice(alloc, parts.links)?,
-            queues: Queues::of(alloc, parts.lines, parts.bodies, parts.compared)?,
-            claims: Claims::of(alloc, parts.claims)?,
-            sides: Vec::from_slice(alloc, parts.sides)?,
+            links,
+            queues,
+            claims,
+            sides,
         })
     }
 }

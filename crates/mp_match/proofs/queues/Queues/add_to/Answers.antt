@@ -5,7 +5,7 @@ use Rattle.mp_match.specs.Board.{Board, compared_after}
 use Rattle.mp_match.specs.Live.{kept}
 use Rattle.mp_match.specs.InnerLive.{entered, owners_with}
 use Rattle.mp_match.proofs.Asked.{next_none, owners_length, post_waits}
-use Rattle.mp_match.proofs.Kept.{stand_add}
+use Rattle.mp_match.proofs.Kept.{stand_add, stand_same}
 use Rattle.mp_match.proofs.Rows.{held_snoc, held_below, one_held}
 use Rattle.mp_match.proofs.queues.Queues.add_to.Goals as goal
 
@@ -31,6 +31,21 @@ overflow_add-self c =
     let i = c.self.invariant in
     let m = (i.0).bodies in
     omega (arith, a, b, n, m, c.requires.few, c.count_of-more.ensures, i.1)
+
+pub invariant_of-self : goal.invariant_of-self
+invariant_of-self c = rw c.in_err-reserve.ensures.items c.self.invariant
+
+pub invariant_of-self-in_err-enter : goal.invariant_of-self-in_err-enter
+invariant_of-self-in_err-enter c =
+    let i = c.self.invariant in
+    rw c.in_ok-reserve.ensures.items (
+      stand_same c.self.inside.owners.items (kept c.self.inside.table.map) (kept c.enter.new.table.map)
+          c.self.inside.history.board i.0 c.in_err-enter.ensures.err_table,
+      i.1,
+      i.2,
+      c.in_err-enter.ensures.err_messages,
+      c.in_err-enter.ensures.err_receives,
+    )
 
 pub invariant_of-self-2 : goal.invariant_of-self-2
 invariant_of-self-2 c =
