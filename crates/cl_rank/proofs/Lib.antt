@@ -28,3 +28,4 @@ pub mod Unstepped
 pub mod QuickReceives
 pub mod QuickSends
 pub mod Same
+pub mod SameEnds
