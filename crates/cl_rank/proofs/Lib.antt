@@ -6,6 +6,7 @@ pub mod Boxes
 pub mod Called
 pub mod Clocks
 pub mod Ends
+pub mod Found
 pub mod HartSteps
 pub mod Kept
 pub mod Keys
@@ -28,3 +29,4 @@ pub mod Unstepped
 pub mod QuickReceives
 pub mod QuickSends
 pub mod Same
+pub mod SameEnds

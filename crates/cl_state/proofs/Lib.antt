@@ -11,6 +11,7 @@ pub mod Phases
 pub mod Places
 pub mod Polled
 pub mod Posts
+pub mod Read
 pub mod Ready
 pub mod Starts
 pub mod Stepped

@@ -15,10 +15,9 @@ impl RankState {
         ensures harts { IfOk result (λ core. core.harts.items ≡ self.now.harts.items) }
         ensures count { IfOk result (λ core. vec_len core.harts ≡ vec_len self.now.harts) }
     {
-        Ok(Core {
-            memory: self.memory.try_copy(alloc)?,
-            harts: Vec::from_slice(alloc, self.harts.as_slice())?,
-        })
+        let harts = Vec::from_slice(alloc, self.harts.as_slice())?;
+        let memory = self.memory.try_copy(alloc)?;
+        Ok(Core { memory, harts })
     }
 
     /// The requests and the phases, copied.
@@ -26,10 +25,9 @@ impl RankState {
         ensures requests { IfOk result (λ transfers. transfers.requests ≡ self.now.requests) }
         ensures phases { IfOk result (λ transfers. transfers.phases ≡ self.now.phases) }
     {
-        Ok(Transfers {
-            requests: self.requests.try_copy(alloc)?,
-            phases: self.phases.try_copy(alloc)?,
-        })
+        let phases = self.phases.try_copy(alloc)?;
+        let requests = self.requests.try_copy(alloc)?;
+        Ok(Transfers { requests, phases })
     }
 
     /// The same rank in memory of its own: the same parts, output and clock. What `room` made for the next turn isn't
@@ -38,10 +36,11 @@ impl RankState {
         ensures copy { IfOk result (λ copy. rank_of copy ≡ rank_of self.now) }
         ensures harts { IfOk result (λ copy. vec_len copy.harts ≡ vec_len self.now.harts) }
     {
+        let out = Vec::from_slice(alloc, self.out.as_slice())?;
+        let transfers = self.copy_transfers(alloc)?;
         let site = self.site.try_copy(alloc)?;
         let core = self.copy_core(alloc)?;
-        let transfers = self.copy_transfers(alloc)?;
         let copy = RankState::of(alloc, site, core, transfers);
-        copy.at(alloc, self.out.as_slice(), self.clock)
+        Ok(copy.at(out, self.clock))
     }
 }

@@ -55,7 +55,6 @@ fn checked(standing: &Standing, hart: &Hart) -> Doing
 
 impl Doing {
     /// What the next turn of a hart is, of a rank that stands so, with as many bytes of output.
-    #[tactic(auto, unfolding(crate::specs::Asked::doing))]
     pub fn of(standing: &Standing, hart: &Hart) -> Doing
         ensures doing { (out : List ℕ) → length out ≡ standing.now.written
             → result ≡ doing_of standing.now.site.now (part_on standing.now hart.now out) }

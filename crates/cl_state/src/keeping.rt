@@ -83,11 +83,10 @@ impl Copied {
         ensures phases { IfOk result (λ copied. copied.phases ≡ rank.now.phases) }
         ensures out { IfOk result (λ copied. copied.out.items ≡ rank.now.out.items) }
     {
-        Ok(Copied {
-            harts: Vec::from_slice(alloc, rank.harts.as_slice())?,
-            phases: rank.phases.try_copy(alloc)?,
-            out: Vec::from_slice(alloc, rank.out.as_slice())?,
-        })
+        let out = Vec::from_slice(alloc, rank.out.as_slice())?;
+        let harts = Vec::from_slice(alloc, rank.harts.as_slice())?;
+        let phases = rank.phases.try_copy(alloc)?;
+        Ok(Copied { harts, phases, out })
     }
 }
 
@@ -104,13 +103,14 @@ impl KeptBody {
     ) -> Result<KeptBody, AllocError>
         ensures { IfOk result (λ body. IsBodyOf body (rank_of rank.now)) }
     {
+        let requests = keep_requests(alloc, &rank.requests, earlier)?;
+        let copied = Copied::of(alloc, rank)?;
         let before = match earlier {
             Some(kept) => Some(&kept.memory),
             None => None,
         };
         let memory = rank.memory.keep(alloc, before)?;
-        let requests = keep_requests(alloc, &rank.requests, earlier)?;
-        let Copied { harts, phases, out } = Copied::of(alloc, rank)?;
+        let Copied { harts, phases, out } = copied;
         Ok(KeptBody {
             memory,
             harts,
@@ -166,10 +166,9 @@ impl KeptBody {
         ensures memory { IfOk result (λ core. core.memory ≡ self.now.memory) }
         ensures harts { IfOk result (λ core. core.harts.items ≡ self.now.harts.items) }
     {
-        Ok(Core {
-            memory: self.memory.live(alloc)?,
-            harts: Vec::from_slice(alloc, self.harts.as_slice())?,
-        })
+        let harts = Vec::from_slice(alloc, self.harts.as_slice())?;
+        let memory = self.memory.live(alloc)?;
+        Ok(Core { memory, harts })
     }
 
     /// The requests and the phases, in memory of their own.
@@ -177,10 +176,9 @@ impl KeptBody {
         ensures requests { IfOk result (λ transfers. transfers.requests ≡ self.now.requests.value) }
         ensures phases { IfOk result (λ transfers. transfers.phases ≡ self.now.phases) }
     {
-        Ok(Transfers {
-            requests: self.requests.live(alloc)?,
-            phases: self.phases.try_copy(alloc)?,
-        })
+        let phases = self.phases.try_copy(alloc)?;
+        let requests = self.requests.live(alloc)?;
+        Ok(Transfers { requests, phases })
     }
 }
 
@@ -193,11 +191,13 @@ impl KeptRank {
     pub fn live(&self, alloc: Global) -> Result<RankState, AllocError>
         ensures { IfOk result (λ rank. rank_of rank ≡ self.now) }
     {
+        let body = &*self.body;
+        let out = Vec::from_slice(alloc, body.out.as_slice())?;
+        let transfers = body.live_transfers(alloc)?;
         let site = self.site.try_copy(alloc)?;
-        let core = self.body.live_core(alloc)?;
-        let transfers = self.body.live_transfers(alloc)?;
+        let core = body.live_core(alloc)?;
         let rank = RankState::of(alloc, site, core, transfers);
-        rank.at(alloc, self.body.out.as_slice(), self.clock)
+        Ok(rank.at(out, self.clock))
     }
 
     /// The harts, in order of their numbers.
@@ -237,9 +237,11 @@ impl RankState {
             Some(kept) => Some(&kept.body),
             None => None,
         };
+        let body = KeptBody::keep(alloc, self, before)?;
+        let site = self.site.try_copy(alloc)?;
         Ok(KeptRank {
-            site: self.site.try_copy(alloc)?,
-            body: KeptBody::keep(alloc, self, before)?,
+            site,
+            body,
             clock: self.clock,
         })
     }

@@ -79,11 +79,13 @@ fn site(alloc: Global, parts: &ImageParts, rank: u8) -> Result<Site, AllocError>
     requires { IsImage parts.now }
     ensures { IfOk result (λ site. site ≡ site_of parts.now rank) }
 {
+    let links = parts.links.try_copy(alloc)?;
+    let comms = all_comms(alloc, parts.ranks, &parts.comms)?;
     Ok(Site {
         number: rank,
         ranks: parts.ranks,
-        comms: all_comms(alloc, parts.ranks, &parts.comms)?,
-        links: parts.links.try_copy(alloc)?,
+        comms,
+        links,
         version: parts.version,
     })
 }
@@ -96,10 +98,9 @@ fn first_core(alloc: Global, parts: &ImageParts, rank: u8) -> Result<Core, Alloc
     ensures harts { IfOk result (λ core. core.harts.items ≡ start_harts parts.now rank parts.now.harts) }
     ensures count { IfOk result (λ core. vec_len core.harts ≡ parts.now.harts) }
 {
-    Ok(Core {
-        memory: memory(alloc, parts)?,
-        harts: all_harts(alloc, parts, rank)?,
-    })
+    let harts = all_harts(alloc, parts, rank)?;
+    let memory = memory(alloc, parts)?;
+    Ok(Core { memory, harts })
 }
 
 /// No requests, and the phases of a rank as they begin.
@@ -107,10 +108,9 @@ fn first_transfers(alloc: Global, links: &Links, rank: u8) -> Result<Transfers, 
     ensures requests { IfOk result (λ transfers. transfers.requests ≡ no_requests) }
     ensures phases { IfOk result (λ transfers. transfers.phases ≡ first_phases links.now rank) }
 {
-    Ok(Transfers {
-        requests: Requests::new(alloc)?,
-        phases: Phases::of(alloc, links, rank)?,
-    })
+    let phases = Phases::of(alloc, links, rank)?;
+    let requests = Requests::new(alloc)?;
+    Ok(Transfers { requests, phases })
 }
 
 impl RankState {
@@ -122,9 +122,9 @@ impl RankState {
         ensures harts { IfOk result (λ state. vec_len state.harts ≡ image.now.harts) }
     {
         let parts = image.parts();
+        let transfers = first_transfers(alloc, &parts.links, rank)?;
         let site = site(alloc, parts, rank)?;
         let core = first_core(alloc, parts, rank)?;
-        let transfers = first_transfers(alloc, &parts.links, rank)?;
         Ok(RankState::of(alloc, site, core, transfers))
     }
 

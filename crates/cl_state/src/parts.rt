@@ -1,6 +1,6 @@
 //! The parts of a rank, two by two.
 
-ghost use Rattle.std.specs.Prelude.{◌≡◌, [], vec_len, IfOk};
+ghost use Rattle.std.specs.Prelude.{◌≡◌, [], vec_len};
 
 use crate::state::{RankParts, RankState};
 use cl_calls::Site;
@@ -9,7 +9,7 @@ use mp_types::Stamp;
 use part_phase::Phases;
 use rv_hart::Hart;
 use rv_memory::RankMemory;
-use std::alloc::{AllocError, Global};
+use std::alloc::Global;
 
 /// A rank's memory and its harts.
 #[derive(Drop)]
@@ -54,23 +54,14 @@ impl RankState {
         RankState::new(alloc, parts)
     }
 
-    /// The same rank with a copy of this output, at this clock. The only error is want of memory.
-    pub(crate) fn at(self, alloc: Global, out: &[u8], clock: Stamp) -> Result<RankState, AllocError>
-        ensures rank { IfOk result (λ rank. rank_of rank
-            ≡ record {
-              site = self.site;
-              memory = self.memory;
-              harts = self.harts.items;
-              requests = self.requests;
-              phases = self.phases;
-              out = out.now;
-              clock = clock;
-            }) }
-        ensures harts { IfOk result (λ rank. vec_len rank.harts ≡ vec_len self.harts) }
+    /// The same rank with this output, at this clock.
+    pub(crate) fn at(self, out: Vec<u8>, clock: Stamp) -> RankState
+        ensures rank { rank_of result ≡ record (rank_of self) { out = out.items; clock = clock } }
+        ensures harts { vec_len result.harts ≡ vec_len self.harts }
     {
         let mut rank = self;
-        rank.out = Vec::from_slice(alloc, out)?;
+        rank.out = out;
         rank.clock = clock;
-        Ok(rank)
+        rank
     }
 }

@@ -1,3 +1,6 @@
+use Rattle.std.proofs.Common.{◌<◌, subst, sym}
+use Rattle.std.proofs.lemmas.Option.{slice_get_within}
+use Rattle.cl_rank.proofs.Found.{not_missing, place_within}
 use Rattle.cl_rank.proofs.Stepped.{at_found, taken_so}
 use Rattle.cl_rank.proofs.sides.take.Goals as goal
 
@@ -13,3 +16,17 @@ returns c =
           c.index_mut.ensures.value c.next-kept.ensures.kept took.2 took.3 took.4 c.in-Ok.ensures.own
           c.in-Ok.ensures.stamp;
     }
+
+pub unreachable-requires : goal.unreachable-requires
+unreachable-requires c =
+    not_missing c.args.place.link _ c.args.recvs.now.items c.find.result c.as_slice.ensures.value c.find.ensures c.requires.may.at.side
+    c.in_default.is c.requires.may.at.there
+
+pub index_mut-requires : goal.index_mut-requires
+index_mut-requires c =
+    subst (λ n. c.in-Some.at < n) (sym c.args.recvs.now.ok.0)
+    (place_within c.args.place.link _ c.args.recvs.now.items c.find.result c.as_slice.ensures.value c.find.ensures c.in-Some.at
+    c.in-Some.is)
+
+pub bounds-channels-place : goal.bounds-channels-place
+bounds-channels-place c = slice_get_within c.args.channels.now c.args.place.link c.requires.may.at.channel c.requires.may.at.joins

@@ -1,6 +1,8 @@
+use Rattle.std.proofs.Common.{refl}
 use Rattle.cl_state.specs.declared.state.RankState.{RankState}
 use Rattle.cl_rank.specs.QuickReceives.{Receives}
 use Rattle.cl_rank.proofs.QuickReceives.{has_room}
+use Rattle.cl_rank.proofs.SameEnds.{same_ends}
 use Rattle.cl_rank.proofs.ranks.Rank.slow_turn.Goals as goal
 
 pub receive-requires-clause-may : goal.receive-requires-clause-may
@@ -17,3 +19,18 @@ receive-requires-clause-may g c =
       turn = turn;
       room = has_room new c.args.hart it.receiving it.request turn c.new-in-Some-received.ensures.items;
     }
+
+pub returns-in-Some : goal.returns-in-Some
+returns-in-Some g c =
+    same_ends g.D.Desk.gives c.args.hart c.args.self.now c.args.channels.now _ refl refl refl c.send.result
+    c.send.new.self c.args.desk.now c.send.new.desk (c.send.ensures c.args.channels.now c.requires.own)
+
+pub returns-in-Some-received : goal.returns-in-Some-received
+returns-in-Some-received g c =
+    same_ends g.D.Desk.gives c.args.hart c.args.self.now c.args.channels.now _ refl refl refl c.receive.result
+    c.receive.new.self c.args.desk.now c.receive.new.desk (c.receive.ensures c.args.channels.now c.requires.own)
+
+pub returns : goal.returns
+returns g c =
+    same_ends g.D.Desk.gives c.args.hart c.args.self.now c.args.channels.now _ refl refl refl c.worked_turn.result
+    c.worked_turn.new.self c.args.desk.now c.worked_turn.new.desk c.worked_turn.ensures
