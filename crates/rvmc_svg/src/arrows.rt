@@ -2,11 +2,13 @@
 
 ghost use Rattle.std.specs.Prelude.{◌≡◌, ◌++◌, OnOk, codes};
 ghost use Rattle.rvmc_svg.specs.Adding.{Adds, AddsIf, is_could as is_could_of, is_wanted as is_wanted_of};
-ghost use Rattle.rvmc_svg.specs.Titles.{arrow_title, cargo_text, arrow_end_text, spot_text};
+ghost use Rattle.rvmc_svg.specs.Titles.{arrow_title, cargo_text, arrow_end_text, sent_text, spot_text};
 
 use crate::labels::Places;
 use crate::layout::{Layout, TOP, rank_at};
-use crate::marks::{put_across, put_titled};
+use crate::marks::put_titled;
+use crate::pieces::Piece::{Across, Number, Rank, Words};
+use crate::pieces::put;
 use rvmc_draw::{Arrow, Carried, Drawing, Spot};
 use std::alloc::Global;
 use std::io;
@@ -21,31 +23,35 @@ struct Line {
     to_row: u64,
 }
 
-/// Adds the closed head of a sender's arrows.
-fn put_closed(text: &mut Vec<u8>, rank: u8) -> io::Result<()> {
-    writeln!(
-        text,
-        "<marker id=\"h{rank}\" refX=\"13\" refY=\"4\" markerWidth=\"9\" markerHeight=\"8\" markerUnits=\"userSpaceOnUse\" orient=\"auto\"><path class=\"f{rank}\" d=\"M0,.6L8,4L0,7.4z\"/></marker>"
-    )
-}
+/// The heads of a sender's arrows: the closed one, and the open one.
+const HEADS: &str = "\
+<marker id=\"h{}\" refX=\"13\" refY=\"4\" markerWidth=\"9\" markerHeight=\"8\" markerUnits=\"userSpaceOnUse\" orient=\"auto\"><path class=\"f{}\" d=\"M0,.6L8,4L0,7.4z\"/></marker>
+<marker id=\"o{}\" refX=\"8\" refY=\"4\" markerWidth=\"9\" markerHeight=\"8\" markerUnits=\"userSpaceOnUse\" orient=\"auto\"><path class=\"s{} none\" d=\"M1,.8L8,4L1,7.2\"/></marker>
+";
 
-/// Adds the open one.
-fn put_open(text: &mut Vec<u8>, rank: u8) -> io::Result<()> {
-    writeln!(
+/// Adds them.
+fn put_both(text: &mut Vec<u8>, rank: u8) -> io::Result<()> {
+    put(
         text,
-        "<marker id=\"o{rank}\" refX=\"8\" refY=\"4\" markerWidth=\"9\" markerHeight=\"8\" markerUnits=\"userSpaceOnUse\" orient=\"auto\"><path class=\"s{rank} none\" d=\"M1,.8L8,4L1,7.2\"/></marker>"
+        HEADS,
+        &[Rank(rank), Rank(rank), Rank(rank), Rank(rank)],
     )
 }
 
 /// Adds the heads that each sender's arrows have.
 pub(crate) fn put_heads(text: &mut Vec<u8>, ranks: u8) -> io::Result<()> {
-    text.extend_from_slice(b"<defs>\n")?;
+    put(text, "<defs>\n", &[])?;
     for rank in 0..ranks {
-        put_closed(text, rank)?;
-        put_open(text, rank)?;
+        put_both(text, rank)?;
     }
-    text.extend_from_slice(b"</defs>\n")?;
-    Ok(())
+    put(text, "</defs>\n", &[])
+}
+
+/// Adds what is told of a message, behind these words.
+fn put_sent(text: &mut Vec<u8>, words: &str, tag: u16, count: u16) -> io::Result<()>
+    ensures { OnOk result (text.new.items ≡ text.old.items ++ (words.now ++ sent_text tag count)) }
+{
+    write!(text, "{words}tag {tag}, {count} bytes")
 }
 
 /// What is told of what it carries.
@@ -53,11 +59,9 @@ fn put_carried(text: &mut Vec<u8>, carried: &Carried) -> io::Result<()>
     ensures { OnOk result (text.new.items ≡ text.old.items ++ cargo_text carried.now) }
 {
     match carried {
-        Carried::Message { tag, count } => write!(text, "tag {tag}, {count} bytes"),
-        Carried::Claim { tag, count } => write!(text, "claimed, tag {tag}, {count} bytes"),
-        Carried::Could { tag, count } => {
-            write!(text, "could have been taken, tag {tag}, {count} bytes")
-        }
+        Carried::Message { tag, count } => put_sent(text, "", *tag, *count),
+        Carried::Claim { tag, count } => put_sent(text, "claimed, ", *tag, *count),
+        Carried::Could { tag, count } => put_sent(text, "could have been taken, ", *tag, *count),
         Carried::Partition { link, part, phase } => {
             write!(text, "link {link} partition {part} phase {phase}")
         }
@@ -120,65 +124,58 @@ fn head_of(arrow: &Arrow) -> &'static str {
     }
 }
 
-/// Adds the head's name.
+/// Adds the head's name, and the end of the shape that has it.
 fn put_head(text: &mut Vec<u8>, arrow: &Arrow) -> io::Result<()> {
     let head = head_of(arrow);
     if head.is_empty() {
-        return Ok(());
+        return put(text, "/>", &[]);
     }
-    let rank = arrow.from.rank;
-    write!(text, " marker-end=\"url(#{head}{rank})\"")
-}
-
-/// Adds where a line begins and ends.
-fn put_ends(text: &mut Vec<u8>, line: &Line) -> io::Result<()> {
-    let Line {
-        from_row,
-        to_row,
-        ..
-    } = *line;
-    put_across(text, line.from)?;
-    write!(text, "\" y1=\"{from_row}\" x2=\"")?;
-    put_across(text, line.to)?;
-    write!(text, "\" y2=\"{to_row}\"")
+    put(
+        text,
+        " marker-end=\"url(#{}{})\"/>",
+        &[Words(head), Rank(arrow.from.rank)],
+    )
 }
 
 /// Adds a line from one lane to another.
 fn put_straight(text: &mut Vec<u8>, arrow: &Arrow, line: &Line) -> io::Result<()> {
-    let class = class_of(arrow);
-    let rank = arrow.from.rank;
-    write!(text, "<line class=\"{class} s{rank}\" x1=\"")?;
-    put_ends(text, line)?;
-    put_head(text, arrow)?;
-    text.extend_from_slice(b"/>")?;
-    Ok(())
-}
-
-/// Adds where a bow begins.
-fn put_begin(text: &mut Vec<u8>, line: &Line) -> io::Result<()> {
-    let from_row = line.from_row;
-    text.extend_from_slice(b"<svg overflow=\"visible\" x=\"")?;
-    put_across(text, line.from)?;
-    write!(text, "\" y=\"{from_row}\">")
-}
-
-/// Adds its way, so far down.
-fn put_bend(text: &mut Vec<u8>, arrow: &Arrow, down: u64) -> io::Result<()> {
-    let class = class_of(arrow);
-    let rank = arrow.from.rank;
-    write!(
+    put(
         text,
-        "<path class=\"{class} s{rank}\" d=\"M0,0C26,0 26,{down} 0,{down}\""
+        "<line class=\"{} s{}\" x1=\"{}\" y1=\"{}\" x2=\"{}\" y2=\"{}\"",
+        &[
+            Words(class_of(arrow)),
+            Rank(arrow.from.rank),
+            Across(line.from),
+            Number(line.from_row),
+            Across(line.to),
+            Number(line.to_row),
+        ],
+    )?;
+    put_head(text, arrow)
+}
+
+/// Adds where a bow begins, and its way down.
+fn put_bend(text: &mut Vec<u8>, arrow: &Arrow, line: &Line) -> io::Result<()> {
+    let down = line.to_row.saturating_sub(line.from_row);
+    put(
+        text,
+        "<svg overflow=\"visible\" x=\"{}\" y=\"{}\"><path class=\"{} s{}\" d=\"M0,0C26,0 26,{} 0,{}\"",
+        &[
+            Across(line.from),
+            Number(line.from_row),
+            Words(class_of(arrow)),
+            Rank(arrow.from.rank),
+            Number(down),
+            Number(down),
+        ],
     )
 }
 
 /// Adds a bow beside a lane.
 fn put_bow(text: &mut Vec<u8>, arrow: &Arrow, line: &Line) -> io::Result<()> {
-    put_begin(text, line)?;
-    put_bend(text, arrow, line.to_row.saturating_sub(line.from_row))?;
+    put_bend(text, arrow, line)?;
     put_head(text, arrow)?;
-    text.extend_from_slice(b"/></svg>")?;
-    Ok(())
+    put(text, "</svg>", &[])
 }
 
 /// A part of the way from one to the other, in hundredths.
@@ -218,10 +215,11 @@ fn line_of(layout: &Layout<'_>, arrow: &Arrow) -> Line {
 
 /// Adds the number of a step beside an arrow's end.
 fn put_number(text: &mut Vec<u8>, at: u64, row: u64, place: u64) -> io::Result<()> {
-    let down = row.saturating_add(3);
-    text.extend_from_slice(b"<text class=\"dim halo\" font-size=\"9\" dx=\"5\" x=\"")?;
-    put_across(text, at)?;
-    write!(text, "\" y=\"{down}\">{place}</text>")
+    put(
+        text,
+        "<text class=\"dim halo\" font-size=\"9\" dx=\"5\" x=\"{}\" y=\"{}\">{}</text>",
+        &[Across(at), Number(row.saturating_add(3)), Number(place)],
+    )
 }
 
 /// Adds at the border the number of a step that isn't shown.
@@ -231,7 +229,7 @@ fn put_border(text: &mut Vec<u8>, drawing: &Drawing, line: &Line, arrow: &Arrow)
     }
     if let Some(to) = arrow.to {
         if to.place >= drawing.to {
-            put_number(text, line.to, line.to_row, to.place)?;
+            return put_number(text, line.to, line.to_row, to.place);
         }
     }
     Ok(())
@@ -249,11 +247,10 @@ fn put_line(text: &mut Vec<u8>, arrow: &Arrow, line: &Line) -> io::Result<()> {
 /// Adds what stands behind an arrow's title: its line, and the numbers at the border.
 fn put_drawn(text: &mut Vec<u8>, layout: &Layout<'_>, arrow: &Arrow) -> io::Result<()> {
     let line = line_of(layout, arrow);
-    text.extend_from_slice(b"</title>")?;
+    put(text, "</title>", &[])?;
     put_line(text, arrow, &line)?;
     put_border(text, layout.drawing, &line, arrow)?;
-    text.extend_from_slice(b"</g>\n")?;
-    Ok(())
+    put(text, "</g>\n", &[])
 }
 
 /// Adds an arrow.
@@ -311,30 +308,23 @@ fn put_wanted(
     Ok(())
 }
 
-/// Those that tell of what could have been taken, or the others.
-fn wanted(
+/// Adds those that tell of what could have been taken, or the others.
+fn put_those(
     alloc: Global,
+    text: &mut Vec<u8>,
     layout: &Layout<'_>,
     could: bool,
-    arrows: &[Arrow],
-) -> io::Result<Vec<u8>> {
-    let mut text = Vec::new(alloc);
-    for arrow in arrows {
-        put_wanted(alloc, &mut text, layout, could, arrow)?;
+) -> io::Result<()> {
+    for arrow in layout.drawing.arrows.as_slice() {
+        put_wanted(alloc, text, layout, could, arrow)?;
     }
-    Ok(text)
+    Ok(())
 }
 
-/// All arrows. Those that tell of what could have been taken lie below the others.
-pub(crate) fn all_arrows(
-    alloc: Global,
-    layout: &Layout<'_>,
-    arrows: &[Arrow],
-) -> io::Result<Vec<u8>> {
-    let mut text = wanted(alloc, layout, true, arrows)?;
-    let above = wanted(alloc, layout, false, arrows)?;
-    text.extend_from_slice(above.as_slice())?;
-    Ok(text)
+/// Adds all arrows. Those that tell of what could have been taken lie below the others.
+pub(crate) fn put_arrows(alloc: Global, text: &mut Vec<u8>, layout: &Layout<'_>) -> io::Result<()> {
+    put_those(alloc, text, layout, true)?;
+    put_those(alloc, text, layout, false)
 }
 
 /// The tag and the size of a message, if it is one.
@@ -373,12 +363,17 @@ static TRIED: [u64; 4] = [18, 32, 50, 68];
 /// Adds a message's tag and size at this place.
 fn put_kind(text: &mut Vec<u8>, at: u64, row: u64, rank: u8, kind: (u16, u16)) -> io::Result<()> {
     let (tag, count) = kind;
-    write!(
+    put(
         text,
-        "<text class=\"f{rank} halo wide\" font-size=\"9.5\" text-anchor=\"middle\" x=\""
-    )?;
-    put_across(text, at)?;
-    writeln!(text, "\" y=\"{row}\">t{tag} {count}B</text>")
+        "<text class=\"f{} halo wide\" font-size=\"9.5\" text-anchor=\"middle\" x=\"{}\" y=\"{}\">t{} {}B</text>\n",
+        &[
+            Rank(rank),
+            Across(at),
+            Number(row),
+            Number(u64::from(tag)),
+            Number(u64::from(count)),
+        ],
+    )
 }
 
 /// Adds a message's tag and size beside its arrow, where there is room.
@@ -405,19 +400,23 @@ static LOWER: [u64; 3] = [4, 16, 28];
 
 /// Adds at an open head that nobody got the message, in this row.
 fn put_not_got(text: &mut Vec<u8>, line: &Line, arrow: &Arrow, row: u64) -> io::Result<()> {
-    let rank = arrow.from.rank;
-    let dest = arrow.dest;
     let (anchor, dx) = if line.to >= line.from {
         ("start", "4")
     } else {
         ("end", "-4")
     };
-    write!(
+    put(
         text,
-        "<text class=\"f{rank} halo wide\" font-size=\"9.5\" text-anchor=\"{anchor}\" dx=\"{dx}\" x=\""
-    )?;
-    put_across(text, line.to)?;
-    writeln!(text, "\" y=\"{row}\">to {dest}: not got</text>")
+        "<text class=\"f{} halo wide\" font-size=\"9.5\" text-anchor=\"{}\" dx=\"{}\" x=\"{}\" y=\"{}\">to {}: not got</text>\n",
+        &[
+            Rank(arrow.from.rank),
+            Words(anchor),
+            Words(dx),
+            Across(line.to),
+            Number(row),
+            Rank(arrow.dest),
+        ],
+    )
 }
 
 /// Where that begins: behind the head.
@@ -467,7 +466,7 @@ fn put_label_of(
     if let Some(kind) = message_of(arrow) {
         let line = line_of(layout, arrow);
         if line.from != line.to && arrow.to.is_some() {
-            put_label(text, places, &line, arrow.from.rank, kind)?;
+            return put_label(text, places, &line, arrow.from.rank, kind);
         }
     }
     Ok(())

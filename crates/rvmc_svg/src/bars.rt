@@ -2,33 +2,31 @@
 
 use crate::labels::Places;
 use crate::layout::{Layout, TOP};
-use crate::marks::{put_across, put_count};
+use crate::marks::put_count;
+use crate::pieces::Piece::{Across, Hart, Number, Rank, Words};
+use crate::pieces::put;
 use rvmc_draw::Bar;
 use std::io;
-use std::io::Write;
 
-/// Where it ends.
-fn put_end(text: &mut Vec<u8>, bar: &Bar) -> io::Result<()> {
-    let last = bar.last;
-    if bar.went_on {
-        write!(text, "step {last}")
-    } else {
-        write!(text, "the end")
-    }
-}
-
-/// What is told of a bar.
+/// Adds what is told of a bar.
 fn put_title(text: &mut Vec<u8>, bar: &Bar) -> io::Result<()> {
-    let first = bar.first.place;
-    let looks = bar.looks;
-    let rank = bar.first.rank;
-    let hart = bar.first.hart;
-    write!(
+    let (end, last) = if bar.went_on {
+        (Words("step "), Number(bar.last))
+    } else {
+        (Words("the end"), Words(""))
+    };
+    put(
         text,
-        "<title>rank {rank} hart {hart} waits from step {first} to "
-    )?;
-    put_end(text, bar)?;
-    write!(text, ": {looks} looks in vain</title>")
+        "<g><title>rank {} hart {} waits from step {} to {}{}: {} looks in vain</title>",
+        &[
+            Rank(bar.first.rank),
+            Hart(bar.first.hart),
+            Number(bar.first.place),
+            end,
+            last,
+            Number(bar.looks),
+        ],
+    )
 }
 
 /// The least number of looks that is written beside a bar.
@@ -46,12 +44,11 @@ fn foot_of(layout: &Layout<'_>, bar: &Bar) -> u64 {
 /// Adds a bar's shape, so far across and down, and so high.
 fn put_shape(text: &mut Vec<u8>, bar: &Bar, at: u64, above: u64, high: u64) -> io::Result<()> {
     let class = if bar.went_on { "wait" } else { "ever" };
-    write!(
+    put(
         text,
-        "<rect class=\"{class}\" rx=\"2\" width=\"6\" transform=\"translate(-3 0)\" x=\""
-    )?;
-    put_across(text, at)?;
-    writeln!(text, "\" y=\"{above}\" height=\"{high}\"/></g>")
+        "<rect class=\"{}\" rx=\"2\" width=\"6\" transform=\"translate(-3 0)\" x=\"{}\" y=\"{}\" height=\"{}\"/></g>\n",
+        &[Words(class), Across(at), Number(above), Number(high)],
+    )
 }
 
 /// Adds a bar.
@@ -64,7 +61,6 @@ fn put_bar(
     let above = layout.row_at(bar.first.place).unwrap_or(TOP);
     let high = foot_of(layout, bar).saturating_sub(above);
     let at = layout.lane_of(bar.first);
-    text.extend_from_slice(b"<g>")?;
     put_title(text, bar)?;
     put_shape(text, bar, at, above, high)?;
     if bar.looks < MANY {

@@ -1,11 +1,10 @@
 //! The end: whom each hart that waits there waits for, and what is told of it.
 
 use crate::layout::{lane_at, rank_at};
-use crate::marks::put_across;
-use crate::safe::put_text;
+use crate::pieces::Piece::{Across, Guest, Hart, Number, Rank, Words};
+use crate::pieces::put;
 use rvmc_draw::{Drawing, Row};
 use std::io;
-use std::io::Write;
 
 /// How far apart two rows are, and two lines.
 const ROW: u64 = 18;
@@ -48,9 +47,11 @@ fn put_head(
 ) -> io::Result<()> {
     let at = rank_at(drawing, rank);
     let name = if at < own { "to-left" } else { "to-right" };
-    write!(text, "<use href=\"#{name}\" class=\"{class}\" x=\"")?;
-    put_across(text, at)?;
-    write!(text, "\" y=\"{down}\"/>")
+    put(
+        text,
+        "<use href=\"#{}\" class=\"{}\" x=\"{}\" y=\"{}\"/>",
+        &[Words(name), Words(class), Across(at), Number(down)],
+    )
 }
 
 /// The least and the greatest of the places of these ranks and this.
@@ -65,38 +66,39 @@ fn reach(drawing: &Drawing, own: u64, awaited: &[u8]) -> (u64, u64) {
     (least, most)
 }
 
-/// The ranks that are waited for.
+/// Adds the ranks that are waited for.
 fn put_awaited(text: &mut Vec<u8>, awaited: &[u8]) -> io::Result<()> {
     if awaited.is_empty() {
-        text.extend_from_slice(b" its own rank")?;
+        return put(text, " its own rank", &[]);
     }
     for rank in awaited {
-        write!(text, " rank {rank}")?;
+        put(text, " rank {}", &[Rank(*rank)])?;
     }
     Ok(())
 }
 
-/// What is told of a row: the ranks that are waited for.
+/// Adds what is told of a row: the ranks that are waited for.
 fn put_title(text: &mut Vec<u8>, row: &Row) -> io::Result<()> {
-    let Row { rank, hart, .. } = row;
-    write!(text, "<title>rank {rank} hart {hart} waits for")?;
+    put(
+        text,
+        "<g><title>rank {} hart {} waits for",
+        &[Rank(row.rank), Hart(row.hart)],
+    )?;
     put_awaited(text, row.awaited.as_slice())?;
-    if row.stuck {
-        text.extend_from_slice(b": in a deadlock")?;
-    }
-    text.extend_from_slice(b"</title>")?;
-    Ok(())
+    let stuck = if row.stuck { ": in a deadlock" } else { "" };
+    put(text, "{}</title>", &[Words(stuck)])
 }
 
 /// Adds that a hart waits for its own rank.
 fn put_itself(text: &mut Vec<u8>, own: u64, down: u64) -> io::Result<()> {
-    text.extend_from_slice(b"<text class=\"dim\" font-size=\"10\" dx=\"9\" x=\"")?;
-    put_across(text, own)?;
-    let down = down.saturating_add(4);
-    write!(text, "\" y=\"{down}\">for its own rank</text>")
+    put(
+        text,
+        "<text class=\"dim\" font-size=\"10\" dx=\"9\" x=\"{}\" y=\"{}\">for its own rank</text>",
+        &[Across(own), Number(down.saturating_add(4))],
+    )
 }
 
-/// Adds a row's line: over the hart's lane and each rank that it waits for.
+/// Adds a row's line, over the hart's lane and each rank that it waits for, and its begin, at the hart's lane.
 fn put_span(
     text: &mut Vec<u8>,
     drawing: &Drawing,
@@ -105,20 +107,21 @@ fn put_span(
     down: u64,
 ) -> io::Result<()> {
     let (least, most) = reach(drawing, own, row.awaited.as_slice());
-    let class = colours_of(row.stuck).line;
-    write!(text, "<line class=\"{class}\" x1=\"")?;
-    put_across(text, least)?;
-    text.extend_from_slice(b"\" x2=\"")?;
-    put_across(text, most)?;
-    write!(text, "\" y1=\"{down}\" y2=\"{down}\"/>")
-}
-
-/// Adds its begin, at the hart's lane.
-fn put_begin(text: &mut Vec<u8>, row: &Row, own: u64, down: u64) -> io::Result<()> {
-    let class = colours_of(row.stuck).begin;
-    write!(text, "<circle class=\"{class}\" r=\"4\" cx=\"")?;
-    put_across(text, own)?;
-    write!(text, "\" cy=\"{down}\"/>")
+    let Colours { line, begin, .. } = colours_of(row.stuck);
+    put(
+        text,
+        "<line class=\"{}\" x1=\"{}\" x2=\"{}\" y1=\"{}\" y2=\"{}\"/><circle class=\"{}\" r=\"4\" cx=\"{}\" cy=\"{}\"/>",
+        &[
+            Words(line),
+            Across(least),
+            Across(most),
+            Number(down),
+            Number(down),
+            Words(begin),
+            Across(own),
+            Number(down),
+        ],
+    )
 }
 
 /// Adds its heads, at each rank that the hart waits for.
@@ -142,29 +145,21 @@ fn put_heads(
 /// Adds a row: from the hart's lane to each rank that it waits for.
 fn put_row(text: &mut Vec<u8>, drawing: &Drawing, row: &Row, down: u64) -> io::Result<()> {
     let own = lane_at(drawing, row.rank, row.hart);
-    text.extend_from_slice(b"<g>")?;
     put_title(text, row)?;
     put_span(text, drawing, row, own, down)?;
-    put_begin(text, row, own, down)?;
     put_heads(text, row, own, down, drawing)?;
-    text.extend_from_slice(b"</g>\n")?;
-    Ok(())
+    put(text, "</g>\n", &[])
 }
 
-/// Adds what the rows are.
-fn put_heading(text: &mut Vec<u8>, down: u64) -> io::Result<()> {
-    let beside = down.saturating_add(3);
-    writeln!(
-        text,
-        "<text class=\"dim\" font-size=\"9\" x=\"3\" y=\"{beside}\">waits for</text>"
-    )
-}
-
-/// Adds the rows, from this one on, and tells where they end.
+/// Adds what the rows are, and the rows, from this one on, and tells where they end.
 pub(crate) fn put_rows(text: &mut Vec<u8>, drawing: &Drawing, from: u64) -> io::Result<u64> {
     let mut down = from;
     if !drawing.rows.is_empty() {
-        put_heading(text, down)?;
+        put(
+            text,
+            "<text class=\"dim\" font-size=\"9\" x=\"3\" y=\"{}\">waits for</text>\n",
+            &[Number(down.saturating_add(3))],
+        )?;
     }
     for row in drawing.rows.as_slice() {
         put_row(text, drawing, row, down)?;
@@ -191,13 +186,11 @@ fn put_line(
     down: u64,
     class: &'static str,
 ) -> io::Result<()> {
-    write!(
+    put(
         text,
-        "<text class=\"{class}\" font-size=\"11\" xml:space=\"preserve\" x=\"{left}\" y=\"{down}\">"
-    )?;
-    put_text(text, line)?;
-    text.extend_from_slice(b"</text>\n")?;
-    Ok(())
+        "<text class=\"{}\" font-size=\"11\" xml:space=\"preserve\" x=\"{}\" y=\"{}\">{}</text>\n",
+        &[Words(class), Number(left), Number(down), Guest(line)],
+    )
 }
 
 /// Whether a line is the verdict on a deadlock.

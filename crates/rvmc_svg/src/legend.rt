@@ -2,9 +2,10 @@
 
 use crate::arrows::shared_kind;
 use crate::marks::shape_name;
+use crate::pieces::Piece::{Number, Words};
+use crate::pieces::put;
 use rvmc_draw::{Carried, Drawing, Shape};
 use std::io;
-use std::io::Write;
 
 /// A row of the legend is so high, and has so many signs.
 const ROW: u64 = 17;
@@ -106,16 +107,16 @@ fn has_claim(drawing: &Drawing) -> bool {
     false
 }
 
-/// Adds what a sign means.
+/// Adds what a sign means, behind the sign.
 fn put_meaning(text: &mut Vec<u8>, pen: &mut Pen, meaning: &'static str) -> io::Result<()> {
     let across = pen.across();
     let down = pen.down().saturating_add(4);
-    writeln!(
-        text,
-        "<text class=\"dim\" font-size=\"10\" dx=\"26\" x=\"{across}%\" y=\"{down}\">{meaning}</text>"
-    )?;
     pen.next();
-    Ok(())
+    put(
+        text,
+        "<text class=\"dim\" font-size=\"10\" dx=\"26\" x=\"{}%\" y=\"{}\">{}</text>\n",
+        &[Number(across), Number(down), Words(meaning)],
+    )
 }
 
 /// Adds the sign of a mark of this shape.
@@ -125,12 +126,14 @@ fn put_shape(
     shape: Shape,
     meaning: &'static str,
 ) -> io::Result<()> {
-    let name = shape_name(shape);
-    let across = pen.across();
-    let down = pen.down();
-    write!(
+    put(
         text,
-        "<use href=\"#{name}\" class=\"f0\" transform=\"translate(14 0)\" x=\"{across}%\" y=\"{down}\"/>"
+        "<use href=\"#{}\" class=\"f0\" transform=\"translate(14 0)\" x=\"{}%\" y=\"{}\"/>",
+        &[
+            Words(shape_name(shape)),
+            Number(pen.across()),
+            Number(pen.down()),
+        ],
     )?;
     put_meaning(text, pen, meaning)
 }
@@ -154,14 +157,16 @@ struct Sign {
 
 /// Adds the sign of a bar.
 fn put_bar(text: &mut Vec<u8>, pen: &mut Pen, sign: Sign) -> io::Result<()> {
-    let Sign { class, meaning } = sign;
-    let across = pen.across();
-    let down = pen.down().saturating_sub(6);
-    write!(
+    put(
         text,
-        "<rect class=\"{class}\" rx=\"2\" width=\"6\" height=\"12\" transform=\"translate(11 0)\" x=\"{across}%\" y=\"{down}\"/>"
+        "<rect class=\"{}\" rx=\"2\" width=\"6\" height=\"12\" transform=\"translate(11 0)\" x=\"{}%\" y=\"{}\"/>",
+        &[
+            Words(sign.class),
+            Number(pen.across()),
+            Number(pen.down().saturating_sub(6)),
+        ],
     )?;
-    put_meaning(text, pen, meaning)
+    put_meaning(text, pen, sign.meaning)
 }
 
 /// Whether there is a receive of any source.
@@ -176,25 +181,22 @@ fn has_wild(drawing: &Drawing) -> bool {
 
 /// Adds the sign of a receive of any source.
 fn put_wild(text: &mut Vec<u8>, pen: &mut Pen) -> io::Result<()> {
-    let across = pen.across();
-    let down = pen.down();
-    write!(
+    put(
         text,
-        "<use href=\"#ring\" transform=\"translate(14 0)\" x=\"{across}%\" y=\"{down}\"/>"
+        "<use href=\"#ring\" transform=\"translate(14 0)\" x=\"{}%\" y=\"{}\"/>",
+        &[Number(pen.across()), Number(pen.down())],
     )?;
     put_meaning(text, pen, "from any rank")
 }
 
 /// Adds the sign of a line that is drawn so.
 fn put_line(text: &mut Vec<u8>, pen: &mut Pen, sign: Sign) -> io::Result<()> {
-    let Sign { class, meaning } = sign;
-    let across = pen.across();
-    let down = pen.down();
-    write!(
+    put(
         text,
-        "<svg overflow=\"visible\" x=\"{across}%\" y=\"{down}\"><path class=\"a thin {class} s0\" d=\"M4,0h18\"/></svg>"
+        "<svg overflow=\"visible\" x=\"{}%\" y=\"{}\"><path class=\"a thin {} s0\" d=\"M4,0h18\"/></svg>",
+        &[Number(pen.across()), Number(pen.down()), Words(sign.class)],
     )?;
-    put_meaning(text, pen, meaning)
+    put_meaning(text, pen, sign.meaning)
 }
 
 /// Whether there is a message.
@@ -207,34 +209,23 @@ fn has_message(drawing: &Drawing) -> bool {
     false
 }
 
-/// Adds what the numbers at the left are.
-fn put_numbers(text: &mut Vec<u8>, down: u64) -> io::Result<()> {
-    writeln!(
-        text,
-        "<text class=\"dim\" font-size=\"10\" x=\"12\" y=\"{down}\">numbers at the left: steps, as in `rvmc debug go=N`</text>"
-    )
-}
-
 /// One byte, or several.
 fn bytes_word(count: u16) -> &'static str {
     if count == 1 { "byte" } else { "bytes" }
 }
 
-/// Adds how a message is told.
-fn put_example(text: &mut Vec<u8>, down: u64) -> io::Result<()> {
-    writeln!(
-        text,
-        "<text class=\"dim wide\" font-size=\"10\" x=\"12\" y=\"{down}\">t7 8B: a message with tag 7 and 8 bytes</text>"
-    )
-}
-
 /// Adds what all messages share.
 fn put_shared(text: &mut Vec<u8>, down: u64, kind: (u16, u16)) -> io::Result<()> {
     let (tag, count) = kind;
-    let bytes = bytes_word(count);
-    writeln!(
+    put(
         text,
-        "<text class=\"dim\" font-size=\"10\" x=\"12\" y=\"{down}\">each message: tag {tag}, {count} {bytes}</text>"
+        "<text class=\"dim\" font-size=\"10\" x=\"12\" y=\"{}\">each message: tag {}, {} {}</text>\n",
+        &[
+            Number(down),
+            Number(u64::from(tag)),
+            Number(u64::from(count)),
+            Words(bytes_word(count)),
+        ],
     )
 }
 
@@ -244,7 +235,11 @@ fn put_kind(text: &mut Vec<u8>, drawing: &Drawing, down: u64) -> io::Result<u64>
         return Ok(down);
     }
     match shared_kind(drawing.arrows.as_slice()) {
-        None => put_example(text, down)?,
+        None => put(
+            text,
+            "<text class=\"dim wide\" font-size=\"10\" x=\"12\" y=\"{}\">t7 8B: a message with tag 7 and 8 bytes</text>\n",
+            &[Number(down)],
+        )?,
         Some(kind) => put_shared(text, down, kind)?,
     }
     Ok(down.saturating_add(LINE))
@@ -314,7 +309,11 @@ fn put_signs(text: &mut Vec<u8>, drawing: &Drawing, pen: &mut Pen) -> io::Result
 /// Adds the legend, from this row on, and tells where it ends.
 pub(crate) fn put_legend(text: &mut Vec<u8>, drawing: &Drawing, from: u64) -> io::Result<u64> {
     let down = put_kind(text, drawing, from)?;
-    put_numbers(text, down)?;
+    put(
+        text,
+        "<text class=\"dim\" font-size=\"10\" x=\"12\" y=\"{}\">numbers at the left: steps, as in `rvmc debug go=N`</text>\n",
+        &[Number(down)],
+    )?;
     let mut pen = Pen {
         number: 0,
         from: down.saturating_add(18),

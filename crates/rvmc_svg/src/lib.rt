@@ -14,6 +14,7 @@ mod layout;
 mod legend;
 mod marks;
 mod page;
+mod pieces;
 mod ribbons;
 mod safe;
 

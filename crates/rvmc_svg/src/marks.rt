@@ -8,18 +8,12 @@ ghost use Rattle.rvmc_svg.specs.Shown.{HasTitle};
 
 use crate::labels::Places;
 use crate::layout::{Layout, TOP, long};
+use crate::pieces::Piece::{Across, Guest, Number, Rank, Words};
+use crate::pieces::put;
 use crate::safe::put_text;
 use rvmc_draw::{Mark, Shape};
 use std::alloc::Global;
 use std::io;
-use std::io::Write;
-
-/// A length across, in per cent.
-pub(crate) fn put_across(text: &mut Vec<u8>, at: u64) -> io::Result<()> {
-    let whole = at / 100;
-    let part = at % 100;
-    write!(text, "{whole}.{part:02}%")
-}
 
 /// The name of its drawn shape.
 pub(crate) fn shape_name(shape: Shape) -> &'static str {
@@ -45,9 +39,11 @@ pub(crate) fn shape_name(shape: Shape) -> &'static str {
 
 /// Adds one of the drawn shapes.
 fn put_use(text: &mut Vec<u8>, name: &'static str, rank: u8, at: u64, row: u64) -> io::Result<()> {
-    write!(text, "<use href=\"#{name}\" class=\"f{rank}\" x=\"")?;
-    put_across(text, at)?;
-    writeln!(text, "\" y=\"{row}\"/>")
+    put(
+        text,
+        "<use href=\"#{}\" class=\"f{}\" x=\"{}\" y=\"{}\"/>\n",
+        &[Words(name), Rank(rank), Across(at), Number(row)],
+    )
 }
 
 /// How far from its mark a note begins.
@@ -92,23 +88,29 @@ fn note_class(shape: Shape) -> &'static str {
 fn put_beside(text: &mut Vec<u8>, shape: Shape, left: bool, at: u64, row: u64) -> io::Result<()> {
     let class = note_class(shape);
     let (anchor, sign) = if left { ("end", "-") } else { ("start", "") };
-    write!(
+    put(
         text,
-        "<text class=\"{class} halo wide\" font-size=\"10\" text-anchor=\"{anchor}\" dx=\"{sign}{BESIDE}\" dy=\"3.5\" x=\""
-    )?;
-    put_across(text, at)?;
-    write!(text, "\" y=\"{row}\">")
+        "<text class=\"{} halo wide\" font-size=\"10\" text-anchor=\"{}\" dx=\"{}{}\" dy=\"3.5\" x=\"{}\" y=\"{}\">",
+        &[
+            Words(class),
+            Words(anchor),
+            Words(sign),
+            Number(BESIDE),
+            Across(at),
+            Number(row),
+        ],
+    )
 }
 
 /// Adds so many letters of it.
 fn put_letters(text: &mut Vec<u8>, shown: &[u8], letters: usize) -> io::Result<()> {
     let letters = letters.min(shown.len());
-    put_text(text, &shown[..letters])?;
-    if letters < shown.len() {
-        text.extend_from_slice(b"..")?;
-    }
-    text.extend_from_slice(b"</text>\n")?;
-    Ok(())
+    let more = if letters < shown.len() { ".." } else { "" };
+    put(
+        text,
+        "{}{}</text>\n",
+        &[Guest(&shown[..letters]), Words(more)],
+    )
 }
 
 /// What is written beside a mark: to its right, or to its left where an arrow comes from the right.
@@ -132,21 +134,6 @@ fn put_note(
     put_letters(text, shown, letters)
 }
 
-/// Adds how many of these there were, at this place.
-fn put_counted(
-    text: &mut Vec<u8>,
-    at: u64,
-    row: u64,
-    count: u64,
-    these: &'static str,
-) -> io::Result<()> {
-    text.extend_from_slice(
-        b"<text class=\"dim halo wide\" font-size=\"9\" dx=\"-7\" text-anchor=\"end\" x=\"",
-    )?;
-    put_across(text, at)?;
-    writeln!(text, "\" y=\"{row}\">{count} {these}</text>")
-}
-
 /// Adds how many of these there were, at the left of a lane, where there is room.
 pub(crate) fn put_count(
     text: &mut Vec<u8>,
@@ -161,7 +148,11 @@ pub(crate) fn put_count(
     if !places.take(at.saturating_sub(wide.saturating_add(beside)), wide, row)? {
         return Ok(());
     }
-    put_counted(text, at, row, count, these)
+    put(
+        text,
+        "<text class=\"dim halo wide\" font-size=\"9\" dx=\"-7\" text-anchor=\"end\" x=\"{}\" y=\"{}\">{} {}</text>\n",
+        &[Across(at), Number(row), Number(count), Words(these)],
+    )
 }
 
 /// Adds a title of these bytes, each of them escaped, with what stands before its tag and what stands behind the bytes.
@@ -184,11 +175,14 @@ pub(crate) fn put_titled(
 /// Adds how many steps a mark stands for, and the end of its title.
 fn put_times(text: &mut Vec<u8>, mark: &Mark) -> io::Result<()> {
     if mark.times > 1 {
-        let more = mark.times;
-        write!(text, "\nand more of its kind: {more} in a row")?;
+        put(
+            text,
+            "\nand more of its kind: {} in a row</title>",
+            &[Number(mark.times)],
+        )
+    } else {
+        put(text, "</title>", &[])
     }
-    text.extend_from_slice(b"</title>")?;
-    Ok(())
 }
 
 /// Adds its shape, in the ring of a receive of any source if it is one.
@@ -233,7 +227,7 @@ fn put_behind(
     put_times(text, mark)?;
     put_shape(text, mark, at, row)?;
     put_note(text, places, layout, mark, at, row)?;
-    text.extend_from_slice(b"</g>\n")?;
+    put(text, "</g>\n", &[])?;
     put_quiet(text, mark, row, places, layout)
 }
 
@@ -248,9 +242,8 @@ fn put_mark(
 ) -> io::Result<()>
     ensures { OnOk result (Adds text.old.items mark.now.tip.items text.new.items) }
 {
-    let place = mark.spot.place;
     let mut before = Vec::new(alloc);
-    write!(&mut before, "<g id=\"step{place}\">")?;
+    put(&mut before, "<g id=\"step{}\">", &[Number(mark.spot.place)])?;
     let mut behind = Vec::new(alloc);
     put_behind(&mut behind, places, layout, mark, row)?;
     put_titled(
@@ -288,9 +281,10 @@ const PLACES_APART: u64 = 11;
 fn put_place(text: &mut Vec<u8>, place: u64, row: u64, first: bool) -> io::Result<()> {
     let down = row.saturating_add(3);
     let (class, across) = if first { ("dim", 3) } else { ("dim wide", 36) };
-    writeln!(
+    put(
         text,
-        "<text class=\"{class}\" font-size=\"9\" x=\"{across}\" y=\"{down}\">{place}</text>"
+        "<text class=\"{}\" font-size=\"9\" x=\"{}\" y=\"{}\">{}</text>\n",
+        &[Words(class), Number(across), Number(down), Number(place)],
     )
 }
 

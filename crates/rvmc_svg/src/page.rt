@@ -5,41 +5,32 @@ ghost use Rattle.std.specs.List.{All};
 ghost use Rattle.rvmc_svg.specs.Safe.{IsAllowed};
 ghost use Rattle.rvmc_svg.specs.Shown.{IsShown};
 
-use crate::arrows::{all_arrows, put_heads, put_labels, put_losses};
+use crate::arrows::{put_arrows, put_heads, put_labels, put_losses};
 use crate::bars::put_bars;
 use crate::ends::{put_rows, put_told};
 use crate::fonts::{SHAPES, STYLE};
 use crate::labels::Places;
 use crate::layout::{Layout, TOP, lane_at, page_wide, rank_at, rows, share};
 use crate::legend::put_legend;
-use crate::marks::{all_marks, put_across, put_places};
+use crate::marks::{all_marks, put_places};
+use crate::pieces::Piece::{Across, Hart, Number, Rank, Words};
+use crate::pieces::put;
 use crate::ribbons::put_ribbons;
 use crate::safe::put_safe;
 use rvmc_draw::Drawing;
 use std::alloc::Global;
 use std::io;
-use std::io::Write;
 
 /// Adds a lane's line, so far across.
 fn put_line(text: &mut Vec<u8>, at: u64, foot: u64) -> io::Result<()> {
-    text.extend_from_slice(b"<line class=\"lane\" x1=\"")?;
-    put_across(text, at)?;
-    text.extend_from_slice(b"\" x2=\"")?;
-    put_across(text, at)?;
-    writeln!(text, "\" y1=\"{TOP}\" y2=\"{foot}\"/>")
-}
-
-/// Adds the name of a hart above its lane.
-fn put_hart(text: &mut Vec<u8>, at: u64, hart: u8) -> io::Result<()> {
-    text.extend_from_slice(b"<text class=\"dim\" font-size=\"9\" text-anchor=\"middle\" x=\"")?;
-    put_across(text, at)?;
-    writeln!(
+    put(
         text,
-        "\" y=\"38\"><tspan class=\"wide\">hart </tspan>{hart}</text>"
+        "<line class=\"lane\" x1=\"{}\" x2=\"{}\" y1=\"{}\" y2=\"{}\"/>\n",
+        &[Across(at), Across(at), Number(TOP), Number(foot)],
     )
 }
 
-/// Adds the lane of a hart.
+/// Adds the lane of a hart, with the hart's name above it where a rank has several.
 fn put_lane(
     text: &mut Vec<u8>,
     drawing: &Drawing,
@@ -50,7 +41,11 @@ fn put_lane(
     let at = lane_at(drawing, rank, hart);
     put_line(text, at, foot)?;
     if drawing.harts > 1 {
-        put_hart(text, at, hart)?;
+        return put(
+            text,
+            "<text class=\"dim\" font-size=\"9\" text-anchor=\"middle\" x=\"{}\" y=\"38\"><tspan class=\"wide\">hart </tspan>{}</text>\n",
+            &[Across(at), Hart(hart)],
+        );
     }
     Ok(())
 }
@@ -58,26 +53,25 @@ fn put_lane(
 /// Adds the band behind a rank, whose middle stands so far across.
 fn put_band(text: &mut Vec<u8>, drawing: &Drawing, at: u64, foot: u64) -> io::Result<()> {
     let share = share(drawing);
-    let high = foot.saturating_sub(8);
-    text.extend_from_slice(b"<rect class=\"band\" x=\"")?;
-    put_across(text, at.saturating_sub(share / 2))?;
-    text.extend_from_slice(b"\" width=\"")?;
-    put_across(text, share)?;
-    writeln!(text, "\" y=\"8\" height=\"{high}\"/>")
+    put(
+        text,
+        "<rect class=\"band\" x=\"{}\" width=\"{}\" y=\"8\" height=\"{}\"/>\n",
+        &[
+            Across(at.saturating_sub(share / 2)),
+            Across(share),
+            Number(foot.saturating_sub(8)),
+        ],
+    )
 }
 
 /// Adds the name of a rank.
 fn put_name(text: &mut Vec<u8>, drawing: &Drawing, rank: u8, at: u64) -> io::Result<()> {
-    write!(
-        text,
-        "<text class=\"f{rank} bold\" font-size=\"12\" text-anchor=\"middle\" x=\""
-    )?;
-    put_across(text, at)?;
     // a narrow page has no room for many names
     let class = if drawing.ranks > 5 { "wide" } else { "" };
-    writeln!(
+    put(
         text,
-        "\" y=\"24\"><tspan class=\"{class}\">rank </tspan>{rank}</text>"
+        "<text class=\"f{} bold\" font-size=\"12\" text-anchor=\"middle\" x=\"{}\" y=\"24\"><tspan class=\"{}\">rank </tspan>{}</text>\n",
+        &[Rank(rank), Across(at), Words(class), Rank(rank)],
     )
 }
 
@@ -112,27 +106,31 @@ fn put_under(text: &mut Vec<u8>, places: &mut Places, layout: &Layout<'_>) -> io
     put_places(text, layout)
 }
 
-/// What lies above the marks or stands below them, and where it ends: labels, the rows of the end, what is told of it, and
-/// the legend.
+/// Adds what lies above the marks or stands below them, to the end of the page, and tells the page's height: labels, the
+/// rows of the end, what is told of it, and the legend.
 fn put_over(text: &mut Vec<u8>, places: &mut Places, layout: &Layout<'_>) -> io::Result<u64> {
     let drawing = layout.drawing;
     put_labels(text, places, layout)?;
     put_losses(text, places, layout)?;
     let down = put_rows(text, drawing, layout.foot.saturating_add(20))?;
     let down = put_told(text, drawing.told.as_slice(), down.saturating_add(10))?;
-    put_legend(text, drawing, down.saturating_add(12))
+    let high = put_legend(text, drawing, down.saturating_add(12))?;
+    put(text, "</svg>\n", &[])?;
+    Ok(high)
 }
 
 /// What stands before all that is drawn, on a page of this height.
 fn put_front(text: &mut Vec<u8>, drawing: &Drawing, high: u64) -> io::Result<()> {
-    let wide = page_wide(drawing);
-    writeln!(
+    put(
         text,
-        "<svg xmlns=\"http://www.w3.org/2000/svg\" width=\"{wide}\" height=\"{high}\" font-family=\"system-ui,sans-serif\" role=\"img\">"
-    )?;
-    text.extend_from_slice(STYLE.as_bytes())?;
-    text.extend_from_slice(SHAPES.as_bytes())?;
-    Ok(())
+        "<svg xmlns=\"http://www.w3.org/2000/svg\" width=\"{}\" height=\"{}\" font-family=\"system-ui,sans-serif\" role=\"img\">\n{}{}",
+        &[
+            Number(page_wide(drawing)),
+            Number(high),
+            Words(STYLE),
+            Words(SHAPES),
+        ],
+    )
 }
 
 /// What lies below the arrows.
@@ -153,7 +151,6 @@ struct Upper {
 fn over(alloc: Global, places: &mut Places, layout: &Layout<'_>) -> io::Result<Upper> {
     let mut text = Vec::new(alloc);
     let high = put_over(&mut text, places, layout)?;
-    text.extend_from_slice(b"</svg>\n")?;
     Ok(Upper { text, high })
 }
 
@@ -163,8 +160,7 @@ fn under(alloc: Global, layout: &Layout<'_>, high: u64, below: &[u8]) -> io::Res
     let mut text = Vec::new(alloc);
     put_front(&mut text, layout.drawing, high)?;
     text.extend_from_slice(below)?;
-    let arrows = all_arrows(alloc, layout, layout.drawing.arrows.as_slice())?;
-    text.extend_from_slice(arrows.as_slice())?;
+    put_arrows(alloc, &mut text, layout)?;
     Ok(text)
 }
 

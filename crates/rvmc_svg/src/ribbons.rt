@@ -1,10 +1,10 @@
 //! Ribbons: all arrows of one phase of a link have one behind them, so that they read as one thing.
 
 use crate::layout::{Layout, TOP};
-use crate::marks::put_across;
+use crate::pieces::Piece::{Across, Number, Rank};
+use crate::pieces::put;
 use rvmc_draw::{Arrow, Carried, Spot};
 use std::io;
-use std::io::Write;
 
 /// The link and the phase of an arrow that carries a partition.
 fn phase_of(arrow: &Arrow) -> Option<(u8, u64)> {
@@ -80,41 +80,41 @@ fn reach_of(layout: &Layout<'_>, arrows: &[Arrow], phase: (u8, u64)) -> Reach {
     reach
 }
 
-/// Adds where a ribbon stands across.
-fn put_sides(text: &mut Vec<u8>, from: u64, to: u64) -> io::Result<()> {
-    text.extend_from_slice(b"<svg x=\"")?;
-    put_across(text, from.min(to))?;
-    text.extend_from_slice(b"\" width=\"")?;
-    put_across(text, from.max(to).saturating_sub(from.min(to)))
-}
-
-/// Adds where it stands down.
-fn put_rows(text: &mut Vec<u8>, top: u64, high: u64) -> io::Result<()> {
-    write!(
+/// Adds where a ribbon stands across and down.
+fn put_frame(text: &mut Vec<u8>, from: u64, to: u64, top: u64, high: u64) -> io::Result<()> {
+    let left = from.min(to);
+    let wide = from.max(to).saturating_sub(left);
+    put(
         text,
-        "\" y=\"{top}\" height=\"{high}\" viewBox=\"0 0 100 {high}\" preserveAspectRatio=\"none\">"
+        "<svg x=\"{}\" width=\"{}\" y=\"{}\" height=\"{}\" viewBox=\"0 0 100 {}\" preserveAspectRatio=\"none\">",
+        &[
+            Across(left),
+            Across(wide),
+            Number(top),
+            Number(high),
+            Number(high),
+        ],
     )
 }
 
-/// Adds its side at the senders' lane, from the row at the top on.
-fn put_begin(text: &mut Vec<u8>, rank: u8, begin: u64, from: u64) -> io::Result<()> {
-    write!(text, "<path class=\"f{rank} ribbon\" d=\"M{begin},{from}")
-}
-
-/// Adds its side at the other lane.
-fn put_other(text: &mut Vec<u8>, end: u64, reach: Reach, top: u64) -> io::Result<()> {
-    let b = reach.to_top.saturating_sub(top);
-    let c = reach.to_foot.saturating_sub(top);
-    write!(text, "L{end},{b}L{end},{c}")
-}
-
-/// Adds its shape: from the one side to the other, and back.
+/// Adds its shape: from the senders' lane, at the row at the top, to the other, and back.
 fn put_shape(text: &mut Vec<u8>, rank: u8, right: bool, reach: Reach, top: u64) -> io::Result<()> {
     let (begin, end) = if right { (0, 100) } else { (100, 0) };
-    put_begin(text, rank, begin, reach.from_top.saturating_sub(top))?;
-    put_other(text, end, reach, top)?;
-    let d = reach.from_foot.saturating_sub(top);
-    writeln!(text, "L{begin},{d}z\"/></svg>")
+    put(
+        text,
+        "<path class=\"f{} ribbon\" d=\"M{},{}L{},{}L{},{}L{},{}z\"/></svg>\n",
+        &[
+            Rank(rank),
+            Number(begin),
+            Number(reach.from_top.saturating_sub(top)),
+            Number(end),
+            Number(reach.to_top.saturating_sub(top)),
+            Number(end),
+            Number(reach.to_foot.saturating_sub(top)),
+            Number(begin),
+            Number(reach.from_foot.saturating_sub(top)),
+        ],
+    )
 }
 
 /// Adds a ribbon from the one lane to the other.
@@ -125,8 +125,7 @@ fn put_ribbon(text: &mut Vec<u8>, rank: u8, from: u64, to: u64, reach: Reach) ->
         .max(reach.to_foot)
         .saturating_sub(top)
         .max(1);
-    put_sides(text, from, to)?;
-    put_rows(text, top, high)?;
+    put_frame(text, from, to, top, high)?;
     put_shape(text, rank, from < to, reach, top)
 }
 
@@ -141,7 +140,7 @@ fn put_phase(
     let reach = reach_of(layout, layout.drawing.arrows.as_slice(), phase);
     if reach.count > 1 {
         let from = layout.lane_of(arrow.from);
-        put_ribbon(text, arrow.from.rank, from, layout.lane_of(to), reach)?;
+        return put_ribbon(text, arrow.from.rank, from, layout.lane_of(to), reach);
     }
     Ok(())
 }

@@ -1,0 +1,67 @@
+//! Pieces of the text, and forms that they are put into.
+
+use crate::safe::put_text;
+use std::io;
+use std::io::Write;
+use std::slice::Iter;
+
+/// A piece of the text.
+#[derive(Clone, Copy, Drop)]
+pub(crate) enum Piece<'a> {
+    /// Words of the picture's own, as they are.
+    Words(&'a str),
+    /// Bytes of a guest, escaped where they would be markup.
+    Guest(&'a [u8]),
+    /// The number of a rank.
+    Rank(u8),
+    /// The number of a hart.
+    Hart(u8),
+    /// Any other number.
+    Number(u64),
+    /// A length across, in per cent.
+    Across(u64),
+}
+
+/// Adds a length across, in per cent.
+fn put_across(text: &mut Vec<u8>, at: u64) -> io::Result<()> {
+    let whole = at / 100;
+    let part = at % 100;
+    write!(text, "{whole}.{part:02}%")
+}
+
+/// Adds a piece.
+fn put_piece(text: &mut Vec<u8>, piece: Piece<'_>) -> io::Result<()> {
+    match piece {
+        Piece::Words(words) => write!(text, "{words}"),
+        Piece::Guest(bytes) => put_text(text, bytes),
+        Piece::Rank(number) | Piece::Hart(number) => write!(text, "{number}"),
+        Piece::Number(number) => write!(text, "{number}"),
+        Piece::Across(at) => put_across(text, at),
+    }
+}
+
+/// Adds the next of these pieces.
+fn put_next(text: &mut Vec<u8>, pieces: &mut Iter<'_, Piece<'_>>) -> io::Result<()> {
+    match pieces.next() {
+        Some(piece) => put_piece(text, *piece),
+        None => Ok(()),
+    }
+}
+
+/// Adds a byte of a form, or the next piece where the form has braces.
+fn put_formed(text: &mut Vec<u8>, byte: u8, pieces: &mut Iter<'_, Piece<'_>>) -> io::Result<()> {
+    match byte {
+        b'{' => put_next(text, pieces),
+        b'}' => Ok(()),
+        _ => Ok(text.push(byte)?),
+    }
+}
+
+/// Adds a form, where each `{}` is the next of these pieces.
+pub(crate) fn put(text: &mut Vec<u8>, form: &str, pieces: &[Piece<'_>]) -> io::Result<()> {
+    let mut pieces = pieces.iter();
+    for byte in form.as_bytes() {
+        put_formed(text, *byte, &mut pieces)?;
+    }
+    Ok(())
+}
