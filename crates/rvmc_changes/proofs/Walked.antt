@@ -1,6 +1,6 @@
 -- The changes of steps that are done one after another.
 use Rattle.std.specs.Prelude.{ℕ, zero, suc, ◌≡◌, ◌+◌, ◌-◌, ◌<◌, ◌≤◌, ◌||◌, max, nat_lt, Bool, true, false, List, [], ◌∷◌, ◌++◌, drop, length}
-use Rattle.std.specs.Prelude.{map, slice_get, take, Some}
+use Rattle.std.specs.Prelude.{map, slice_get, take, Some, IfOk, Result, Ok, Err}
 use Rattle.std.proofs.Common.{refl, sym, ap, ◌∙◌, subst, add-one, arith, length-drop}
 use Rattle.std.proofs.lemmas.Bool.{ltb-false}
 use Rattle.std.proofs.lemmas.List.{length-take-le, map-append}
@@ -283,6 +283,14 @@ module _ (image : ImageParts) (steps : List Step) (from to : ℕ) (past : is_pas
         (makes image reached).reached.cluster)
         (let same : end - from ≡ to - from = omega (arith, there) in same) (makes image reached).are;
   }
+
+  -- or there is none
+  pub result_walk : (end : ℕ) → end ≡ max from to → (state new : ClusterState) → IsReached image steps from state
+      → (r : Result Walk WalkFault)
+      → IfOk r (λ (walk : Walk). map rank_at_start walk.start.items ≡ map seen_rank (map rank_of state.ranks.items))
+      → IfOk r (λ (walk : Walk). Makes steps from state end new walk.changes.items) → IfOk r (IsWalk image steps from to)
+  result_walk end there state new reached (Ok walk) starts makes = is_walk end there state new reached walk starts makes
+  result_walk end there state new reached (Err f) starts makes = tt
 
   -- why not all steps were done is why there is no walk
   pub walk_fault : (end : ℕ) → end ≡ max from to → (state : ClusterState) → IsReached image steps from state

@@ -174,6 +174,33 @@ fn meet_steps(
     Ok(())
 }
 
+/// Does all steps from the loaded cluster on, and writes what is told of those that are wanted. After a refusal state and
+/// phases may be anything.
+#[tactic(auto, using(crate::proofs::Told::list_fault))]
+fn put_wanted<W: Write>(
+    image: &Image,
+    steps: &[Step],
+    wanted: &Wanted,
+    to: u64,
+    state: &mut ClusterState,
+    phases: &mut Phases,
+    texts: &mut Texts,
+    out: &mut W,
+) -> Result<bool, ListFault>
+    requires counted { IsCountedTo image.now steps.now 0 state.old phases.old }
+    requires checked { IsChecked image.now steps.now wanted.now to }
+    requires within { max wanted.now.from to ≤ length steps.now }
+    requires kept { AreKept image.now.symbols texts.old }
+    ensures list { IfOk result (λ taken. taken ≡ true
+        → IsWritten image.now steps.now wanted.now (W.contents out.old) (W.contents out.new)) }
+    ensures fault { IfErr result (ListFaultHolds image.now steps.now wanted.now) }
+    ensures left { IfErr result (λ fault.
+        Leaves image.now steps.now wanted.now fault (W.contents out.old) (W.contents out.new)) }
+{
+    meet_steps(state, phases, image, steps, wanted.from)?;
+    put_steps(state, phases, texts, image, steps, wanted, to, out)
+}
+
 /// Writes a record in words: a line for each of its steps that is wanted, in their order. Step n, from 0, leads from place
 /// n to place n + 1, and its line has the place n. Says whether the writer took all of it.
 ///
@@ -198,18 +225,17 @@ pub fn list<W: Write>(
         Leaves image.now steps.now wanted.now fault (W.contents out.old) (W.contents out.new)) }
 {
     let to = checked(alloc, image, steps, wanted)?;
-    let mut state = state_at(alloc, image, steps, 0)?;
     let mut phases = Phases::new(alloc, image)?;
-    meet_steps(&mut state, &mut phases, image, steps, wanted.from)?;
     let mut texts = Texts::new(alloc)?;
-    put_steps(
-        &mut state,
-        &mut phases,
-        &mut texts,
+    let mut state = state_at(alloc, image, steps, 0)?;
+    put_wanted(
         image,
         steps,
         wanted,
         to,
+        &mut state,
+        &mut phases,
+        &mut texts,
         out,
     )
 }

@@ -4,7 +4,7 @@ ghost use Rattle.std.specs.Prelude.{◌≡◌, ◌≤◌, ◌/◌, ◌++◌, ◌
 ghost use Rattle.cl_replay.specs.Replaying.{IsReached};
 ghost use Rattle.cl_replay.specs.Steps.{Leads};
 ghost use Rattle.rvmc_list.specs.List.{ListFaultHolds};
-ghost use Rattle.rvmc_list.specs.Putting.{PutFaultHolds, StepsFaultHolds};
+ghost use Rattle.rvmc_list.specs.Putting.{IsStart, PutFaultHolds, StepsFaultHolds};
 ghost use Rattle.rvmc_list.specs.Stats.{IsStats, IsTablesText, text_words};
 ghost use Rattle.rvmc_list.specs.Counting.{AreAllCounted, CountsStep};
 ghost use Rattle.rvmc_stats.specs.Tables.{AreOf};
@@ -93,11 +93,49 @@ fn tables_text(alloc: Global, image: &Image, tables: &Tables) -> io::Result<Vec<
     Ok(text)
 }
 
+/// Does the wanted steps, counts them in tables of none, and gives the text of these.
+#[tactic(auto, using(crate::proofs::Counts::is_stats, crate::proofs::Counts::words_are, crate::proofs::Told::list_fault))]
+fn counted_text(
+    alloc: Global,
+    image: &Image,
+    steps: &[Step],
+    wanted: &Wanted,
+    to: u64,
+    state: &mut ClusterState,
+    tables: &mut Tables,
+) -> Result<Vec<u8>, ListFault>
+    requires none { AreOf image.now.ranks (text_words image.now) [] tables.old }
+    requires small { text_words image.now < 2 ^ 62 }
+    requires start { IsStart image.now steps.now wanted.now wanted.now.from state.old to }
+    ensures stats { IfOk result (λ text. IsStats image.now steps.now wanted.now text.items) }
+    ensures fault { IfErr result (ListFaultHolds image.now steps.now wanted.now) }
+{
+    count_steps(state, tables, image, steps, wanted, to)?;
+    Ok(tables_text(alloc, image, tables)?)
+}
+
+/// A record in tables, from the cluster on where they begin.
+#[tactic(auto, using(crate::proofs::Told::list_fault))]
+fn stats_of(
+    alloc: Global,
+    state: &mut ClusterState,
+    image: &Image,
+    steps: &[Step],
+    wanted: &Wanted,
+    to: u64,
+) -> Result<Vec<u8>, ListFault>
+    requires start { IsStart image.now steps.now wanted.now wanted.now.from state.old to }
+    ensures stats { IfOk result (λ text. IsStats image.now steps.now wanted.now text.items) }
+    ensures fault { IfErr result (ListFaultHolds image.now steps.now wanted.now) }
+{
+    let mut tables = no_steps(alloc, image)?;
+    counted_text(alloc, image, steps, wanted, to, state, &mut tables)
+}
+
 /// A record in tables: its wanted steps, counted by rank and kind, by call and how it ended, by the sender and the receiver
 /// of the messages that they brought, and by where their harts were. `calls` of what is wanted tells nothing here.
 ///
 /// It is refused as `list` is.
-#[tactic(auto, using(crate::proofs::Counts::is_stats, crate::proofs::Counts::words_are, crate::proofs::Told::list_fault))]
 pub fn stats(
     alloc: Global,
     image: &Image,
@@ -108,7 +146,5 @@ pub fn stats(
     ensures fault { IfErr result (ListFaultHolds image.now steps.now wanted.now) }
 {
     let (mut state, to) = start(alloc, image, steps, wanted, wanted.from)?;
-    let mut tables = no_steps(alloc, image)?;
-    count_steps(&mut state, &mut tables, image, steps, wanted, to)?;
-    Ok(tables_text(alloc, image, &tables)?)
+    stats_of(alloc, &mut state, image, steps, wanted, to)
 }

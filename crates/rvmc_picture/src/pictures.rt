@@ -1,11 +1,13 @@
 //! The drawing of a record.
 
 ghost use Rattle.std.specs.Prelude.{◌≡◌, ◌≤◌, ◌||◌, [], IfErr, IfOk, length, nat_lt};
+ghost use Rattle.cl_machine.specs.Cluster.{loaded_cluster};
+ghost use Rattle.cl_replay.specs.States.{ClusterStandsFor};
 ghost use Rattle.rvmc_picture.specs.Pictures.{DrawFaultHolds, IsDrawing, is_past_end as is_past_of};
 ghost use Rattle.rvmc_picture.specs.declared.pictures.DrawFault.TheVariants as faults;
 ghost use Rattle.rvmc_picture.specs.Pictures.{scope_in, view_of as view_in};
 ghost use Rattle.rvmc_picture.specs.Walking.{IsDrawn};
-ghost use Rattle.rvmc_picture.specs.Walking.{ArePut, IsWalkedTo, StepsBreak};
+ghost use Rattle.rvmc_picture.specs.Walking.{IsWalkedTo, StepsBreak};
 ghost use Rattle.rvmc_draw.specs.Held.{IsWalked};
 
 use crate::ends::{End, end_of};
@@ -87,23 +89,44 @@ fn first_walk(alloc: Global, image: &Image, view: View) -> Result<Walk, AllocErr
     Ok(walk)
 }
 
-/// Walks to where the picture ends.
+/// Walks through all steps, from the loaded cluster on, and tells of where the picture ends.
 #[tactic(auto, using(crate::proofs::Told::put_none))]
-fn walk_to(
+fn walk_from(
     alloc: Global,
     image: &Image,
     steps: &[Step],
     view: View,
-    to: usize,
-) -> Result<(ClusterState, Walk), DrawFault>
-    requires { to ≤ length steps.now }
-    ensures put { IfOk result (λ there. ArePut image.now steps.now (scope_in image.now view) to there.0 there.1) }
+    state: &mut ClusterState,
+    walk: &mut Walk,
+) -> Result<End, DrawFault>
+    requires loaded { ClusterStandsFor image.now state.old (loaded_cluster image.now) }
+    requires none { IsWalked (scope_in image.now view) [] walk.old }
+    requires within { view.to ≤ length steps.now }
+    ensures put { IfOk result (λ end. IsWalkedTo image.now steps.now view walk.new end.rows.items end.told.items) }
+    ensures fault { IfErr result (StepsBreak image.now steps.now) }
+{
+    let to = view.to as usize;
+    put_steps(alloc, state, walk, image, steps, view, 0, to)?;
+    let end = end_of(alloc, image, state)?;
+    put_steps(alloc, state, walk, image, steps, view, to, steps.len())?;
+    Ok(end)
+}
+
+/// The same, of a cluster that is loaded for it.
+fn walk_loaded(
+    alloc: Global,
+    walk: &mut Walk,
+    image: &Image,
+    steps: &[Step],
+    view: View,
+) -> Result<End, DrawFault>
+    requires none { IsWalked (scope_in image.now view) [] walk.old }
+    requires within { view.to ≤ length steps.now }
+    ensures put { IfOk result (λ end. IsWalkedTo image.now steps.now view walk.new end.rows.items end.told.items) }
     ensures fault { IfErr result (StepsBreak image.now steps.now) }
 {
     let mut state = ClusterState::load(alloc, image)?;
-    let mut walk = first_walk(alloc, image, view)?;
-    put_steps(alloc, &mut state, &mut walk, image, steps, view, 0, to)?;
-    Ok((state, walk))
+    walk_from(alloc, image, steps, view, &mut state, walk)
 }
 
 /// Walks through all steps, and tells of where the picture ends.
@@ -117,19 +140,8 @@ fn walk_all(
     ensures put { IfOk result (λ all. IsWalkedTo image.now steps.now view all.0 all.1.rows.items all.1.told.items) }
     ensures fault { IfErr result (StepsBreak image.now steps.now) }
 {
-    let to = view.to as usize;
-    let (mut state, mut walk) = walk_to(alloc, image, steps, view, to)?;
-    let end = end_of(alloc, image, &state)?;
-    put_steps(
-        alloc,
-        &mut state,
-        &mut walk,
-        image,
-        steps,
-        view,
-        to,
-        steps.len(),
-    )?;
+    let mut walk = first_walk(alloc, image, view)?;
+    let end = walk_loaded(alloc, &mut walk, image, steps, view)?;
     Ok((walk, end))
 }
 

@@ -1,10 +1,11 @@
 //! The steps of a record, one after another.
 
-ghost use Rattle.std.specs.Prelude.{◌≡◌, ◌<◌, ◌≤◌, ◌-◌, ◌^◌, IfErr, IfOk, OnOk, length, true, vec_len};
+ghost use Rattle.std.specs.Prelude.{◌≡◌, ◌<◌, ◌≤◌, ◌-◌, ◌^◌, IfErr, IfOk, OnOk, Some, length, slice_get, true, vec_len};
 ghost use Rattle.cl_replay.specs.Steps.{Leads};
 ghost use Rattle.cl_state.specs.Asked.{asked};
 ghost use Rattle.cl_state.specs.Rank.{Rank};
 ghost use Rattle.cl_state.specs.Room.{rank_of};
+ghost use Rattle.cl_state.specs.declared.state.RankState.{RankState as RankStateOf};
 ghost use Rattle.rvmc_draw.specs.Held.{is_marked_in};
 ghost use Rattle.rvmc_picture.specs.Pictures.{scope_in};
 ghost use Rattle.rvmc_list.specs.Lines.{hart_of, sight_text};
@@ -167,6 +168,33 @@ fn put_deed(
     Ok(())
 }
 
+/// Adds what a step did that was done, of which this was known before it.
+fn put_behind(
+    alloc: Global,
+    walk: &mut Walk,
+    symbols: &[Symbol],
+    place: u64,
+    step: &Step,
+    state: &ClusterState,
+    before: &Option<Before>,
+) -> Result<(), DrawFault>
+    requires fits { walk.old.marks.count < 2 ^ 64 - 1 }
+    ensures puts { OnOk result ((s t : RankStateOf) → IsBefore step.now (rank_of s) before.now
+        → slice_get state.now.ranks.items step.now.rank ≡ Some t → step.now.hart < length s.harts.items
+        → step.now.hart < length t.harts.items
+        → IsPutAt symbols.now place step.now (rank_of s) (rank_of t) walk.old walk.new) }
+    ensures fault { IfErr result (λ fault. fault ≡ DrawFault.Memory) }
+{
+    let Some(before) = before else {
+        return Ok(());
+    };
+    let Some(after) = hart_after(state, step) else {
+        return Ok(());
+    };
+    let out = put_out(state, step, before.written);
+    put_deed(alloc, walk, symbols, place, step, before, &after, out)
+}
+
 /// Does a step, and adds what it did.
 fn put_step(
     alloc: Global,
@@ -183,15 +211,7 @@ fn put_step(
 {
     let before = look_at(state, step)?;
     advance(state, place, step)?;
-    let Some(before) = before else {
-        return Ok(());
-    };
-    let Some(after) = hart_after(state, step) else {
-        return Ok(());
-    };
-    let out = put_out(state, step, before.written);
-    put_deed(alloc, walk, symbols, place, step, &before, &after, out)?;
-    Ok(())
+    put_behind(alloc, walk, symbols, place, step, state, &before)
 }
 
 /// Does the steps from one place to another, and adds what they did. After a refusal state and walk may be anything.

@@ -1,6 +1,8 @@
 //! The lines of tables.
 
-ghost use Rattle.std.specs.Prelude.{◌≡◌, ◌++◌, OnOk};
+ghost use Rattle.std.specs.Prelude.{◌≡◌, ◌++◌, OnOk, codes};
+ghost use Rattle.std.specs.Fmt.{decimal};
+ghost use Rattle.rvmc_tally.specs.Tallies.{count_at};
 ghost use Rattle.rvmc_stats.specs.Texts.{call_line, column_text, columns_text, pair_line, turn_line};
 
 use crate::mail::Mail;
@@ -27,6 +29,22 @@ fn put_columns(text: &mut Vec<u8>, tables: &Tables, rank: usize) -> io::Result<(
     Ok(())
 }
 
+/// Adds the line of a rank that took so many turns.
+fn put_taken_line(text: &mut Vec<u8>, tables: &Tables, rank: usize, taken: u64) -> io::Result<()>
+    ensures { OnOk result (text.new.items
+        ≡ text.old.items
+        ++ (decimal rank
+        ++ (codes " "
+        ++ (decimal taken
+        ++ (codes " " ++ (decimal (count_at tables.now.waits rank) ++ (columns_text tables.now rank ++ codes "\n"))))))) }
+{
+    let waits = tables.waits.get(rank);
+    write!(text, "{rank} {taken} {waits}")?;
+    put_columns(text, tables, rank)?;
+    text.extend_from_slice(b"\n")?;
+    Ok(())
+}
+
 /// Adds the line of a rank, if it took a turn.
 #[tactic(auto, unfolding(crate::specs::Texts::turn_line))]
 pub(crate) fn put_turn_line(text: &mut Vec<u8>, tables: &Tables, rank: usize) -> io::Result<()>
@@ -36,11 +54,7 @@ pub(crate) fn put_turn_line(text: &mut Vec<u8>, tables: &Tables, rank: usize) ->
     if taken == 0 {
         return Ok(());
     }
-    let waits = tables.waits.get(rank);
-    write!(text, "{rank} {taken} {waits}")?;
-    put_columns(text, tables, rank)?;
-    text.extend_from_slice(b"\n")?;
-    Ok(())
+    put_taken_line(text, tables, rank, taken)
 }
 
 /// Adds the line of a call that ended so, if there was one.

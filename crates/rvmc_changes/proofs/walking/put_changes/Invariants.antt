@@ -1,6 +1,6 @@
 use Rattle.std.proofs.Common.{◌≤◌}
 use Rattle.rvmc_changes.specs.Walking.{Makes}
-use Rattle.rvmc_changes.proofs.walking.changes_to.Given as goal
+use Rattle.rvmc_changes.proofs.walking.put_changes.Given as goal
 
 -- those of the steps so far
 abbrev pub invariant-loop-n : goal.invariant-loop-n

@@ -4,12 +4,12 @@ use Rattle.std.proofs.lemmas.Result.{err_from_is_err_and}
 use Rattle.rvmc_changes.specs.Walking.{Makes}
 use Rattle.rvmc_changes.specs.declared.steps.Change.{Change}
 use Rattle.rvmc_changes.proofs.Walked.{made_more, none_made, step_breaks}
-use Rattle.rvmc_changes.proofs.walking.changes_to.Goals as goal
+use Rattle.rvmc_changes.proofs.walking.put_changes.Goals as goal
 
 pub loop-n-init : goal.loop-n-init
 loop-n-init c = record {
   made = subst (λ (cs : List Change). Makes c.args.steps.now c.args.from c.args.state.now c.args.from c.args.state.now cs)
-      (sym c.new-changes.ensures.items) (none_made c.args.steps.now c.args.from c.args.state.now);
+      (sym c.requires.none) (none_made c.args.steps.now c.args.from c.args.state.now);
   most = c.requires.order;
 }
 
