@@ -67,12 +67,13 @@ macro_rules! names {
     };
 }
 
-/// Calls a function of the module of the command of this name, if there is one, and returns what it gives.
+/// What a function of the module of the command of this name gives, and for any other name the last of these.
 macro_rules! of_command {
-    ($name:ident, $call:ident, $arguments:tt; $($command:ident),*) => {
-        $(if $name == stringify!($command) {
-            return $command::$call $arguments;
-        })*
+    ($name:ident, $call:ident, $arguments:tt, $other:expr; $($command:ident),*) => {
+        match $name {
+            $(stringify!($command) => $command::$call $arguments,)*
+            _ => $other,
+        }
     };
 }
 
@@ -125,24 +126,21 @@ fn top<'a>(alloc: Global) -> Result<Command<'a>, AllocError>
 fn below<'a>(alloc: Global, name: &'a str) -> Result<Command<'a>, AllocError>
     ensures { IfOk result (StandsFor (app_below name.entry.now)) }
 {
-    commands!(first(of_command(name, command, (alloc))));
-    below_from_second(alloc, name)
+    commands!(first(of_command(name, command, (alloc), below_from_second(alloc, name))))
 }
 
 /// The same of the second part and the third.
 fn below_from_second<'a>(alloc: Global, name: &'a str) -> Result<Command<'a>, AllocError>
     ensures { IfOk result (StandsFor (app_below_from_second name.entry.now)) }
 {
-    commands!(second(of_command(name, command, (alloc))));
-    below_from_third(alloc, name)
+    commands!(second(of_command(name, command, (alloc), below_from_third(alloc, name))))
 }
 
 /// The same of the third part.
 fn below_from_third<'a>(alloc: Global, name: &'a str) -> Result<Command<'a>, AllocError>
     ensures { IfOk result (StandsFor (app_below_from_third name.entry.now)) }
 {
-    commands!(third(of_command(name, command, (alloc))));
-    Ok(bare(alloc, name, "", ""))
+    commands!(third(of_command(name, command, (alloc), Ok(bare(alloc, name, "", "")))))
 }
 
 /// The command with another below it, where there was memory to build that one.
@@ -207,8 +205,12 @@ pub fn line<'a>(
 ) -> Result<CommandLine, Wrong<'a>>
     ensures { Finds (line_in name.now (rows_of (found_of matches.now))) result }
 {
-    commands!(first(of_command(name, line, (alloc, matches))));
-    line_from_second(alloc, name, matches)
+    commands!(first(of_command(
+        name,
+        line,
+        (alloc, matches),
+        line_from_second(alloc, name, matches)
+    )))
 }
 
 /// The same of the second part and the third.
@@ -219,8 +221,12 @@ fn line_from_second<'a>(
 ) -> Result<CommandLine, Wrong<'a>>
     ensures { Finds (line_among from_second name.now (rows_of (found_of matches.now))) result }
 {
-    commands!(second(of_command(name, line, (alloc, matches))));
-    line_from_third(alloc, name, matches)
+    commands!(second(of_command(
+        name,
+        line,
+        (alloc, matches),
+        line_from_third(alloc, name, matches)
+    )))
 }
 
 /// The same of the third part.
@@ -231,6 +237,5 @@ fn line_from_third<'a>(
 ) -> Result<CommandLine, Wrong<'a>>
     ensures { Finds (line_among from_third name.now (rows_of (found_of matches.now))) result }
 {
-    commands!(third(of_command(name, line, (alloc, matches))));
-    Err(Wrong::Command)
+    commands!(third(of_command(name, line, (alloc, matches), Err(Wrong::Command))))
 }
