@@ -1,15 +1,23 @@
 -- How a turn of a running rank ends that was taken, by what it leaves and what it told the desk.
-use Rattle.std.proofs.Common.{◌≡◌, ℕ, List, length, subst}
+use Rattle.std.proofs.Common.{◌≡◌, ◌∙◌, ℕ, List, false, length, subst, true}
 use Rattle.std.specs.Prelude.{Ok}
 use Rattle.mp_types.specs.declared.replies.Reply.{Reply}
 use Rattle.mp_types.specs.declared.requests.Request.{Request}
 use Rattle.part_channel.specs.Channels.{ChannelView}
+use Rattle.cl_state.specs.Rank.{Rank as RankAlone}
 use Rattle.cl_state.specs.Room.{rank_of}
 use Rattle.cl_rank.specs.declared.ranks.Rank.{Rank as Running}
 use Rattle.cl_rank.specs.Deeds.{Deed}
 use Rattle.cl_rank.specs.Turning.{DeskRule, Tells}
-use Rattle.cl_rank.specs.Turns.{AllStopped, IsActive}
+use Rattle.cl_rank.specs.Turns.{AllStopped, IsActive, all_stopped}
 use Rattle.cl_rank.specs.Views.{HasTurn, IsOver, TurnEnds, TurnLeaves, hub_deed}
+
+-- a rank of which the code found that some hart isn't stopped
+pub some_runs : (rank : RankAlone) → false ≡ all_stopped rank → AllStopped rank → ⊥
+some_runs rank found all = false_true (found ∙ all)
+  where
+    false_true : false ≡ true → ⊥
+    false_true h = cc
 
 -- a rank that has a turn, and a hart that isn't stopped
 pub is_active : (r : Running) (hart : ℕ) → ¬ (AllStopped (rank_of r.state)) → HasTurn r hart

@@ -52,9 +52,6 @@ module _ {S : Type 0} where
       → side_of link xs ≡ Some x.1
   at_side link xs i x place is = (placed link xs i x place is).0
 
-  pub low_place : (link : ℕ) (xs : List (ℕ × S)) (i : ℕ) → IsPlace link xs (Some i) → i < length xs
-  low_place link xs i place = length_at xs i (link, place.0) place.1
-
 -- a rank that has the sender's key of a box has the side of its link
 pub sender_here : (o : Option SendView) (part : ℕ) (s : Sending) → sender_key o part ≡ Some s
     → (side : SendView) × (o ≡ Some side) × (key : Sender) × (slice_get side.keys part ≡ Some key) × (key.view ≡ s)

@@ -22,6 +22,7 @@ use Rattle.cl_rank.specs.Fitting.{RequestsFit}
 use Rattle.cl_rank.specs.Plains.{IsPlainStep, IsPlainTurn, Repeats, plain_deed}
 use Rattle.cl_rank.specs.RankSides.{AreChannelsOf, AreSides, sides_in}
 use Rattle.cl_rank.specs.Turning.{RankView}
+use Rattle.cl_rank.specs.Views.{place_in, view_of}
 use Rattle.cl_rank.proofs.Plain.{plain_moved}
 use Rattle.cl_rank.proofs.Turned.{clock_told}
 use Rattle.cl_rank.proofs.Went.{Keeps}
@@ -144,3 +145,14 @@ plain_keeps r hart n new events steps clock low left noted =
       fit = kept.fit;
       room = tt;
     }
+
+-- and where there was none the rank is as it was
+pub no_turns : (r : Running) (hart n : ℕ) (new : RankState) (events : List Event) → n ≡ 0 → new ≡ r.state
+    → events ≡ r.trace.events
+    → Repeats (IsPlainTurn hart) n (view_of r)
+    (seen (rank_of new) events r.sends.items r.recvs.items (place_in r.asked_box))
+no_turns r hart n new events none state same =
+    subst (λ k. Repeats (IsPlainTurn hart) k (view_of r)
+    (seen (rank_of new) events r.sends.items r.recvs.items (place_in r.asked_box))) (sym none)
+    (ap (λ (s : RankState). seen (rank_of s) events r.sends.items r.recvs.items (place_in r.asked_box)) state
+    ∙ ap (λ es. seen (rank_of r.state) es r.sends.items r.recvs.items (place_in r.asked_box)) same)

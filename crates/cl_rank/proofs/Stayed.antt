@@ -35,7 +35,7 @@ use Rattle.cl_rank.specs.RankSides.{AreSides, sides_in}
 use Rattle.cl_rank.specs.declared.ranks.Rank.{Rank as Running}
 use Rattle.cl_rank.specs.declared.turning.Turn.{Turn}
 use Rattle.cl_rank.specs.Roomy.{AsksAnew, IsAgain, IsRoomy, awaited_posts, is_anew}
-use Rattle.cl_rank.specs.Views.{MayTurn, MayWait, Stays, at_clock}
+use Rattle.cl_rank.specs.Views.{HasTurn, MayTurn, MayWait, Stays, at_clock}
 use Rattle.cl_rank.proofs.Keys.{keys_stay}
 use Rattle.cl_rank.proofs.Moves.{Moved, later}
 use Rattle.cl_rank.proofs.Went.{Went}
@@ -186,3 +186,16 @@ moved state stamp hart (Some posts) asks = record { anew = asks.anew; asks = ask
 pub room_of : (state : RankState) (roomy : Option ℕ) (again : Option (List ℕ)) (hart : ℕ) → IsRoomy state roomy again
     → roomy ≡ Some hart → HasRoom state hart × IsAgain state hart again
 room_of state roomy again hart room is = subst (λ (o : Option ℕ). IsRoomy state o again) is room
+
+-- a hart whose poll was just in vain, and whose turn stays, may wait on
+pub waits_on : (r : Running) (hart : ℕ) (request : Request) → HasTurn r hart → r.roomy ≡ Some hart
+    → Stays r.state hart request → MayWait r hart request
+waits_on r hart request has is turn = record {
+  has = has;
+  turn = turn;
+  room = (room_of r.state r.roomy r.again hart r.room is).0;
+}
+
+-- and what it asks for
+pub asks_again : (r : Running) (hart : ℕ) → r.roomy ≡ Some hart → IsAgain r.state hart r.again
+asks_again r hart is = (room_of r.state r.roomy r.again hart r.room is).1

@@ -110,7 +110,6 @@ fn begin_receiving(side: &mut RecvSide)
 }
 
 /// The sender's side of a link begins a phase, where none is going on.
-#[tactic(auto, using(crate::proofs::Lists::left_alone))]
 fn begin_sender(sends: &mut Vec<(u8, SendSide)>, link: u8)
     ensures { sends.new.items ≡ changed_side link begun_sender sends.old.items }
 {
@@ -120,7 +119,6 @@ fn begin_sender(sends: &mut Vec<(u8, SendSide)>, link: u8)
 }
 
 /// The receiver's side of a link begins a phase, where none is going on.
-#[tactic(auto, using(crate::proofs::Lists::left_alone))]
 fn begin_receiver(recvs: &mut Vec<(u8, RecvSide)>, link: u8)
     ensures { recvs.new.items ≡ changed_side link begun_receiver recvs.old.items }
 {
@@ -154,7 +152,6 @@ fn follow_sending(side: &mut SendSide, was: SendPhase, now: SendPhase)
 }
 
 /// The sender's side of a link gets the shape that its phase got, if it got one.
-#[tactic(auto, using(crate::proofs::Lists::left_alone))]
 pub(crate) fn follow_sender(
     sends: &mut Vec<(u8, SendSide)>,
     link: u8,
@@ -181,7 +178,6 @@ fn follow_receiving(side: &mut RecvSide, was: RecvPhase, now: RecvPhase)
 }
 
 /// The receiver's side of a link gets the shape or the cut that its phase got, if it got one.
-#[tactic(auto, using(crate::proofs::Lists::left_alone))]
 pub(crate) fn follow_receiver(
     recvs: &mut Vec<(u8, RecvSide)>,
     link: u8,

@@ -280,7 +280,6 @@ impl Rank {
     /// A turn of any kind, of a rank that has a turn left and room for its event. A poll that was just in vain is made again
     /// before anything is laid out for turns of other kinds.
     #[inline(never)]
-    #[tactic(auto, using(crate::proofs::Stayed::polls_stay))]
     pub(crate) fn other_turn<R, D: Desk<R>>(
         &mut self,
         rt: &R,

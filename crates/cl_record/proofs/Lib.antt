@@ -1,5 +1,6 @@
 pub mod Elements
 pub mod Keys
+pub mod Left
 pub mod Leaves
 pub mod BoxesLeft
 pub mod Links

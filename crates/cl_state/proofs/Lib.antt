@@ -1,4 +1,5 @@
 pub mod Checked
+pub mod Dealt
 pub mod Enough
 pub mod Idle
 pub mod Kept

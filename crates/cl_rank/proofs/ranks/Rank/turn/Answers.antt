@@ -1,9 +1,16 @@
-use Rattle.std.proofs.Common.{◌≡◌, ◌∙◌, ◌+◌, ◌++◌, ◌∷◌, [], List, None, ap, refl, arith}
+use Rattle.std.proofs.Common.{◌≡◌, ◌∙◌, ◌+◌, ◌++◌, ◌∷◌, [], List, None, ap, refl, arith, subst, sym}
+use Rattle.cl_state.specs.Room.{rank_of}
+use Rattle.cl_state.specs.declared.state.RankState.{RankState}
 use Rattle.cl_trace.specs.declared.events.Event.{Event}
 use Rattle.cl_trace.specs.declared.events.Kind.TheVariants as kind
 use Rattle.cl_trace.specs.Rising.{last_stamp}
+use Rattle.cl_rank.specs.RankSides.{AreChannelsOf, sides_in}
+use Rattle.cl_rank.specs.Views.{place_in}
 use Rattle.cl_rank.proofs.Ends.{turn_ends}
 use Rattle.cl_rank.proofs.Plain.{went_plain}
+use Rattle.cl_rank.proofs.PlainTurns.{seen}
+use Rattle.cl_rank.proofs.Same.{as_it_was}
+use Rattle.cl_rank.proofs.SameEnds.{same_ends}
 use Rattle.cl_rank.proofs.Went.{event, keeps, leaves}
 use Rattle.cl_rank.proofs.ranks.Rank.turn.Goals as goal
 
@@ -41,3 +48,24 @@ returns-then-step_plain g c =
     (omega (arith, c.if-self-ge-CLOCK_MAX.false)) (stepped.asked c.if-step_plain.true) (stepped.told c.if-step_plain.true))
     noted refl refl stepped.harts)
     refl
+
+pub invariant_of-self-else-step_plain : goal.invariant_of-self-else-step_plain
+invariant_of-self-else-step_plain g c =
+    as_it_was c.args.self.now c.step_plain.new.state c.reserve.new.self.events
+    (c.step_plain.ensures.none c.if-step_plain.false) c.reserve.ensures.events
+
+pub other_turn-requires-clause-own : goal.other_turn-requires-clause-own
+other_turn-requires-clause-own g c =
+    let r = c.args.self.now in
+    subst (λ (s : RankState). AreChannelsOf s.site.version c.args.channels.now (sides_in r.sends.items r.recvs.items))
+    (sym (c.step_plain.ensures.none c.if-step_plain.false)) c.requires.own
+
+pub returns : goal.returns
+returns g c =
+    let r = c.args.self.now in
+    same_ends g.D.Desk.gives c.args.hart r c.args.channels.now _
+    (ap (λ (s : RankState). seen (rank_of s) c.reserve.new.self.events r.sends.items r.recvs.items (place_in r.asked_box))
+    (c.step_plain.ensures.none c.if-step_plain.false)
+    ∙ ap (λ es. seen (rank_of r.state) es r.sends.items r.recvs.items (place_in r.asked_box)) c.reserve.ensures.events)
+    refl c.step_plain.ensures.harts c.other_turn.result c.other_turn.new.self c.args.desk.now c.other_turn.new.desk
+    c.other_turn.ensures

@@ -1,0 +1,21 @@
+use Rattle.std.proofs.Common.{◌<◌, subst, sym}
+use Rattle.cl_rank.specs.Steps.{begun_receiver}
+use Rattle.cl_rank.proofs.Found.{changed_there, none_there, place_within}
+use Rattle.cl_rank.proofs.sides.begin_receiver.Goals as goal
+
+pub index_mut-requires : goal.index_mut-requires
+index_mut-requires c =
+    subst (λ n. c.in-Some.at < n) (sym c.args.recvs.now.ok.0)
+    (place_within c.args.link _ c.args.recvs.now.items c.find.result c.as_slice.ensures.value c.find.ensures
+    c.in-Some.at c.in-Some.is)
+
+pub returns-in-Some : goal.returns-in-Some
+returns-in-Some c =
+    changed_there c.args.link _ c.args.recvs.now.items c.find.result c.as_slice.ensures.value c.find.ensures
+    begun_receiver c.in-Some.at c.index_mut.result.now c.begin_receiving.new.side c.in-Some.is
+    c.index_mut.ensures.value c.begin_receiving.ensures
+
+pub returns-in_default : goal.returns-in_default
+returns-in_default c =
+    none_there c.args.link _ c.args.recvs.now.items c.find.result c.as_slice.ensures.value c.find.ensures
+    begun_receiver c.in_default.is

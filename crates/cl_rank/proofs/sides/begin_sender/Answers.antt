@@ -1,0 +1,21 @@
+use Rattle.std.proofs.Common.{◌<◌, subst, sym}
+use Rattle.cl_rank.specs.Steps.{begun_sender}
+use Rattle.cl_rank.proofs.Found.{changed_there, none_there, place_within}
+use Rattle.cl_rank.proofs.sides.begin_sender.Goals as goal
+
+pub index_mut-requires : goal.index_mut-requires
+index_mut-requires c =
+    subst (λ n. c.in-Some.at < n) (sym c.args.sends.now.ok.0)
+    (place_within c.args.link _ c.args.sends.now.items c.find.result c.as_slice.ensures.value c.find.ensures
+    c.in-Some.at c.in-Some.is)
+
+pub returns-in-Some : goal.returns-in-Some
+returns-in-Some c =
+    changed_there c.args.link _ c.args.sends.now.items c.find.result c.as_slice.ensures.value c.find.ensures
+    begun_sender c.in-Some.at c.index_mut.result.now c.begin_sending.new.side c.in-Some.is
+    c.index_mut.ensures.value c.begin_sending.ensures
+
+pub returns-in_default : goal.returns-in_default
+returns-in_default c =
+    none_there c.args.link _ c.args.sends.now.items c.find.result c.as_slice.ensures.value c.find.ensures
+    begun_sender c.in_default.is
