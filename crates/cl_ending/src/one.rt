@@ -66,6 +66,7 @@ fn judge(
     // whoever asks for the parts knows that there are few ranks
     let _parts = image.parts();
     let Ok(stuck) = is_ended_stuck(alloc, image, &ended) else {
+        drop(ended);
         return Err(RunFault::Memory);
     };
     if stuck || !ended.quiet {

@@ -79,6 +79,7 @@ pub fn run_threads_until_stuck<R: Threads + Wait + Sync, G: Gate>(
     let _parts = image.parts();
     let Ended { left, told } = run_threads_until_told(rt, alloc, image, plans, gate)?;
     let Ok(outcome) = judge(alloc, image, &left, told) else {
+        drop(left);
         return Err(RunFault::Memory);
     };
     Ok(StuckThreads { left, outcome })

@@ -43,6 +43,7 @@ impl<'a> Model for Loaded<'a> {
         × IsLoaded l.image.now l.plans.now l.driver l.lists };
 }
 
+/// All ranks as they are loaded, and the room for what their run leaves.
 fn load_all<'a>(
     alloc: Global,
     image: &Image,
@@ -51,9 +52,10 @@ fn load_all<'a>(
     requires { HasPlans image.now plans.now }
     ensures { IfOk result (λ loaded. IsLoaded image.now plans.now loaded.0 loaded.1) }
 {
-    let driver = Driver::load(alloc, image, plans)?;
     let links = image.parts().links.as_slice().len();
+    // the driver last, since it has the most to let go of
     let lists = Lists::with_room(alloc, plans.len(), links)?;
+    let driver = Driver::load(alloc, image, plans)?;
     Ok((driver, lists))
 }
 

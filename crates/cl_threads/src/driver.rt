@@ -1,6 +1,6 @@
 //! A thread for each rank.
 
-ghost use Rattle.std.specs.Prelude.{◌≡◌, IfOk, length};
+ghost use Rattle.std.specs.Prelude.{◌≡◌, ◌≤◌, ◌⊎◌, IfErr, IfOk, length};
 ghost use Rattle.std.specs.VecDeque.{deque_capacity};
 ghost use Rattle.cl_threads.specs.OnThreads.{AreDone, AreSeated, IsDone, IsReady};
 
@@ -8,7 +8,7 @@ use crate::gates::{Gate, Passage};
 use crate::turns::run_rank;
 use crate::until::Until;
 use cl_journal::Hub;
-use cl_record::{Done, Seat};
+use cl_record::{Done, RunFault, Seat};
 use part_channel::Channel;
 use std::alloc::{AllocError, Global};
 use std::collections::VecDeque;
@@ -36,7 +36,7 @@ impl<'a, 'p> Promise<Done> for GoesAlone<'a, 'p> {
 }
 
 /// The ranks' ways past the gate, by their numbers. Whoever drops one passes `End` for its rank.
-pub(crate) fn passages<'g, G: Gate>(
+fn passages<'g, G: Gate>(
     alloc: Global,
     gate: &'g G,
     ranks: u8,
@@ -66,7 +66,10 @@ fn run_from<'s, 'p: 's, E, R: Threads + Wait + Sync, G: Gate + Send + Drop + 's>
     ensures done { IfOk result (λ all. AreDone until channels.now seats.entry.items all.items) }
     ensures room { IfOk result (λ all. deque_capacity all ≡ deque_capacity done) }
 {
-    let (Some(passage), Some(seat)) = (passages.pop_front(), seats.pop_front()) else {
+    let Some(passage) = passages.pop_front() else {
+        return Ok(done);
+    };
+    let Some(seat) = seats.pop_front() else {
         return Ok(done);
     };
     let promise = GoesAlone {
@@ -82,36 +85,54 @@ fn run_from<'s, 'p: 's, E, R: Threads + Wait + Sync, G: Gate + Send + Drop + 's>
         { run_rank(rt, hub, channels, passage, until, seat) },
     );
     match started {
-        Err(_refused) => Err(NoThread),
+        Err(refused) => {
+            drop(refused);
+            Err(NoThread)
+        }
         Ok(thread) => {
             let others = run_from(scope, rt, hub, channels, passages, until, seats, done);
             let first = thread.join(rt);
-            let mut all = others?;
+            let Ok(mut all) = others else {
+                drop(first);
+                return Err(NoThread);
+            };
             all.push_front_reserved(first);
             Ok(all)
         }
     }
 }
 
-/// All ranks, each on a thread of its own, from their first turns to their stops.
-pub(crate) fn run_all<'e, 'p: 'e, R: Threads + Wait + Sync, G: Gate + Send + Drop + 'e>(
+/// All ranks, each on a thread of its own, past this gate, from their first turns to their stops.
+///
+/// Refusals: Memory for the ways past the gate, before the first turn; Spawn.
+pub(crate) fn run_all<'e, 'p: 'e, R: Threads + Wait + Sync, G: Gate>(
     rt: &'e R,
+    alloc: Global,
     hub: &'e Mutex<Hub>,
     channels: &'e [Channel],
-    passages: VecDeque<Passage<G>>,
+    gate: &'e G,
     until: Until,
     seats: VecDeque<Seat<'p>>,
     done: VecDeque<Done>,
-) -> Result<VecDeque<Done>, NoThread>
-    requires seated { AreSeated channels.now seats.items (length passages.items) done.items (deque_capacity done) }
+) -> Result<VecDeque<Done>, RunFault>
+    requires few { length seats.items ≤ 8 }
+    requires seated { AreSeated channels.now seats.items (length seats.items) done.items (deque_capacity done) }
     ensures done { IfOk result (λ all. AreDone until channels.now seats.entry.items all.items) }
+    ensures fault { IfErr result (λ fault. (fault ≡ RunFault.Memory) ⊎ (fault ≡ RunFault.Spawn)) }
 {
-    thread::scope(
+    let Ok(passages) = passages(alloc, gate, seats.len() as u8) else {
+        return Err(RunFault::Memory);
+    };
+    let ran = thread::scope(
         thread::scope_env::<'e>(),
         rt,
         move |scope| -> Result<VecDeque<Done>, NoThread>
             requires { AreSeated channels.now seats.items (length passages.items) done.items (deque_capacity done) }
             ensures { IfOk result (λ all. AreDone until channels.entry.now seats.entry.items all.items) }
         { run_from(scope, rt, hub, channels, passages, until, seats, done) },
-    )
+    );
+    match ran {
+        Ok(all) => Ok(all),
+        Err(NoThread) => Err(RunFault::Spawn),
+    }
 }

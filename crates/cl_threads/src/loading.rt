@@ -1,6 +1,8 @@
 //! Ranks, hub and channels before the first turn.
 
-ghost use Rattle.std.specs.Prelude.{◌≡◌, IfOk};
+ghost use Rattle.std.specs.Prelude.{◌≡◌, ◌≤◌, [], IfOk, length};
+ghost use Rattle.std.specs.VecDeque.{deque_capacity};
+ghost use Rattle.cl_record.specs.Leaving.{HaveRoom};
 ghost use Rattle.cl_record.specs.Plans.{HasPlans};
 ghost use Rattle.cl_threads.specs.Loading.{IsCluster};
 
@@ -25,15 +27,24 @@ pub(crate) struct Cluster<'a> {
     pub lists: Lists,
 }
 
-/// The seats one behind another, in a queue.
-fn queue_of<'a>(alloc: Global, seats: Vec<Seat<'a>>) -> Result<VecDeque<Seat<'a>>, AllocError>
-    ensures { IfOk result (λ queue. queue.items ≡ seats.entry.items) }
+/// A hub that was never called, and the room for what so many ranks leave: for the ranks themselves, and in lists.
+fn hub_and_room(
+    alloc: Global,
+    image: &Image,
+    ranks: usize,
+) -> Result<(Hub, VecDeque<Done>, Lists), AllocError>
+    ensures links { IfOk result (λ made. made.0.links ≡ image.now.links) }
+    ensures no_calls { IfOk result (λ made. made.0.entries ≡ []) }
+    ensures none_done { IfOk result (λ made. made.1.items ≡ []) }
+    ensures done_room { IfOk result (λ made. ranks ≤ deque_capacity made.1) }
+    ensures room { IfOk result (λ made. HaveRoom ranks (length image.now.links) made.2) }
 {
-    let mut queue = VecDeque::new(alloc);
-    for seat in seats {
-        queue.push_back(seat)?;
-    }
-    Ok(queue)
+    let links = image.parts().links.as_slice().len();
+    let done = VecDeque::with_capacity(alloc, ranks)?;
+    let lists = Lists::with_room(alloc, ranks, links)?;
+    // the hub last, since it has the most to let go of
+    let hub = Hub::start(alloc, image)?;
+    Ok((hub, done, lists))
 }
 
 impl<'a> Cluster<'a> {
@@ -47,15 +58,12 @@ impl<'a> Cluster<'a> {
         ensures { IfOk result (IsCluster image.now plans.now) }
     {
         // whoever asks for the parts knows that each link joins two ranks
-        let parts = image.parts();
+        let _parts = image.parts();
         let Wiring { channels, ends } = Wiring::of(alloc, image)?;
-        let loaded = load_seats(alloc, image, plans, ends)?;
-        let seats = queue_of(alloc, loaded)?;
-        let hub = Hub::start(alloc, image)?;
-        let done = VecDeque::with_capacity(alloc, plans.len())?;
-        let lists = Lists::with_room(alloc, plans.len(), parts.links.as_slice().len())?;
+        let seats = load_seats(alloc, image, plans, ends)?;
+        let (hub, done, lists) = hub_and_room(alloc, image, plans.len())?;
         Ok(Cluster {
-            seats,
+            seats: VecDeque::from(seats),
             hub,
             channels,
             done,

@@ -15,8 +15,8 @@ ghost use Rattle.cl_threads.specs.Runs.{IsThreadRun};
 ghost use Rattle.cl_threads.specs.Callers.{AreOf};
 ghost use Rattle.cl_threads.specs.Ties.{AreTied, IsUnlikeLeft};
 
-use crate::driver::{passages, run_all};
-use crate::gates::{Gate, Passage};
+use crate::driver::run_all;
+use crate::gates::Gate;
 use crate::leaving::leave;
 use crate::loading::Cluster;
 use crate::ties::{are_same_links, compare};
@@ -52,6 +52,8 @@ fn gather(
 {
     let parts = image.parts();
     if !are_same_links(hub.links(), parts.links.as_slice()) {
+        drop(hub);
+        drop(lists);
         return Err(RunFault::Unlike {
             rank: 255,
             place: 0,
@@ -60,22 +62,27 @@ fn gather(
     // whoever asks for the entries knows that they replay
     let _entries = hub.entries();
     let left = leave(channels, hub, done, lists);
-    compare(parts.ranks, left.traces.as_slice(), &left.journal)?;
-    Ok(left)
+    match compare(parts.ranks, left.traces.as_slice(), &left.journal) {
+        Ok(()) => Ok(left),
+        Err(fault) => {
+            drop(left);
+            Err(fault)
+        }
+    }
 }
 
 /// Runs ranks that are loaded, each on a thread of its own.
 fn run_cluster<R: Threads + Wait + Sync, G: Gate>(
     rt: &R,
+    alloc: Global,
     image: &Image,
     plans: &[Plan],
-    passages: VecDeque<Passage<&G>>,
+    gate: &G,
     until: Until,
     cluster: Cluster,
 ) -> Result<Record, RunFault>
     requires planned { HasPlans image.now plans.now }
     requires loaded { IsCluster image.now plans.now cluster }
-    requires passages { length passages.items ≡ image.now.ranks }
     ensures run { IfOk result (IsRunUntil until image.now plans.now) }
     ensures fault { IfErr result (IsRefusalUntil until image.now plans.now) }
 {
@@ -89,10 +96,25 @@ fn run_cluster<R: Threads + Wait + Sync, G: Gate>(
         lists,
     } = cluster;
     let hub = Mutex::new(hub);
-    let Ok(done) = run_all(rt, &hub, channels.as_slice(), passages, until, seats, done) else {
-        return Err(RunFault::Spawn);
-    };
-    gather(image, channels, hub.into_inner(), done, lists)
+    let ran = run_all(
+        rt,
+        alloc,
+        &hub,
+        channels.as_slice(),
+        gate,
+        until,
+        seats,
+        done,
+    );
+    let hub = hub.into_inner();
+    match ran {
+        Ok(done) => gather(image, channels, hub, done, lists),
+        Err(fault) => {
+            drop(hub);
+            drop(lists);
+            Err(fault)
+        }
+    }
 }
 
 /// Runs each rank of the image on a thread of its own, until each is stopped, by its plan or because it was told to.
@@ -112,14 +134,10 @@ fn run_until<R: Threads + Wait + Sync, G: Gate>(
     if !has_plans(image, plans) {
         return Err(RunFault::Plans);
     }
-    let ranks = image.parts().ranks;
     let Ok(cluster) = Cluster::load(alloc, image, plans) else {
         return Err(RunFault::Memory);
     };
-    let Ok(passages) = passages(alloc, gate, ranks) else {
-        return Err(RunFault::Memory);
-    };
-    run_cluster(rt, image, plans, passages, until, cluster)
+    run_cluster(rt, alloc, image, plans, gate, until, cluster)
 }
 
 /// Runs each rank of the image on a thread of its own, by its plan, until each is stopped. All ranks call one hub,
