@@ -26,9 +26,9 @@ fn ask_hub(
     doing: &Doing,
     request: &Request,
 ) -> Result<(), StepFault>
+    requires low { step.now.stamp < 2 ^ 62 }
     requires next { IsNext state.old step.now.hart doing.now }
     requires asks { asked (rank_of state.old) step.now.hart ≡ ask.Hub request.now }
-    requires low { step.now.stamp < 2 ^ 62 }
     ensures calls { OnOk result ((links : List Link) (calls : List Call) → HasCalls hub.old clock links calls
         → Calls (rank_of state.old) hub.old clock step.now reply.now (rank_of state.new) hub.new links calls) }
     ensures fault { IfErr result (CallFault (rank_of state.old) hub.old clock step.now reply.now) }
