@@ -11,7 +11,7 @@ ghost use Rattle.cl_debug.specs.Spacing.{IsSpacing};
 use crate::breaks::Break;
 use crate::faults::DebugFault;
 use crate::spacing::spacing_for;
-use crate::stepping::{advance, kept_states};
+use crate::stepping::{advance, kept_and_first};
 use cl_replay::{ClusterState, KeptCluster, Step};
 use rv_image::Image;
 use std::alloc::Global;
@@ -56,8 +56,7 @@ impl Debugger {
         ensures fault { IfErr result (OpenFaultHolds image steps.items) }
     {
         let spacing = spacing_for(steps.len() as u64);
-        let kept = kept_states(alloc, &image, steps.as_slice(), spacing)?;
-        let state = kept[0].live(alloc)?;
+        let (kept, state) = kept_and_first(alloc, &image, steps.as_slice(), spacing)?;
         Ok(Debugger {
             alloc,
             image,

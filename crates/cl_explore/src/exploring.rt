@@ -1,14 +1,14 @@
 //! The search from the loaded cluster on.
 
-ghost use Rattle.std.specs.Prelude.{◌≡◌, ◌⊎◌, ◌<◌, ◌≤◌, ◌+◌, ◌-◌, ℕ, List, Some, IfErr, IfOk, IfSome, IsFalse, IsTrue, OnOk, false, is_some, length, reverse, slice_get, true};
+ghost use Rattle.std.specs.Prelude.{◌≡◌, ◌⊎◌, ◌<◌, ◌≤◌, ◌+◌, ◌-◌, ℕ, List, [], Some, IfErr, IfOk, IfSome, IsFalse, IsTrue, OnOk, false, is_some, length, reverse, slice_get, true};
 ghost use Rattle.rv_image.specs.declared.images.ImageParts.{ImageParts};
 ghost use Rattle.cl_order_laws.specs.Closed.{Node};
 ghost use Rattle.cl_moves.specs.Standing.{IsWay, by_order, first_node};
+ghost use Rattle.cl_moves.specs.declared.standing.Standing.{Standing as StandingView};
 ghost use Rattle.cl_explore.specs.Covering.{AreNodes, HasRoom, HasRoomAt};
 ghost use Rattle.cl_explore.specs.Ends.{AreEnough, AreTurnsTo, BeginsAt, Explored, ExploredBehind, ExploredPlainly, ExploresFrom, IsBounded, Notes};
 ghost use Rattle.cl_explore.specs.Orders.{OrderFaultHolds};
 
-use crate::candidates::Candidates;
 use crate::course::{Course, Manner};
 use crate::kept::KeptNode;
 use crate::leads::Lead;
@@ -61,20 +61,28 @@ fn goes_on(enough: Option<usize>, done: usize, nodes: usize) -> bool
     }
 }
 
-/// The standing from which a search begins, once each rank took its turns that are taken at once.
-fn begin(course: &Manner<'_>, mut standing: Standing) -> Result<(Search, Option<u8>), MoveFault>
-    requires { 0 < length course.now.order.now }
-    ensures { IfOk result (λ begun. BeginsAt course.now.sure course.now.order.now standing begun.0.nodes.items) }
+/// What a search that came to an end tells of its nodes.
+#[derive(Drop)]
+struct Told {
+    ends: Vec<usize>,
+    left: usize,
+    long: Option<u8>,
+}
+
+/// A standing is the first node of a search, once each rank took its turns that are taken at once. Answers the first rank
+/// that would take more by itself, if there is one.
+fn begin(
+    course: &Manner<'_>,
+    search: &mut Search,
+    standing: &mut Standing,
+) -> Result<Option<u8>, MoveFault>
+    requires order { 0 < length course.now.order.now }
+    requires none { search.old.nodes.items ≡ [] }
+    ensures { OnOk result (BeginsAt course.now.sure course.now.order.now standing.old search.new.nodes.items) }
 {
-    let mut search = Search {
-        nodes: Vec::new(course.alloc),
-        candidates: Candidates::new(course.alloc)?,
-        moved: Candidates::new(course.alloc)?,
-        leads: Vec::new(course.alloc),
-    };
-    let long = settle(course, &mut standing)?;
-    search.arrive(course, &standing, 0, 0)?;
-    Ok((search, long))
+    let long = settle(course, standing)?;
+    search.arrive(course, standing, 0, 0)?;
+    Ok(long)
 }
 
 /// Notes a node if it is an end.
@@ -106,25 +114,22 @@ fn has_room_at(sure: bool, nodes: &[KeptNode], node: usize) -> bool
     }
 }
 
-/// All clusters to which any order of turns leads from a standing, but for those that are alike one of them, and which of
-/// them are ends: breadth first, ranks in order. None where calls for what is there are made at once, and a hub came to
-/// have too many posts for that.
-fn search_on(
+/// The moves of one node after another are made, within bounds. None where calls for what is there are made at once, and a
+/// hub came to have too many posts for that.
+fn visit_each(
     course: &Manner<'_>,
-    standing: Standing,
+    search: &mut Search,
+    mut long: Option<u8>,
     bounds: Bounds,
-) -> Result<Option<Exploration>, MoveFault>
+) -> Result<Option<Told>, MoveFault>
     requires { 0 < length course.now.order.now }
-    ensures ends { IfOk result (λ o. IfSome o (λ found. ExploresFrom course.now.sure course.now.order.now standing
-        found.nodes.items found.ends.items found.left)) }
-    ensures most { IfOk result (λ o. IfSome o (λ found.
-        IsBounded bounds.states bounds.enough (length found.nodes.items) found.left)) }
+    ensures ends { IfOk result (λ o. IfSome o (λ told. (standing : StandingView) → HasRoom course.now.sure standing.whole
+        → BeginsAt course.now.sure course.now.order.now standing search.old.nodes.items
+        → ExploresFrom course.now.sure course.now.order.now standing search.new.nodes.items told.ends.items told.left)) }
+    ensures most { IfOk result (λ o. IfSome o (λ told.
+        IsBounded bounds.states bounds.enough (length search.new.nodes.items) told.left)) }
     ensures plain { course.now.sure ≡ false → IfOk result (λ o. is_some o ≡ true) }
 {
-    if !has_room(course.sure, &standing.whole) {
-        return Ok(None);
-    }
-    let (mut search, mut long) = begin(course, standing)?;
     let mut ends = Vec::new(course.alloc);
     let mut done = 0;
     'rest: while done < bounds.states && goes_on(bounds.enough, done, search.nodes.len()) {
@@ -139,11 +144,37 @@ fn search_on(
         done += 1;
     }
     let left = search.nodes.len().saturating_sub(done);
+    Ok(Some(Told { ends, left, long }))
+}
+
+/// All clusters to which any order of turns leads from a standing, but for those that are alike one of them, and which of
+/// them are ends: breadth first, ranks in order. None where calls for what is there are made at once, and a hub came to
+/// have too many posts for that. The standing may be anything then.
+fn search_on(
+    course: &Manner<'_>,
+    standing: &mut Standing,
+    bounds: Bounds,
+) -> Result<Option<Exploration>, MoveFault>
+    requires { 0 < length course.now.order.now }
+    ensures ends { IfOk result (λ o. IfSome o (λ found. ExploresFrom course.now.sure course.now.order.now standing.old
+        found.nodes.items found.ends.items found.left)) }
+    ensures most { IfOk result (λ o. IfSome o (λ found.
+        IsBounded bounds.states bounds.enough (length found.nodes.items) found.left)) }
+    ensures plain { course.now.sure ≡ false → IfOk result (λ o. is_some o ≡ true) }
+{
+    if !has_room(course.sure, &standing.whole) {
+        return Ok(None);
+    }
+    let mut search = Search::new(course.alloc)?;
+    let long = begin(course, &mut search, standing)?;
+    let Some(told) = visit_each(course, &mut search, long, bounds)? else {
+        return Ok(None);
+    };
     Ok(Some(Exploration {
         nodes: search.nodes,
-        ends,
-        left,
-        long,
+        ends: told.ends,
+        left: told.left,
+        long: told.long,
         leads: search.leads,
     }))
 }
@@ -151,7 +182,7 @@ fn search_on(
 /// The same, with calls that are made at once or without.
 fn search(
     course: &Course<'_>,
-    standing: Standing,
+    mut standing: Standing,
     bounds: Bounds,
     sure: bool,
 ) -> Result<Option<Exploration>, MoveFault>
@@ -168,7 +199,7 @@ fn search(
         most: course.most,
         sure,
     };
-    search_on(&manner, standing, bounds)
+    search_on(&manner, &mut standing, bounds)
 }
 
 /// The same without them.

@@ -61,8 +61,7 @@ pub(crate) fn keep_moved(
 ) -> Result<KeptRanks, AllocError>
     ensures { IfOk result (λ kept. HaveStayed earlier.now standing.now → kept ≡ ranks_at standing.now.cluster) }
 {
-    let is_one = are_same_beside(standing.had.as_slice(), earlier.had.as_slice(), rank);
-    if !is_one || rank >= standing.cluster.ranks.len() || rank >= earlier.cluster.ranks().len() {
+    if !earlier.is_beside(standing, rank) {
         return standing.cluster.keep_ranks(alloc, Some(&earlier.cluster));
     }
     standing
@@ -102,12 +101,24 @@ impl KeptNode {
     pub(crate) fn live(&self, alloc: Global) -> Result<Standing, AllocError>
         ensures { IfOk result (IsLiveOf self.now) }
     {
+        let had = Vec::from_slice(alloc, self.had.as_slice())?;
+        let whole = self.whole.try_copy(alloc)?;
+        let cluster = self.state(alloc)?;
         Ok(Standing {
-            cluster: self.state(alloc)?,
-            whole: self.whole.try_copy(alloc)?,
-            had: Vec::from_slice(alloc, self.had.as_slice())?,
+            cluster,
+            whole,
+            had,
             steps: Vec::new(alloc),
         })
+    }
+
+    /// A standing is at the node, wherever it was, and no turn is noted yet. The only error is want of memory, and then it
+    /// stays where it was.
+    pub(crate) fn renew(&self, alloc: Global, standing: &mut Standing) -> Result<(), AllocError>
+        ensures { OnOk result (IsLiveOf self.now standing.new) }
+    {
+        *standing = self.live(alloc)?;
+        Ok(())
     }
 
     /// A rank of a standing is again as it was here, if it has had turns since. The only error is want of memory.
@@ -153,6 +164,39 @@ impl KeptNode {
         Ok(())
     }
 
+    /// Whether this rank is in a standing and here, and all others have had as many turns there as here.
+    fn is_beside(&self, standing: &Standing, rank: usize) -> bool
+        ensures there { IsTrue result → rank < length standing.now.cluster.ranks.items }
+        ensures here { IsTrue result → rank < length self.now.cluster.ranks }
+        ensures same { IsTrue result → AreSameBeside standing.now.had.items self.now.had.items rank }
+    {
+        rank < standing.cluster.ranks.len()
+            && rank < self.cluster.ranks().len()
+            && are_same_beside(standing.had.as_slice(), self.had.as_slice(), rank)
+    }
+
+    /// A standing in which all ranks but this one are as here is here again, and no turn is noted. The only error is want
+    /// of memory, and then the standing may be anything.
+    fn bring_back_last(
+        &self,
+        alloc: Global,
+        standing: &mut Standing,
+        rank: usize,
+    ) -> Result<(), AllocError>
+        requires there { rank < length standing.old.cluster.ranks.items }
+        requires here { rank < length self.now.cluster.ranks }
+        requires same { AreSameBeside standing.old.had.items self.now.had.items rank }
+        ensures { OnOk result (HaveStayed self.now standing.old → IsLiveOf self.now standing.new) }
+    {
+        let hub = self.whole.hub(alloc)?;
+        self.cluster
+            .restore(alloc, &mut standing.cluster, rank, hub)?;
+        standing.whole = self.whole.try_copy(alloc)?;
+        standing.had = Vec::from_slice(alloc, self.had.as_slice())?;
+        standing.steps = Vec::new(alloc);
+        Ok(())
+    }
+
     /// A standing that came from here, mostly by turns of this rank, is here again, and no turn is noted. Ranks that have
     /// had none stay where they are. The only error is want of memory, and then the standing may be anything.
     pub(crate) fn restore(
@@ -164,17 +208,9 @@ impl KeptNode {
         ensures { OnOk result (HaveStayed self.now standing.old → IsLiveOf self.now standing.new) }
     {
         self.bring_back_others(alloc, standing, rank)?;
-        let is_one = are_same_beside(standing.had.as_slice(), self.had.as_slice(), rank);
-        if !is_one || rank >= standing.cluster.ranks.len() || rank >= self.cluster.ranks().len() {
-            *standing = self.live(alloc)?;
-            return Ok(());
+        if !self.is_beside(standing, rank) {
+            return self.renew(alloc, standing);
         }
-        let hub = self.whole.hub(alloc)?;
-        self.cluster
-            .restore(alloc, &mut standing.cluster, rank, hub)?;
-        standing.whole = self.whole.try_copy(alloc)?;
-        standing.had = Vec::from_slice(alloc, self.had.as_slice())?;
-        standing.steps = Vec::new(alloc);
-        Ok(())
+        self.bring_back_last(alloc, standing, rank)
     }
 }

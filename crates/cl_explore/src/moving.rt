@@ -1,7 +1,9 @@
 //! All moves of a node.
 
-ghost use Rattle.std.specs.Prelude.{◌<◌, IfOk, OnOk, length};
+ghost use Rattle.std.specs.Prelude.{◌≡◌, ◌<◌, IfOk, OnOk, Some, length, slice_get};
+ghost use Rattle.cl_explore.specs.Kept.{IsLiveOf};
 ghost use Rattle.cl_explore.specs.Searching.{ClosesRank, Goes, GoesEach, GoesOn, IsVisited, KeepsOf};
+ghost use Rattle.cl_explore.specs.declared.kept.KeptNode.{KeptNode as KeptView};
 
 use crate::course::Manner;
 use crate::leads::Lead;
@@ -81,7 +83,7 @@ impl Search {
         let rank = turn.rank();
         if !live.take(turn)? {
             let kept = &self.nodes[node];
-            *live = kept.live(course.alloc)?;
+            kept.renew(course.alloc, live)?;
             return Ok(false);
         }
         let fewer = go_on(course, live, rank)?;
@@ -148,6 +150,29 @@ impl Search {
         Ok(if_long(rank, long))
     }
 
+    /// All moves of a node at which a standing is. Answers whether nobody goes on there.
+    fn visit_from(
+        &mut self,
+        course: &Manner<'_>,
+        node: usize,
+        live: &mut Standing,
+    ) -> Result<Visit, MoveFault>
+        requires { 0 < length course.now.order.now }
+        ensures { (kept : KeptView) → slice_get self.old.nodes.items node ≡ Some kept → IsLiveOf kept live.old
+            → IfOk result (λ visit. KeepsOf course.now.order.now self.old.nodes.items node self.new.nodes.items
+            (IsVisited course.now.sure course.now.order.now visit.end)) }
+    {
+        let end = is_end(&live.cluster, course.order)?;
+        let mut long = None;
+        // an image has at most 8 ranks
+        let count = live.cluster.ranks.len().min(255) as u8;
+        for rank in 0..count {
+            let alone = self.go_rank(course, node, live, rank)?;
+            long = first_of(long, alone);
+        }
+        Ok(Visit { end, long })
+    }
+
     /// All moves of a node. Answers whether nobody goes on there.
     pub(crate) fn visit(&mut self, course: &Manner<'_>, node: usize) -> Result<Visit, MoveFault>
         requires { 0 < length course.now.order.now }
@@ -162,14 +187,6 @@ impl Search {
         }
         let kept = &self.nodes[node];
         let mut live = kept.live(course.alloc)?;
-        let end = is_end(&live.cluster, course.order)?;
-        let mut long = None;
-        // an image has at most 8 ranks
-        let count = live.cluster.ranks.len().min(255) as u8;
-        for rank in 0..count {
-            let alone = self.go_rank(course, node, &mut live, rank)?;
-            long = first_of(long, alone);
-        }
-        Ok(Visit { end, long })
+        self.visit_from(course, node, &mut live)
     }
 }

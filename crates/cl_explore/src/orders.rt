@@ -1,7 +1,9 @@
 //! Turns of an order, taken one after another from the loaded cluster on.
 
-ghost use Rattle.std.specs.Prelude.{◌≡◌, ◌<◌, IfErr, IfOk, length, map};
+ghost use Rattle.std.specs.Prelude.{◌≡◌, ◌<◌, IfErr, IfOk, OnOk, length, map};
+ghost use Rattle.rv_image.specs.declared.images.ImageParts.{ImageParts};
 ghost use Rattle.cl_order_laws.specs.Orders.{is_miss, turn_of};
+ghost use Rattle.cl_moves.specs.Standing.{IsStart};
 ghost use Rattle.cl_explore.specs.Orders.{IsChosen, IsLedBy, OrderFaultHolds, TakesTurn, named};
 ghost use Rattle.cl_explore.specs.declared.orders.OrderFault.TheVariants.{Move};
 
@@ -107,6 +109,29 @@ fn take_turn(course: &Course<'_>, standing: &mut Standing, turn: Turn) -> Result
     standing.take(step)
 }
 
+/// Turns, taken one after another from a standing on. After a refusal the standing may be anything.
+///
+/// Refusals: NoTurn where there is no such turn; else Clock or Memory.
+fn take_turns(
+    course: &Course<'_>,
+    standing: &mut Standing,
+    turns: &[Turn],
+) -> Result<(), OrderFault>
+    requires { 0 < length course.now.order.now }
+    ensures led { OnOk result ((image : ImageParts) → IsStart image standing.old
+        → IsLedBy image course.now.order.now turns.now standing.new) }
+    ensures fault { IfErr result (λ fault. (image : ImageParts) → IsStart image standing.old
+        → OrderFaultHolds image course.now.order.now turns.now fault) }
+{
+    for place in 0..turns.len() {
+        let turn = turns[place];
+        if !take_turn(course, standing, turn)? {
+            return Err(OrderFault::NoTurn(place));
+        }
+    }
+    Ok(())
+}
+
 /// Where turns lead from the loaded cluster.
 ///
 /// Refusals: NoTurn where there is no such turn; else Clock or Memory.
@@ -120,11 +145,6 @@ pub(crate) fn follow(
     ensures fault { IfErr result (OrderFaultHolds image.now course.now.order.now turns.now) }
 {
     let mut standing = Standing::load(course.alloc, image)?;
-    for place in 0..turns.len() {
-        let turn = turns[place];
-        if !take_turn(course, &mut standing, turn)? {
-            return Err(OrderFault::NoTurn(place));
-        }
-    }
+    take_turns(course, &mut standing, turns)?;
     Ok(standing)
 }

@@ -1,6 +1,6 @@
 //! Nodes that were found, and one more.
 
-ghost use Rattle.std.specs.Prelude.{◌≡◌, ◌<◌, ◌%◌, ◌⊎◌, IfOk, IfSome, OnOk, true, length};
+ghost use Rattle.std.specs.Prelude.{◌≡◌, ◌<◌, ◌%◌, ◌⊎◌, [], IfOk, IfSome, OnOk, true, length};
 ghost use Rattle.cl_record.specs.Plans.{in_slot};
 ghost use Rattle.cl_state.specs.Room.{rank_of};
 ghost use Rattle.cl_replay.specs.Kept.{ranks_at};
@@ -16,7 +16,7 @@ use crate::likeness::{is_alike, key_of, key_of_rank};
 use cl_moves::{MoveFault, Standing, is_done};
 use cl_replay::{KeptRanks, SharedRank};
 use cl_state::RankState;
-use std::alloc::AllocError;
+use std::alloc::{AllocError, Global};
 
 /// The nodes that a search found, and by which keys.
 #[derive(Drop)]
@@ -57,6 +57,18 @@ fn are_same_places(order: &[u8], standing: &Standing, other: &[u64]) -> bool
 }
 
 impl Search {
+    /// No nodes. The only error is want of memory.
+    pub(crate) fn new(alloc: Global) -> Result<Search, AllocError>
+        ensures { IfOk result (λ search. search.nodes.items ≡ []) }
+    {
+        Ok(Search {
+            nodes: Vec::new(alloc),
+            candidates: Candidates::new(alloc)?,
+            moved: Candidates::new(alloc)?,
+            leads: Vec::new(alloc),
+        })
+    }
+
     /// Whether the node of this number is alike a standing, at the same places.
     fn is_at(
         &self,
@@ -153,9 +165,9 @@ impl Search {
         let cluster = self.keep(course, standing, parent, rank, own)?;
         let kept = KeptNode::of(course.alloc, standing, cluster, parent)?;
         let number = self.nodes.len();
+        self.nodes.push(kept)?;
         self.candidates.add(key)?;
         self.moved.add(own)?;
-        self.nodes.push(kept)?;
         Ok(number)
     }
 }

@@ -19,7 +19,7 @@ use cl_replay::ClusterState;
 use cl_state::Ask;
 use cl_trace::Bare;
 use mp_hub::HubState;
-use mp_types::{Request, Stamp};
+use mp_types::{Reply, Request, Stamp};
 use part_box::Settled;
 use std::alloc::{AllocError, Global};
 
@@ -78,7 +78,24 @@ fn looking(
     Ok(turns)
 }
 
-/// The turn of a call: the hub's reply to it, which is told by a copy of the hub.
+/// The hub's reply to a call, which is told by a copy of the hub.
+///
+/// Refusals: Clock where the hub has no number left for a post, Memory.
+fn reply_to(alloc: Global, hub: &HubState, rank: u8, request: &Request) -> Result<Reply, MoveFault>
+    ensures { IfOk result (λ reply. (links : List Link) (calls : List Call) → StandsFor hub.now links calls
+        → reply ≡ reply_of links calls rank request.now) }
+{
+    if hub.posts() >= u64::MAX {
+        return Err(MoveFault::Clock);
+    }
+    let mut copy = hub.try_copy(alloc)?;
+    match copy.answer(rank, request) {
+        Ok(reply) => Ok(reply),
+        Err(_) => Err(MoveFault::Memory),
+    }
+}
+
+/// The turn of a call, with the hub's reply to it.
 pub(crate) fn calling(
     alloc: Global,
     whose: Whose,
@@ -94,13 +111,7 @@ pub(crate) fn calling(
     ensures own { IfOk result (λ turns. AreTurnsOf whose.rank whose.hart turns.items) }
     ensures apart { IfOk result (λ turns. AreApart turns.items) }
 {
-    if hub.posts() >= u64::MAX {
-        return Err(MoveFault::Clock);
-    }
-    let mut copy = hub.try_copy(alloc)?;
-    let Ok(reply) = copy.answer(whose.rank, request) else {
-        return Err(MoveFault::Memory);
-    };
+    let reply = reply_to(alloc, hub, whose.rank, request)?;
     let reply = Box::new(alloc, reply)?;
     let stamp = whose.met(clock);
     Ok(one(alloc, Step::hub(whose.rank, whose.hart, stamp, reply))?)

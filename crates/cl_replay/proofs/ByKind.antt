@@ -1,6 +1,6 @@
 -- What each kind of step asks of a state is what the table asks of its cluster.
 use Rattle.std.specs.Prelude.{ℕ, ◌≡◌, ◌<◌, ◌≤◌, ◌⊎◌, ◌+◌, ◌^◌, max, List, length, slice_get, slice_set, Some}
-use Rattle.std.specs.Prelude.{◌/◌, ◌%◌, Result, Ok, Err, IfErr, MatchResult, OnOk, vec_len}
+use Rattle.std.specs.Prelude.{◌/◌, ◌%◌, Result, Ok, Err, IfErr, MatchResult, OnErr, OnOk, vec_len}
 use Rattle.std.specs.Global.{Vec}
 use Rattle.std.specs.Vec.{with_items}
 use Rattle.std.proofs.Common.{refl, sym, ap, ◌∙◌, subst, arith, get_or, inl, inr, ⊎_elim}
@@ -19,6 +19,7 @@ use Rattle.cl_state.specs.declared.asking.Ask.{Ask}
 use Rattle.cl_state.specs.declared.state.RankState.{RankState}
 use Rattle.cl_state.specs.Asked.{doing, part_of}
 use Rattle.cl_state.specs.Right.{growth_of}
+use Rattle.cl_state.specs.Rank.{Rank}
 use Rattle.cl_state.specs.Room.{rank_of}
 use Rattle.cl_state.specs.Told.{told}
 use Rattle.cl_trace.specs.declared.events.Kind.{Kind}
@@ -333,6 +334,13 @@ at_step old e i n h m s rank count below low value hart harts inside = record {
 pub weaker_err : {T E : Type 0} (r : Result T E) (Q S : E → Type 0) → IfErr r Q → ((y : E) → Q y → S y) → IfErr r S
 weaker_err (Ok x) Q S h f = tt
 weaker_err (Err y) Q S h f = f y h
+
+-- a page was refused alone
+pub lacking : {T : Type 0} (r : Result T StepFault) (rank : Rank) (e : Step) (step : Type 0)
+    → OnErr r ((r ≡ Err StepFault.Memory) × LacksPages rank e.hart) → IfErr r (AloneFault rank e step)
+lacking (Ok x) rank e step h = tt
+lacking (Err StepFault.Memory) rank e step h = h.1
+lacking (Err StepFault.NotAStep) rank e step h = let is = h.0 in absurd (cc)
 
 -- a step that was no call, and put nothing out
 pub alone_fault : (old : ClusterState) (e : Step) (s : RankState) → IsAt old e s → (step : Type 0)

@@ -2,9 +2,11 @@
 
 ghost use Rattle.std.specs.Prelude.{◌≡◌, ◌↔◌, ◌<◌, IfOk, IsTrue, None, Some, length, slice_get, take};
 ghost use Rattle.std.specs.List.{last_or};
+ghost use Rattle.rv_image.specs.declared.images.ImageParts.{ImageParts};
 ghost use Rattle.cl_machine.specs.Laws.{ComesAfter};
 ghost use Rattle.cl_machine.specs.Steps.{Step as StepView};
 ghost use Rattle.cl_replay.specs.Checks.{IsVerdict};
+ghost use Rattle.cl_replay.specs.Replaying.{IsReached};
 
 use crate::faults::StepFault;
 use crate::states::ClusterState;
@@ -39,19 +41,14 @@ fn comes_next(steps: &[Step], n: usize) -> bool
     n == 0 || is_before(&steps[n - 1], &steps[n])
 }
 
-/// Whether these steps are a run of the image, from its loaded cluster on, in order of their stamps;
-/// else the first step with which they aren't: it doesn't come after the step before it, or the
-/// machine has no such step there.
+/// What these steps are from a cluster on: they are done one after another, up to the first that isn't the machine's or
+/// doesn't come after the step before it.
 ///
-/// It decides by the written machine alone, and needs nothing besides the steps. A second step of
-/// one rank and one stamp is bad; turns of stopped harts, any number of turns, and looks in vain at
-/// a box that is full are good.
-///
-/// Refused only where memory is, for the loaded cluster or for what a step makes.
-pub fn check(alloc: Global, image: &Image, steps: &[Step]) -> Result<Verdict, AllocError>
-    ensures { IfOk result (IsVerdict image.now steps.now) }
+/// The only error is want of memory, for what a step makes. Then the state may be anything.
+fn check_from(state: &mut ClusterState, steps: &[Step]) -> Result<Verdict, AllocError>
+    ensures { (image : ImageParts) → IsReached image steps.now 0 state.old
+        → IfOk result (IsVerdict image steps.now) }
 {
-    let mut state = ClusterState::load(alloc, image)?;
     let mut n = 0;
     while n < steps.len() {
         if !comes_next(steps, n) {
@@ -65,4 +62,20 @@ pub fn check(alloc: Global, image: &Image, steps: &[Step]) -> Result<Verdict, Al
         n = state.go_on(steps, n + 1, steps.len());
     }
     Ok(Verdict::Good)
+}
+
+/// Whether these steps are a run of the image, from its loaded cluster on, in order of their stamps;
+/// else the first step with which they aren't: it doesn't come after the step before it, or the
+/// machine has no such step there.
+///
+/// It decides by the written machine alone, and needs nothing besides the steps. A second step of
+/// one rank and one stamp is bad; turns of stopped harts, any number of turns, and looks in vain at
+/// a box that is full are good.
+///
+/// Refused only where memory is, for the loaded cluster or for what a step makes.
+pub fn check(alloc: Global, image: &Image, steps: &[Step]) -> Result<Verdict, AllocError>
+    ensures { IfOk result (IsVerdict image.now steps.now) }
+{
+    let mut state = ClusterState::load(alloc, image)?;
+    check_from(&mut state, steps)
 }

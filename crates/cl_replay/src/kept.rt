@@ -1,6 +1,6 @@
 //! The ranks of a cluster with its boxes, kept as they were at one time.
 
-ghost use Rattle.std.specs.Prelude.{◌≡◌, ◌<◌, IfOk, OnErr, OnOk, length, map};
+ghost use Rattle.std.specs.Prelude.{◌≡◌, ◌<◌, IfOk, OnErr, OnOk, length, map, slice_set};
 ghost use Rattle.cl_state.specs.Room.{rank_of};
 ghost use Rattle.cl_replay.specs.Kept.{IsBeside, IsRestored, ranks_at, snapshot, with_hub};
 
@@ -151,9 +151,8 @@ impl KeptRanks {
         ensures restored { OnOk result (IsRestored (with_hub self.now hub) state.old rank state.new) }
         ensures refused { OnErr result (state.new ≡ state.old) }
     {
-        let own = self.ranks[rank].rank().live(alloc)?;
         let boxes = Vec::from_slice(alloc, self.boxes.as_slice())?;
-        state.ranks[rank] = own;
+        state.put_back(alloc, rank, self.ranks[rank].rank())?;
         state.hub = hub;
         state.clock = self.clock;
         state.boxes = boxes;
@@ -176,6 +175,19 @@ impl KeptRanks {
 }
 
 impl ClusterState {
+    /// The rank of this number is again as it was kept, in memory of its own. The only error is want of memory, and then
+    /// nothing changes.
+    fn put_back(&mut self, alloc: Global, rank: usize, kept: &KeptRank) -> Result<(), AllocError>
+        requires { rank < length self.old.ranks.items }
+        ensures ranks { OnOk result (map rank_of self.new.ranks.items
+            ≡ slice_set (map rank_of self.old.ranks.items) rank kept.now) }
+        ensures refused { OnErr result (self.new ≡ self.old) }
+    {
+        let own = kept.live(alloc)?;
+        self.ranks[rank] = own;
+        Ok(())
+    }
+
     /// The ranks as they are now with the hub's clock and the boxes, kept. A page of a rank that is as in the earlier
     /// ones stands once for both. The only error is want of memory.
     pub fn keep_ranks(

@@ -55,6 +55,20 @@ pub(crate) fn room(state: &mut RankState, step: &Step, doing: &Doing) -> Result<
     }
 }
 
+/// Tells a rank what its hart is answered in a turn that puts nothing out, once there are the pages that it wants. Where
+/// memory is refused for these the rank stays as it is.
+fn tell(state: &mut RankState, step: &Step, doing: &Doing, answer: &Answer) -> Result<(), StepFault>
+    requires next { IsNext state.old step.now.hart doing.now }
+    requires nothing_out { growth_of doing.now ≡ 0 }
+    ensures told { OnOk result (IsTold (rank_of state.old) step.now answer.now (rank_of state.new)) }
+    ensures fault { OnErr result ((result ≡ Err StepFault.Memory) × LacksPages (rank_of state.old) step.now.hart) }
+    ensures same { result ≡ Err StepFault.Memory → rank_of state.new ≡ rank_of state.old }
+{
+    room(state, step, doing)?;
+    state.tell_next(step.hart(), doing, answer, step.stamp());
+    Ok(())
+}
+
 /// Whether a hart asks for an instruction to be done.
 fn is_plain(asked: &Ask) -> bool
     ensures { IsTrue result ↔ (asked.now ≡ ask.Plain) }
@@ -83,9 +97,7 @@ fn plain_with_room(state: &mut RankState, step: &Step) -> Result<(), StepFault>
     if !is_plain(&ask) {
         return Err(StepFault::NotAStep);
     }
-    room(state, step, &doing)?;
-    state.tell_next(hart, &doing, &Answer::Alone, step.stamp());
-    Ok(())
+    tell(state, step, &doing, &Answer::Alone)
 }
 
 /// Does the instruction of a running hart, where it is no ECALL and the stamp is the next.
@@ -188,9 +200,7 @@ pub(crate) fn miss(state: &mut RankState, step: &Step) -> Result<(), StepFault>
     if !is_look(&ask) || !follows(state.clock, step.stamp()) {
         return Err(StepFault::NotAStep);
     }
-    room(state, step, &doing)?;
-    state.tell_next(hart, &doing, &Answer::Missed, step.stamp());
-    Ok(())
+    tell(state, step, &doing, &Answer::Missed)
 }
 
 /// A partition is made ready in an empty box.
@@ -223,7 +233,7 @@ pub(crate) fn ready(
     }
     let words = to_words(bytes.as_slice());
     let stamp = step.stamp();
-    room(state, step, &doing)?;
+    tell(state, step, &doing, &Answer::Alone)?;
     set(
         boxes,
         number,
@@ -233,7 +243,6 @@ pub(crate) fn ready(
             words,
         },
     );
-    state.tell_next(hart, &doing, &Answer::Alone, stamp);
     Ok(())
 }
 
@@ -267,7 +276,7 @@ pub(crate) fn take(
     }
     let taken = Answer::Taken(contents(state.site.version, &settled.words));
     let (stamp, words) = (step.stamp(), [0; 16]);
-    room(state, step, &doing)?;
+    tell(state, step, &doing, &taken)?;
     set(
         boxes,
         number,
@@ -277,7 +286,6 @@ pub(crate) fn take(
             words,
         },
     );
-    state.tell_next(hart, &doing, &taken, stamp);
     Ok(())
 }
 
@@ -308,7 +316,5 @@ pub(crate) fn freed(
     if settled.full || !follows_both(state.clock, settled.stamp, step.stamp()) {
         return Err(StepFault::NotAStep);
     }
-    room(state, step, &doing)?;
-    state.tell_next(hart, &doing, &Answer::Freed, step.stamp());
-    Ok(())
+    tell(state, step, &doing, &Answer::Freed)
 }

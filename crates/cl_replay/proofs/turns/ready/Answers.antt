@@ -4,13 +4,12 @@ use Rattle.cl_state.specs.Asked.{asked}
 use Rattle.cl_state.specs.Room.{rank_of}
 use Rattle.cl_machine.specs.Boxes.{box_number}
 use Rattle.cl_replay.specs.Boxes.{ChangesBox, filled, settled_at}
-use Rattle.cl_replay.proofs.Asks.{nothing_out, told_same}
-use Rattle.cl_state.specs.declared.asking.Answer.TheVariants as answer
+use Rattle.cl_replay.proofs.Asks.{nothing_out}
 use Rattle.cl_replay.proofs.Spells.{ready_fits, ready_spelled, ready_whole}
 use Rattle.cl_replay.proofs.turns.ready.Goals as goal
 
-pub room-requires-clause-nothing_out : goal.room-requires-clause-nothing_out
-room-requires-clause-nothing_out c =
+pub tell-requires-clause-nothing_out : goal.tell-requires-clause-nothing_out
+tell-requires-clause-nothing_out c =
     nothing_out (rank_of c.args.state.now) c.hart-hart.result c.next-doing.result c.next-doing.ensures.spelled
     (ask.Ready c.in-Ready.link c.in-Ready.part c.in-Ready.bytes) (sym c.in-Ok.ensures ∙ c.in-Ready.is) refl
 
@@ -41,8 +40,7 @@ returns-clause-goes c = record {
   words = c.to_words-words.result;
   spelled = ready_spelled (rank_of c.args.state.now) c.hart-hart.result _ _ _ (sym c.in-Ok.ensures ∙ c.in-Ready.is)
       c.to_words-words.result c.as_slice.result.now c.as_slice.ensures c.to_words-words.ensures;
-  told = c.tell_next.ensures.told
-      ∙ told_same _ _ _ _ answer.Alone _ _ c.room.ensures.same c.hart-hart.ensures c.stamp-stamp.ensures;
+  told = c.in_ok-tell.ensures.told;
   changes = subst (λ t. ChangesBox c.args.boxes.now (box_number c.in-Ready.link c.in-Ready.part)
       (filled t c.to_words-words.result)
       c.set.new.boxes) c.stamp-stamp.ensures

@@ -6,11 +6,11 @@ use Rattle.cl_state.specs.declared.asking.Ask.TheVariants as ask
 use Rattle.cl_state.specs.Asked.{asked}
 use Rattle.cl_state.specs.Room.{rank_of}
 use Rattle.cl_state.specs.Told.{told}
-use Rattle.cl_replay.proofs.Asks.{nothing_out, told_same}
+use Rattle.cl_replay.proofs.Asks.{nothing_out}
 use Rattle.cl_replay.proofs.turns.take.Goals as goal
 
-pub room-requires-clause-nothing_out : goal.room-requires-clause-nothing_out
-room-requires-clause-nothing_out c =
+pub tell-requires-clause-nothing_out : goal.tell-requires-clause-nothing_out
+tell-requires-clause-nothing_out c =
     nothing_out (rank_of c.args.state.now) c.hart-hart.result c.next-doing.result c.next-doing.ensures.spelled
     (ask.Look c.in-Look.link c.in-Look.part) (sym c.in-Ok.ensures ∙ c.in-Look.is) refl
 
@@ -25,9 +25,7 @@ returns-clause-goes c = record {
     full = c.if-not-settled.false;
     stamp = sym c.stamp.ensures ∙ c.follows_both.ensures.0 c.if-not-follows_both.false;
   };
-  told = c.tell_next.ensures.told
-      ∙ told_same _ _ _ _ (answer.Taken c.contents.result) _ _ c.room.ensures.same c.hart-hart.ensures
-      c.stamp-stamp.ensures
+  told = c.in_ok-tell.ensures.told
       ∙ ap (λ bytes. told (rank_of c.args.state.now) c.args.step.now.hart (answer.Taken bytes) c.args.step.now.stamp)
       c.contents.ensures;
   changes = subst (λ t. ChangesBox c.args.boxes.now (box_number c.in-Look.link c.in-Look.part) (vacant t)

@@ -18,9 +18,9 @@ returns-then-not-branch c =
     let here = slice_get_read kept.items c.len.result c.args.node c.index-kept.result.now
     (c.len.ensures ∙ kept.ok.0) c.if-node-len.false c.index-kept.ensures in
     goes_nowhere c.args.course.now.order.now kept.items c.args.node c.index-kept.result.now here c.args.course.now.sure
-    c.args.live.now c.in_ok-live.field-0 c.args.turn
+    c.args.live.now c.renew.new.standing c.args.turn
     (subst (λ b. Takes c.args.live.now c.args.turn c.take.new.self b) c.if-not-branch.true c.in_ok-take.ensures.takes)
-    c.in_ok-live.ensures
+    c.in_ok-renew.ensures
 
 pub returns-then-node-len-2 : goal.returns-then-node-len-2
 returns-then-node-len-2 c =

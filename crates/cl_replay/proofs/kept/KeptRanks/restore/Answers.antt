@@ -1,5 +1,4 @@
 use Rattle.std.proofs.Common.{◌≡◌, Some, ap, refl, length, map, slice_get, subst, sym, ◌∙◌, ◌<◌}
-use Rattle.std.proofs.lemmas.List.{map-set}
 use Rattle.std.proofs.lemmas.Option.{same_Some, slice_get_read}
 use Rattle.std.specs.Prelude.{slice_set}
 use Rattle.cl_state.specs.Room.{rank_of}
@@ -17,8 +16,8 @@ returns-clause-restored c =
       ranks = λ own at.
           let same : c.index.result.now ≡ own =
           same_Some c.index.result.now own (sym there ∙ subst (λ rs. slice_get rs c.args.rank ≡ Some own) ranks_are at) in
-          let is : rank_of c.in_ok-own.own ≡ own = c.in_ok-own.ensures ∙ (c.rank.ensures ∙ same) in
-          map-set rank_of old c.args.rank c.in_ok-own.own ∙ ap (λ r. slice_set (map rank_of old) c.args.rank r) is;
+          c.in_ok-put_back.ensures.ranks
+          ∙ ap (λ r. slice_set (map rank_of old) c.args.rank r) (c.rank.ensures ∙ same);
       hub = search;
       clock = search;
       boxes = c.in_ok-boxes.ensures.items ∙ (c.as_slice.ensures.value ∙ ap (λ (k : RanksAt). k.boxes) c.self.view_is);

@@ -1,7 +1,0 @@
-use Rattle.cl_explore.proofs.Tries.{ClosesBelow}
-use Rattle.cl_explore.proofs.search.Search.visit.Given as goal
-
--- the ranks before this one are closed
-abbrev pub invariant-loop-rank : goal.invariant-loop-rank
-invariant-loop-rank l =
-    ClosesBelow l.course.sure l.course.order.now l.fn.self.nodes.items l.node l.initial.live l.rank l.self.nodes.items l.live
