@@ -82,25 +82,6 @@ one_taken : {A : Type 0} (xs : List A) (k : ℕ) (x : A) → k < length xs → x
     → take (k + 1) xs ≡ take k xs ++ x ∷ []
 one_taken xs k x inside is = take_more xs k x inside ∙ ap (λ y. take k xs ++ y ∷ []) (sym is)
 
--- where a loop adds something for each element
-module _ {A : Type 0} (f : A → List ℕ) (xs : List A) (k : ℕ) (front old : List ℕ)
-    (so : old ≡ front ++ flat_map f (take k xs)) where
-  pub flat_more : (other : A) (new : List ℕ) → k < length xs → new ≡ old ++ f (get_or xs k other)
-      → new ≡ front ++ flat_map f (take (k + 1) xs)
-  flat_more other new inside more =
-      let x = get_or xs k other in
-      let whole : flat_map f (take (k + 1) xs) ≡ flat_map f (take k xs) ++ f x =
-      ap (flat_map f) (take_more xs k other inside)
-      ∙ flat_map-append f (take k xs) (x ∷ [])
-      ∙ ap (λ l. flat_map f (take k xs) ++ l) (append-nil (f x)) in
-      more
-      ∙ ap (λ l. l ++ f x) so
-      ∙ append_assoc front (flat_map f (take k xs)) (f x)
-      ∙ ap (λ l. front ++ l) (sym whole)
-
-  pub flat_all : length xs ≤ k → old ≡ front ++ flat_map f xs
-  flat_all past = so ∙ ap (λ l. front ++ flat_map f l) (take_all k xs past)
-
 pub marks_more : (ms : List Mark) (k : ℕ) (m : Mark) (old new : List ℕ) → k < length ms → m ≡ get_or ms k m
     → All (λ (n : Mark). HasTitle old n.tip.items) (take k ms) → Adds old m.tip.items new
     → All (λ (n : Mark). HasTitle new n.tip.items) (take (k + 1) ms)

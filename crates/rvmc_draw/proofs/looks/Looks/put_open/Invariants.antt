@@ -5,5 +5,4 @@ use Rattle.rvmc_draw.proofs.looks.Looks.put_open.Given as goal
 
 -- those so far
 abbrev pub invariant-loop-begun : goal.invariant-loop-begun
-invariant-loop-begun l =
-    l.bars.items ≡ l.fn.bars.items ++ flat_map (open_to l.end) (take l.begun-index l.self.begun.items)
+invariant-loop-begun l = l.bars.items ≡ l.fn.bars.items ++ flat_map (open_to l.end) (take l.begun-index l.begun-items)

@@ -1,0 +1,15 @@
+use Rattle.std.proofs.Common.{arith}
+use Rattle.rvmc_page.specs.Escaped.{escaped_in_lines}
+use Rattle.rvmc_draw.proofs.Taken.{taken_all, taken_more}
+use Rattle.rvmc_page.proofs.safe.put_lines.Goals as goal
+
+pub loop-byte-preserved : goal.loop-byte-preserved
+loop-byte-preserved c =
+    taken_more escaped_in_lines c.args.bytes.now c.loop-byte.byte-index _ c.args.text.now.items
+    c.loop-byte.text.items c.put_in_lines.new.text.items (omega (arith, c.loop-byte-test.true)) c.loop-byte.invariant
+    c.in_ok-put_in_lines.ensures
+
+pub returns : goal.returns
+returns c =
+    taken_all escaped_in_lines c.args.bytes.now c.loop-byte.byte-index c.args.text.now.items
+    c.loop-byte.text.items (omega (arith, c.loop-byte-test.false)) c.loop-byte.invariant
