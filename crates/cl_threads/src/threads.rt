@@ -75,11 +75,11 @@ fn gather(
 fn run_cluster<R: Threads + Wait + Sync, G: Gate>(
     rt: &R,
     alloc: Global,
+    cluster: Cluster,
     image: &Image,
     plans: &[Plan],
     gate: &G,
     until: Until,
-    cluster: Cluster,
 ) -> Result<Record, RunFault>
     requires planned { HasPlans image.now plans.now }
     requires loaded { IsCluster image.now plans.now cluster }
@@ -137,7 +137,7 @@ fn run_until<R: Threads + Wait + Sync, G: Gate>(
     let Ok(cluster) = Cluster::load(alloc, image, plans) else {
         return Err(RunFault::Memory);
     };
-    run_cluster(rt, alloc, image, plans, gate, until, cluster)
+    run_cluster(rt, alloc, cluster, image, plans, gate, until)
 }
 
 /// Runs each rank of the image on a thread of its own, by its plan, until each is stopped. All ranks call one hub,

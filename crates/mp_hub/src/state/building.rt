@@ -41,9 +41,9 @@ impl HubState {
         let queues = Queues::of(alloc, parts.lines, parts.bodies, parts.compared)?;
         Ok(HubState {
             alloc,
-            links,
             queues,
             claims,
+            links,
             sides,
         })
     }
