@@ -203,6 +203,54 @@ pub fn answer_to(alloc: Global, line: &CommandLine, bytes: &[u8]) -> Result<Answ
     }
 }
 
+/// What a command makes of its image by threads.
+fn made_by_threads<R: Threads + Wait + Sync>(
+    rt: &R,
+    alloc: Global,
+    command: &ImageCommand,
+    image: &Image,
+) -> Result<Answer, Fault>
+    requires { runs_threads command.now ≡ true }
+    ensures says { IfOk result (λ answer.
+        Makes command.now image.now (output_bytes answer.output) (end_status answer.end)) }
+    ensures whole { IfOk result (λ answer. IsWhole answer.end) }
+    ensures fault { IfErr result (RefusesImage command.now image.now) }
+{
+    match command {
+        ImageCommand::Run {
+            budget,
+            plan,
+            lead,
+            written,
+        } => run(rt, alloc, image, *budget, plan, *lead, false, *written),
+        ImageCommand::RunUntilStuck {
+            budget,
+            plan,
+            lead,
+            written,
+        } => run(rt, alloc, image, *budget, plan, *lead, true, *written),
+        _ => unreachable!(),
+    }
+}
+
+/// What a command that needs threads answers to its input.
+fn answer_by_threads<R: Threads + Wait + Sync>(
+    rt: &R,
+    alloc: Global,
+    command: &ImageCommand,
+    source: bool,
+    bytes: &[u8],
+) -> Result<Answer, Fault>
+    requires { runs_threads command.now ≡ true }
+    ensures says { IfOk result (λ answer.
+        SaysOfImage source command.now bytes.now (output_bytes answer.output) (end_status answer.end)) }
+    ensures whole { IfOk result (λ answer. IsWhole answer.end) }
+    ensures fault { IfErr result (IsImageFault source command.now bytes.now) }
+{
+    let image = image_in(alloc, source, bytes)?;
+    made_by_threads(rt, alloc, command, &image)
+}
+
 /// What any command answers to its input that takes an image.
 fn answer_of_image_with_threads<R: Threads + Wait + Sync>(
     rt: &R,
@@ -216,26 +264,10 @@ fn answer_of_image_with_threads<R: Threads + Wait + Sync>(
     ensures whole { IfOk result (λ answer. IsWhole answer.end) }
     ensures fault { IfErr result (IsImageFault source command.now bytes.now) }
 {
-    match command {
-        ImageCommand::Run {
-            budget,
-            plan,
-            lead,
-            written,
-        } => {
-            let image = image_in(alloc, source, bytes)?;
-            run(rt, alloc, &image, *budget, plan, *lead, false, *written)
-        }
-        ImageCommand::RunUntilStuck {
-            budget,
-            plan,
-            lead,
-            written,
-        } => {
-            let image = image_in(alloc, source, bytes)?;
-            run(rt, alloc, &image, *budget, plan, *lead, true, *written)
-        }
-        _ => answer_of_image(alloc, source, command, bytes),
+    if runs_threads(command) {
+        answer_by_threads(rt, alloc, command, source, bytes)
+    } else {
+        answer_of_image(alloc, source, command, bytes)
     }
 }
 

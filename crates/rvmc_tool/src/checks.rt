@@ -16,12 +16,12 @@ use rvmc_report::verdicts::{verdict_status, verdict_text};
 use std::alloc::Global;
 
 /// `check`: whether the steps of the record are a run of its image, in order.
-pub(crate) fn checked(alloc: Global, image: Image, steps: Vec<Step>) -> Result<Answer, Fault>
+pub(crate) fn checked(alloc: Global, image: &Image, steps: &[Step]) -> Result<Answer, Fault>
     ensures tells { IfOk result (λ answer.
-        IsChecked image steps.items (output_bytes answer.output) answer.end) }
-    ensures fault { IfErr result (IsStepsFault command.Check image steps.items) }
+        IsChecked image.now steps.now (output_bytes answer.output) answer.end) }
+    ensures fault { IfErr result (IsStepsFault command.Check image.now steps.now) }
 {
-    let verdict = check(alloc, &image, &steps)?;
+    let verdict = check(alloc, image, steps)?;
     let text = verdict_text(alloc, verdict, steps.len())?;
     Ok(Answer {
         output: Output::Text(text.into_bytes()),

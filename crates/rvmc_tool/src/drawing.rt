@@ -38,8 +38,9 @@ fn drawn(
     }
 }
 
-/// The picture of an image's steps, as an answer.
-fn picture_of(
+/// `draw`: the steps from one place to another as a picture. A place that isn't there, a wrong step, and more marks than a
+/// picture may have are faults of the input.
+pub(crate) fn pictured(
     alloc: Global,
     from: u64,
     to: Option<u64>,
@@ -59,20 +60,4 @@ fn picture_of(
         output: Output::Text(text),
         end: End::Status(0),
     })
-}
-
-/// `draw`: the steps from one place to another as a picture. A place that isn't there, a wrong step, and more marks than a
-/// picture may have are faults of the input.
-pub(crate) fn pictured(
-    alloc: Global,
-    from: u64,
-    to: Option<u64>,
-    image: Image,
-    steps: Vec<Step>,
-) -> Result<Answer, Fault>
-    ensures tells { IfOk result (λ answer.
-        IsPicture image steps.items from to (output_bytes answer.output) × (answer.end ≡ Status 0)) }
-    ensures fault { IfErr result (IsStepsFault (command.Draw from to) image steps.items) }
-{
-    picture_of(alloc, from, to, &image, &steps)
 }

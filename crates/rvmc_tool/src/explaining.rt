@@ -49,8 +49,9 @@ fn told_at(
     }
 }
 
-/// What the harts wait for at a place that is asked for, as an answer.
-fn answered_at(
+/// `why`: what the harts wait for where the first `at` steps of the record lead, or else all of them. A place that isn't
+/// there, or before which a step is wrong, is a fault of the input.
+pub(crate) fn explained(
     alloc: Global,
     at: Option<u64>,
     framed: bool,
@@ -65,23 +66,6 @@ fn answered_at(
     let place = place_in(at, steps);
     let text = told_at(alloc, framed, image, steps, place)?;
     Ok(Answer::done(text))
-}
-
-/// `why`: what the harts wait for where the first `at` steps of the record lead, or else all of them. A place that isn't
-/// there, or before which a step is wrong, is a fault of the input.
-pub(crate) fn explained(
-    alloc: Global,
-    at: Option<u64>,
-    framed: bool,
-    image: Image,
-    steps: Vec<Step>,
-) -> Result<Answer, Fault>
-    ensures tells { IfOk result (λ answer.
-        IsWhyAt framed image steps.items (place_asked at steps.items) (output_bytes answer.output)
-        × (answer.end ≡ Status 0)) }
-    ensures fault { IfErr result (IsStepsFault (command.Why at framed) image steps.items) }
-{
-    answered_at(alloc, at, framed, &image, &steps)
 }
 
 /// What the harts wait for where a record ends. The record is dropped as soon as its steps are copied, so that only one

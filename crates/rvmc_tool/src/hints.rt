@@ -74,14 +74,8 @@ fn numbers(list: &Option<Numbers>) -> Option<&[u8]> {
     }
 }
 
-/// What is wrong with the plan or the order of a run of an image.
-fn plans<'a>(alloc: Global, line: &CommandLine, bytes: &[u8]) -> Option<Hint<'a>> {
-    let CommandLine::OfImage { source, command } = line else {
-        return None;
-    };
-    let Ok(image) = image_in(alloc, *source, bytes) else {
-        return None;
-    };
+/// What is wrong with the plan or the order of a run of this image.
+fn plans_of<'a>(command: &ImageCommand, image: &Image) -> Option<Hint<'a>> {
     let parts = image.parts();
     match command {
         ImageCommand::Run { plan, .. } | ImageCommand::RunUntilStuck { plan, .. } => {
@@ -91,6 +85,17 @@ fn plans<'a>(alloc: Global, line: &CommandLine, bytes: &[u8]) -> Option<Hint<'a>
             plans_hint(parts.ranks, parts.harts, numbers(plan), numbers(order))
         }
         _ => None,
+    }
+}
+
+/// What is wrong with the plan or the order of a run.
+fn plans<'a>(alloc: Global, line: &CommandLine, bytes: &[u8]) -> Option<Hint<'a>> {
+    let CommandLine::OfImage { source, command } = line else {
+        return None;
+    };
+    match image_in(alloc, *source, bytes) {
+        Ok(image) => plans_of(command, &image),
+        Err(_) => None,
     }
 }
 
@@ -137,10 +142,7 @@ fn image_of_record(alloc: Global, bytes: &[u8]) -> Option<Image> {
         return None;
     };
     let count = u32::from_le_bytes([*a, *b, *c, *d]) as usize;
-    match read_image(alloc, rest.get(..count)?) {
-        Ok(image) => Some(image),
-        Err(_) => None,
-    }
+    read_image(alloc, rest.get(..count)?).ok()
 }
 
 /// The name in a word of `debug`.
@@ -249,22 +251,40 @@ fn debug_form(alloc: Global, texts: &[&str]) -> Option<&'static str> {
     None
 }
 
-/// What can be told of words that are refused: that the last is a file, where those before it are a command line, or
-/// the form of a word of `debug`.
-fn hint_of_words<'a>(alloc: Global, words: &'a [&'a str]) -> Option<Hint<'a>> {
-    if let [before @ .., file] = words {
-        if is_file_name(*file) && parse(alloc, before).is_ok() {
-            return Some(Hint::File {
-                words: before,
-                file: *file,
-            });
-        }
+/// Whether the words are a command line.
+fn is_command_line(alloc: Global, words: &[&str]) -> bool {
+    parse(alloc, words).is_ok()
+}
+
+/// That the last of the words is a file, where those before it are a command line.
+fn file_hint<'a>(alloc: Global, words: &'a [&'a str]) -> Option<Hint<'a>> {
+    let (file, before) = words.split_last()?;
+    if is_file_name(*file) && is_command_line(alloc, before) {
+        Some(Hint::File {
+            words: before,
+            file: *file,
+        })
+    } else {
+        None
     }
+}
+
+/// The form of a word of `debug`, where one of its words is none.
+fn form_hint<'a>(alloc: Global, words: &[&str]) -> Option<Hint<'a>> {
     let (command, texts) = words.split_first()?;
-    if *command != "debug" {
-        return None;
+    if *command == "debug" {
+        Some(Hint::Form(debug_form(alloc, texts)?))
+    } else {
+        None
     }
-    Some(Hint::Form(debug_form(alloc, texts)?))
+}
+
+/// What can be told of words that are refused.
+fn hint_of_words<'a>(alloc: Global, words: &'a [&'a str]) -> Option<Hint<'a>> {
+    match file_hint(alloc, words) {
+        Some(hint) => Some(hint),
+        None => form_hint(alloc, words),
+    }
 }
 
 /// Writes what can be told of words that are refused, if there is anything.

@@ -53,10 +53,7 @@ fn put_list<O: Write>(
         LeavesList (list_of wanted.now) bytes.now fault (O.contents out.old) (O.contents out.new)) }
 {
     let (image, steps) = read(alloc, bytes)?;
-    match list(alloc, &image, &steps, wanted, out) {
-        Ok(taken) => Ok(taken),
-        Err(fault) => Err(refused(fault)),
-    }
+    list(alloc, &image, &steps, wanted, out).map_err(|fault| refused(fault))
 }
 
 /// Writes such a list on standard output, and tells on standard error the fault that is in its place, or that cuts it short.
@@ -110,12 +107,12 @@ pub(crate) fn counted_steps(
     from: u64,
     to: Option<u64>,
     rank: Option<u64>,
-    image: Image,
-    steps: Vec<Step>,
+    image: &Image,
+    steps: &[Step],
 ) -> Result<Answer, Fault>
     ensures tells { IfOk result (λ answer.
-        IsStats image steps.items (counted_of from to rank) (output_bytes answer.output) × (answer.end ≡ Status 0)) }
-    ensures fault { IfErr result (IsStepsFault (command.Stats from to rank) image steps.items) }
+        IsStats image.now steps.now (counted_of from to rank) (output_bytes answer.output) × (answer.end ≡ Status 0)) }
+    ensures fault { IfErr result (IsStepsFault (command.Stats from to rank) image.now steps.now) }
 {
     let wanted = Wanted {
         from,
@@ -123,7 +120,7 @@ pub(crate) fn counted_steps(
         rank,
         calls: false,
     };
-    match stats(alloc, &image, &steps, &wanted) {
+    match stats(alloc, image, steps, &wanted) {
         Ok(text) => Ok(Answer::done(text)),
         Err(fault) => Err(refused(fault)),
     }

@@ -15,8 +15,9 @@ use rvmc_page::{PageFault, page};
 use rvmc_report::faults::{DrawRefusal, Fault};
 use std::alloc::Global;
 
-/// The page of an image and its steps, as an answer.
-fn page_of(
+/// `page`: the steps from one place to another as a page that walks them. A place that isn't there, a wrong step, and more
+/// steps than a page may have are faults of the input.
+pub(crate) fn paged(
     from: u64,
     to: Option<u64>,
     alloc: Global,
@@ -34,20 +35,4 @@ fn page_of(
         Err(PageFault::TooMany(count)) => Err(Fault::Page(DrawRefusal::TooMany(count))),
         Err(PageFault::Memory) => Err(Fault::Memory),
     }
-}
-
-/// `page`: the steps from one place to another as a page that walks them. A place that isn't there, a wrong step, and more
-/// steps than a page may have are faults of the input.
-pub(crate) fn paged(
-    from: u64,
-    to: Option<u64>,
-    alloc: Global,
-    image: Image,
-    steps: Vec<Step>,
-) -> Result<Answer, Fault>
-    ensures tells { IfOk result (λ answer.
-        IsPage image steps.items (view_of from to steps.items) (output_bytes answer.output) × (answer.end ≡ Status 0)) }
-    ensures fault { IfErr result (IsStepsFault (command.Page from to) image steps.items) }
-{
-    page_of(from, to, alloc, &image, &steps)
 }

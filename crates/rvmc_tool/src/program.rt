@@ -1,7 +1,8 @@
 //! The program over any reader and writers.
 
-ghost use Rattle.std.specs.Prelude.{◌≡◌, ◌≢◌, IfErr, IfOk, List, OnOk, ℕ, None, Some, false, map, true};
+ghost use Rattle.std.specs.Prelude.{◌≡◌, ◌≢◌, IfErr, IfOk, List, OnOk, ℕ, None, Ok, Some, false, map, true};
 ghost use Rattle.std.specs.Io.KnownBytes.{Appends, Keeps};
+ghost use Rattle.rvmc_tool.specs.Lists.{is_written_as_made};
 ghost use Rattle.rvmc_tool.specs.Making.{needs_threads};
 ghost use Rattle.rvmc_tool.specs.Outputs.{output_bytes};
 ghost use Rattle.rvmc_cli.specs.Meaning.{meaning_of};
@@ -146,7 +147,32 @@ pub(crate) fn take<I: Read, E: Write>(
 }
 
 /// Writes an answer to what stands in the input on standard output, and tells on standard error the fault that cuts it
-/// short, or that is in its place.
+/// short.
+fn tell_answer<O: Write, E: Write>(
+    alloc: Global,
+    line: &CommandLine,
+    bytes: &[u8],
+    answer: &Answer,
+    out: &mut O,
+    err: &mut E,
+) -> u8
+    ensures told { result ≢ 6 → Tells (Ok answer.now) result (O.contents out.old) (O.contents out.new) }
+    ensures quiet { is_quiet result ≡ true → AppendsHint (E.contents err.old) (E.contents err.new) }
+{
+    let taken = put_output(out, &answer.output);
+    match answer.end {
+        End::Status(status) => ended_with_hint(alloc, &answer.output, err, taken, status),
+        End::Cut(fault) => {
+            if taken {
+                fail_with_hint(alloc, line, bytes, fault, err)
+            } else {
+                fail(err, Fault::Write)
+            }
+        }
+    }
+}
+
+/// Writes such an answer, or tells the fault that is in its place.
 fn tell<O: Write, E: Write>(
     alloc: Global,
     line: &CommandLine,
@@ -159,20 +185,54 @@ fn tell<O: Write, E: Write>(
     ensures quiet { is_quiet result ≡ true → AppendsHint (E.contents err.old) (E.contents err.new) }
 {
     match answer {
-        Ok(answer) => {
-            let taken = put_output(out, &answer.output);
-            match answer.end {
-                End::Status(status) => ended_with_hint(alloc, &answer.output, err, taken, status),
-                End::Cut(fault) => {
-                    if taken {
-                        fail_with_hint(alloc, line, bytes, fault, err)
-                    } else {
-                        fail(err, Fault::Write)
-                    }
-                }
-            }
-        }
+        Ok(answer) => tell_answer(alloc, line, bytes, &answer, out, err),
         Err(fault) => fail_with_hint(alloc, line, bytes, fault, err),
+    }
+}
+
+/// Whether a command's answer is written as it is made: that of a session as its input comes, and of a list step by step.
+fn is_written_as_made(line: &CommandLine) -> bool
+    ensures { result ≡ is_written_as_made line.now }
+{
+    matches!(
+        line,
+        CommandLine::Session { .. } | CommandLine::OfRecord(RecordCommand::List { .. })
+    )
+}
+
+/// Does what such a command asks for.
+fn obey_by_pieces<I: Read, O: Write, E: Write>(
+    alloc: Global,
+    line: &CommandLine,
+    input: &mut I,
+    out: &mut O,
+    err: &mut E,
+) -> u8
+    requires { is_written_as_made line.now ≡ true }
+    ensures answers { (bytes : List ℕ) → I.remaining input.old ≡ Some bytes → result ≢ 6
+        → Answers line.now bytes result (O.contents out.old) (O.contents out.new) }
+    ensures front { TakesAtMost 67112960 (I.remaining input.old) (I.remaining input.new) }
+    ensures quiet { is_quiet result ≡ true → AppendsHint (E.contents err.old) (E.contents err.new) }
+{
+    match line {
+        CommandLine::Session { rank } => served(alloc, line, *rank, input, out, err),
+        CommandLine::OfRecord(
+            RecordCommand::List {
+                from,
+                to,
+                rank,
+                calls,
+            },
+        ) => {
+            let wanted = Wanted {
+                from: *from,
+                to: *to,
+                rank: *rank,
+                calls: *calls,
+            };
+            listed(alloc, line, &wanted, input, out, err)
+        }
+        _ => unreachable!(),
     }
 }
 
@@ -191,25 +251,8 @@ fn obey<I: Read, O: Write, E: Write>(
     ensures front { TakesAtMost 67112960 (I.remaining input.old) (I.remaining input.new) }
     ensures quiet { is_quiet result ≡ true → AppendsHint (E.contents err.old) (E.contents err.new) }
 {
-    if let CommandLine::Session { rank } = line {
-        return served(alloc, line, *rank, input, out, err);
-    }
-    if let CommandLine::OfRecord(
-        RecordCommand::List {
-            from,
-            to,
-            rank,
-            calls,
-        },
-    ) = line
-    {
-        let wanted = Wanted {
-            from: *from,
-            to: *to,
-            rank: *rank,
-            calls: *calls,
-        };
-        return listed(alloc, line, &wanted, input, out, err);
+    if is_written_as_made(line) {
+        return obey_by_pieces(alloc, line, input, out, err);
     }
     match take(alloc, input, err) {
         Ok(bytes) => {
@@ -236,25 +279,8 @@ fn obey_with_threads<R: Threads + Wait + Sync, I: Read, O: Write, E: Write>(
     ensures front { TakesAtMost 67112960 (I.remaining input.old) (I.remaining input.new) }
     ensures quiet { is_quiet result ≡ true → AppendsHint (E.contents err.old) (E.contents err.new) }
 {
-    if let CommandLine::Session { rank } = line {
-        return served(alloc, line, *rank, input, out, err);
-    }
-    if let CommandLine::OfRecord(
-        RecordCommand::List {
-            from,
-            to,
-            rank,
-            calls,
-        },
-    ) = line
-    {
-        let wanted = Wanted {
-            from: *from,
-            to: *to,
-            rank: *rank,
-            calls: *calls,
-        };
-        return listed(alloc, line, &wanted, input, out, err);
+    if is_written_as_made(line) {
+        return obey_by_pieces(alloc, line, input, out, err);
     }
     match take(alloc, input, err) {
         Ok(bytes) => {

@@ -1,7 +1,9 @@
 //! What a command answers that takes a record: it is read here once, for all of them.
 
-ghost use Rattle.std.specs.Prelude.{◌≡◌, IfErr, IfOk, Ok, false};
+ghost use Rattle.std.specs.Prelude.{◌≡◌, ◌≢◌, IfErr, IfOk, List, Ok, false};
 ghost use Rattle.cl_text.specs.Reading.{reading_record};
+ghost use Rattle.rvmc_line.specs.declared.line.RecordCommand.TheVariants as asked;
+ghost use Rattle.rvmc_words.specs.declared.debug.DebugWord.{DebugWord};
 ghost use Rattle.rvmc_tool.specs.Ends.{end_status};
 ghost use Rattle.rvmc_tool.specs.Making.{HasTold, IsReadFault, IsStepsFault, IsUnread};
 ghost use Rattle.rvmc_tool.specs.Lists.{is_list};
@@ -31,8 +33,35 @@ pub(crate) fn read(alloc: Global, bytes: &[u8]) -> Result<(Image, Vec<Step>), Fa
     Ok(read_record(alloc, bytes)?)
 }
 
-/// What a command tells of the image and the steps of a record, or the fault for which it tells nothing: one case a
-/// command. What `list` tells isn't made here: it is written as it is made.
+/// What a command that only looks at the image and the steps of a record tells of them, or the fault for which it tells
+/// nothing: one case a command. What `list` tells isn't made here: it is written as it is made.
+fn told_of(
+    alloc: Global,
+    command: &RecordCommand,
+    image: &Image,
+    steps: &[Step],
+) -> Result<Answer, Fault>
+    requires list { is_list command.now ≡ false }
+    requires looks { (words : List DebugWord) → command.now ≢ asked.Debug words }
+    ensures tells { IfOk result (λ answer.
+        TellsOfSteps command.now image.now steps.now (output_bytes answer.output) answer.end) }
+    ensures fault { IfErr result (IsStepsFault command.now image.now steps.now) }
+{
+    match command {
+        RecordCommand::Check => checked(alloc, image, steps),
+        RecordCommand::Report => reported(alloc, image, steps),
+        RecordCommand::Stats { from, to, rank } => {
+            counted_steps(alloc, *from, *to, *rank, image, steps)
+        }
+        RecordCommand::Draw { from, to } => pictured(alloc, *from, *to, image, steps),
+        RecordCommand::Page { from, to } => paged(*from, *to, alloc, image, steps),
+        RecordCommand::Why { at, frames } => explained(alloc, *at, *frames, image, steps),
+        RecordCommand::List { .. } | RecordCommand::Debug { .. } => unreachable!(),
+    }
+}
+
+/// What a command tells of the image and the steps of a record. A debugger keeps both; what only looks at them borrows
+/// them.
 fn told(
     alloc: Global,
     command: &RecordCommand,
@@ -45,16 +74,8 @@ fn told(
     ensures fault { IfErr result (IsStepsFault command.now image steps.items) }
 {
     match command {
-        RecordCommand::Check => checked(alloc, image, steps),
-        RecordCommand::Report => reported(alloc, image, steps),
-        RecordCommand::List { .. } => unreachable!(),
-        RecordCommand::Stats { from, to, rank } => {
-            counted_steps(alloc, *from, *to, *rank, image, steps)
-        }
-        RecordCommand::Draw { from, to } => pictured(alloc, *from, *to, image, steps),
-        RecordCommand::Page { from, to } => paged(*from, *to, alloc, image, steps),
         RecordCommand::Debug { words } => debugged(alloc, words, image, steps),
-        RecordCommand::Why { at, frames } => explained(alloc, *at, *frames, image, steps),
+        _ => told_of(alloc, command, &image, &steps),
     }
 }
 

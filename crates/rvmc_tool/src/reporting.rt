@@ -16,12 +16,12 @@ use rvmc_report::recorded::recorded_report;
 use std::alloc::Global;
 
 /// `report`: the report of the state to which the steps lead. A wrong step is a fault of the input.
-pub(crate) fn reported(alloc: Global, image: Image, steps: Vec<Step>) -> Result<Answer, Fault>
+pub(crate) fn reported(alloc: Global, image: &Image, steps: &[Step]) -> Result<Answer, Fault>
     ensures tells { IfOk result (λ answer.
-        IsReported image steps.items (output_bytes answer.output) answer.end) }
-    ensures fault { IfErr result (IsStepsFault command.Report image steps.items) }
+        IsReported image.now steps.now (output_bytes answer.output) answer.end) }
+    ensures fault { IfErr result (IsStepsFault command.Report image.now steps.now) }
 {
-    match recorded_report(alloc, &image, &steps) {
+    match recorded_report(alloc, image, steps) {
         Ok(told) => Ok(Answer {
             output: Output::Text(told.text),
             end: End::Status(told.status),

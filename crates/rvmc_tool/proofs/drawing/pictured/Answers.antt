@@ -1,5 +1,5 @@
 use Rattle.std.proofs.Common.{rules}
-use Rattle.rvmc_tool.proofs.drawing.picture_of.Goals as goal
+use Rattle.rvmc_tool.proofs.drawing.pictured.Goals as goal
 
 -- what was drawn, and its text
 pub returns-clause-tells : goal.returns-clause-tells
