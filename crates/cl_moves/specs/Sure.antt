@@ -16,7 +16,7 @@ use Rattle.cl_machine.specs.declared.steps.Step.{Step}
 use Rattle.cl_order_laws.specs.Closed.{Node, Plans}
 use Rattle.cl_order_laws.specs.Laws.{IsReached}
 use Rattle.cl_order_laws.specs.Sure.{IsSettledBy}
-use Rattle.cl_order_laws.specs.SureTurns.{IsReady}
+use Rattle.cl_order_laws.specs.SureAsks.{IsReady}
 use Rattle.cl_moves.specs.Moves.{turn_at}
 use Rattle.cl_moves.specs.Posts.{most_posts}
 use Rattle.cl_moves.specs.Standing.{IsWay, StandsAt, by_order}

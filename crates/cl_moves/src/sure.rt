@@ -1,7 +1,7 @@
 //! Turns that a rank can take before whatever others do: calls for what is there.
 
 ghost use Rattle.std.specs.Prelude.{◌≡◌, ◌<◌, IfOk, IsTrue, OnOk, length};
-ghost use Rattle.cl_order_laws.specs.SureTurns.{IsReady};
+ghost use Rattle.cl_order_laws.specs.SureAsks.{IsReady};
 ghost use Rattle.cl_moves.specs.Sure.{GoesSurely, IsSureCallIfSome, IsSureIfSome, IsSureNext};
 
 use crate::faults::MoveFault;

@@ -53,7 +53,7 @@ module _ (names : Renaming) (a b : Rank) (alike : AlikeRanks names a b) where
   waits_same (Poll c n) = refl
   waits_same Stopped = refl
 
-  waiting_on : (m : Mode) → IsWaiting m → IsWaiting (mode_by names m)
+  pub waiting_on : (m : Mode) → IsWaiting m → IsWaiting (mode_by names m)
   waiting_on Running is = is
   waiting_on (Waiting w) is = tt
   waiting_on (Ended code) is = is
@@ -64,7 +64,7 @@ module _ (names : Renaming) (a b : Rank) (alike : AlikeRanks names a b) where
       ap (λ (x : Rank). doing x.site (part_of x hart)) alike.1
       ∙ ap (doing a.site) (part_named names a hart) ∙ doing_named names a.site (part_of a hart)
 
-  patient_on : (hart : ℕ) → IsPatient a hart → IsPatient b hart
+  pub patient_on : (hart : ℕ) → IsPatient a hart → IsPatient b hart
   patient_on hart p = record {
     waits = subst IsWaiting (sym (mode_alike names a b alike hart)) (waiting_on (mode_of a hart) p.waits);
     on = ap waits_on (doing_alike hart) ∙ waits_same (doing a.site (part_of a hart)) ∙ p.on;

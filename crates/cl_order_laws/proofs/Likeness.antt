@@ -183,7 +183,7 @@ alike_itself a sound = (
   clusters_itself a (record { many = refl; each = λ i box here. (box, here, sound i box here) }),
 )
 
-within_list : {A : Type 0} (xs ys : List A) → length ys ≡ length xs → (i : ℕ) (x : A) → slice_get xs i ≡ Some x
+pub within_list : {A : Type 0} (xs ys : List A) → length ys ≡ length xs → (i : ℕ) (x : A) → slice_get xs i ≡ Some x
     → (y : A) × (slice_get ys i ≡ Some y)
 within_list [] ys many i x h = absurd (cc)
 within_list (z ∷ xs) [] many i x h = absurd (omega (arith, many))

@@ -23,7 +23,7 @@ use Rattle.cl_order_laws.specs.Alike.{AlikeBoxes, AreEach, Leads, hub_of}
 use Rattle.cl_order_laws.specs.Closed.{IsDone, Node, one_more}
 use Rattle.cl_order_laws.specs.Race.{WorkedRace, at_once, end_0, end_1, from_0, from_1, got, got_0, got_1, one_hart, open_node, sender_0, sender_1, sends, sent, sent_0, sent_1, waiting}
 use Rattle.cl_order_laws.specs.Sure.{IsClosedAtOnce, IsSettledBy, IsSure, WhereverLeads}
-use Rattle.cl_order_laws.specs.SureTurns.{IsReady}
+use Rattle.cl_order_laws.specs.SureAsks.{IsReady}
 use Rattle.cl_order_laws.proofs.Covered.{each_on}
 use Rattle.cl_order_laws.proofs.Each.{set_here, set_length, was_there}
 use Rattle.cl_order_laws.proofs.Likeness.{alike_itself}

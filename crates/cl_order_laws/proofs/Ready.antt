@@ -28,7 +28,7 @@ use Rattle.mp_wait_laws.proofs.Collects.{mine_at, none_waits, not_false, not_tru
 use Rattle.mp_wait_laws.proofs.Fresh.{Laid}
 use Rattle.mp_wait_laws.proofs.Lines.{paired_stays, post_stays}
 use Rattle.mp_wait_laws.proofs.Moves.{GrowsBy, all, fits_all, moves}
-use Rattle.cl_order_laws.specs.SureTurns.{IsReady}
+use Rattle.cl_order_laws.specs.SureAsks.{IsReady}
 use Rattle.cl_order_laws.proofs.Bodies.{HasIt, body_stays, body_within, has_stays, hub_with, line_there, outcome_with, with_body}
 use Rattle.cl_order_laws.proofs.Each.{set_length}
 use Rattle.cl_order_laws.proofs.Seen.{cut_stays, found_stays, links_stay, seen_stays}

@@ -36,6 +36,7 @@ module _ (plans : Plans) where
       → IsSure plans most mid r
   sure_on most r s here mid apart turn sure = record {
     goes = λ ss there others walk. sure.goes (s ∷ ss) there (apart, others) (mid, turn, walk);
+    asks = λ ss there others walk. sure.asks (s ∷ ss) there (apart, others) (mid, turn, walk);
     no_end = λ ss there others walk. sure.no_end (s ∷ ss) there (apart, others) (mid, turn, walk);
     before = λ ss there next new t others walk. sure.before (s ∷ ss) there next new t (apart, others) (mid, turn, walk);
   }

@@ -4,6 +4,7 @@ use Rattle.std.specs.Prelude.{◌≢◌, nat_lt}
 use Rattle.std.specs.List.{slice_get}
 use Rattle.std.proofs.lemmas.Bool.{cases_Bool, ltb-false, ltb-true}
 use Rattle.std.proofs.lemmas.List.{get_or_past}
+use Rattle.std.proofs.lemmas.Option.{same_Some}
 use Rattle.rv_hart.specs.State.{State}
 use Rattle.mp_wait_laws.proofs.Sets.{get-set_other}
 use Rattle.cl_state.specs.declared.asking.Answer.{Answer}
@@ -18,7 +19,8 @@ use Rattle.cl_machine.specs.Cluster.{CaseOf, Cluster, only_told}
 use Rattle.cl_order_laws.specs.Closed.{IsEnd, IsInVain, Node, Plans, one_more}
 use Rattle.cl_order_laws.specs.Laws.{IsAlone}
 use Rattle.cl_order_laws.specs.Sure.{AreOthers, Goes, GoesOn, IsFirst, IsSure}
-use Rattle.cl_order_laws.specs.SureTurns.{IsBusy, SureAloneLaw}
+use Rattle.cl_order_laws.specs.SureAsks.{IsBusy, IsSureAsk}
+use Rattle.cl_order_laws.specs.SureTurns.{SureAloneLaw}
 use Rattle.cl_order_laws.specs.Turns.{IsTurn}
 use Rattle.cl_order_laws.proofs.Commuting.{moved, second_alone}
 use Rattle.cl_order_laws.proofs.Covered.{had_other, node_of}
@@ -47,6 +49,11 @@ busy_live : (q : Ask) → IsBusy q → IsLive q
 busy_live Ask.Plain is = tt
 busy_live Ask.Local is = tt
 busy_live _ is = absurd is
+
+busy_sure : (cluster : Cluster) (r : ℕ) (q : Ask) → IsBusy q → IsSureAsk cluster r q
+busy_sure cluster r Ask.Plain is = tt
+busy_sure cluster r Ask.Local is = tt
+busy_sure cluster r _ is = absurd is
 
 -- ---- the rank stands, whatever turns others take
 
@@ -170,6 +177,10 @@ module _ (plans : Plans) (r : ℕ) (rank : Rank) where
         let same = n.same in
         let few : posts there.cluster ≤ most = within in
         (n.new, n.goes, omega (arith, same, few));
+    asks = λ ss there others walk within x is.
+        let now = stands_still ss here there others walk at in
+        busy_sure there.cluster r (asked x (plans r (there.had r)))
+        (subst (λ y. IsBusy (asked y (plans r (there.had r)))) (same_Some rank x (sym now.stands ∙ is)) now.busy);
     no_end = λ ss there others walk within. no_end there (stands_still ss here there others walk at);
     before = λ ss there mid new s others walk apart goes last within.
         could_be_first s there mid new apart (stands_still ss here there others walk at) goes last;

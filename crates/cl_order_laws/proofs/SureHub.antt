@@ -2,6 +2,7 @@
 use Rattle.std.proofs.Common.{◌≡◌, ℕ, ◌+◌, ◌<◌, ◌≤◌, inl, inr, List, [], ◌∷◌, length, Some, refl, sym, ap, ◌∙◌, subst, arith}
 use Rattle.std.specs.Prelude.{◌≢◌, max}
 use Rattle.std.specs.List.{slice_get, slice_set}
+use Rattle.std.proofs.lemmas.Option.{same_Some}
 use Rattle.mp_types.specs.declared.replies.Reply.{Reply}
 use Rattle.mp_types.specs.declared.replies.Reply.TheVariants as reply
 use Rattle.mp_types.specs.declared.requests.Request.{Request}
@@ -31,7 +32,8 @@ use Rattle.cl_order_laws.specs.Alike.{AlikeBoxes, AlikeRanks, AreEach, Leads, hu
 use Rattle.cl_order_laws.specs.Closed.{IsEnd, IsInVain, Node, Plans, one_more}
 use Rattle.cl_order_laws.specs.Laws.{AreAlike}
 use Rattle.cl_order_laws.specs.Sure.{AreOthers, Goes, GoesOn, IsFirst, IsSure}
-use Rattle.cl_order_laws.specs.SureTurns.{IsReady, SureHubLaw}
+use Rattle.cl_order_laws.specs.SureAsks.{IsReady, IsSureAsk}
+use Rattle.cl_order_laws.specs.SureTurns.{SureHubLaw}
 use Rattle.cl_order_laws.specs.Turns.{IsTurn, called}
 use Rattle.cl_order_laws.proofs.Commuting.{set_apart}
 use Rattle.cl_order_laws.proofs.Covered.{had_other, node_of}
@@ -50,7 +52,7 @@ reply_is journal r q = refl
 laid_hub : (journal : Journal) → Laid (hub_of journal)
 laid_hub journal = laid_after journal.links (calls_of journal.entries)
 
-not_vain : (q : Request) → IsReady q reply.NotYet → ⊥
+pub not_vain : (q : Request) → IsReady q reply.NotYet → ⊥
 not_vain (request.Collect post) is = is
 not_vain (request.Finished post) is = is
 not_vain (request.All posts) is = is
@@ -389,6 +391,12 @@ module _ (plans : Plans) (r : ℕ) (rank : Rank) (q : Request) where
             goes_next there asks,
             omega (arith, same, few),
           );
+      asks = λ ss there others walk within x is.
+          let now = asks_still ss here there others walk within at in
+          let same : Ask.Hub q ≡ asked x (plans r (there.had r)) =
+          sym now.asks ∙ ap (λ y. asked y (plans r (there.had r))) (same_Some rank x (sym now.stands ∙ is)) in
+          subst (IsSureAsk there.cluster r) same
+          (subst (IsReady q) (sym (reply_is there.cluster.journal r q)) now.ready);
       no_end = λ ss there others walk within. no_end there (asks_still ss here there others walk within at);
       before = λ ss there mid new s others walk apart goes last within.
           let one = turn_posts plans s there mid goes in

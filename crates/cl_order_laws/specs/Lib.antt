@@ -4,6 +4,7 @@ pub mod Laws
 pub mod Turns
 pub mod Splits
 pub mod Orders
+pub mod SureAsks
 pub mod Sure
 pub mod SureTurns
 pub mod Race

@@ -1,5 +1,6 @@
 -- Sure turns: where a rank's next turn can be taken before whatever others do, only that rank has to be followed.
 use Rattle.std.specs.Prelude.{ℕ, zero, suc, ◌<◌, ◌≤◌, ◌≡◌, ◌≢◌, ◌⊎◌, List, [], ◌∷◌, length, slice_get, Some}
+use Rattle.cl_state.specs.Asked.{asked}
 use Rattle.cl_state.specs.Rank.{Rank}
 use Rattle.cl_machine.specs.declared.steps.Step.{Step}
 use Rattle.cl_machine.specs.Cluster.{Cluster, IsRun}
@@ -7,6 +8,7 @@ use Rattle.cl_order_laws.specs.Alike.{Leads, hub_of}
 use Rattle.cl_order_laws.specs.Closed.{FollowPlans, IsCovered, IsDone, IsEnd, Node, Plans, one_more}
 use Rattle.cl_order_laws.specs.Laws.{AreAlike}
 use Rattle.cl_order_laws.specs.Splits.{HasAlike}
+use Rattle.cl_order_laws.specs.SureAsks.{IsSureAsk}
 
 -- ---- turns of ranks, by their plans
 
@@ -49,12 +51,16 @@ pub record IsFirst (plans : Plans) (r s : ℕ) (old new : Node) : Type 0 where
   pub then : Goes plans s mid last
   pub alike : AreAlike new.cluster last.cluster
 
--- whatever turns others take first, while no more than so many posts are made: the rank can go on, where they lead is
--- no end, and a turn of the rank behind one of another rank could have been before it
+-- whatever turns others take first, while no more than so many posts are made: the rank can go on and asks for nothing
+-- in vain, where they lead is no end, and a turn of the rank behind one of another rank could have been before it
 pub record IsSure (plans : Plans) (most : ℕ) (here : Node) (r : ℕ) : Type 0 where
   pub goes : (ss : List ℕ) (there : Node) → AreOthers r ss → GoesOn plans ss here there
       → HasPostsWithin most there.cluster
       → (new : Node) × Goes plans r there new × HasPostsWithin most new.cluster
+  pub asks : (ss : List ℕ) (there : Node) → AreOthers r ss → GoesOn plans ss here there
+      → HasPostsWithin most there.cluster
+      → (rank : Rank) → slice_get there.cluster.ranks r ≡ Some rank
+      → IsSureAsk there.cluster r (asked rank (plans r (there.had r)))
   pub no_end : (ss : List ℕ) (there : Node) → AreOthers r ss → GoesOn plans ss here there
       → HasPostsWithin most there.cluster → ¬ IsEnd plans there.cluster
   pub before : (ss : List ℕ) (there mid new : Node) (s : ℕ) → AreOthers r ss → GoesOn plans ss here there → s ≢ r

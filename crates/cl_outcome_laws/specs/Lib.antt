@@ -1,0 +1,4 @@
+pub mod Companies
+pub mod Unending
+pub mod Graphs
+pub mod Laws
