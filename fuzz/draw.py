@@ -117,6 +117,8 @@ class Drawing:
         self.spots = {}
         # by hart: the bar that it looks in, and its last shape; by box: its phase and the step that began it
         self.begun, self.shapes, self.boxes = {}, {}, {}
+        # the boxes that are full: the step that filled each, and its phase
+        self.full = {}
         self.got = set()
 
     def sees(self, spot):
@@ -167,12 +169,16 @@ class Drawing:
             start, phase = self.boxes[deed.before.box]
             link, part = deed.before.box
             self.arrow(start, deed.spot, None, f"link {link} partition {part} phase {phase}")
+            del self.full[deed.before.box]
         if deed.step.kind == READY:
             _, phase = self.boxes.get(deed.before.box, (None, 0))
-            self.boxes[deed.before.box] = deed.spot, phase + 1
+            self.boxes[deed.before.box] = self.full[deed.before.box] = deed.spot, phase + 1
 
     def losses(self, hub):
-        """Adds the arrows of messages that nobody got."""
+        """Adds the arrows of messages that nobody got, and of partitions that nobody took."""
+        for (link, part), (spot, phase) in sorted(self.full.items()):
+            if self.sees(spot):
+                self.arrow(spot, None, self.image.links[link][1], f"link {link} partition {part} phase {phase}")
         for number, spot in sorted(self.spots.items()):
             if number not in self.got and self.sees(spot):
                 self.arrow(spot, None, hub.posts[number].dest, self.carried(hub.posts[number]))

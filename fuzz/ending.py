@@ -22,7 +22,8 @@ class End:
         self.why = why.told(self.cluster)
         going = [rank for rank in self.cluster.ranks if not all(hart.is_stopped() for hart in rank.harts)]
         last = self.why.decode().splitlines()[-1]
-        self.is_stuck = {str(rank.number) for rank in going} <= set(last.partition("deadlock: ranks ")[2].split())
+        dead = set(last.partition("deadlock: ranks ")[2].split())
+        self.is_stuck = bool(going) and {str(rank.number) for rank in going} <= dead
         early = "stuck" if self.is_stuck else "told"
         self.stops = {rank.number: "all-ended" for rank in self.cluster.ranks}
         for rank in going:
@@ -56,10 +57,10 @@ class End:
         return min((last.count(rank) // run.order.count(rank) for rank in waits), default=0)
 
     def reports(self):
-        """What may be told of the run: behind it what its harts wait for where it was ended, which may be where a rank used
-        up its turns besides."""
+        """What may be told of the run: behind it what its harts wait for where all that are left are in a deadlock, also
+        where they used up their turns."""
         text = cluster.report(self.cluster, self.stops)
-        return ([] if self.is_early else [text]) + ([text + self.why] if self.is_stuck else [])
+        return [text + self.why] if self.is_stuck else [] if self.is_early else [text]
 
     def status(self):
         """The status of the run."""

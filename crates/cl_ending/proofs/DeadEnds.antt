@@ -1,12 +1,12 @@
 -- Where the steps of a record lead.
-use Rattle.std.specs.Prelude.{ℕ, ◌≡◌, List, length, take, Option, None, Some, IfSome}
-use Rattle.std.specs.Option.{option_map}
+use Rattle.std.specs.Prelude.{ℕ, ◌≡◌, List, length, take, Option, None, Some}
 use Rattle.std.proofs.Common.{◌∙◌, subst}
 use Rattle.std.proofs.Math.Seq.{take-length}
 use Rattle.rv_image.specs.Image.{IsImage}
 use Rattle.rv_image.specs.declared.images.ImageParts.{ImageParts}
-use Rattle.cl_deadlock.specs.Why.{IsDeadlockVerdict}
-use Rattle.cl_ending.specs.DeadEnds.{IsDeadEnd}
+use Rattle.cl_deadlock.specs.Why.{IsDeadlockVerdict, IsFound, IsNoneFound, IsVerdictOf}
+use Rattle.cl_ending.specs.DeadEnds.{HasAll, IsNotStuckAt, IsStuckAt}
+use Rattle.cl_ending.specs.Judged.{IsVerdictAt}
 use Rattle.cl_machine.specs.Cluster.{IsRun, loaded_cluster}
 use Rattle.cl_machine.specs.Merge.{IsMerge}
 use Rattle.cl_machine.specs.declared.steps.Step.{Step}
@@ -27,20 +27,56 @@ module _ (image : ImageParts) (left : Record) (sorted steps : List Step) (n : �
   run = subst (λ es. IsRun (loaded_cluster image) es reached.cluster)
       ((λ i. take (all i) (same i)) ∙ take-length sorted) reached.run
 
-  dead_end : (ranks : List ℕ) → IsDeadlockVerdict state (Some ranks) → IsDeadEnd image left ranks
-  dead_end ranks verdict = record {
+  pub verdict_at : (found : Option (List ℕ)) → IsDeadlockVerdict state found → IsVerdictAt image left found
+  verdict_at found verdict = record {
     steps = sorted;
     sorted = is;
     final = reached.cluster;
     run = run;
-    found = verdict image reached.cluster
+    verdict = verdict image reached.cluster
         (record { right = right; reached = (sorted, run); stands = reached.stands });
   }
 
-  pub if_found : {V : Type 0} (items : V → List ℕ) (found : Option V) → IsDeadlockVerdict state (option_map items found)
-      → IfSome found (λ ranks. IsDeadEnd image left (items ranks))
-  if_found items None verdict = tt
-  if_found items (Some ranks) verdict = dead_end (items ranks) verdict
+-- ---- who is stuck
+
+pub none_stuck : (image : ImageParts) (left : Record) (found : Option (List ℕ)) → found ≡ None
+    → IsVerdictAt image left found → IsNotStuckAt image left
+none_stuck image left found none at = record {
+  steps = at.steps;
+  sorted = at.sorted;
+  final = at.final;
+  run = at.run;
+  goes_on = λ ranks is all.
+      let verdict : IsNoneFound at.final = subst (IsVerdictOf at.final) none at.verdict in
+      verdict ranks is.are_ranks is.stuck is.deadlock.waits;
+}
+
+pub some_stuck : (image : ImageParts) (left : Record) (found : Option (List ℕ)) (ranks : List ℕ) → found ≡ Some ranks
+    → IsVerdictAt image left found → HasAll ranks left.stops.items → IsStuckAt image left
+some_stuck image left found ranks some at all = record {
+  ranks = ranks;
+  dead_end = record {
+    steps = at.steps;
+    sorted = at.sorted;
+    final = at.final;
+    run = at.run;
+    found = subst (IsVerdictOf at.final) some at.verdict;
+  };
+  all = all;
+}
+
+-- whoever is found has all that are stuck: so where these aren't all that go on, no others are
+pub some_free : (image : ImageParts) (left : Record) (found : Option (List ℕ)) (ranks : List ℕ) → found ≡ Some ranks
+    → IsVerdictAt image left found → ¬ HasAll ranks left.stops.items → IsNotStuckAt image left
+some_free image left found ranks some at not_all = record {
+  steps = at.steps;
+  sorted = at.sorted;
+  final = at.final;
+  run = at.run;
+  goes_on = λ others is all.
+      let verdict : IsFound ranks at.final = subst (IsVerdictOf at.final) some at.verdict in
+      not_all (λ r stop there other. verdict.most others is.are_ranks is.stuck r (all r stop there other));
+}
 
 -- a step is wrong at which a replay ended
 pub breaks_at : (image : ImageParts) (steps : List Step) (n k : ℕ) (fault : ReplayFault) → fault ≡ replay.Step k

@@ -1,10 +1,11 @@
 -- Runs on one thread that go by their plans to the end, and faults.
-use Rattle.std.specs.Prelude.{ℕ, ◌≡◌, ◌≤◌, List, slice_get, Some, false, Result, Err, IfErr}
+use Rattle.std.specs.Prelude.{ℕ, ◌≡◌, ◌≤◌, Bool, List, slice_get, Some, false, true, Result, Err, IfErr}
 use Rattle.std.proofs.Common.{refl, ap, sym, ◌∙◌, subst, arith}
 use Rattle.std.proofs.lemmas.Option.{same_Some}
 use Rattle.std.proofs.lemmas.Result.{IfErr-at_err}
 use Rattle.rv_image.specs.declared.images.ImageParts.{ImageParts}
 use Rattle.cl_arrival_laws.specs.Runs.{IsArrivedRun}
+use Rattle.cl_ending.specs.DeadEnds.{IsFreeEnd, IsStuckAt}
 use Rattle.cl_ending.specs.Judged.{IsJudged}
 use Rattle.cl_record.specs.Records.{IsMergedRun}
 use Rattle.cl_record.specs.declared.plans.Plan.{Plan}
@@ -14,9 +15,10 @@ use Rattle.cl_record.specs.declared.records.RunFault.TheVariants as faults
 use Rattle.cl_run.specs.Runs.{IsOneRun}
 
 pub whole_judged : (image : ImageParts) (plans : List Plan) (order : List ℕ) (left : Record)
-    → IsOneRun image plans order left → IsMergedRun image left → IsArrivedRun image left
-    → IsJudged image plans order (record { left = left; stuck = false })
-whole_judged image plans order left run merged arrived = record {
+    → IsOneRun image plans order left → IsMergedRun image left → IsArrivedRun image left → (stuck : Bool)
+    → (stuck ≡ false → IsFreeEnd image left) → (stuck ≡ true → IsStuckAt image left)
+    → IsJudged image plans order (record { left = left; stuck = stuck })
+whole_judged image plans order left run merged arrived stuck free at = record {
   run = record {
     cuts = plans;
     are_cuts = record {
@@ -30,7 +32,8 @@ whole_judged image plans order left run merged arrived = record {
     run = run;
   };
   whole = λ none. run;
-  stuck = λ e. absurd (cc);
+  free = free;
+  stuck = at;
   merged = merged;
   arrived = arrived;
 }

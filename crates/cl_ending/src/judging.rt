@@ -1,8 +1,10 @@
 //! Whether a run ended in a deadlock.
 
-ghost use Rattle.std.specs.Prelude.{◌≡◌, ◌≤◌, ℕ, IfOk, IfSome, length, true};
+ghost use Rattle.std.specs.Prelude.{◌≡◌, ◌≢◌, ◌≤◌, ℕ, IfOk, false, length, true};
+ghost use Rattle.std.specs.Option.{option_map};
 ghost use Rattle.cl_deadlock_laws.specs.Stuck.{is_among as is_among_of};
-ghost use Rattle.cl_ending.specs.DeadEnds.{HasAll, IsDeadEnd, IsStuckAt};
+ghost use Rattle.cl_ending.specs.DeadEnds.{HasAll, IsFreeEnd, IsNotStuckAt, IsStuckAt};
+ghost use Rattle.cl_ending.specs.Judged.{HaveEnded, IsVerdictAt};
 ghost use Rattle.cl_rank.specs.declared.stops.Stop.TheVariants as stops;
 ghost use Rattle.cl_record.specs.Records.{IsMergedRun};
 ghost use Rattle.cl_replay.specs.InnerReplaying.{BreaksAt};
@@ -25,17 +27,31 @@ fn is_among(among: &[u8], rank: usize) -> bool
 
 /// Whether all harts of a rank that stopped so are stopped.
 fn is_ended(stop: Stop) -> bool
-    ensures { result ≡ true → stop ≡ stops.AllEnded }
+    ensures ended { result ≡ true → stop ≡ stops.AllEnded }
+    ensures other { result ≡ false → stop ≢ stops.AllEnded }
 {
     matches!(stop, Stop::AllEnded)
 }
 
 /// Whether each rank that didn't stop because all its harts are stopped is one of these.
 fn has_all(among: &[u8], stops: &[Stop]) -> bool
-    ensures { result ≡ true → HasAll among.now stops.now }
+    ensures all { result ≡ true → HasAll among.now stops.now }
+    ensures other { result ≡ false → ¬ HasAll among.now stops.now }
 {
     for rank in 0..stops.len() {
         if !is_ended(stops[rank]) && !is_among(among, rank) {
+            return false;
+        }
+    }
+    true
+}
+
+/// Whether each rank stopped because all its harts are stopped.
+fn have_ended(stops: &[Stop]) -> bool
+    ensures { result ≡ true → HaveEnded stops.now }
+{
+    for rank in 0..stops.len() {
+        if !is_ended(stops[rank]) {
             return false;
         }
     }
@@ -59,7 +75,8 @@ fn state_after(alloc: Global, image: &Image, steps: &[Step]) -> Result<ClusterSt
 fn dead_end(alloc: Global, image: &Image, left: &Record) -> Result<Option<Vec<u8>>, AllocError>
     requires merged { IsMergedRun image.now left.now }
     requires few { length left.now.traces.items ≤ 256 }
-    ensures { IfOk result (λ found. IfSome found (λ ranks. IsDeadEnd image.now left.now ranks.items)) }
+    ensures { IfOk result (λ found.
+        IsVerdictAt image.now left.now (option_map (λ ranks. ranks.items) found)) }
 {
     // whoever asks for the parts knows that they are an image's
     let _parts = image.parts();
@@ -72,10 +89,29 @@ fn dead_end(alloc: Global, image: &Image, left: &Record) -> Result<Option<Vec<u8
 pub(crate) fn is_stuck(alloc: Global, image: &Image, left: &Record) -> Result<bool, AllocError>
     requires merged { IsMergedRun image.now left.now }
     requires few { length left.now.traces.items ≤ 256 }
-    ensures { IfOk result (λ stuck. stuck ≡ true → IsStuckAt image.now left.now) }
+    ensures stuck { IfOk result (λ stuck. stuck ≡ true → IsStuckAt image.now left.now) }
+    ensures other { IfOk result (λ stuck. stuck ≡ false → IsNotStuckAt image.now left.now) }
 {
     match dead_end(alloc, image, left)? {
         None => Ok(false),
         Some(ranks) => Ok(has_all(ranks.as_slice(), left.stops.as_slice())),
     }
+}
+
+/// Whether all ranks of a record that its plans ended, and that have a hart that isn't stopped, are in a deadlock. Where all
+/// have ended nothing is looked at. The only error is want of memory.
+pub(crate) fn is_ended_stuck(
+    alloc: Global,
+    image: &Image,
+    left: &Record,
+) -> Result<bool, AllocError>
+    requires merged { IsMergedRun image.now left.now }
+    requires few { length left.now.traces.items ≤ 256 }
+    ensures stuck { IfOk result (λ stuck. stuck ≡ true → IsStuckAt image.now left.now) }
+    ensures free { IfOk result (λ stuck. stuck ≡ false → IsFreeEnd image.now left.now) }
+{
+    if have_ended(left.stops.as_slice()) {
+        return Ok(false);
+    }
+    is_stuck(alloc, image, left)
 }

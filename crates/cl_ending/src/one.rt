@@ -2,18 +2,18 @@
 
 ghost use Rattle.std.specs.Prelude.{◌≡◌, ◌↔◌, ◌⊎◌, ◌≤◌, Err, IfErr, IfOk, OnOk, false, length, true};
 ghost use Rattle.cl_arrival_laws.specs.Runs.{IsArrivedRun};
-ghost use Rattle.cl_ending.specs.DeadEnds.{IsStuckAt};
+ghost use Rattle.cl_ending.specs.DeadEnds.{IsFreeEnd, IsStuckAt};
 ghost use Rattle.cl_ending.specs.Judged.{IsJudged};
 ghost use Rattle.cl_record.specs.Plans.{ArePlans};
 ghost use Rattle.cl_record.specs.Records.{IsMergedRun};
 ghost use Rattle.cl_run.specs.Cuts.{IsEndedRun};
 ghost use Rattle.cl_run.specs.Runs.{IsOneRun};
 
-use crate::judging::is_stuck;
+use crate::judging::{is_ended_stuck, is_stuck};
 use cl_record::{Plan, Record, RunFault};
 use cl_run::{Ended, run_one, run_one_until_quiet};
 use rv_image::Image;
-use std::alloc::{AllocError, Global};
+use std::alloc::Global;
 
 /// What a run leaves, and whether it was ended at a deadlock.
 #[derive(Drop)]
@@ -24,17 +24,27 @@ pub struct Stuck {
     pub stuck: bool,
 }
 
-/// Whether a run that was ended is in a deadlock. One that went by its plans to the end isn't looked at. The only error is
-/// want of memory.
-fn is_ended_stuck(alloc: Global, image: &Image, ended: &Ended) -> Result<bool, AllocError>
-    requires merged { IsMergedRun image.now ended.now.left }
-    requires few { length ended.now.left.traces.items ≤ 256 }
-    ensures { IfOk result (λ stuck. stuck ≡ true → IsStuckAt image.now ended.now.left) }
+/// What a run leaves that went by its plans to the end, once it's judged.
+fn judge_whole(
+    alloc: Global,
+    image: &Image,
+    plans: &[Plan],
+    order: &[u8],
+    left: Record,
+) -> Result<Stuck, RunFault>
+    requires run { IsOneRun image.now plans.now order.now left }
+    requires merged { IsMergedRun image.now left }
+    requires arrived { IsArrivedRun image.now left }
+    ensures judged { IfOk result (IsJudged image.now plans.now order.now) }
+    ensures fault { IfErr result (λ fault. fault ≡ RunFault.Memory) }
 {
-    if !ended.quiet {
-        return Ok(false);
-    }
-    is_stuck(alloc, image, &ended.left)
+    // whoever asks for the parts knows that there are few ranks
+    let _parts = image.parts();
+    let Ok(stuck) = is_ended_stuck(alloc, image, &left) else {
+        drop(left);
+        return Err(RunFault::Memory);
+    };
+    Ok(Stuck { left, stuck })
 }
 
 /// What a run leaves that goes by its plans to the end.
@@ -44,7 +54,7 @@ fn run_whole(alloc: Global, image: &Image, plans: &[Plan], order: &[u8]) -> Resu
     ensures fault { IfErr result (λ fault. fault ≡ RunFault.Memory) }
 {
     let left = run_one(alloc, image, plans, order)?;
-    Ok(Stuck { left, stuck: false })
+    judge_whole(alloc, image, plans, order, left)
 }
 
 /// What a run leaves, once it's judged: this one, or another to the end of its plans where this was ended for nothing.
@@ -65,15 +75,18 @@ fn judge(
 {
     // whoever asks for the parts knows that there are few ranks
     let _parts = image.parts();
-    let Ok(stuck) = is_ended_stuck(alloc, image, &ended) else {
-        drop(ended);
+    let Ended { left, quiet } = ended;
+    if !quiet {
+        return judge_whole(alloc, image, plans, order, left);
+    }
+    let Ok(stuck) = is_stuck(alloc, image, &left) else {
+        drop(left);
         return Err(RunFault::Memory);
     };
-    if stuck || !ended.quiet {
-        let Ended { left, quiet: _ } = ended;
+    if stuck {
         return Ok(Stuck { left, stuck });
     }
-    drop(ended);
+    drop(left);
     run_whole(alloc, image, plans, order)
 }
 
@@ -83,6 +96,7 @@ fn judge(
 ///
 /// No more than a few rounds are looked at in 32. Where all that is left looks in vain the run is ended and judged, for
 /// which its steps are done once more. If they are in no deadlock it is done from its start again, to the end of its plans.
+/// A run that its plans ended is judged too, unless all harts are stopped: so that a deadlock is told wherever it began.
 ///
 /// Refusals: Plans where a plan or the order is wrong (and just there), Memory where the ranks, the hub, the record or
 /// the judgement find no room.
@@ -94,6 +108,7 @@ pub fn run_one_until_stuck(
 ) -> Result<Stuck, RunFault>
     ensures run { IfOk result (λ end. IsEndedRun image.now plans.now order.now end.left) }
     ensures whole { IfOk result (λ end. end.stuck ≡ false → IsOneRun image.now plans.now order.now end.left) }
+    ensures free { IfOk result (λ end. end.stuck ≡ false → IsFreeEnd image.now end.left) }
     ensures stuck { IfOk result (λ end. end.stuck ≡ true → IsStuckAt image.now end.left) }
     ensures merged { IfOk result (λ end. IsMergedRun image.now end.left) }
     ensures arrived { IfOk result (λ end. IsArrivedRun image.now end.left) }

@@ -1,16 +1,16 @@
 //! A run with a thread for each rank that ends where nobody can go on.
 
-ghost use Rattle.std.specs.Prelude.{◌≡◌, ◌↔◌, ◌≤◌, Err, IfErr, IfOk, false, length};
+ghost use Rattle.std.specs.Prelude.{◌≡◌, ◌↔◌, ◌≤◌, Err, IfErr, IfOk, false, length, true};
 ghost use Rattle.cl_arrival_laws.specs.Runs.{IsArrivedRun};
-ghost use Rattle.cl_ending.specs.DeadEnds.{IsStuckAt};
-ghost use Rattle.cl_ending.specs.declared.threads.Outcome.TheVariants.{Planned, Stuck as IsStuck};
+ghost use Rattle.cl_ending.specs.DeadEnds.{IsFreeEnd, IsNotStuckAt, IsStuckAt};
+ghost use Rattle.cl_ending.specs.declared.threads.Outcome.TheVariants.{Planned, Stuck as IsStuck, Told};
 ghost use Rattle.cl_record.specs.Plans.{HasPlans};
 ghost use Rattle.cl_record.specs.Records.{IsMergedRun};
-ghost use Rattle.cl_threads.specs.Cuts.{IsEndedThreadRun};
+ghost use Rattle.cl_threads.specs.Cuts.{IsEndedThreadRun, IsSomeTold};
 ghost use Rattle.cl_threads.specs.CutRefusals.{IsEndedRefusal};
 ghost use Rattle.cl_threads.specs.Runs.{IsThreadRun};
 
-use crate::judging::is_stuck;
+use crate::judging::{is_ended_stuck, is_stuck};
 use cl_record::{Plan, Record, RunFault};
 use cl_threads::{Ended, Gate, run_threads_until_told};
 use rv_image::Image;
@@ -21,11 +21,11 @@ use std::thread::Threads;
 /// How a run with a thread for each rank came to its end.
 #[derive(Clone, Copy, PartialEq, Eq, Drop, Debug)]
 pub enum Outcome {
-    /// Each rank stopped by its plan.
+    /// Each rank stopped by its plan, and not all that have a hart that isn't stopped are in a deadlock.
     Planned,
-    /// Ranks were told to stop, and each that has a hart that isn't stopped is in a deadlock.
+    /// Each that has a hart that isn't stopped is in a deadlock.
     Stuck,
-    /// Ranks were told to stop, and the state that they left isn't known to be such a deadlock.
+    /// Ranks were told to stop, and the state that they left is no such deadlock.
     Told,
 }
 
@@ -42,19 +42,27 @@ fn judge(alloc: Global, image: &Image, left: &Record, told: bool) -> Result<Outc
     requires merged { IsMergedRun image.now left.now }
     requires few { length left.now.traces.items ≤ 256 }
     ensures planned { IfOk result (λ outcome. outcome ≡ Planned → told ≡ false) }
+    ensures free { IfOk result (λ outcome. outcome ≡ Planned → IsFreeEnd image.now left.now) }
     ensures stuck { IfOk result (λ outcome. outcome ≡ IsStuck → IsStuckAt image.now left.now) }
+    ensures told { IfOk result (λ outcome. outcome ≡ Told → told ≡ true) }
+    ensures goes_on { IfOk result (λ outcome. outcome ≡ Told → IsNotStuckAt image.now left.now) }
 {
-    if !told {
-        Ok(Outcome::Planned)
-    } else if is_stuck(alloc, image, left)? {
+    if told {
+        if is_stuck(alloc, image, left)? {
+            Ok(Outcome::Stuck)
+        } else {
+            Ok(Outcome::Told)
+        }
+    } else if is_ended_stuck(alloc, image, left)? {
         Ok(Outcome::Stuck)
     } else {
-        Ok(Outcome::Told)
+        Ok(Outcome::Planned)
     }
 }
 
 /// Runs each rank of the image on a thread of its own, as `run_threads` does, but that the run ends once all ranks that are
-/// left look in vain, by the gate's roll. Whether that is a deadlock is judged by the state that they left.
+/// left look in vain, by the gate's roll. Whether that is a deadlock is judged by the state that they left, also where their
+/// plans ended them, unless all harts are stopped.
 ///
 /// Where a hart is left out by its plan and still runs, or a rank stopped that has a hart that isn't, nobody is told to
 /// stop.
@@ -69,6 +77,9 @@ pub fn run_threads_until_stuck<R: Threads + Wait + Sync, G: Gate>(
 ) -> Result<StuckThreads, RunFault>
     ensures run { IfOk result (λ end. IsEndedThreadRun image.now plans.now end.left) }
     ensures whole { IfOk result (λ end. end.outcome ≡ Planned → IsThreadRun image.now plans.now end.left) }
+    ensures free { IfOk result (λ end. end.outcome ≡ Planned → IsFreeEnd image.now end.left) }
+    ensures told { IfOk result (λ end. end.outcome ≡ Told → IsSomeTold plans.now end.left) }
+    ensures goes_on { IfOk result (λ end. end.outcome ≡ Told → IsNotStuckAt image.now end.left) }
     ensures stuck { IfOk result (λ end. end.outcome ≡ IsStuck → IsStuckAt image.now end.left) }
     ensures merged { IfOk result (λ end. IsMergedRun image.now end.left) }
     ensures arrived { IfOk result (λ end. IsArrivedRun image.now end.left) }

@@ -16,3 +16,4 @@ pub mod Settled
 pub mod Gathered
 pub mod Paced
 pub mod CutPlans
+pub mod NoneTold

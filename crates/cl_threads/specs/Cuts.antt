@@ -1,6 +1,7 @@
 -- Ranks that are told to stop before their plans end.
 use Rattle.std.specs.Prelude.{ℕ, ◌≡◌, ◌<◌, ◌≤◌, ◌⊎◌, List, length, slice_get, Some}
 use Rattle.rv_image.specs.declared.images.ImageParts.{ImageParts}
+use Rattle.cl_trace.specs.Traces.{TraceView}
 use Rattle.cl_rank.specs.declared.stops.Stop.{Stop}
 use Rattle.cl_record.specs.declared.plans.Plan.{Plan}
 use Rattle.cl_record.specs.declared.records.Record.{Record}
@@ -18,6 +19,13 @@ pub record IsCutPlan (plan cut : Plan) (stop : Stop) : Type 0 where
 abbrev pub IsBy : Until → Plan → Plan → Stop → Type 0
 IsBy Until.Planned plan by stop = by ≡ plan
 IsBy Until.Told plan by stop = (by ≡ plan) ⊎ IsCutPlan plan by stop
+
+-- some rank was told to stop: it says Budget, and took fewer turns than its plan gives
+abbrev pub IsSomeTold : List Plan → Record → Type 0
+IsSomeTold plans left =
+    (r : ℕ) × (plan : Plan) × (trace : TraceView) × (slice_get plans r ≡ Some plan)
+    × (slice_get left.stops.items r ≡ Some Stop.Budget) × (slice_get left.traces.items r ≡ Some trace)
+    × (length trace.events < plan.budget)
 
 -- those of all ranks
 pub record AreBy (until : Until) (plans cuts : List Plan) (stops : List Stop) : Type 0 where

@@ -1,6 +1,6 @@
 //! All ranks, each on a thread of its own.
 
-ghost use Rattle.std.specs.Prelude.{◌≡◌, ◌↔◌, ◌≤◌, Err, IfErr, IfOk, OnOk, false, length, map};
+ghost use Rattle.std.specs.Prelude.{◌≡◌, ◌↔◌, ◌≤◌, Err, IfErr, IfOk, OnOk, false, length, map, true};
 ghost use Rattle.cl_arrival_laws.specs.Runs.{IsArrivedRun};
 ghost use Rattle.cl_journal.specs.Replaying.{Replays};
 ghost use Rattle.cl_record.specs.Plans.{HasPlans};
@@ -8,7 +8,7 @@ ghost use Rattle.cl_record.specs.Records.{IsMergedRun};
 ghost use Rattle.cl_record.specs.Settling.{MaySettle};
 ghost use Rattle.cl_record.specs.Leaving.{HaveRoom, IsRecordOf, ends_of, trace_of};
 ghost use Rattle.cl_threads.specs.Loading.{IsCluster};
-ghost use Rattle.cl_threads.specs.Cuts.{IsEndedThreadRun, IsRunUntil};
+ghost use Rattle.cl_threads.specs.Cuts.{IsEndedThreadRun, IsRunUntil, IsSomeTold};
 ghost use Rattle.cl_threads.specs.CutRefusals.{IsEndedRefusal, IsRefusalUntil};
 ghost use Rattle.cl_threads.specs.Refusals.{IsRefusal};
 ghost use Rattle.cl_threads.specs.Runs.{IsThreadRun};
@@ -191,6 +191,7 @@ pub fn run_threads_until_told<R: Threads + Wait + Sync, G: Gate>(
 ) -> Result<Ended, RunFault>
     ensures run { IfOk result (λ ended. IsEndedThreadRun image.now plans.now ended.left) }
     ensures whole { IfOk result (λ ended. ended.told ≡ false → IsThreadRun image.now plans.now ended.left) }
+    ensures told { IfOk result (λ ended. ended.told ≡ true → IsSomeTold plans.now ended.left) }
     ensures merged { IfOk result (λ ended. IsMergedRun image.now ended.left) }
     ensures arrived { IfOk result (λ ended. IsArrivedRun image.now ended.left) }
     ensures right { OnOk result (HasPlans image.now plans.now) }

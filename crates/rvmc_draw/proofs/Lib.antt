@@ -4,6 +4,7 @@ pub mod Could
 pub mod Gots
 pub mod Lost
 pub mod Messages
+pub mod NeverTaken
 pub mod Pairs
 pub mod Partitions
 pub mod Sources

@@ -26,6 +26,7 @@ use Rattle.rvmc_draw.specs.declared.drawing.Shape.{Shape}
 use Rattle.rvmc_draw.specs.declared.walks.Walk.{Walk}
 use Rattle.rvmc_draw.proofs.Boards.{board_kept}
 use Rattle.rvmc_draw.proofs.Tables.{begun_more, cells_more, each_from, each_more, shapes_more, table_none}
+use Rattle.rvmc_draw.proofs.NeverTaken.{untaken_more}
 
 -- ---- marks
 
@@ -177,6 +178,8 @@ module _ (scope : Scope) (deeds : List Deed) (old : Walk) (d : Deed) (tip : List
     got = each_more got_after deeds d old.board.got.items new.board.got.items w.got got_are;
     cells = subst (λ l. IsTable scope.boxes (cell_of (deeds ++ d ∷ [])) l) (sym t.cells)
         (cells_more scope.boxes deeds d old.parts.cells.items w.cells);
+    untaken = untaken_more scope.boxes deeds d old.parts.cells.items old.parts.untaken.items new.parts.untaken.items
+        w.cells w.untaken t.untaken;
     looks_harts = t.looks_harts ∙ w.looks_harts;
     begun = begun_table;
     marks_harts = t.marks_harts ∙ w.marks_harts;
@@ -195,19 +198,20 @@ module _ (scope : Scope) (deeds : List Deed) (old : Walk) (d : Deed) (tip : List
 
 pub walked_none : (scope : Scope) (walk : Walk) → walk.board.ranks ≡ scope.ranks → walk.board.lines.items ≡ []
     → walk.board.spots.items ≡ [] → walk.board.got.items ≡ []
-    → walk.parts.cells.items ≡ replicate scope.boxes no_cell
+    → walk.parts.cells.items ≡ replicate scope.boxes no_cell → walk.parts.untaken.items ≡ []
     → walk.looks.harts ≡ scope.harts → walk.looks.begun.items ≡ replicate (scope.ranks * scope.harts) None
     → walk.marks.harts ≡ scope.harts → walk.marks.view ≡ scope.view
     → walk.marks.shapes.items ≡ replicate (scope.ranks * scope.harts) None
     → walk.arrows.items ≡ [] → walk.bars.items ≡ [] → walk.marks.count ≡ 0 → walk.marks.kept.items ≡ []
     → IsWalked scope [] walk
-walked_none scope walk ranks lines spots got cells looks_harts begun marks_harts view shapes arrows bars count kept = record {
+walked_none scope walk ranks lines spots got cells untaken looks_harts begun marks_harts view shapes arrows bars count kept = record {
   ranks = ranks;
   lines = lines;
   spots = spots;
   got = got;
   cells = subst (λ l. IsTable scope.boxes (cell_of []) l) (sym cells)
       (table_none scope.boxes no_cell (cell_of []) (λ place. no_cell_is));
+  untaken = untaken;
   looks_harts = looks_harts;
   begun = subst (λ l. IsTable (scope.ranks * scope.harts) (begun_of scope.harts []) l) (sym begun)
       (table_none (scope.ranks * scope.harts) None (begun_of scope.harts []) (λ place. refl));

@@ -1,18 +1,20 @@
 -- What is held of the steps so far, and what a step more makes of it.
 use Rattle.std.specs.List.{slice_get, slice_set}
 use Rattle.std.specs.Option.{is_some}
-use Rattle.std.specs.Prelude.{ℕ, ◌+◌, ◌*◌, ◌-◌, ◌^◌, if◌then◌else◌, List, [], min, Option, Some, None, nat_lt, Bool, map, length, ◌≡◌, ◌≤◌, ◌++◌}
+use Rattle.std.specs.Prelude.{ℕ, ◌+◌, ◌*◌, ◌-◌, ◌^◌, if◌then◌else◌, List, [], ◌∷◌, min, Option, Some, None, nat_lt, Bool, not, filter, map}
+use Rattle.std.specs.Prelude.{length, ◌≡◌, ◌≤◌, ◌++◌}
 use Rattle.mp_match.specs.PostPairs.{pairs}
 use Rattle.rvmc_draw.specs.Board.{arrows_to, lines_with, partners_of, posts_made, spot_if, spots_made}
 use Rattle.rvmc_draw.specs.Looks.{begun_at, lane_of, begun_by, ended_by}
 use Rattle.rvmc_draw.specs.Marks.{Sign, shape_behind, is_marked, marks_by, shape_there, sign_of, told_by}
-use Rattle.rvmc_draw.specs.Parts.{box_place, arrows_taken, cell_of}
+use Rattle.rvmc_draw.specs.Parts.{box_place, arrows_taken, cell_of, is_box_at, place_of, untaken_of}
 use Rattle.rvmc_draw.specs.Walks.{IsTable, Scope, arrows_of, bars_of, begun_of, got_places, marks_of, last_shape_of}
 use Rattle.rvmc_draw.specs.declared.deeds.Deed.{Deed}
 use Rattle.rvmc_draw.specs.declared.drawing.Bar.{Bar}
 use Rattle.rvmc_draw.specs.declared.drawing.Shape.{Shape}
 use Rattle.rvmc_draw.specs.declared.drawing.Spot.{Spot}
 use Rattle.rvmc_draw.specs.declared.parts.Cell.{Cell}
+use Rattle.rvmc_draw.specs.declared.parts.Untaken.{Untaken}
 use Rattle.rvmc_draw.specs.declared.views.View.{View}
 use Rattle.rvmc_draw.specs.declared.walks.Sizes.{Sizes}
 use Rattle.rvmc_draw.specs.declared.walks.Walk.{Walk}
@@ -53,6 +55,26 @@ cells_if cells (Some box) spot = cell_set cells (box_place box) (slice_get cells
 abbrev pub cells_with : List Cell → Deed → List Cell
 cells_with cells d = cells_if cells d.ready d.spot
 
+-- what is left of the partitions that no step took where one is taken
+abbrev pub untaken_without : List Untaken → Option (ℕ × ℕ) → List Untaken
+untaken_without untaken None = untaken
+untaken_without untaken (Some box) =
+    filter (λ (one : Untaken). not (is_box_at (place_of one) (Some box))) untaken
+
+-- the partition of a box that is made ready once more, if there is such a box
+abbrev pub made_once_more : ℕ × ℕ → Spot → Option Cell → List Untaken
+made_once_more box spot None = []
+made_once_more box spot (Some cell) =
+    record { from = spot; link = box.0; part = box.1; phase = (made_ready cell spot).phase } ∷ []
+
+abbrev pub made_by : List Cell → Option (ℕ × ℕ) → Spot → List Untaken
+made_by cells None spot = []
+made_by cells (Some box) spot = made_once_more box spot (slice_get cells (box_place box))
+
+-- those that no step took, behind a step
+abbrev pub untaken_with : List Cell → List Untaken → Deed → List Untaken
+untaken_with cells untaken d = untaken_without untaken d.taken ++ made_by cells d.ready d.spot
+
 abbrev pub scope_of : Sizes → View → Scope
 scope_of sizes view =
     record { ranks = sizes.ranks; harts = sizes.harts; boxes = 16 * sizes.links; view = view }
@@ -63,6 +85,7 @@ pub record IsWalked (scope : Scope) (deeds : List Deed) (walk : Walk) : Type 0 w
   pub spots : walk.board.spots.items ≡ spots_made deeds
   pub got : walk.board.got.items ≡ got_places deeds
   pub cells : IsTable scope.boxes (cell_of deeds) walk.parts.cells.items
+  pub untaken : walk.parts.untaken.items ≡ untaken_of scope.boxes deeds
   pub looks_harts : walk.looks.harts ≡ scope.harts
   pub begun : IsTable (scope.ranks * scope.harts) (begun_of scope.harts deeds) walk.looks.begun.items
   pub marks_harts : walk.marks.harts ≡ scope.harts
@@ -92,6 +115,7 @@ pub record Takes (old : Walk) (d : Deed) (tip : List ℕ) (new : Walk) : Type 0 
   pub got : new.board.got.items
       ≡ old.board.got.items ++ partners_of (lines_with old.board.lines.items d.made) d.got.items
   pub cells : new.parts.cells.items ≡ cells_with old.parts.cells.items d
+  pub untaken : new.parts.untaken.items ≡ untaken_with old.parts.cells.items old.parts.untaken.items d
   pub arrows : new.arrows.items
       ≡ (old.arrows.items ++ arrows_to old.board.ranks old.board.lines.items old.board.spots.items d)
       ++ arrows_taken (slice_get old.parts.cells.items) d

@@ -13,7 +13,7 @@ use Rattle.rvmc_draw.specs.Among.{IsAmong}
 use Rattle.rvmc_draw.specs.Board.{arrow_to, carried_by, is_got_in, is_open_to, lines_with, lost, other_first, partner_numbered}
 use Rattle.rvmc_draw.specs.Board.{posts_made, spot_if, spots_made}
 use Rattle.rvmc_draw.specs.Looks.{lane_of}
-use Rattle.rvmc_draw.specs.Parts.{box_place, readies}
+use Rattle.rvmc_draw.specs.Parts.{box_place, is_box_at, readies, untaken_of}
 use Rattle.rvmc_draw.specs.Views.{is_in_view}
 use Rattle.rvmc_draw.specs.Walks.{Scope, arrows_of, got_places}
 use Rattle.rvmc_draw.specs.declared.board.Manner.{Manner}
@@ -22,6 +22,7 @@ use Rattle.rvmc_draw.specs.declared.drawing.Arrow.{Arrow}
 use Rattle.rvmc_draw.specs.declared.drawing.Carried.{Carried}
 use Rattle.rvmc_draw.specs.declared.drawing.Carried.TheVariants.{Message, Partition}
 use Rattle.rvmc_draw.specs.declared.drawing.Spot.{Spot}
+use Rattle.rvmc_draw.specs.declared.parts.Untaken.{Untaken}
 use Rattle.rvmc_draw.specs.declared.views.View.{View}
 
 -- these are the posts that the steps made, in their order and with their partners, and the steps that made them
@@ -166,6 +167,29 @@ is_partition c = false
 abbrev pub PartitionsLaw : Type 0
 PartitionsLaw = (scope : Scope) (deeds : List Deed) (a : Arrow)
     → (IsAmong (arrows_of scope deeds) a × (is_partition a.carried ≡ true)) ↔ JoinsReady scope deeds a
+
+-- a step made a partition ready, in the phase that it began, and none behind it took the partition
+pub record IsNeverTaken (boxes : ℕ) (deeds : List Deed) (one : Untaken) : Type 0 where
+  pub before : List Deed
+  pub maker : Deed
+  pub after : List Deed
+  pub all : deeds ≡ before ++ maker ∷ after
+  pub box : ℕ × ℕ
+  pub makes : maker.ready ≡ Some box
+  pub there : box_place box < boxes
+  pub nobody : list_any (λ (d : Deed). is_box_at (box_place box) d.taken) after ≡ false
+  pub one_is : one
+      ≡ record {
+        from = maker.spot;
+        link = box.0;
+        part = box.1;
+        phase = min (length (readies (box_place box) before) + 1) (2 ^ 64 - 1);
+      }
+
+-- the partitions with a broken arrow are these, and no others
+abbrev pub UntakenLaw : Type 0
+UntakenLaw = (boxes : ℕ) (deeds : List Deed) (one : Untaken)
+    → IsAmong (untaken_of boxes deeds) one ↔ IsNeverTaken boxes deeds one
 
 -- a box is one partition of one link, where each link has 16
 abbrev pub BoxLaw : Type 0

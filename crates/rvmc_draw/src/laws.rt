@@ -1,6 +1,7 @@
 //! Laws of a picture's data. The functions do nothing; their contracts are the laws.
 
 ghost use Rattle.rvmc_draw.specs.Laws.{ArrowLaw, BoardLaw, BoxLaw, CouldLaw, GotLaw, LanesLaw, LostLaw, MessagesLaw, PartitionsLaw};
+ghost use Rattle.rvmc_draw.specs.Laws.{UntakenLaw};
 ghost use Rattle.rvmc_draw.specs.Waits.{BarsLaw, WaitingLaw};
 
 /// The posts that are kept are those that the steps made, with the partners that MPI's rule gives them (MPI 4.1, chapter
@@ -42,6 +43,11 @@ pub fn lost_law()
 /// place, and in the phase that the latter began (MPI 4.1, chapter 4.2).
 pub fn partitions_law()
     ensures { PartitionsLaw }
+{}
+
+/// The partitions that are told as never taken are those that a step made ready and that no later step took.
+pub fn untaken_law()
+    ensures { UntakenLaw }
 {}
 
 /// A box is one partition of one link.

@@ -23,6 +23,6 @@ pub use deeds::Deed;
 pub use drawing::{Arrow, Bar, Carried, Drawing, Mark, Row, Shape, Spot};
 pub use looks::Looks;
 pub use marks::{MARKS_MAX, Marks};
-pub use parts::{Cell, Parts};
+pub use parts::{Cell, Parts, Untaken};
 pub use views::{View, arrows_seen, bars_seen};
 pub use walks::{Sizes, Walk};

@@ -1,9 +1,10 @@
 //! Partitions that were made ready and taken, by their boxes: each link of the image has 16 (MPI 4.1, chapter 4.2).
+//! Those that no step has taken yet are kept beside them.
 
-ghost use Rattle.std.specs.Prelude.{◌≡◌, ◌++◌, ◌*◌, IfOk, OnOk, replicate};
+ghost use Rattle.std.specs.Prelude.{◌≡◌, ◌++◌, ◌*◌, [], IfOk, OnOk, replicate};
 ghost use Rattle.std.specs.List.{slice_get, slice_set};
 ghost use Rattle.rvmc_draw.specs.Parts.{arrow_from, arrow_if_there, arrows_taken, box_place};
-ghost use Rattle.rvmc_draw.specs.Held.{cells_with, made_ready, no_cell};
+ghost use Rattle.rvmc_draw.specs.Held.{cells_with, made_by, made_ready, no_cell, untaken_with, untaken_without};
 
 use crate::deeds::Deed;
 use crate::drawing::{Arrow, Carried, Spot};
@@ -16,10 +17,22 @@ pub struct Cell {
     pub last: Option<Spot>,
 }
 
+/// A partition that was made ready, in this phase of its link, and that no step has taken.
+#[derive(Clone, Copy, Drop)]
+pub struct Untaken {
+    /// The step that made it ready.
+    pub from: Spot,
+    pub link: u8,
+    pub part: u8,
+    pub phase: u64,
+}
+
 /// All boxes.
 #[derive(Drop)]
 pub struct Parts {
     pub cells: Vec<Cell>,
+    /// In the order of the steps that made them ready.
+    pub untaken: Vec<Untaken>,
 }
 
 /// The place of a partition of a link among all boxes.
@@ -83,7 +96,8 @@ fn put_if_there(
 impl Parts {
     /// The boxes of so many links, none of which was made ready. The only error is want of memory.
     pub fn new(alloc: Global, links: u8) -> Result<Parts, AllocError>
-        ensures { IfOk result (λ parts. parts.cells.items ≡ replicate (16 * links) no_cell) }
+        ensures cells { IfOk result (λ parts. parts.cells.items ≡ replicate (16 * links) no_cell) }
+        ensures untaken { IfOk result (λ parts. parts.untaken.items ≡ []) }
     {
         let empty = Cell {
             phase: 0,
@@ -91,6 +105,7 @@ impl Parts {
         };
         Ok(Parts {
             cells: Vec::from_elem(alloc, empty, 16 * usize::from(links))?,
+            untaken: Vec::new(alloc),
         })
     }
 
@@ -101,16 +116,37 @@ impl Parts {
         self.cells.get(place).copied()
     }
 
-    /// Notes that a step made a partition ready.
-    fn ready(&mut self, deed: &Deed)
-        ensures { self.new.cells.items ≡ cells_with self.old.cells.items deed.now }
+    /// Notes that a step made a partition ready: its box, and that no step has taken it yet.
+    fn ready(&mut self, deed: &Deed) -> Result<(), AllocError>
+        ensures cells { OnOk result (self.new.cells.items ≡ cells_with self.old.cells.items deed.now) }
+        ensures untaken { OnOk result (self.new.untaken.items
+            ≡ self.old.untaken.items ++ made_by self.old.cells.items deed.now.ready deed.now.spot) }
     {
         if let Some((link, part)) = deed.ready {
             let place = box_place(link, part);
             if place < self.cells.len() {
-                let cell = self.cells[place];
-                self.cells[place] = made_ready(cell, deed.spot);
+                let cell = made_ready(self.cells[place], deed.spot);
+                self.cells[place] = cell;
+                self.untaken.push(Untaken {
+                    from: deed.spot,
+                    link,
+                    part,
+                    phase: cell.phase,
+                })?;
             }
+        }
+        Ok(())
+    }
+
+    /// Notes that a step took a partition, if it did.
+    fn forget(&mut self, taken: Option<(u8, u8)>)
+        ensures untaken { self.new.untaken.items ≡ untaken_without self.old.untaken.items taken }
+        ensures cells { self.new.cells.items ≡ self.old.cells.items }
+    {
+        if let Some((link, part)) = taken {
+            let place = box_place(link, part);
+            self.untaken
+                .retain(|one| place != box_place(one.link, one.part));
         }
     }
 
@@ -120,12 +156,14 @@ impl Parts {
         ensures arrows { OnOk result
             (arrows.new.items ≡ arrows.old.items ++ arrows_taken (slice_get self.old.cells.items) deed.now) }
         ensures cells { OnOk result (self.new.cells.items ≡ cells_with self.old.cells.items deed.now) }
+        ensures untaken { OnOk result
+            (self.new.untaken.items ≡ untaken_with self.old.cells.items self.old.untaken.items deed.now) }
     {
         if let Some((link, part)) = deed.taken {
             let cell = self.get(box_place(link, part));
             put_if_there(arrows, link, part, deed.spot, cell)?;
         }
-        self.ready(deed);
-        Ok(())
+        self.forget(deed.taken);
+        self.ready(deed)
     }
 }

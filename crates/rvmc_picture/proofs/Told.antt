@@ -27,9 +27,11 @@ use Rattle.rvmc_draw.specs.Looks.{open_to}
 use Rattle.rvmc_draw.specs.Views.{arrow_in_view, bar_in_view}
 use Rattle.rvmc_draw.specs.Marks.{Sign, sign_by, sign_if, sign_of, told_by}
 use Rattle.rvmc_draw.specs.Held.{kept_by}
+use Rattle.rvmc_draw.specs.Parts.{untaken_of}
 use Rattle.rvmc_draw.specs.Walks.{Scope, arrows_of, bars_of}
 use Rattle.rvmc_draw.specs.Held.{IsWalked, is_marked_in, scope_of, tips_taken}
 use Rattle.rvmc_draw.specs.declared.deeds.Deed.{Deed}
+use Rattle.rvmc_draw.specs.declared.drawing.Arrow.{Arrow}
 use Rattle.rvmc_draw.specs.declared.drawing.Drawing.{Drawing}
 use Rattle.rvmc_draw.specs.declared.drawing.Mark.{Mark}
 use Rattle.rvmc_draw.specs.declared.drawing.Row.{Row}
@@ -41,7 +43,7 @@ use Rattle.rvmc_list.proofs.Told.{IsSeen, each_more, seen_at}
 use Rattle.rvmc_list.specs.Lines.{hart_of, sight_of, sight_text}
 use Rattle.rvmc_list.specs.List.{IsSightAt}
 use Rattle.rvmc_picture.specs.Deeds.{IsDeedBy, ask_met}
-use Rattle.rvmc_picture.specs.Pictures.{AreDeeds, DrawFaultHolds, HasTooMany, IsDeedAt, IsDrawing, IsEndAt, IsTipOf, is_past_end, scope_in}
+use Rattle.rvmc_picture.specs.Pictures.{AreDeeds, DrawFaultHolds, HasTooMany, IsDeedAt, IsDrawing, IsEndAt, IsTipOf, arrows_with, is_past_end, scope_in}
 use Rattle.rvmc_picture.specs.Walking.{IsDrawn}
 use Rattle.rvmc_picture.specs.Walking.{ArePut, IsPutAt, IsWalkedTo, Puts, StepBreaks, StepsBreak}
 use Rattle.rvmc_picture.specs.declared.pictures.DrawFault.{DrawFault}
@@ -203,6 +205,12 @@ scope_same image sizes view ranks harts links =
 
 module _ (image : ImageParts) (steps : List Step) (view : View) (state : ClusterState) (walk : Walk)
     (put : ArePut image steps (scope_in image view) (length steps) state walk) where
+  abbrev all_shown : List Arrow
+  all_shown =
+      flat_map (arrow_in_view view)
+      (arrows_with image.links (arrows_of (scope_in image view) put.deeds)
+      (untaken_of (16 * length image.links) put.deeds))
+
   pub is_drawing : walk.marks.count ≤ 5000 → (rows : List Row) (told : List ℕ) → IsEndAt image steps view.to rows told
       → (drawing : Drawing) → IsDrawn image view (length steps) walk rows told drawing
       → IsDrawing image steps view drawing
@@ -216,14 +224,13 @@ module _ (image : ImageParts) (steps : List Step) (view : View) (state : Cluster
     marks = ap (map sign_of) d.marks ∙ put.walked.kept few;
     tips = subst (λ l. All (IsTipOf image steps) (map told_by l)) (sym d.marks) put.tips;
     arrows = d.arrows
-        ∙ ap (λ l. flat_map (arrow_in_view view) l
+        ∙ ap (λ l. flat_map (arrow_in_view view) (arrows_with image.links l walk.parts.untaken.items)
         ++ lost view walk.board.lines.items walk.board.spots.items walk.board.got.items) put.walked.arrows
-        ∙ ap (λ l. flat_map (arrow_in_view view) (arrows_of (scope_in image view) put.deeds)
-        ++ lost view l walk.board.spots.items walk.board.got.items) put.walked.lines
-        ∙ ap (λ l. flat_map (arrow_in_view view) (arrows_of (scope_in image view) put.deeds)
-        ++ lost view (pairs (posts_made put.deeds)) l walk.board.got.items) put.walked.spots
-        ∙ ap (λ l. flat_map (arrow_in_view view) (arrows_of (scope_in image view) put.deeds)
-        ++ lost view (pairs (posts_made put.deeds)) (spots_made put.deeds) l) put.walked.got;
+        ∙ ap (λ l. flat_map (arrow_in_view view) (arrows_with image.links (arrows_of (scope_in image view) put.deeds) l)
+        ++ lost view walk.board.lines.items walk.board.spots.items walk.board.got.items) put.walked.untaken
+        ∙ ap (λ l. all_shown ++ lost view l walk.board.spots.items walk.board.got.items) put.walked.lines
+        ∙ ap (λ l. all_shown ++ lost view (pairs (posts_made put.deeds)) l walk.board.got.items) put.walked.spots
+        ∙ ap (λ l. all_shown ++ lost view (pairs (posts_made put.deeds)) (spots_made put.deeds) l) put.walked.got;
     bars = record {
       begun = walk.looks.begun.items;
       known = put.walked.begun;

@@ -1,9 +1,10 @@
 -- The drawing of a record.
-use Rattle.std.specs.Prelude.{ℕ, ◌≡◌, ◌<◌, ◌+◌, ◌*◌, ◌||◌, nat_lt, Bool, true, false, List, ◌++◌, length, map}
-use Rattle.std.specs.Prelude.{slice_get, take, Option, Some}
+use Rattle.std.specs.Prelude.{ℕ, ◌≡◌, ◌<◌, ◌+◌, ◌*◌, ◌||◌, nat_lt, Bool, true, false, List, ◌∷◌, ◌++◌, length, map}
+use Rattle.std.specs.Prelude.{slice_get, take, Option, Some, None, []}
 use Rattle.std.specs.List.{All, flat_map}
 use Rattle.std.specs.Option.{unwrap_or}
 use Rattle.rv_image.specs.declared.images.ImageParts.{ImageParts}
+use Rattle.rv_image.specs.declared.images.Link.{Link}
 use Rattle.mp_match.specs.PostPairs.{pairs}
 use Rattle.cl_state.specs.Asked.{asked}
 use Rattle.cl_state.specs.Rank.{Rank}
@@ -15,12 +16,16 @@ use Rattle.cl_replay.specs.declared.states.ClusterState.{ClusterState}
 use Rattle.rvmc_draw.specs.Board.{lost, posts_made, spots_made}
 use Rattle.rvmc_draw.specs.Looks.{open_to}
 use Rattle.rvmc_draw.specs.Marks.{Sign, sign_of, told_by}
+use Rattle.rvmc_draw.specs.Parts.{untaken_of}
 use Rattle.rvmc_draw.specs.Views.{arrow_in_view, bar_in_view}
 use Rattle.rvmc_draw.specs.Walks.{IsTable, Scope, arrows_of, bars_of, begun_of, got_places, marks_of}
 use Rattle.rvmc_draw.specs.declared.deeds.Deed.{Deed}
+use Rattle.rvmc_draw.specs.declared.drawing.Arrow.{Arrow}
 use Rattle.rvmc_draw.specs.declared.drawing.Bar.{Bar}
+use Rattle.rvmc_draw.specs.declared.drawing.Carried.TheVariants.{Partition}
 use Rattle.rvmc_draw.specs.declared.drawing.Drawing.{Drawing}
 use Rattle.rvmc_draw.specs.declared.drawing.Row.{Row}
+use Rattle.rvmc_draw.specs.declared.parts.Untaken.{Untaken}
 use Rattle.rvmc_draw.specs.declared.views.View.{View}
 use Rattle.rvmc_draw.specs.declared.walks.Walk.{Walk}
 use Rattle.rvmc_list.specs.Lines.{Sight, hart_of, sight_text}
@@ -70,6 +75,26 @@ pub record IsEndAt (image : ImageParts) (steps : List Step) (to : ℕ) (rows : L
   pub reached : IsReached image steps to state
   pub end : IsToldEnd image state rows told
 
+-- the receiver's rank of a link
+abbrev pub receiver_of : List Link → ℕ → ℕ
+receiver_of links number = elim (slice_get links number) [ None ↦ 0 | Some link ↦ link.to ]
+
+-- the arrow of a partition that no step took: from the step that made it ready, to the receiver's rank
+abbrev pub arrow_untaken : List Link → Untaken → Arrow
+arrow_untaken links one = record {
+  from = one.from;
+  to = None;
+  dest = receiver_of links one.link;
+  carried = Partition one.link one.part one.phase;
+}
+
+unfoldable pub one_untaken : List Link → Untaken → List Arrow
+one_untaken links one = arrow_untaken links one ∷ []
+
+-- all arrows to a step, and then those of partitions that no step took
+abbrev pub arrows_with : List Link → List Arrow → List Untaken → List Arrow
+arrows_with links arrows untaken = arrows ++ flat_map (one_untaken links) untaken
+
 -- the bars that a step ended, and those that none did
 pub record AreBars (scope : Scope) (deeds : List Deed) (view : View) (bars : List Bar) : Type 0 where
   pub begun : List (Option Bar)
@@ -87,7 +112,8 @@ pub record IsDrawing (image : ImageParts) (steps : List Step) (view : View) (dra
   pub marks : map sign_of drawing.marks.items ≡ marks_of (scope_in image view) deeds
   pub tips : All (IsTipOf image steps) (map told_by drawing.marks.items)
   pub arrows : drawing.arrows.items
-      ≡ flat_map (arrow_in_view view) (arrows_of (scope_in image view) deeds)
+      ≡ flat_map (arrow_in_view view)
+      (arrows_with image.links (arrows_of (scope_in image view) deeds) (untaken_of (16 * length image.links) deeds))
       ++ lost view (pairs (posts_made deeds)) (spots_made deeds) (got_places deeds)
   pub bars : AreBars (scope_in image view) deeds view drawing.bars.items
   pub ending : IsEndAt image steps view.to drawing.rows.items drawing.told.items

@@ -26,7 +26,7 @@ use Rattle.rvmc_draw.specs.declared.walks.Walk.{Walk}
 use Rattle.rvmc_list.specs.Lines.{hart_of, sight_of, sight_text}
 use Rattle.rvmc_list.specs.Seen.{IsSeenBefore}
 use Rattle.rvmc_picture.specs.Deeds.{IsDeedBy, ask_met}
-use Rattle.rvmc_picture.specs.Pictures.{AreDeeds, IsEndAt, IsTipOf, scope_in}
+use Rattle.rvmc_picture.specs.Pictures.{AreDeeds, IsEndAt, IsTipOf, arrows_with, scope_in}
 use Rattle.rvmc_picture.specs.declared.pictures.DrawFault.{DrawFault}
 use Rattle.rvmc_picture.specs.declared.pictures.DrawFault.TheVariants as fault
 use Rattle.rvmc_picture.specs.declared.walking.Before.{Before}
@@ -93,7 +93,7 @@ pub record IsDrawn (image : ImageParts) (view : View) (end : ℕ) (walk : Walk) 
   pub to : drawing.to ≡ view.to
   pub marks : drawing.marks.items ≡ walk.marks.kept.items
   pub arrows : drawing.arrows.items
-      ≡ flat_map (arrow_in_view view) walk.arrows.items
+      ≡ flat_map (arrow_in_view view) (arrows_with image.links walk.arrows.items walk.parts.untaken.items)
       ++ lost view walk.board.lines.items walk.board.spots.items walk.board.got.items
   pub bars : drawing.bars.items
       ≡ flat_map (bar_in_view view) (walk.bars.items ++ flat_map (open_to end) walk.looks.begun.items)

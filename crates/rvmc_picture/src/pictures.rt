@@ -1,11 +1,12 @@
 //! The drawing of a record.
 
-ghost use Rattle.std.specs.Prelude.{◌≡◌, ◌≤◌, ◌||◌, [], IfErr, IfOk, length, nat_lt};
+ghost use Rattle.std.specs.Prelude.{◌≡◌, ◌≤◌, ◌||◌, ◌++◌, [], IfErr, IfOk, OnOk, length, nat_lt};
 ghost use Rattle.cl_machine.specs.Cluster.{loaded_cluster};
 ghost use Rattle.cl_replay.specs.States.{ClusterStandsFor};
 ghost use Rattle.rvmc_picture.specs.Pictures.{DrawFaultHolds, IsDrawing, is_past_end as is_past_of};
 ghost use Rattle.rvmc_picture.specs.declared.pictures.DrawFault.TheVariants as faults;
-ghost use Rattle.rvmc_picture.specs.Pictures.{scope_in, view_of as view_in};
+ghost use Rattle.rvmc_picture.specs.Pictures.{arrow_untaken as arrow_untaken_of, arrows_with, one_untaken, receiver_of, scope_in};
+ghost use Rattle.rvmc_picture.specs.Pictures.{view_of as view_in};
 ghost use Rattle.rvmc_picture.specs.Walking.{IsDrawn};
 ghost use Rattle.rvmc_picture.specs.Walking.{IsWalkedTo, StepsBreak};
 ghost use Rattle.rvmc_draw.specs.Held.{IsWalked};
@@ -14,8 +15,10 @@ use crate::ends::{End, end_of};
 use crate::walking::put_steps;
 use cl_machine::Step;
 use cl_replay::ClusterState;
-use rv_image::Image;
-use rvmc_draw::{Drawing, MARKS_MAX, Sizes, View, Walk, arrows_seen, bars_seen};
+use rv_image::{Image, Link};
+use rvmc_draw::{
+    Arrow, Carried, Drawing, MARKS_MAX, Sizes, Untaken, View, Walk, arrows_seen, bars_seen,
+};
 use std::alloc::{AllocError, Global};
 use std::io;
 
@@ -145,6 +148,55 @@ fn walk_all(
     Ok((walk, end))
 }
 
+/// The receiver's rank of a link.
+fn receiver_of(links: &[Link], number: u8) -> u8
+    ensures { result ≡ receiver_of links.now number }
+{
+    match links.get(usize::from(number)) {
+        None => 0,
+        Some(link) => link.to,
+    }
+}
+
+/// The arrow of a partition that no step took.
+fn arrow_untaken(links: &[Link], one: &Untaken) -> Arrow
+    ensures { result ≡ arrow_untaken_of links.now one.now }
+{
+    Arrow {
+        from: one.from,
+        to: None,
+        dest: receiver_of(links, one.link),
+        carried: Carried::Partition {
+            link: one.link,
+            part: one.part,
+            phase: one.phase,
+        },
+    }
+}
+
+/// Adds it.
+#[tactic(auto, unfolding(crate::specs::Pictures::one_untaken))]
+fn put_untaken(arrows: &mut Vec<Arrow>, links: &[Link], one: &Untaken) -> Result<(), AllocError>
+    ensures { OnOk result (arrows.new.items ≡ arrows.old.items ++ one_untaken links.now one.now) }
+{
+    arrows.push(arrow_untaken(links, one))?;
+    Ok(())
+}
+
+/// Adds those of all partitions that no step took.
+fn put_all_untaken(
+    arrows: &mut Vec<Arrow>,
+    links: &[Link],
+    untaken: &[Untaken],
+) -> Result<(), AllocError>
+    ensures { OnOk result (arrows.new.items ≡ arrows_with links.now arrows.old.items untaken.now) }
+{
+    for one in untaken {
+        put_untaken(arrows, links, one)?;
+    }
+    Ok(())
+}
+
 /// What is shown of the steps that were walked through.
 fn drawn(
     alloc: Global,
@@ -159,14 +211,20 @@ fn drawn(
     let parts = image.parts();
     let Walk {
         board,
+        parts: boxes,
         looks,
         marks,
         arrows,
         bars,
-        ..
     } = walk;
     let mut bars = bars;
     looks.put_open(&mut bars, steps)?;
+    let mut arrows = arrows;
+    put_all_untaken(
+        &mut arrows,
+        parts.links.as_slice(),
+        boxes.untaken.as_slice(),
+    )?;
     let mut arrows = arrows_seen(alloc, view, arrows.as_slice())?;
     board.put_lost(&mut arrows, view)?;
     let bars = bars_seen(alloc, view, bars.as_slice())?;

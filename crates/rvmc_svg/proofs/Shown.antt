@@ -6,11 +6,13 @@ use Rattle.std.proofs.lemmas.Bool.{false≢true}
 use Rattle.std.proofs.lemmas.List.{take_all, take_more}
 use Rattle.std.proofs.lemmas.Grind.{flat_map-append}
 use Rattle.std.proofs.lemmas.List.Elements.{All-cons, All-head, All-nil, All-push, All-tail}
+use Rattle.rvmc_draw.specs.declared.drawing.Arrow.{Arrow}
 use Rattle.rvmc_draw.specs.declared.drawing.Drawing.{Drawing}
 use Rattle.rvmc_draw.specs.declared.drawing.Mark.{Mark}
 use Rattle.rvmc_svg.specs.Escaped.{escaped, safe_byte}
 use Rattle.rvmc_svg.specs.Adding.{Adds, AddsIf, safe_one}
 use Rattle.rvmc_svg.specs.Shown.{HasTitle, IsShown}
+use Rattle.rvmc_svg.specs.Titles.{arrow_title}
 
 pub shows_before : (text more title : List ℕ) → HasTitle text title → HasTitle (text ++ more) title
 shows_before text more title s = record {
@@ -94,12 +96,17 @@ marks_more ms k m old new inside is all adds =
 -- ---- the page
 
 pub page_shown : (drawing : Drawing) (text under marks over : List ℕ) → text ≡ ((under ++ marks) ++ over)
-    → All (λ (m : Mark). HasTitle marks m.tip.items) drawing.marks.items → IsShown drawing text
-page_shown drawing text under marks over is all_marks = record {
+    → All (λ (m : Mark). HasTitle marks m.tip.items) drawing.marks.items
+    → All (λ (a : Arrow). HasTitle under (arrow_title a)) drawing.arrows.items → IsShown drawing text
+page_shown drawing text under marks over is all_marks all_arrows = record {
   marks = all_so (λ (m : Mark). HasTitle marks m.tip.items) (λ (m : Mark). HasTitle text m.tip.items)
       drawing.marks.items
       (λ m s. subst (λ l. HasTitle l m.tip.items) (sym is)
       (shows_before (under ++ marks) over m.tip.items (shows_behind marks under m.tip.items s))) all_marks;
+  arrows = all_so (λ (a : Arrow). HasTitle under (arrow_title a)) (λ (a : Arrow). HasTitle text (arrow_title a))
+      drawing.arrows.items
+      (λ a s. subst (λ l. HasTitle l (arrow_title a)) (sym is)
+      (shows_before (under ++ marks) over (arrow_title a) (shows_before under marks (arrow_title a) s))) all_arrows;
 }
 
 -- ---- what was made safe once stays as it is
@@ -169,4 +176,7 @@ pub page_safe : (drawing : Drawing) (page text : List ℕ) → text ≡ flat_map
 page_safe drawing page text is shown = record {
   marks = all_so (λ (m : Mark). HasTitle page m.tip.items) (λ (m : Mark). HasTitle text m.tip.items) drawing.marks.items
       (λ m s. subst (λ l. HasTitle l m.tip.items) (sym is) (shows_safe page m.tip.items s)) shown.marks;
+  arrows = all_so (λ (a : Arrow). HasTitle page (arrow_title a)) (λ (a : Arrow). HasTitle text (arrow_title a))
+      drawing.arrows.items
+      (λ a s. subst (λ l. HasTitle l (arrow_title a)) (sym is) (shows_safe page (arrow_title a) s)) shown.arrows;
 }

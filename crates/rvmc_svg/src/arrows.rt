@@ -1,7 +1,7 @@
 //! Arrows: messages, claims, what a wildcard receive could have taken, and partitions.
 
 ghost use Rattle.std.specs.Prelude.{◌≡◌, ◌++◌, OnOk, codes};
-ghost use Rattle.rvmc_svg.specs.Adding.{Adds, AddsIf, is_could as is_could_of, is_wanted as is_wanted_of};
+ghost use Rattle.rvmc_svg.specs.Adding.{Adds, AddsArrows, AddsIf, AddsWanted, is_could as is_could_of, is_wanted as is_wanted_of};
 ghost use Rattle.rvmc_svg.specs.Titles.{arrow_title, cargo_text, arrow_end_text, sent_text, spot_text};
 
 use crate::labels::Places;
@@ -111,7 +111,13 @@ fn class_of(arrow: &Arrow) -> &'static str {
     match arrow.carried {
         Carried::Could { .. } => "a thin far",
         Carried::Claim { .. } => "a thin claim",
-        Carried::Partition { .. } => "a part",
+        Carried::Partition { .. } => {
+            if arrow.to.is_none() {
+                "a part lost"
+            } else {
+                "a part"
+            }
+        }
         Carried::Message { .. } => { if arrow.to.is_none() { "a lost" } else { "a" } }
     }
 }
@@ -314,17 +320,28 @@ fn put_those(
     text: &mut Vec<u8>,
     layout: &Layout<'_>,
     could: bool,
-) -> io::Result<()> {
-    for arrow in layout.drawing.arrows.as_slice() {
+    arrows: &[Arrow],
+) -> io::Result<()>
+    ensures { OnOk result (AddsWanted could arrows.now text.old.items text.new.items) }
+{
+    for arrow in arrows {
         put_wanted(alloc, text, layout, could, arrow)?;
     }
     Ok(())
 }
 
 /// Adds all arrows. Those that tell of what could have been taken lie below the others.
-pub(crate) fn put_arrows(alloc: Global, text: &mut Vec<u8>, layout: &Layout<'_>) -> io::Result<()> {
-    put_those(alloc, text, layout, true)?;
-    put_those(alloc, text, layout, false)
+#[tactic(auto, using(crate::proofs::ArrowTitles::both_added))]
+pub(crate) fn put_arrows(
+    alloc: Global,
+    text: &mut Vec<u8>,
+    layout: &Layout<'_>,
+    arrows: &[Arrow],
+) -> io::Result<()>
+    ensures { OnOk result (AddsArrows arrows.now text.old.items text.new.items) }
+{
+    put_those(alloc, text, layout, true, arrows)?;
+    put_those(alloc, text, layout, false, arrows)
 }
 
 /// The tag and the size of a message, if it is one.
@@ -395,16 +412,31 @@ fn put_label(
     Ok(())
 }
 
+/// How many letters the label of an open head has.
+const NOT_GOT: usize = 13;
+
 /// How far below an open head its label is tried.
 static LOWER: [u64; 3] = [4, 16, 28];
 
-/// Adds at an open head that nobody got the message, in this row.
-fn put_not_got(text: &mut Vec<u8>, line: &Line, arrow: &Arrow, row: u64) -> io::Result<()> {
-    let (anchor, dx) = if line.to >= line.from {
-        ("start", "4")
+/// Whether a label stands to the right of an open head: behind the head, or where the arrow leads to its own lane at the
+/// side that has room.
+fn stands_right(places: &Places, line: &Line) -> bool {
+    if line.to == line.from {
+        places.is_inside(false, line.to, 4, NOT_GOT)
     } else {
-        ("end", "-4")
-    };
+        line.to > line.from
+    }
+}
+
+/// Adds at an open head that nobody got the message or took the partition, in this row.
+fn put_not_got(
+    text: &mut Vec<u8>,
+    line: &Line,
+    arrow: &Arrow,
+    right: bool,
+    row: u64,
+) -> io::Result<()> {
+    let (anchor, dx) = if right { ("start", "4") } else { ("end", "-4") };
     put(
         text,
         "<text class=\"f{} halo wide\" font-size=\"9.5\" text-anchor=\"{}\" dx=\"{}\" x=\"{}\" y=\"{}\">to {}: not got</text>\n",
@@ -419,36 +451,32 @@ fn put_not_got(text: &mut Vec<u8>, line: &Line, arrow: &Arrow, row: u64) -> io::
     )
 }
 
-/// Where that begins: behind the head.
-fn behind_head(line: &Line, width: u64) -> u64 {
-    if line.to >= line.from {
+/// Adds at the open head of what nobody got that it wasn't, where there is room.
+fn put_lost(text: &mut Vec<u8>, places: &mut Places, line: &Line, arrow: &Arrow) -> io::Result<()> {
+    let width = places.pixels(78);
+    let right = stands_right(places, line);
+    let left = if right {
         line.to
     } else {
         line.to.saturating_sub(width)
-    }
-}
-
-/// Adds at the open head of a message that nobody got that it wasn't, where there is room.
-fn put_lost(text: &mut Vec<u8>, places: &mut Places, line: &Line, arrow: &Arrow) -> io::Result<()> {
-    let width = places.pixels(78);
-    let left = behind_head(line, width);
+    };
     for lower in &LOWER {
         let row = line.to_row.saturating_add(*lower);
         if places.take(left, width, row)? {
-            return put_not_got(text, line, arrow, row);
+            return put_not_got(text, line, arrow, right, row);
         }
     }
     Ok(())
 }
 
-/// Adds the labels of messages that nobody got.
+/// Adds the labels of messages that nobody got, and of partitions that nobody took.
 pub(crate) fn put_losses(
     text: &mut Vec<u8>,
     places: &mut Places,
     layout: &Layout<'_>,
 ) -> io::Result<()> {
     for arrow in layout.drawing.arrows.as_slice() {
-        if arrow.to.is_none() && message_of(arrow).is_some() {
+        if arrow.to.is_none() {
             let line = line_of(layout, arrow);
             put_lost(text, places, &line, arrow)?;
         }

@@ -11,6 +11,9 @@ const ROW: u64 = 18;
 
 const LINE: u64 = 14;
 
+/// The middle of the page.
+const MIDDLE: u64 = 5_000;
+
 /// How a row is drawn: its line, its begin, and its heads.
 #[derive(Clone, Copy, Drop)]
 struct Colours {
@@ -91,10 +94,20 @@ fn put_title(text: &mut Vec<u8>, row: &Row) -> io::Result<()> {
 
 /// Adds that a hart waits for its own rank.
 fn put_itself(text: &mut Vec<u8>, own: u64, down: u64) -> io::Result<()> {
+    let (anchor, dx) = if own > MIDDLE {
+        ("end", "-9")
+    } else {
+        ("start", "9")
+    };
     put(
         text,
-        "<text class=\"dim\" font-size=\"10\" dx=\"9\" x=\"{}\" y=\"{}\">for its own rank</text>",
-        &[Across(own), Number(down.saturating_add(4))],
+        "<text class=\"dim\" font-size=\"10\" text-anchor=\"{}\" dx=\"{}\" x=\"{}\" y=\"{}\">for its own rank</text>",
+        &[
+            Words(anchor),
+            Words(dx),
+            Across(own),
+            Number(down.saturating_add(4)),
+        ],
     )
 }
 

@@ -8,6 +8,11 @@ const HIGH: u64 = 12;
 /// How wide a letter is, about.
 const LETTER: u64 = 6;
 
+/// How wide a letter is at most, and how many pixels a page has at least that shows more than marks and places.
+const WIDEST: u64 = 11;
+
+pub(crate) const NARROW: u64 = 700;
+
 /// The width of the page, in hundredths of a per cent.
 const WHOLE: u64 = 10_000;
 
@@ -48,6 +53,15 @@ impl Places {
     /// How wide so many letters are.
     pub(crate) fn letters(&self, count: usize) -> u64 {
         self.pixels((count as u64).saturating_mul(LETTER))
+    }
+
+    /// Whether so many letters fit between this place and the page's edge at its left or its right, the first of them so
+    /// many pixels beside the place: whichever letters they are, and also where the page is shown as narrow as it may be.
+    pub(crate) fn is_inside(&self, left: bool, at: u64, beside: u64, letters: usize) -> bool {
+        let there = if left { at } else { WHOLE.saturating_sub(at) };
+        let room = there.saturating_mul(self.page.min(NARROW)) / WHOLE;
+        let wide = (letters as u64).saturating_mul(WIDEST);
+        beside.saturating_add(wide) <= room
     }
 
     /// Takes the place, if nothing is written there.

@@ -23,12 +23,14 @@ const LEFT: u64 = 70;
 
 const RIGHT: u64 = 9800;
 
-/// How many pixels a rank has, a hart has at least, and the page has at most; and those at its margins.
+/// How many pixels a rank has, a hart has at least, and the page has at least and at most; and those at its margins.
 const RANK_PIXELS: u64 = 220;
 
 const HART_PIXELS: u64 = 80;
 
 const MARGINS: u64 = 120;
+
+const LEAST: u64 = 480;
 
 const PAGE: u64 = 1200;
 
@@ -39,6 +41,7 @@ pub(crate) fn page_wide(drawing: &Drawing) -> u64 {
         .max(RANK_PIXELS)
         .saturating_mul(u64::from(drawing.ranks))
         .saturating_add(MARGINS)
+        .max(LEAST)
         .min(PAGE)
 }
 

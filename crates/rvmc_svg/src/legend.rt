@@ -87,7 +87,7 @@ fn has_could(drawing: &Drawing) -> bool {
     false
 }
 
-/// Whether there is a message that nobody got.
+/// Whether there is a message that nobody got, or a partition that nobody took.
 fn has_lost(drawing: &Drawing) -> bool {
     for arrow in drawing.arrows.as_slice() {
         if arrow.to.is_none() {

@@ -12,7 +12,7 @@ use crate::pieces::Piece::{Across, Guest, Number, Rank, Words};
 use crate::pieces::put;
 use crate::safe::put_text;
 use rvmc_draw::{Mark, Shape};
-use std::alloc::Global;
+use std::alloc::{AllocError, Global};
 use std::io;
 
 /// The name of its drawn shape.
@@ -52,25 +52,52 @@ const BESIDE: u64 = 12;
 /// How many letters of a note are tried.
 static TRIED: [usize; 2] = [26, 14];
 
-/// How many letters of a note there is room for, at the left or the right of its mark.
-fn room(
+/// Where a note stands: at the left of its mark or at its right, and how many of its letters are shown.
+#[derive(Clone, Copy, Drop)]
+struct Room {
+    left: bool,
+    letters: usize,
+}
+
+/// Takes this room for a note of so many letters, if nothing is written there and the page doesn't end there.
+fn takes(
+    places: &mut Places,
+    room: Room,
+    at: u64,
+    row: u64,
+    length: usize,
+) -> Result<bool, AllocError> {
+    // two dots stand for the rest of the note
+    let dots = if room.letters < length { 2 } else { 0 };
+    let letters = room.letters.saturating_add(dots);
+    if !places.is_inside(room.left, at, BESIDE, letters) {
+        return Ok(false);
+    }
+    let wide = places.letters(room.letters);
+    let beside = places.pixels(BESIDE);
+    let from = if room.left {
+        at.saturating_sub(beside.saturating_add(wide))
+    } else {
+        at.saturating_add(beside)
+    };
+    places.take(from, wide, row)
+}
+
+/// The room for a note of so many letters: at this side of its mark, or else at the other.
+fn room_beside(
     places: &mut Places,
     left: bool,
     at: u64,
     row: u64,
     length: usize,
-) -> io::Result<Option<usize>> {
+) -> Result<Option<Room>, AllocError> {
     for most in &TRIED {
         let letters = length.min(*most);
-        let wide = places.letters(letters);
-        let beside = places.pixels(BESIDE);
-        let from = if left {
-            at.saturating_sub(beside.saturating_add(wide))
-        } else {
-            at.saturating_add(beside)
-        };
-        if places.take(from, wide, row)? {
-            return Ok(Some(letters));
+        for left in [left, !left] {
+            let room = Room { left, letters };
+            if takes(places, room, at, row, length)? {
+                return Ok(Some(room));
+            }
         }
     }
     Ok(None)
@@ -113,7 +140,8 @@ fn put_letters(text: &mut Vec<u8>, shown: &[u8], letters: usize) -> io::Result<(
     )
 }
 
-/// What is written beside a mark: to its right, or to its left where an arrow comes from the right.
+/// What is written beside a mark: to its right, or to its left where an arrow comes from the right; at the other side where
+/// there is more room.
 fn put_note(
     text: &mut Vec<u8>,
     places: &mut Places,
@@ -127,11 +155,11 @@ fn put_note(
     }
     let shown = mark.note.as_slice();
     let left = layout.comes_from_right(mark.spot);
-    let Some(letters) = room(places, left, at, row, shown.len())? else {
+    let Some(room) = room_beside(places, left, at, row, shown.len())? else {
         return Ok(());
     };
-    put_beside(text, mark.shape, left, at, row)?;
-    put_letters(text, shown, letters)
+    put_beside(text, mark.shape, room.left, at, row)?;
+    put_letters(text, shown, room.letters)
 }
 
 /// Adds how many of these there were, at the left of a lane, where there is room.

@@ -3,13 +3,15 @@
 ghost use Rattle.std.specs.Prelude.{◌≡◌, ◌++◌, IfOk};
 ghost use Rattle.std.specs.List.{All};
 ghost use Rattle.rvmc_svg.specs.Safe.{IsAllowed};
-ghost use Rattle.rvmc_svg.specs.Shown.{IsShown};
+ghost use Rattle.rvmc_svg.specs.Shown.{HasTitle, IsShown};
+ghost use Rattle.rvmc_svg.specs.Titles.{arrow_title};
+ghost use Rattle.rvmc_draw.specs.declared.drawing.Arrow.{Arrow as ArrowView};
 
 use crate::arrows::{put_arrows, put_heads, put_labels, put_losses};
 use crate::bars::put_bars;
 use crate::ends::{put_rows, put_told};
 use crate::fonts::{SHAPES, STYLE};
-use crate::labels::Places;
+use crate::labels::{NARROW, Places};
 use crate::layout::{Layout, TOP, lane_at, page_wide, rank_at, rows, share};
 use crate::legend::put_legend;
 use crate::marks::{all_marks, put_places};
@@ -17,7 +19,7 @@ use crate::pieces::Piece::{Across, Hart, Number, Rank, Words};
 use crate::pieces::put;
 use crate::ribbons::put_ribbons;
 use crate::safe::put_safe;
-use rvmc_draw::Drawing;
+use rvmc_draw::{Arrow, Drawing};
 use std::alloc::Global;
 use std::io;
 
@@ -121,12 +123,14 @@ fn put_over(text: &mut Vec<u8>, places: &mut Places, layout: &Layout<'_>) -> io:
 
 /// What stands before all that is drawn, on a page of this height.
 fn put_front(text: &mut Vec<u8>, drawing: &Drawing, high: u64) -> io::Result<()> {
+    let wide = page_wide(drawing);
     put(
         text,
-        "<svg xmlns=\"http://www.w3.org/2000/svg\" width=\"{}\" height=\"{}\" font-family=\"system-ui,sans-serif\" role=\"img\">\n{}{}",
+        "<svg xmlns=\"http://www.w3.org/2000/svg\" width=\"{}\" height=\"{}\" style=\"min-width:{}px\" font-family=\"system-ui,sans-serif\" role=\"img\">\n{}{}",
         &[
-            Number(page_wide(drawing)),
+            Number(wide),
             Number(high),
+            Number(wide.min(NARROW)),
             Words(STYLE),
             Words(SHAPES),
         ],
@@ -156,11 +160,20 @@ fn over(alloc: Global, places: &mut Places, layout: &Layout<'_>) -> io::Result<U
 
 /// All that lies below the marks, on a page of this height: what stands before all that is drawn, what lies below the
 /// arrows, and these.
-fn under(alloc: Global, layout: &Layout<'_>, high: u64, below: &[u8]) -> io::Result<Vec<u8>> {
+#[tactic(auto, using(crate::proofs::ArrowTitles::all_behind))]
+fn under(
+    alloc: Global,
+    layout: &Layout<'_>,
+    arrows: &[Arrow],
+    high: u64,
+    below: &[u8],
+) -> io::Result<Vec<u8>>
+    ensures { IfOk result (λ text. All (λ (a : ArrowView). HasTitle text.items (arrow_title a)) arrows.now) }
+{
     let mut text = Vec::new(alloc);
     put_front(&mut text, layout.drawing, high)?;
     text.extend_from_slice(below)?;
-    put_arrows(alloc, &mut text, layout)?;
+    put_arrows(alloc, &mut text, layout, arrows)?;
     Ok(text)
 }
 
@@ -182,7 +195,13 @@ fn laid_out(alloc: Global, drawing: &Drawing, layout: &Layout<'_>) -> io::Result
     let below = below(alloc, &mut places, layout)?;
     let marks = all_marks(alloc, &mut places, layout, drawing.marks.as_slice())?;
     let over = over(alloc, &mut places, layout)?;
-    let under = under(alloc, layout, over.high, below.as_slice())?;
+    let under = under(
+        alloc,
+        layout,
+        drawing.arrows.as_slice(),
+        over.high,
+        below.as_slice(),
+    )?;
     joined(under, marks.as_slice(), over.text.as_slice())
 }
 
@@ -200,8 +219,9 @@ fn page(alloc: Global, drawing: &Drawing) -> io::Result<Vec<u8>>
     laid_out(alloc, drawing, &layout)
 }
 
-/// The picture as an SVG image: what the drawing tells of each mark stands in it as a title, each of its bytes escaped. Each
-/// byte is one that XML allows, whatever the drawing holds. The only error is want of memory.
+/// The picture as an SVG image: what the drawing tells of each mark stands in it as a title, each of its bytes escaped, and
+/// so do the two ends of each arrow and what it carries. Each byte is one that XML allows, whatever the drawing holds. The
+/// only error is want of memory.
 #[tactic(auto, using(crate::proofs::Allowed::all_safe, crate::proofs::Shown::page_safe))]
 pub fn svg(alloc: Global, drawing: &Drawing) -> io::Result<Vec<u8>>
     ensures allowed { IfOk result (λ text. All IsAllowed text.items) }

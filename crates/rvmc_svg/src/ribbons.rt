@@ -6,10 +6,16 @@ use crate::pieces::put;
 use rvmc_draw::{Arrow, Carried, Spot};
 use std::io;
 
-/// The link and the phase of an arrow that carries a partition.
+/// The link and the phase of an arrow that carries a partition to a step.
 fn phase_of(arrow: &Arrow) -> Option<(u8, u64)> {
     match arrow.carried {
-        Carried::Partition { link, phase, .. } => Some((link, phase)),
+        Carried::Partition { link, phase, .. } => {
+            if arrow.to.is_some() {
+                Some((link, phase))
+            } else {
+                None
+            }
+        }
         _ => None,
     }
 }

@@ -1,17 +1,18 @@
 -- What each command answers: the text on standard output, and the status.
 use Rattle.std.specs.Prelude.{◌≡◌, ◌⊎◌, ◌++◌, ℕ, Bool, true, false, List, codes, length, MatchResult, Option, Some}
-use Rattle.cl_ending.specs.DeadEnds.{IsStuckAt}
+use Rattle.cl_arrival_laws.specs.Runs.{IsArrivedRun}
+use Rattle.cl_ending.specs.DeadEnds.{IsFreeEnd, IsNotStuckAt, IsStuckAt}
 use Rattle.cl_machine.specs.Merge.{IsMerge}
 use Rattle.cl_machine.specs.declared.steps.Step.{Step}
 use Rattle.cl_record.specs.Plans.{ArePlans, HasPlans}
-use Rattle.cl_record.specs.Records.{IsMergedRun, steps_in}
+use Rattle.cl_record.specs.Records.{steps_in}
 use Rattle.cl_record.specs.declared.plans.Plan.{Plan}
 use Rattle.cl_record.specs.declared.records.Record.{Record}
 use Rattle.cl_run.specs.Cuts.{IsEndedRun}
 use Rattle.cl_run.specs.Runs.{IsOneRun}
 use Rattle.cl_text.specs.Text.{record_text}
 use Rattle.cl_text.specs.Whole.{IsRecord}
-use Rattle.cl_threads.specs.Cuts.{IsEndedThreadRun}
+use Rattle.cl_threads.specs.Cuts.{IsEndedThreadRun, IsSomeTold}
 use Rattle.cl_threads.specs.Runs.{IsThreadRun}
 use Rattle.rv_image.specs.Image.{in_version_two}
 use Rattle.rv_image.specs.Text.{image_text}
@@ -82,16 +83,16 @@ ByPlans image budget harts Holds =
     (plans : List Plan) × ArePlansOf image.ranks (listed harts image.harts) budget plans × Holds plans
 
 -- what ranks leave that ran on threads of their own: it fits together, and its events, in order of their stamps, are a
--- run of the written machine that ends in it
+-- run of the written machine that ends in it. What is reported arrived has come from the sender's phase of that number
 pub record IsLeftByThreads (image : ImageParts) (plans : List Plan) (left : Record) : Type 0 where
   pub apart : IsThreadRun image plans left
-  pub merged : IsMergedRun image left
+  pub arrived : IsArrivedRun image left
 
 -- what ranks leave that ran on one thread, in this order: their events are a run of the written machine, as they were
--- taken and in order of their stamps, and it ends in the record
+-- taken and in order of their stamps, and it ends in the record. The same has arrived
 pub record IsLeftByOne (image : ImageParts) (plans : List Plan) (order : List ℕ) (left : Record) : Type 0 where
   pub turns : IsOneRun image plans order left
-  pub merged : IsMergedRun image left
+  pub arrived : IsArrivedRun image left
 
 -- `run`: each rank on a thread of its own
 abbrev pub IsRunAnswer : ImageParts → ℕ → Option (List ℕ) → Written → List ℕ → ℕ → Type 0
@@ -123,17 +124,12 @@ IsToldTextOf word other image budget left text = IsToldReport word image budget 
 abbrev pub IsStuckTextOf : Written → ImageParts → ℕ → Record → List ℕ → Type 0
 IsStuckTextOf written image budget left text = IsToldTextOf (codes "stuck") written image budget left text
 
--- what ranks leave that ran on one thread until each that has a running or a waiting hart was in a deadlock
-pub record IsLeftStuck (image : ImageParts) (plans : List Plan) (order : List ℕ) (left : Record) : Type 0 where
-  pub turns : IsEndedRun image plans order left
-  pub merged : IsMergedRun image left
-  pub stuck : IsStuckAt image left
-
--- the run came to the end of its plans, or to a deadlock
+-- the run came to the end of its plans and to no deadlock of all that have a running or a waiting hart; or to one
 abbrev pub IsToldOfEither : ImageParts → ℕ → List Plan → List ℕ → Written → List ℕ → ℕ → Type 0
 IsToldOfEither image budget plans order written text status =
-    IsTold (IsLeftByOne image plans order) (IsTextOf written image) text status
-    ⊎ IsTold (IsLeftStuck image plans order) (IsStuckTextOf written image budget) text status
+    IsTold (λ left. IsLeftByOne image plans order left × IsFreeEnd image left) (IsTextOf written image) text status
+    ⊎ IsTold (λ left. IsEndedRun image plans order left × IsArrivedRun image left × IsStuckAt image left)
+    (IsStuckTextOf written image budget) text status
 
 -- a run, if its plans are right: else there is a fault
 pub record IsRunUntilStuck (image : ImageParts) (budget : ℕ) (plans : List Plan) (order : List ℕ) (written : Written)
@@ -150,19 +146,16 @@ IsOneUntilStuck image budget harts ranks written text status =
 -- what ranks leave that ran on threads of their own and were told to stop: what fits together, as of any run
 pub record IsLeftTold (image : ImageParts) (plans : List Plan) (left : Record) : Type 0 where
   pub apart : IsEndedThreadRun image plans left
-  pub merged : IsMergedRun image left
+  pub arrived : IsArrivedRun image left
 
--- in a deadlock, all that have a running or a waiting hart
-pub record IsLeftStuckByThreads (image : ImageParts) (plans : List Plan) (left : Record) : Type 0 where
-  pub left_told : IsLeftTold image plans left
-  pub stuck : IsStuckAt image left
-
--- the run came to the end of its plans, or its ranks were told to stop: in a deadlock, or else it says `told` of them
+-- the run came to the end of its plans and to no deadlock of all that have a running or a waiting hart; or to one; or else
+-- to none, though some rank was told to stop, and then it says `told`
 abbrev pub IsToldOfThreads : ImageParts → ℕ → List Plan → Written → List ℕ → ℕ → Type 0
 IsToldOfThreads image budget plans written text status =
-    IsTold (IsLeftByThreads image plans) (IsTextOf written image) text status
-    ⊎ (IsTold (IsLeftStuckByThreads image plans) (IsStuckTextOf written image budget) text status
-    ⊎ IsTold (IsLeftTold image plans) (IsToldTextOf (codes "told") written image budget) text status)
+    IsTold (λ left. IsLeftByThreads image plans left × IsFreeEnd image left) (IsTextOf written image) text status
+    ⊎ (IsTold (λ left. IsLeftTold image plans left × IsStuckAt image left) (IsStuckTextOf written image budget) text status
+    ⊎ IsTold (λ left. IsLeftTold image plans left × IsSomeTold plans left × IsNotStuckAt image left)
+    (IsToldTextOf (codes "told") written image budget) text status)
 
 -- a run, if its plans are right: else there is a fault
 pub record IsThreadsUntilStuckBy (image : ImageParts) (budget : ℕ) (plans : List Plan) (written : Written)

@@ -105,7 +105,7 @@ run_text : (meant : Result ImageParts Fault) (budget : ℕ) (harts : Option (Lis
     → MatchResult meant (λ image. IsRunAnswer image budget harts written.Record text status) (λ _. IsFaulty text status)
     → ¬ (¬ (IsMergedText text))
 run_text (Ok image) budget harts text status some (plans, of, by) =
-    told_by _ _ image text status (λ left is. is.merged) some by
+    told_by _ _ image text status (λ left is. is.arrived.merged) some by
 run_text (Err fault) budget harts text status some faulty = λ none. some faulty.0
 
 one_text : (meant : Result ImageParts Fault) (budget : ℕ) (harts ranks : Option (List ℕ)) (text : List ℕ) (status : ℕ)
@@ -113,7 +113,7 @@ one_text : (meant : Result ImageParts Fault) (budget : ℕ) (harts ranks : Optio
     → MatchResult meant (λ image. IsOne image budget harts ranks written.Record text status) (λ _. IsFaulty text status)
     → ¬ (¬ (IsMergedText text))
 one_text (Ok image) budget harts ranks text status some (plans, of, by) =
-    told_by _ _ image text status (λ left is. is.merged) some by
+    told_by _ _ image text status (λ left is. is.arrived.merged) some by
 one_text (Err fault) budget harts ranks text status some faulty = λ none. some faulty.0
 
 until_text : (meant : Result ImageParts Fault) (budget : ℕ) (harts ranks : Option (List ℕ)) (text : List ℕ) (status : ℕ)
@@ -123,8 +123,13 @@ until_text : (meant : Result ImageParts Fault) (budget : ℕ) (harts ranks : Opt
     → ¬ (¬ (IsMergedText text))
 until_text (Ok image) budget harts ranks text status some (plans, of, by) none =
     some (by.refused (λ right. elim (by.told right) [
-      | inl told ↦ none (record { image = image; left = told.left; merged = told.run.merged; spells = told.told })
-      | inr told ↦ none (record { image = image; left = told.left; merged = told.run.merged; spells = told.told })
+      | inl told ↦ none (record {
+        image = image;
+        left = told.left;
+        merged = (told.run.0).arrived.merged;
+        spells = told.told;
+      })
+      | inr told ↦ none (record { image = image; left = told.left; merged = (told.run.1).merged; spells = told.told })
     ])).0
 until_text (Err fault) budget harts ranks text status some faulty none = some faulty.0
 
@@ -132,11 +137,11 @@ until_text (Err fault) budget harts ranks text status some faulty none = some fa
 merged_text : (image : ImageParts) (budget : ℕ) (plans : List Plan) (text : List ℕ) (status : ℕ)
     → IsToldOfThreads image budget plans written.Record text status → IsMergedText text
 merged_text image budget plans text status (inl told) =
-    record { image = image; left = told.left; merged = told.run.merged; spells = told.told }
+    record { image = image; left = told.left; merged = (told.run.0).arrived.merged; spells = told.told }
 merged_text image budget plans text status (inr (inl told)) =
-    record { image = image; left = told.left; merged = told.run.left_told.merged; spells = told.told }
+    record { image = image; left = told.left; merged = (told.run.0).arrived.merged; spells = told.told }
 merged_text image budget plans text status (inr (inr told)) =
-    record { image = image; left = told.left; merged = told.run.merged; spells = told.told }
+    record { image = image; left = told.left; merged = (told.run.0).arrived.merged; spells = told.told }
 
 threads_text : (meant : Result ImageParts Fault) (budget : ℕ) (harts : Option (List ℕ)) (text : List ℕ) (status : ℕ)
     → text ≢ []

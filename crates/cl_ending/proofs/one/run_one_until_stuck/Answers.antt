@@ -9,6 +9,9 @@ returns-clause-run c = IfOk-weaker c.judge.result _ _ (λ end is. is.run) c.judg
 pub returns-clause-whole : goal.returns-clause-whole
 returns-clause-whole c = IfOk-weaker c.judge.result _ _ (λ end is. is.whole) c.judge.ensures.judged
 
+pub returns-clause-free : goal.returns-clause-free
+returns-clause-free c = IfOk-weaker c.judge.result _ _ (λ end is. is.free) c.judge.ensures.judged
+
 pub returns-clause-stuck : goal.returns-clause-stuck
 returns-clause-stuck c = IfOk-weaker c.judge.result _ _ (λ end is. is.stuck) c.judge.ensures.judged
 

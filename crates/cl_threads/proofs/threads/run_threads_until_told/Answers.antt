@@ -23,7 +23,7 @@ has_told-told-requires-clause-traces g c =
 pub returns-clause-whole : goal.returns-clause-whole
 returns-clause-whole g c =
     λ untold. untold_whole c.args.image.now c.args.plans.now c.in_ok-left.left c.in_ok-left.ensures.run
-    (c.has_told-told.ensures untold)
+    (c.has_told-told.ensures.none untold)
 
 pub returns-clause-merged : goal.returns-clause-merged
 returns-clause-merged g c =

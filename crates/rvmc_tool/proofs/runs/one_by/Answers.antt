@@ -16,7 +16,7 @@ pub returns-clause-says : goal.returns-clause-says
 returns-clause-says c = record {
   told = λ are. record {
     left = c.in_ok-left.left;
-    run = record { turns = c.in_ok-left.ensures.run; merged = c.in_ok-left.ensures.merged };
+    run = record { turns = c.in_ok-left.ensures.run; arrived = c.in_ok-left.ensures.arrived };
     told = search rules;
     status_is = search rules;
   };

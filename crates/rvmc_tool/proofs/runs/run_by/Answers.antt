@@ -17,7 +17,7 @@ pub returns-clause-says : goal.returns-clause-says
 returns-clause-says g c = record {
   told = λ are. record {
     left = c.in_ok-left.left;
-    run = record { apart = c.in_ok-left.ensures.run; merged = c.in_ok-left.ensures.merged };
+    run = record { apart = c.in_ok-left.ensures.run; arrived = c.in_ok-left.ensures.arrived };
     told = search rules;
     status_is = search rules;
   };

@@ -28,7 +28,7 @@ returns-in_ok-told_with_word-clause-says c =
     record {
       told = λ are. inr (record {
         left = c.in_ok-left.field-0.left;
-        run = record { turns = ran.run; merged = ran.merged; stuck = ran.stuck c.if-stuck.true };
+        run = (ran.run, ran.arrived, ran.stuck c.if-stuck.true);
         told = search rules;
         status_is = search rules;
       });
@@ -41,7 +41,10 @@ returns-in_ok-told-clause-says c =
     record {
       told = λ are. inl (record {
         left = c.in_ok-left.field-0.left;
-        run = record { turns = ran.whole c.if-stuck.false; merged = ran.merged };
+        run = (
+          record { turns = ran.whole c.if-stuck.false; arrived = ran.arrived },
+          ran.free c.if-stuck.false,
+        );
         told = search rules;
         status_is = search rules;
       });

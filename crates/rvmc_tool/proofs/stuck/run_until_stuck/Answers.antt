@@ -37,7 +37,10 @@ returns-in-Planned-clause-says g c =
     record {
       told = λ are. inl (record {
         left = c.in_ok-left.field-0.left;
-        run = record { apart = ran.whole c.in-Planned.is; merged = ran.merged };
+        run = (
+          record { apart = ran.whole c.in-Planned.is; arrived = ran.arrived },
+          ran.free c.in-Planned.is,
+        );
         told = search rules;
         status_is = search rules;
       });
@@ -50,7 +53,7 @@ returns-in-Stuck-clause-says g c =
     record {
       told = λ are. inr (inl (record {
         left = c.in_ok-left.field-0.left;
-        run = record { left_told = record { apart = ran.run; merged = ran.merged }; stuck = ran.stuck c.in-Stuck.is };
+        run = (record { apart = ran.run; arrived = ran.arrived }, ran.stuck c.in-Stuck.is);
         told = search rules;
         status_is = search rules;
       }));
@@ -63,7 +66,11 @@ returns-clause-says g c =
     record {
       told = λ are. inr (inr (record {
         left = c.in_ok-left.field-0.left;
-        run = record { apart = ran.run; merged = ran.merged };
+        run = (
+          record { apart = ran.run; arrived = ran.arrived },
+          ran.told c.in-Told.is,
+          ran.goes_on c.in-Told.is,
+        );
         told = search rules;
         status_is = search rules;
       }));

@@ -2,7 +2,6 @@ use Rattle.std.proofs.Common.{◌∙◌, refl, subst, sym, Some}
 use Rattle.rv_image.specs.declared.images.ImageParts.{ImageParts}
 use Rattle.rvmc_tool.specs.Plans.{ArePlansOf}
 use Rattle.rvmc_report.specs.Report.{rank_ends, report, status_of}
-use Rattle.cl_record.specs.Records.{IsMergedRun}
 use Rattle.cl_threads.specs.Runs.{IsThreadRun}
 use Rattle.test_program.proofs.laws.what_threads_stop_for_is_told.Goals as goal
 
@@ -17,6 +16,6 @@ returns-in-Ok-report g c =
     let run = subst (λ made. IsThreadRun image made left) c.deref.ensures.value c.in-Ok.ensures.run in
     let law = c.stops_fit.ensures image c.args.budget (Some harts) plans (report (rank_ends left))
     (status_of (rank_ends left)) of
-    (record { left = left; run = record { apart = run; merged = c.in-Ok.ensures.merged }; told = refl; status_is = refl })
+    (record { left = left; run = record { apart = run; arrived = c.in-Ok.ensures.arrived }; told = refl; status_is = refl })
     in
     (law.0, c.in-Ok-report.ensures ∙ law.1, law.2, law.3)

@@ -8,6 +8,6 @@ returns c =
     let parts = c.in_ok-parts.ensures in
     let looks = c.in_ok-looks.ensures in
     let marks = c.in_ok-marks.ensures in
-    walked_none (scope_of c.args.sizes c.args.view) _ board.ranks board.lines board.spots board.got parts
+    walked_none (scope_of c.args.sizes c.args.view) _ board.ranks board.lines board.spots board.got parts.cells parts.untaken
     looks.harts looks.begun marks.harts marks.view marks.shapes c.new-arrows.ensures.items c.new-bars.ensures.items marks.count
     marks.kept
