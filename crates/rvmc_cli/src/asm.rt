@@ -16,16 +16,17 @@ use std::alloc::{AllocError, Global};
 
 /// What help says below its options.
 const EXAMPLES: &str = "\
-The image is written in version 2 of the format. Each label that the source
-names by .globl is a symbol of it: a name that `rvmc dis` shows.
+The source is RISC-V assembly for RV64IM (docs/ASSEMBLER.md). To compile C, use
+rvmc-cc or rvmc-mpi. Each label that a .globl names becomes a symbol of the
+image; `rvmc dis` and the other commands show it.
 
-With --from an image of version 1 or 2 is taken in place of a source. It is
-written in version 2, with the symbols that it has, and is otherwise the same.
+With --from the input is an image of version 1 or 2 instead. It is written out
+in version 2, with the symbols it has, and is otherwise unchanged.
 
 At most 67,108,864 bytes are read.
 
 Status:
-  0 done, 1 fault of the source or the image, 2 fault of the command line,
+  0 done, 1 error in the source or the image, 2 error in the command line,
   5 out of memory, 6 a read or write failed, or the input is too long
 
 Examples:
@@ -35,7 +36,7 @@ Examples:
 /// Its parts, in the order in which help lists them.
 static PARTS: &[Part] = &[Part::Flag(
     "from",
-    "Takes an image of either version in place of a source",
+    "Read an image of either version instead of a source",
 )];
 
 /// The command as clap builds it.
@@ -45,7 +46,7 @@ pub fn command<'a>(alloc: Global) -> Result<Command<'a>, AllocError>
     new_command(
         alloc,
         "asm",
-        "Assembles the source on standard input into an image",
+        "Assemble a source to an image",
         EXAMPLES,
         PARTS,
     )

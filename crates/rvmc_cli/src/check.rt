@@ -15,26 +15,26 @@ use std::alloc::{AllocError, Global};
 
 /// What help says below its options.
 const EXAMPLES: &str = "\
-The steps of the record are taken one by one, from its image on, and each is
-compared with what the written machine does there. Nothing but the record is
-looked at: not what wrote it, and not how it came about.
+Starting from the image in the record, each step is compared with what the
+machine does there according to its definition. Only the record is used, not the
+program that wrote it, nor how the run came about.
 
-  good LEN   all LEN steps are a run of the image, in the order of their stamps
-  bad N      the first N steps are one, and with the next they aren't
+  good LEN   all LEN steps, in the order of their stamps, are a run of the image
+  bad N      the first N steps are, but the next one isn't
 
-The status of `bad` is 1. Bytes that are no record are a fault, as
+`bad` has status 1. Bytes that aren't a record are an error, as
 `rvmc: record: Short 247`.
 
-At most 67,108,864 bytes are read. `run` and `one` write longer records too,
-which then can't be checked here.
+At most 67,108,864 bytes are read. `run` and `one` also write longer records,
+which can't be checked here.
 
 Status:
-  0 good, 1 bad, or fault of the record, 2 fault of the command line,
+  0 good, 1 bad, or error in the record, 2 error in the command line,
   5 out of memory, 6 a read or write failed, or the input is too long
 
 Examples:
-  rvmc one --record <hi.image >hi.record
-  rvmc check <hi.record";
+  rvmc run --record <farm.image >farm.record
+  rvmc check <farm.record";
 
 /// The command as clap builds it.
 pub fn command<'a>(alloc: Global) -> Result<Command<'a>, AllocError>
@@ -43,7 +43,7 @@ pub fn command<'a>(alloc: Global) -> Result<Command<'a>, AllocError>
     new_command(
         alloc,
         "check",
-        "Tells whether the record on standard input is a run of its image",
+        "Check that a record is a run of its image",
         EXAMPLES,
         &[],
     )

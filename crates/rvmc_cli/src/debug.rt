@@ -18,38 +18,40 @@ use std::alloc::{AllocError, Global};
 
 /// What help says below its options.
 const EXAMPLES: &str = "\
-The record is opened at its start, with no step done. The words are done one by
-one, each at the place where the one before it left off:
+The record is opened at its start, before the first step. The words are done one
+after the other, each where the one before it stopped:
 
-  go=N             goes to the place with N steps done
-  step             goes one step on, if there is one
-  back             goes one step back, if there is one
-  run              goes on to the next break, or else to the end
-  place            stays
-  break=R,H,PC     lets `run` stop where hart H of rank R is next, at PC
-  break=R,H,NAME   the same at the address of the image's symbol
-  regs=R,H         shows how the hart is, and its registers
-  frames=R,H       shows how the hart is, and the calls that led there
-  output=R         shows what rank R has put out
-  bytes=R,A,N      shows N bytes of rank R's memory from address A on
-  bytes=R,NAME,N   the same from the address of the image's symbol
+  go=N             go to the place after N steps
+  step             go one step forwards, if there is one
+  back             go one step back, if there is one
+  run              go on to the next break, or to the end
+  place            stay
+  break=R,H,PC     make `run` stop where hart H of rank R is about to do PC
+  break=R,H,NAME   the same for the address of a symbol of the image, as
+                   break=0,0,main or break=0,0,farm.c.12
+  regs=R,H         print how the hart is, and its registers
+  frames=R,H       print how the hart is, and the calls that led there
+  output=R         print what rank R has printed so far
+  bytes=R,A,N      print N bytes of rank R's memory, from address A
+  bytes=R,NAME,N   the same from the address of a symbol
 
 The first five print the place, as `at 2 of 10`. R and H are from 0 to 255, the
-other numbers up to 2^64-1; all are decimal, or hexadecimal behind `0x`.
+other numbers up to 2^64-1; all are decimal, or hexadecimal after `0x`.
 
 The words are read before the record is. A place, rank, hart, range or symbol
-that isn't there is a fault, as `rvmc: debug: PastEnd 10`, with status 1; the
-texts of the words before it are written.
+that doesn't exist is an error, as `rvmc: debug: PastEnd 10`; what the words
+before it print has been written by then.
 
 At most 67,108,864 bytes are read.
 
 Status:
-  0 done, 1 fault of the record or of a word, 2 fault of the command line,
+  0 done, 1 error in the record or of a word, 2 error in the command line,
   5 out of memory, 6 a read or write failed, or the input is too long
 
 Examples:
   rvmc one --record <hi.image >hi.record
   rvmc debug go=2 regs=0,0 <hi.record
+  rvmc debug break=0,0,farm.c.12 run frames=0,0 <farm.record
   rvmc debug break=0,0,0x18 run run <hi.record
   rvmc debug go=3 bytes=0,0xfff8,4 back bytes=0,0xfff8,4 <hi.record";
 
@@ -68,7 +70,7 @@ fn words<'a>(alloc: Global, texts: &[&'a str]) -> Result<DebugWords, Wrong<'a>>
 }
 
 /// Its parts, in the order in which help lists them.
-static PARTS: &[Part] = &[Part::Texts("words", "CMD", "What to do, and show, as go=2")];
+static PARTS: &[Part] = &[Part::Texts("words", "CMD", "What to do or print, as go=2")];
 
 /// The command as clap builds it.
 pub fn command<'a>(alloc: Global) -> Result<Command<'a>, AllocError>
@@ -77,7 +79,7 @@ pub fn command<'a>(alloc: Global) -> Result<Command<'a>, AllocError>
     new_command(
         alloc,
         "debug",
-        "Walks through the record on standard input, forwards and back",
+        "Step through a record, forwards and backwards",
         EXAMPLES,
         PARTS,
     )

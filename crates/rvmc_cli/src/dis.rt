@@ -15,14 +15,15 @@ use std::alloc::{AllocError, Global};
 
 /// What help says below its options.
 const EXAMPLES: &str = "\
-A line is an address, the word there and its instruction. A word that is no
-instruction is shown as `.word`. Before a word stand the names of the symbols
-at its address, as `go:`, a line each.
+Each line has an address, the word there, and its instruction; a word that isn't
+an instruction is shown as `.word`. The symbols at an address are printed before
+it, one a line, as `main:`. In an image of a C program the source lines are
+symbols too, as `farm.c.12:`.
 
 At most 67,108,864 bytes are read.
 
 Status:
-  0 done, 1 fault of the image, 2 fault of the command line,
+  0 done, 1 error in the image, 2 error in the command line,
   5 out of memory, 6 a read or write failed, or the input is too long
 
 Examples:
@@ -36,7 +37,7 @@ pub fn command<'a>(alloc: Global) -> Result<Command<'a>, AllocError>
     new_command(
         alloc,
         "dis",
-        "Lists the instructions of the image on standard input",
+        "List the instructions of an image",
         EXAMPLES,
         &[],
     )

@@ -16,35 +16,33 @@ use std::alloc::{AllocError, Global};
 
 /// What help says below its options.
 const EXAMPLES: &str = "\
-The picture is an SVG image, which any browser opens. Each rank has a lane, and
-time goes down. An arrow goes from each send to the step that got its message,
-in the sender's colour; one with an open head was got by nobody. A bar is a
-wait. Below stands whom each hart waits for at the end, and the verdict of
-`rvmc why`. What stands in the pointer's way tells its step, as `rvmc list`
-does.
+The picture opens in any browser. Each rank has a lane, and time goes down. Each
+message is an arrow from its send to the step that received it, in the sender's
+colour; one that nobody received has an open head. A bar is a wait. Below are
+what each hart is waiting for at the end, and the verdict of `rvmc why`. Hover
+over a mark to see its step, as `rvmc list` prints it.
 
-Step N leads from place N to place N + 1, so `rvmc debug go=N` shows what was
-there before it. --to names the place behind the last step that is drawn. An
-arrow from or to a step that isn't drawn ends at the border, with that step's
-number.
+Step N leads from place N to place N + 1, so `rvmc debug go=N` shows the machine
+before it. An arrow from or to a step that isn't drawn ends at the border, with
+that step's number.
 
-The status is 0. A picture has at most 5,000 marks; more are a fault, as
-`rvmc: draw: TooMany 5001`. A place that isn't there is one, as
-`rvmc: draw: PastEnd 10`, and so are steps that are no run of the image, as
-`rvmc: draw: NotARun 3`: all have status 1.
+A picture has at most 5,000 marks; more are an error, as
+`rvmc: draw: TooMany 5001`: draw a part, by --from and --to. Other errors are a
+place that doesn't exist, as `rvmc: draw: PastEnd 10`, and steps that aren't a
+run of the image, as `rvmc: draw: NotARun 3`.
 
 At most 67,108,864 bytes are read.
 
 Status:
-  0 done, 1 fault of the record, no such place, or too many marks,
-  2 fault of the command line,
+  0 done, 1 error in the record, no such place, or too many marks,
+  2 error in the command line,
   5 out of memory, 6 a read or write failed, or the input is too long
 
 Examples:
-  rvmc one --source --record <ring.s >ring.record
-  rvmc draw <ring.record >ring.svg
-  rvmc draw --from 100 --to 200 <ring.record >part.svg
-  rvmc one --source --until-stuck --record <dead.s | rvmc draw >dead.svg
+  rvmc run --record <farm.image >farm.record
+  rvmc draw <farm.record >farm.svg
+  rvmc draw --from 100 --to 200 <farm.record >part.svg
+  rvmc run --until-stuck --record <dead.image | rvmc draw >dead.svg
                                        a deadlock";
 
 /// The command as clap builds it.
@@ -55,7 +53,7 @@ pub fn command<'a>(alloc: Global) -> Result<Command<'a>, AllocError>
         alloc,
         "draw",
         Help {
-            about: "Draws the record on standard input as a picture, an SVG image",
+            about: "Draw a record as a picture (SVG)",
             examples: EXAMPLES,
         },
         &[],

@@ -18,15 +18,19 @@ use std::alloc::{AllocError, Global};
 
 /// What help says below its options.
 const EXAMPLES: &str = "\
-What a program puts out may depend on which rank takes a turn first. Here the
-ranks take turns in all orders, and each end is told to which some order leads:
-a state from which no hart goes on. In its turn a rank gives one hart a turn: the
-next in the list that --plan gives, round and round, the same for each rank. A
-list is decimal numbers from 0 to 255 with one comma between them.
+What a program prints may depend on which rank runs first. `explore` runs the
+image under every schedule of its ranks, and lists every outcome: an end is a
+state from which no hart goes on.
 
-An end has what each rank put out, how each hart ended, and whether harts of the
-rank wait for ever. If any does, what `rvmc why` tells stands behind it. Each end
-but the first has in its first line by whose message it differs:
+The verdict is about this machine. A send copies its message and returns, and a
+message arrives at once. MPI allows more: a standard send may wait until it is
+received (MPI 4.1, 3.4), so a program that relies on buffering shows no deadlock
+here. The harts of a rank take turns in the order that --plan lists, the same
+for each rank: numbers from 0 to 255 with a comma between them.
+
+For each end the text has what each rank printed, how each hart ended, and, if a
+hart waits for ever, the text of `rvmc why`. From the second end on, the first
+line says by whose message the end differs from the first:
 
   $ rvmc explore --source < examples/quotient.s
   end 1
@@ -37,51 +41,54 @@ but the first has in its first line by whose message it differs:
   ..
   2 ends of 14 states: no other end
 
-The last line says whether these are all ends. They aren't where more states are
-found than --states lets it go on from: `not all: 7 states are left`. What a rank
-does between two meetings with others it does at once, as far as --turns lets it.
-Where states are left and a rank did more, the line names it instead: `not all:
-rank 0 takes more than 1000000 turns alone`. There is no budget.
+The last line says whether the list is complete. `not all: 7 states are left`
+means that the search stopped after --states states. Between two calls that
+other ranks may answer, a rank runs alone. If that takes more than --turns turns,
+and states are left, the line says `not all: rank 0 takes more than 1000000 turns
+alone`. There is no budget.
 
-With --record the record of a run to end K is written in place of the text: the
-image, and each step in order. `rvmc list` and the others read it. Where there is
-no such end, it is a fault, as `rvmc: explore: NoEnd 3`, with status 1.
+--record writes the record of a run to end K instead, for `rvmc list`, `check`,
+`draw`, `page`, `debug`, `gdb` and `why`. If there is no such end, that is an
+error, as `rvmc: explore: NoEnd 3`, with status 1.
 
-A search that is too large for one machine is done in parts. With --split starts
-are written, one word a line: N of them or more, as far as orders part so often.
-With --from the ends behind one start are told, of the same image, on whatever
-machine. --join reads what was told of the starts, and tells each end once, and
-whether these are all ends:
+A search that is too large for one machine can be cut into parts. --split writes
+starts, one a line: at least N, if the schedules differ that often. --from lists
+the ends behind one start of the same image, on any machine. --join reads these
+texts, lists each end once, and says whether the list is complete:
 
-  rvmc explore --split 64 <hi.image >starts
-  parallel 'rvmc explore --from {} <hi.image >part.{#}' <starts
+  rvmc explore --split 64 <farm.image >starts
+  parallel 'rvmc explore --from {} <farm.image >part.{#}' <starts
   cat part.* | rvmc explore --join
 
-A start has the image's sum and the plan in it. It is a fault where the image is
-another one, as `rvmc: explore: OtherImage`, or where --join reads anything else
-than such texts, as `rvmc: explore: NotAText 3`.
+A start contains the image's checksum and the plan. Another image is an error,
+as `rvmc: explore: OtherImage`, and so is a text that --from didn't write, as
+`rvmc: explore: NotAText 3`.
 
 At most 67,108,864 bytes are read.
 
 Status:
-  0 all ends are told, and at each every hart ended,
-  1 fault of the source, the image, the plan, a start or a text, or no such end,
-  2 fault of the command line, 3 a hart trapped at some end,
-  4 not all ends are told, 5 out of memory,
-  6 a read or write failed, or the input is too long,
-  7 all ends are told, and some end is a deadlock
+  0 the list is complete, and every hart ended at each end
+  1 error in the source, the image, the plan, a start or a text, or no such end
+  2 error in the command line
+  3 a hart trapped at some end
+  4 the list is not complete
+  5 out of memory
+  6 a read or write failed, or the input is too long
+  7 the list is complete, and some end is a deadlock
 
 Examples:
-  rvmc explore --source <hi.s
-  rvmc explore --states 10000 <hi.image
-  rvmc explore --plan 0,0,1 <hi.image  hart 0 takes two turns, then hart 1 one
-  rvmc explore --record 2 <hi.image >two.record
-  rvmc explore --record 2 <hi.image | rvmc why
-                                       what each hart waits for at end 2";
+  rvmc explore <farm.image
+  rvmc explore --states 10000 <farm.image
+  rvmc explore --record 2 <farm.image >two.record
+  rvmc explore --record 2 <farm.image | rvmc why
+                                       what each hart waits for at end 2
+  rvmc explore --plan 0,0,1 <farm.image
+                                       hart 0 takes two turns, then hart 1 one
+  rvmc explore --source <hi.s";
 
 /// Its parts, in the order in which help lists them.
 static PARTS: &[Part] = &[
-    Part::Flag("source", "Takes a source in place of an image"),
+    Part::Flag("source", "Read an assembler source instead of an image"),
     Part::Option(
         "plan",
         "HARTS",
@@ -90,31 +97,31 @@ static PARTS: &[Part] = &[
     Part::Option(
         "states",
         "N",
-        "Goes on from N states at most, from 1 to 16777216 [default: 1000000]",
+        "Stop after N states, from 1 to 16777216 [default: 1000000]",
     ),
     Part::Option(
         "turns",
         "N",
-        "Takes N turns of a rank at once, from 1 to 16777216 [default: 1000000]",
+        "Run a rank alone for N turns, from 1 to 16777216 [default: 1000000]",
     ),
     Part::Option(
         "record",
         "K",
-        "Writes the record of end K in place of the text",
+        "Write the record of end K instead of the text",
     ),
     Part::Option(
         "split",
         "N",
-        "Writes N starts or more in place of the ends, from 1 to 16777216",
+        "Write at least N starts instead of the ends, from 1 to 16777216",
     ),
     Part::Option(
         "from",
         "START",
-        "Tells the ends behind a start that --split wrote",
+        "List the ends behind a start that --split wrote",
     ),
     Part::Flag(
         "join",
-        "Reads what --from told of each start, and tells all ends",
+        "Read what --from printed for each start, and list all ends",
     ),
 ];
 
@@ -125,7 +132,7 @@ pub fn command<'a>(alloc: Global) -> Result<Command<'a>, AllocError>
     new_command(
         alloc,
         "explore",
-        "Tells all ends of the image on standard input, over all orders of turns",
+        "List every outcome that any schedule can reach",
         EXAMPLES,
         PARTS,
     )

@@ -16,37 +16,39 @@ use std::alloc::{AllocError, Global};
 
 /// What help says below its options.
 const EXAMPLES: &str = "\
-A rank of the record is walked through by GDB, forwards and back, with its harts
-as threads; all other ranks move with the record. GDB starts rvmc by itself:
+gdb debugs one rank of the record, forwards and backwards, with its harts as
+threads; the other ranks move with it. gdb starts rvmc by itself:
 
-  $ gdb-multiarch prog.elf
-  (gdb) target remote | cat bad.record - | rvmc gdb --rank 1
+  $ gdb-multiarch farm.elf
+  (gdb) target remote | cat farm.record - | rvmc gdb --rank 1
 
-It stops at the record's first step. What moves forwards has its reverse, as
-reverse-continue, reverse-next and reverse-finish. A watchpoint stops where the
-bytes change, by a hart of the rank or by a message that arrives. A record can't
-be changed, so registers and memory can't be set. Behind `monitor` stand the
-words place, go N, why, rank R, regs R H, bytes R A N and help.
+`rvmc-mpi gdb -n 4 farm.c` does all of this.
 
-The record stands before the packets of GDB's remote serial protocol, on standard
-input, and their answers on standard output. A record that is none, or steps that
-are no run of its image, as `rvmc: debug: NotARun 3`, and a rank that isn't there,
-`rvmc: debug: NoRank`, are told before anything is written, with status 1. The
-status is 0 where GDB leaves or the input ends.
+gdb stops at the record's first step. Every command that moves forwards has its
+reverse: reverse-continue, reverse-next, reverse-finish. A watchpoint stops where
+the bytes change, whether a hart of the rank or an arriving message changes them.
+A record can't be changed, so registers and memory can't be set. `monitor` takes
+the words place, go N, why, rank R, regs R H, bytes R A N and help.
+
+On standard input come first the record and then the packets of gdb's remote
+protocol; the answers go to standard output. If the input isn't a record, its
+steps aren't a run of the image (`rvmc: debug: NotARun 3`) or there is no such
+rank (`rvmc: debug: NoRank`), that is an error, and nothing is written.
 
 At most 67,108,864 bytes are read, the record's among them.
 
 Status:
-  0 GDB left, 1 fault of the record, or no such rank, 2 fault of the command line,
+  0 gdb left, or the input ended, 1 error in the record, or no such rank,
+  2 error in the command line,
   5 out of memory, 6 a read or write failed, or the input is too long
 
 Examples:
-  rvmc one --record <hi.image >hi.record
-  gdb-multiarch -ex 'target remote | cat hi.record - | rvmc gdb'
+  rvmc run --record <farm.image >farm.record
+  gdb-multiarch -ex 'target remote | cat farm.record - | rvmc gdb' farm.elf
   gdb-multiarch -ex 'target remote | cat hi.record - | rvmc gdb --rank 1'";
 
 /// Its parts, in the order in which help lists them.
-static PARTS: &[Part] = &[Part::Option("rank", "R", "Shows this rank [default: 0]")];
+static PARTS: &[Part] = &[Part::Option("rank", "R", "Debug this rank [default: 0]")];
 
 /// The command as clap builds it.
 pub fn command<'a>(alloc: Global) -> Result<Command<'a>, AllocError>
@@ -55,7 +57,7 @@ pub fn command<'a>(alloc: Global) -> Result<Command<'a>, AllocError>
     new_command(
         alloc,
         "gdb",
-        "Answers gdb, which walks the record on standard input forwards and back",
+        "Let gdb debug a record, forwards and backwards",
         EXAMPLES,
         PARTS,
     )

@@ -17,47 +17,45 @@ use std::alloc::{AllocError, Global};
 
 /// What help says below its options.
 const EXAMPLES: &str = "\
-A line has the place before its step, the rank and the hart that took it, its
+Each line has the place before the step, the rank and the hart that took it, its
 stamp, where the hart was, and what it did:
 
   0 rank 0 hart 0 stamp 1 at 0x0: lui x5, 0xa7 = 0xa7000
   6 rank 0 hart 0 stamp 7 at 0x18: PUT buf=0xfff8 count=3
 
-Step N leads from place N to place N + 1, so `rvmc debug go=N` shows what was
-there before it. --to names the place behind the last step. With --calls
-instructions are left out, and looks in vain that follow one another are one
-line, with their number.
+Step N leads from place N to place N + 1, so `rvmc debug go=N` shows the machine
+before it. --to names the place after the last step. With --calls, polls that
+found nothing and follow each other are one line, with their number.
 
-With --stats the steps are counted: turns by rank and kind, calls by how they
-ended, messages and bytes by sender and receiver, and the ten places of the text
-with most turns. A line stands where there is something to count, its numbers
-first.
+--stats counts instead: turns by rank and kind, calls by how they ended, messages
+and bytes by sender and receiver, and the ten places in the program with the most
+turns.
 
-The status is 0. A rank or a place that isn't there is a fault, as
-`rvmc: list: NoRank` and `rvmc: list: PastEnd 10`, and so are steps that are no
-run of the image, as `rvmc: list: NotARun 3`: all have status 1.
+A rank or place that doesn't exist is an error, as `rvmc: list: NoRank` or
+`rvmc: list: PastEnd 10`, and so are steps that aren't a run of the image, as
+`rvmc: list: NotARun 3`.
 
 At most 67,108,864 bytes are read.
 
 Status:
-  0 done, 1 fault of the record, or no such rank or place,
-  2 fault of the command line,
+  0 done, 1 error in the record, or no such rank or place,
+  2 error in the command line,
   5 out of memory, 6 a read or write failed, or the input is too long
 
 Examples:
-  rvmc one --record <hi.image >hi.record
-  rvmc list --from 2 --to 7 <hi.record
-  rvmc list --calls --rank 0 <hi.record
-  rvmc list --stats <hi.record         what was done how often";
+  rvmc run --record <farm.image >farm.record
+  rvmc list --calls --rank 0 <farm.record
+  rvmc list --from 2 --to 7 <farm.record
+  rvmc list --stats <farm.record       count what was done";
 
 /// Its parts, in the order in which help lists them.
 static PARTS: &[Part] = &[
-    Part::Option("rank", "R", "Lists the steps of this rank alone"),
-    Part::Flag("calls", "Leaves instructions out, and folds looks in vain"),
+    Part::Option("rank", "R", "Show the steps of this rank only"),
     Part::Flag(
-        "stats",
-        "Counts the steps, and prints tables in place of lines",
+        "calls",
+        "Show calls only; repeated unsuccessful polls become one line",
     ),
+    Part::Flag("stats", "Count the steps, and print tables instead"),
 ];
 
 /// The command as clap builds it.
@@ -68,7 +66,7 @@ pub fn command<'a>(alloc: Global) -> Result<Command<'a>, AllocError>
         alloc,
         "list",
         Help {
-            about: "Prints the record on standard input in words, one line a step",
+            about: "Print a record in words, one line a step",
             examples: EXAMPLES,
         },
         PARTS,

@@ -18,46 +18,57 @@ use std::alloc::{AllocError, Global};
 
 /// What help says below its options.
 const EXAMPLES: &str = "\
-The ranks take turns in the order that --order lists, round and round, and a
-rank that has stopped is passed over. In its turn a rank gives one hart a turn:
-the next in the list that --plan gives, round and round, the same for each rank.
-A list is decimal numbers from 0 to 255 with one comma between them. A hart may
-be listed more than once, or not at all. Each rank has to be listed.
+The ranks take turns in the order that --order lists, round and round; a rank
+that has stopped is skipped. So the same image and options always give the same
+run. `rvmc run` runs the ranks in parallel instead, and `rvmc explore` tries
+every order.
 
-The report has the bytes that each rank put out, how each hart ended, and why
-and after how many turns each rank stopped. With --record the record is written
-in its place: the image, and each step in order. `rvmc check` reads it. With
---why it is told behind the report what each hart waits for, as `rvmc why` tells
-it.
+The report has, for each rank, the bytes it printed (`output`, with their
+count), how each of its harts ended, and why and after how many turns it
+stopped. `rvmc-mpi run` prints the output alone, line by line.
 
-With --until-stuck the run ends once each rank that has a running or a waiting
-hart is in a deadlock, and the text of --why stands behind the report.
+--record writes a record instead: the image and every step, for `rvmc check`,
+`list`, `draw`, `page`, `debug`, `gdb` and `why`. --why adds to the report what
+each hart is waiting for. --until-stuck ends the run as soon as every rank that
+hasn't ended is in a deadlock, and adds the same text.
+
+The turns of a rank go to its harts in the order that --plan lists, round and
+round. RANKS and HARTS are numbers from 0 to 255 with a comma between them. Each
+rank has to be listed, and may be listed several times; a hart may be listed
+several times, or not at all.
 
 At most 67,108,864 bytes are read.
 
 Status:
-  0 done, 1 fault of the source, the image, the plan or the order,
-  2 fault of the command line, 3 a hart trapped,
-  4 a rank stopped by its budget, a full clock or too many calls, or is stuck,
-  5 out of memory, 6 a read or write failed, or the input is too long
+  0 every hart ended, with whatever exit code
+  1 error in the source, the image, the plan or the order
+  2 error in the command line
+  3 a hart trapped
+  4 a rank used up its budget, is stuck in a deadlock, or reached a limit: its
+    clock is full, or it made too many calls
+  5 out of memory
+  6 a read or write failed, or the input is too long
 
 Examples:
-  rvmc one --source <hi.s
-  rvmc one --budget 100 <hi.image
+  rvmc one <farm.image
+  rvmc one --until-stuck <farm.image   print who waits for whom at a deadlock
   rvmc one --order 1,0 <hi.image       rank 1 takes the first turn
   rvmc one --plan 0,0,1 <hi.image      hart 0 takes two turns, then hart 1 one
-  rvmc one --record <hi.image >hi.record
-  rvmc one --why <hi.image             a deadlock is told behind the report
-  rvmc one --until-stuck <hi.image     and at once";
+  rvmc one --record <farm.image >farm.record
+  rvmc one --budget 100 --why <farm.image
+  rvmc one --source <hi.s";
 
 /// Its parts, in the order in which help lists them.
 static PARTS: &[Part] = &[
     Part::Option(
         "order",
         "RANKS",
-        "The ranks that take turns, as 0,1 [default: all in order]",
+        "Which ranks take turns, as 0,1 [default: all in order]",
     ),
-    Part::Flag("until-stuck", "Ends the run at a deadlock, and tells of it"),
+    Part::Flag(
+        "until-stuck",
+        "Stop at a deadlock, and print who waits for whom",
+    ),
 ];
 
 /// The command as clap builds it.
@@ -68,7 +79,7 @@ pub fn command<'a>(alloc: Global) -> Result<Command<'a>, AllocError>
         alloc,
         "one",
         Help {
-            about: "Runs the image on standard input on one thread and reports",
+            about: "Run an image on a single thread in a fixed order, and print a report",
             examples: EXAMPLES,
         },
         PARTS,

@@ -17,32 +17,32 @@ use std::alloc::{AllocError, Global};
 /// What help says below its options.
 const EXAMPLES: &str = "\
 The page is one HTML file, which any browser opens from the disk, without a
-network. It shows the picture of `rvmc draw`, and beside it the machine at a
+network. It has the picture of `rvmc draw`, and beside it the machine at one
 place: each hart's registers and pc, the instructions around it, memory, what
-each rank has put out, messages on their way, and at the end who waits for whom.
+each rank has printed, messages on their way, and at the end who waits for whom.
 
-Right and left go a step on and back, with shift to the next mark and the last;
-home and end to the first place and the last; a click on a mark goes there, and
-so does #PLACE behind the file's name. Step N leads from place N to place N + 1,
-so place N shows what `rvmc debug go=N` does.
+The right and left arrow keys go one step forwards and back; with shift they go
+to the next mark and the one before; home and end go to the first place and the
+last. A click on a mark goes there, and so does #PLACE after the file's name.
+Step N leads from place N to place N + 1.
 
-The status is 0. A page has at most 200,000 steps; more are a fault, as
-`rvmc: page: TooMany 200001`. A place that isn't there is one, as
-`rvmc: page: PastEnd 10`, and so are steps that are no run of the image, as
-`rvmc: page: NotARun 3`: all have status 1. More marks than a picture may have
-are no fault: then the page has no picture.
+A page has at most 200,000 steps; more are an error, as
+`rvmc: page: TooMany 200001`: make one of a part, by --from and --to. Other
+errors are a place that doesn't exist, as `rvmc: page: PastEnd 10`, and steps
+that aren't a run of the image, as `rvmc: page: NotARun 3`. If there are too many
+marks for a picture, the page has none.
 
 At most 67,108,864 bytes are read.
 
 Status:
-  0 done, 1 fault of the record, no such place, or too many steps,
-  2 fault of the command line,
+  0 done, 1 error in the record, no such place, or too many steps,
+  2 error in the command line,
   5 out of memory, 6 a read or write failed, or the input is too long
 
 Examples:
-  rvmc one --source --record <ring.s >ring.record
-  rvmc page <ring.record >ring.html
-  rvmc page --from 100 --to 200 <ring.record >part.html";
+  rvmc run --record <farm.image >farm.record
+  rvmc page <farm.record >farm.html
+  rvmc page --from 100 --to 200 <farm.record >part.html";
 
 /// The command as clap builds it.
 pub fn command<'a>(alloc: Global) -> Result<Command<'a>, AllocError>
@@ -52,7 +52,7 @@ pub fn command<'a>(alloc: Global) -> Result<Command<'a>, AllocError>
         alloc,
         "page",
         Help {
-            about: "Makes a page that walks the record on standard input, for a browser",
+            about: "Make a web page to step through a record",
             examples: EXAMPLES,
         },
         &[],

@@ -24,15 +24,11 @@ pub struct Places {
 
 /// The two options.
 static PARTS: &[Part] = &[
-    Part::Option(
-        "from",
-        "N",
-        "Begins at the place with N steps done [default: 0]",
-    ),
+    Part::Option("from", "N", "Start after N steps [default: 0]"),
     Part::Option(
         "to",
         "N",
-        "Ends at the place with N steps done [default: all steps]",
+        "Stop after N steps, counted from the beginning [default: all]",
     ),
 ];
 

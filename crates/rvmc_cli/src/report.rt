@@ -15,28 +15,26 @@ use std::alloc::{AllocError, Global};
 
 /// What help says below its options.
 const EXAMPLES: &str = "\
-The steps of the record are done, and the report of where they lead is written:
-what each rank put out, how each of its harts stands, and how many turns it
-took. It is the run's own report but for one word, since a record doesn't have
-why a rank stopped:
+The report has, for each rank, the bytes it printed, how each of its harts
+ended, and how many turns it took. It is what the run itself reported, except
+for one word: a record doesn't say why a rank stopped.
 
-  rank 0 stop all-ended turns 10   all its harts are stopped
-  rank 0 stop unknown turns 10     some hart would have gone on
+  rank 0 stop all-ended turns 10   all its harts ended or trapped
+  rank 0 stop unknown turns 10     some hart could have gone on
 
-The status is 3 where a hart trapped, else 4 where a stop is unknown, else 0. A
-record whose steps are no run of its image is a fault, as
-`rvmc: report: NotARun 3`, with status 1.
+If the steps aren't a run of the image, that is an error, as
+`rvmc: report: NotARun 3`.
 
 At most 67,108,864 bytes are read.
 
 Status:
-  0 done, 1 fault of the record, 2 fault of the command line, 3 a hart trapped,
-  4 a rank stopped for what isn't known,
+  0 done, 1 error in the record, 2 error in the command line, 3 a hart trapped,
+  4 some `stop` is unknown,
   5 out of memory, 6 a read or write failed, or the input is too long
 
 Examples:
-  rvmc run --record <hi.image >hi.record
-  rvmc report <hi.record";
+  rvmc run --record <farm.image >farm.record
+  rvmc report <farm.record";
 
 /// The command as clap builds it.
 pub fn command<'a>(alloc: Global) -> Result<Command<'a>, AllocError>
@@ -45,7 +43,7 @@ pub fn command<'a>(alloc: Global) -> Result<Command<'a>, AllocError>
     new_command(
         alloc,
         "report",
-        "Tells the report of the run in the record on standard input",
+        "Print the report of a recorded run",
         EXAMPLES,
         &[],
     )

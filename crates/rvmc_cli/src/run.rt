@@ -18,49 +18,57 @@ use std::alloc::{AllocError, Global};
 
 /// What help says below its options.
 const EXAMPLES: &str = "\
-The ranks run side by side, each on a thread of its own. A rank that is more
-than N turns ahead of the slowest rank that hasn't ended is held back, where N
-is that of --lead. In each of its turns a rank gives one hart a turn: the next
-in the list that --plan gives, round and round, the same for each rank. A list
-is decimal numbers from 0 to 255 with one comma between them. A hart may be
-listed more than once, or not at all.
+The ranks run in parallel, as under mpiexec. If the program leaves it open which
+message comes first, the output may differ from run to run. `rvmc one` runs the
+same image in a fixed order; `rvmc explore` tries every order.
 
-Where the program leaves the order of messages open, it may differ from run to
-run, and with it the report. `rvmc one` runs the same image in an order that is
-laid down, and its report has the same form.
+The report has, for each rank, the bytes it printed (`output`, with their
+count), how each of its harts ended, and why and after how many turns it
+stopped. `rvmc-mpi run` prints the output alone, line by line.
 
-With --record the record is written in place of the report: the image, and each
-step of each rank in the order of their stamps. `rvmc check` reads it. With --why
-it is told behind the report what each hart waits for, as `rvmc why` tells it.
+--record writes a record instead: the image and every step of every rank, for
+`rvmc check`, `list`, `draw`, `page`, `debug`, `gdb` and `why`. --why adds to the
+report what each hart is waiting for. --until-stuck ends the run as soon as
+every rank that hasn't ended is in a deadlock, and adds the same text.
 
-With --until-stuck the run ends once each rank that has a running or a waiting
-hart is in a deadlock, and the text of --why stands behind the report.
+A rank that gets more than --lead turns ahead of the slowest one is held back.
+The turns of a rank go to its harts in the order that --plan lists, round and
+round. HARTS are numbers from 0 to 255 with a comma between them; a hart may be
+listed several times, or not at all.
 
 At most 67,108,864 bytes are read.
 
 Status:
-  0 done, 1 fault of the source, the image, or the plan,
-  2 fault of the command line, 3 a hart trapped,
-  4 a rank stopped by its budget, a full clock or too many calls, or is stuck,
-  5 out of memory or of threads, 6 a read or write failed, or the input is too long
+  0 every hart ended, with whatever exit code
+  1 error in the source, the image or the plan
+  2 error in the command line
+  3 a hart trapped
+  4 a rank used up its budget, is stuck in a deadlock, or reached a limit: its
+    clock is full, or it made too many calls
+  5 out of memory or threads
+  6 a read or write failed, or the input is too long
 
 Examples:
-  rvmc run --source <hi.s
-  rvmc run --budget 100 <hi.image
-  rvmc run --lead 1 <hi.image          the ranks keep close together
-  rvmc run --plan 0,0,1 <hi.image      hart 0 takes two turns, then hart 1 one
-  rvmc run --record <hi.image >hi.record
-  rvmc run --why <hi.image             a deadlock is told behind the report
-  rvmc run --until-stuck <hi.image     and at once";
+  rvmc run <farm.image
+  rvmc run --until-stuck <farm.image   print who waits for whom at a deadlock
+  rvmc run --why <farm.image           the same, once the budget is used up
+  rvmc run --record <farm.image >farm.record
+  rvmc run --budget 100 <farm.image
+  rvmc run --lead 1 <farm.image        keep the ranks close together
+  rvmc run --plan 0,0,1 <farm.image    hart 0 takes two turns, then hart 1 one
+  rvmc run --source <hi.s";
 
 /// Its parts, in the order in which help lists them.
 static PARTS: &[Part] = &[
     Part::Option(
         "lead",
         "N",
-        "Holds back a rank more than N turns ahead, from 1 to 65536 [default: 64]",
+        "Let a rank be N turns ahead of the slowest, from 1 to 65536 [default: 64]",
     ),
-    Part::Flag("until-stuck", "Ends the run at a deadlock, and tells of it"),
+    Part::Flag(
+        "until-stuck",
+        "Stop at a deadlock, and print who waits for whom",
+    ),
 ];
 
 /// The command as clap builds it.
@@ -71,7 +79,7 @@ pub fn command<'a>(alloc: Global) -> Result<Command<'a>, AllocError>
         alloc,
         "run",
         Help {
-            about: "Runs the image on standard input with a thread for each rank and reports",
+            about: "Run an image with one thread per rank, and print a report",
             examples: EXAMPLES,
         },
         PARTS,

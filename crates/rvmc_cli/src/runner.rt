@@ -17,19 +17,22 @@ use std::alloc::{AllocError, Global};
 
 /// The options that `run` and `one` share, in the order in which help lists them.
 static PARTS: &[Part] = &[
-    Part::Flag("source", "Takes a source in place of an image"),
+    Part::Flag("source", "Read an assembler source instead of an image"),
     Part::Option(
         "budget",
         "N",
-        "Stops a rank after N turns, from 1 to 16777216 [default: 1000000]",
+        "Stop a rank after N turns, from 1 to 16777216 [default: 1000000]",
     ),
     Part::Option(
         "plan",
         "HARTS",
-        "The harts that take a rank's turns, as 0,1 [default: all in order]",
+        "Which harts take a rank's turns, as 0,1 [default: all in order]",
     ),
-    Part::Flag("record", "Writes the record in place of the report"),
-    Part::Flag("why", "Tells behind the report what each hart waits for"),
+    Part::Flag("record", "Write a record instead of the report"),
+    Part::Flag(
+        "why",
+        "After the report, print what each hart is waiting for",
+    ),
 ];
 
 /// A command that runs an image: with the shared options, and behind them these.

@@ -80,32 +80,58 @@ macro_rules! of_command {
 static NAMES: &[Name] = commands!(names());
 
 const EXAMPLES: &str = "\
-Without a command rvmc does as `rvmc one --source`.
+rvmc reads an image, a source or a record from standard input and writes to
+standard output. To run a C program with MPI calls, start with rvmc-mpi, which
+compiles it and then calls rvmc:
+
+  rvmc-mpi run -n 4 farm.c      compile it, and run it on four ranks
+  rvmc-mpi verify -n 4 farm.c   list every outcome of every schedule
+  rvmc-mpi page -n 4 farm.c     make a web page to step through a run
+
+`man rvmc-mpi` describes it. docs/COURSE.md is a course in message passing for
+people who know C, and docs/C.md says which MPI calls there are; the Debian
+package has both in /usr/share/doc/rvmc.
+
+An image is a program with the cluster it runs on. A rank is one machine of the
+cluster, as in MPI; a hart is one of its up to four hardware threads. In a turn
+one hart does one instruction, or tries a call once. A record has every step of
+a run, so that you can go through it forwards and backwards.
+
+Without a command rvmc does what `rvmc one --source` does.
 
 Examples:
-  rvmc <hi.s                  assembles the source and runs it
-  rvmc asm <hi.s >hi.image    makes an image of it
-  rvmc dis <hi.image          lists the image's instructions
-  rvmc one <hi.image          runs the image on one thread
-  rvmc run --source <hi.s     runs the source with a thread for each rank
-  rvmc run --record <hi.image | rvmc check
-                              checks each step that the threads took
-  rvmc report <hi.record      tells what a recorded run put out
-  rvmc list <hi.record        lists its steps in words
-  rvmc draw <hi.record >hi.svg
-                              draws its steps as a picture
-  rvmc page <hi.record >hi.html
-                              makes a page that walks its steps
-  rvmc debug go=2 regs=0,0 <hi.record
-                              shows the registers after two steps
-  rvmc one --source --why <hi.s
-                              tells behind the report what each hart waits for
-  rvmc explore <hi.image      tells all ends that some order of turns leads to
+  rvmc <hi.s                  assemble a source and run it
+  rvmc-cc -n 4 -o farm.image farm.c
+                              compile C to an image
+  rvmc run <farm.image        run it, with one thread per rank
+  rvmc run --until-stuck <farm.image
+                              stop at a deadlock, and print who waits for whom
+  rvmc run --record <farm.image >farm.record
+                              keep every step
+  rvmc check <farm.record     check each of these steps
+  rvmc report <farm.record    print the report of the recorded run
+  rvmc list --calls <farm.record
+                              print its calls, one a line
+  rvmc draw <farm.record >farm.svg
+                              draw its messages
+  rvmc page <farm.record >farm.html
+                              make a web page to step through it
+  rvmc debug go=2 regs=0,0 <farm.record
+                              print the registers after two steps
+  rvmc explore <farm.image    list every outcome that any schedule can reach
+  rvmc asm <hi.s >hi.image    assemble a source to an image
+  rvmc dis <hi.image          list the instructions of an image
 
 Status:
-  0 done, 1 fault of the input, 2 fault of the command line, 3 a hart trapped,
-  4 a rank stopped by its budget, a full clock or too many calls,
-  5 out of memory, 6 a read or write failed";
+  0 done
+  1 error in the input; `check`: the record isn't a run of its image
+  2 error in the command line
+  3 a hart trapped
+  4 a rank used up its budget, got stuck in a deadlock, or reached a limit of
+    the machine; `explore`: not every outcome was found
+  5 out of memory or threads
+  6 a read or write failed, or the input is too long
+  7 `explore` found every outcome, and one of them is a deadlock";
 
 fn top<'a>(alloc: Global) -> Result<Command<'a>, AllocError>
     ensures { IfOk result (StandsFor top_app) }
@@ -113,10 +139,10 @@ fn top<'a>(alloc: Global) -> Result<Command<'a>, AllocError>
     bare(
         alloc,
         "rvmc",
-        "Emulates a small cluster of RISC-V machines (RV64IM) that pass messages",
+        "Run MPI programs on a small emulated cluster of RISC-V machines (RV64IM)",
         EXAMPLES,
     )
-    .version("0.1.0")
+    .version("0.2.0")
     .no_binary_name(true)
     .subcommand_required(true)
     .bin_name("rvmc")

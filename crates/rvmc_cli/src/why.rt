@@ -16,51 +16,48 @@ use std::alloc::{AllocError, Global};
 
 /// What help says below its options.
 const EXAMPLES: &str = "\
-The steps of the record are done, all of them, or with --at the first N. Then a
-line for each hart tells how it is there:
+For the end of the record, or with --at the place after N steps, one line is
+printed for each hart:
 
   rank 0 hart 0 ended 0
   rank 0 hart 0 trapped 4 at 0x74
   rank 0 hart 0 runs at 0x8
   rank 0 hart 0 waits at 0x2c in RECV for a message from rank 1 tag 7 comm 0
 
-Behind an address stands the nearest symbol of the image at or before it, if
-there is one, as `0x2c (loop+0x8)`. With --frames the calls that led there stand
-behind it, by the frame pointers of the hart's stack, the last one first, as
-`0x1a4 (MPI_Barrier+0x94) called from 0xdc (life.c.41)`. Where a hart waits for several things, `; `
-stands between them. Behind the harts the messages are counted that no receive
-has taken yet, those of each sender and tag. The last line is the verdict:
+After an address comes the nearest symbol of the image at or before it, if there
+is one, as `0x2c (loop+0x8)`; in a C program that is a source line, as
+`farm.c.12`. With --frames come the calls that led there, the last one first, as
+`0x1a4 (MPI_Barrier+0x94) called from 0xdc (life.c.41)`; they are found by the
+frame pointers on the hart's stack. If a hart waits for several things, `; `
+separates them. After the harts come, by sender and tag, the messages that no
+receive has taken. The last line is the verdict:
 
-  deadlock: ranks 0 1   whatever turns are taken from here on, no hart of these
-                        ranks goes on
-  no deadlock shown     none was found; ranks that only poll may still never end
+  deadlock: ranks 0 1   whatever happens from here on, no hart of these ranks
+                        will ever go on
+  no deadlock shown     none was found; ranks that poll may still never end
 
-The status is 0 whatever the verdict is. A record with fewer than N steps is a
-fault, as `rvmc: why: PastEnd 10`, and so is one whose steps up to there are no
-run of its image, as `rvmc: why: NotARun 3`: both have status 1.
-
-`run` and `one` tell the same of the end of their run, with --why.
+If the record has fewer than N steps, that is an error, as
+`rvmc: why: PastEnd 10`, and so are steps that aren't a run of the image, as
+`rvmc: why: NotARun 3`. `run` and `one` print the same text about the end of
+their run, with --why.
 
 At most 67,108,864 bytes are read.
 
 Status:
-  0 done, 1 fault of the record, or no such place, 2 fault of the command line,
+  0 done, whatever the verdict, 1 error in the record, or no such place,
+  2 error in the command line,
   5 out of memory, 6 a read or write failed, or the input is too long
 
 Examples:
-  rvmc one --record <hi.image >hi.record
-  rvmc why <hi.record
-  rvmc why --at 6 <hi.record           what each hart waits for after six steps
-  rvmc why --frames <hi.record         and which calls led there";
+  rvmc run --until-stuck --record <farm.image >farm.record
+  rvmc why <farm.record
+  rvmc why --frames <farm.record       and which calls led there
+  rvmc why --at 6 <hi.record           what each hart waits for after six steps";
 
 /// Its parts, in the order in which help lists them.
 static PARTS: &[Part] = &[
-    Part::Option(
-        "at",
-        "N",
-        "Tells of the place with N steps done [default: all steps]",
-    ),
-    Part::Flag("frames", "Tells also which calls led to where each hart is"),
+    Part::Option("at", "N", "Look after N steps [default: at the end]"),
+    Part::Flag("frames", "Print also which calls led to where each hart is"),
 ];
 
 /// The command as clap builds it.
@@ -70,7 +67,7 @@ pub fn command<'a>(alloc: Global) -> Result<Command<'a>, AllocError>
     new_command(
         alloc,
         "why",
-        "Tells what each hart waits for, in the record on standard input",
+        "Print what each hart is waiting for",
         EXAMPLES,
         PARTS,
     )
