@@ -1,107 +1,40 @@
 /* mpi.h: the profile of MPI 4.1 that rvmc serves, under MPI's names.
-   Calls between two ranks are inline, so that a place in a record is in the function that made the call. Collectives
-   (lib/collectives.c) and calls that poll (lib/mpi.c) are functions of the library. What isn't served doesn't compile,
-   and says so. docs/C.md has the table. */
+   Calls between two ranks are inline, so that a place in a record is in the function that made the call. Collectives and
+   calls that poll are functions of the library, declared in lib/declared.h. What isn't served doesn't compile, and says so
+   (lib/lacks.h). docs/C.md has the table. */
 #ifndef MPI_H
 #define MPI_H
+#define MPI_INCLUDED
 #include "lib/call.h"
+#include "lib/constants.h"
 
-typedef long MPI_Request, MPI_Message, MPI_Aint, MPI_Count;
-typedef int MPI_Comm, MPI_Datatype, MPI_Op, MPI_Info, MPI_Errhandler;
-
-/* The three words of 8 bytes that the machine writes, low byte first. So the fields are the lower halves, and MPI_ERROR is
-   the upper half of the number of bytes: 0, which is MPI_SUCCESS, in each status that the machine writes. */
-typedef struct {
-    int MPI_SOURCE, rvmc_source_sign;
-    int MPI_TAG, rvmc_tag_sign;
-    int rvmc_bytes, MPI_ERROR;
-} MPI_Status;
-
-#define MPI_VERSION 4
-#define MPI_SUBVERSION 1
-#define MPI_COMM_WORLD 0
-#define MPI_COMM_NULL (-1)
-#define MPI_ANY_SOURCE (-1)
-#define MPI_ANY_TAG (-1)
-#define MPI_PROC_NULL (-2)
-#define MPI_ROOT (-3)
-#define MPI_UNDEFINED (-32766)
-#define MPI_REQUEST_NULL 0L
-#define MPI_MESSAGE_NULL 0L
-#define MPI_MESSAGE_NO_PROC (-2L)
-#define MPI_STATUS_IGNORE ((MPI_Status *)0)
-#define MPI_STATUSES_IGNORE ((MPI_Status *)0)
-#define MPI_ERRCODES_IGNORE ((int *)0)
-#define MPI_BOTTOM ((void *)0)
-#define MPI_IN_PLACE ((void *)-1L)
-#define MPI_INFO_NULL 0
-#define MPI_ERRHANDLER_NULL (-1)
-#define MPI_ERRORS_ARE_FATAL 0
-#define MPI_ERRORS_ABORT 0
-#define MPI_ERRORS_RETURN 1
-#define MPI_MAX_ERROR_STRING 128
-#define MPI_MAX_PROCESSOR_NAME 16
-#define MPI_THREAD_SINGLE 0
-#define MPI_THREAD_FUNNELED 1
-#define MPI_THREAD_SERIALIZED 2
-#define MPI_THREAD_MULTIPLE 3
-
-/* A datatype is its kind times 256, and its size in the lowest byte (3.2.2). */
-#define MPI_DATATYPE_NULL 0
-#define MPI_CHAR 0x101
-#define MPI_SIGNED_CHAR 0x101
-#define MPI_INT8_T 0x101
-#define MPI_UNSIGNED_CHAR 0x201
-#define MPI_UINT8_T 0x201
-#define MPI_BYTE 0x301
-#define MPI_C_BOOL 0x401
-#define MPI_SHORT 0x102
-#define MPI_INT16_T 0x102
-#define MPI_UNSIGNED_SHORT 0x202
-#define MPI_UINT16_T 0x202
-#define MPI_INT 0x104
-#define MPI_INT32_T 0x104
-#define MPI_WCHAR 0x104
-#define MPI_UNSIGNED 0x204
-#define MPI_UINT32_T 0x204
-#define MPI_FLOAT 0x504
-#define MPI_LONG 0x108
-#define MPI_LONG_LONG 0x108
-#define MPI_LONG_LONG_INT 0x108
-#define MPI_INT64_T 0x108
-#define MPI_AINT 0x108
-#define MPI_COUNT 0x108
-#define MPI_UNSIGNED_LONG 0x208
-#define MPI_UNSIGNED_LONG_LONG 0x208
-#define MPI_UINT64_T 0x208
-#define MPI_DOUBLE 0x508
-
+/* What the library knows of a handle beside what the machine does: OWN is a persistent send that the library starts by
+   itself (lib/modes.c), KEPT a complete request whose status was asked for (lib/status.c). */
 enum {
-    MPI_OP_NULL, MPI_SUM, MPI_PROD, MPI_MAX, MPI_MIN, MPI_LAND, MPI_LOR, MPI_LXOR, MPI_BAND, MPI_BOR, MPI_BXOR
+    RVMC_PERSISTENT = 1, RVMC_PARTITIONED = 2, RVMC_LARGE = 4, RVMC_SENDER = 8, RVMC_ACTIVE = 16, RVMC_OWN = 32,
+    RVMC_KEPT = 64
 };
-
-/* Error classes (9.4). A code is its class. */
-enum {
-    MPI_SUCCESS, MPI_ERR_BUFFER, MPI_ERR_COUNT, MPI_ERR_TYPE, MPI_ERR_TAG, MPI_ERR_COMM, MPI_ERR_RANK, MPI_ERR_REQUEST,
-    MPI_ERR_ROOT, MPI_ERR_OP, MPI_ERR_ARG, MPI_ERR_TRUNCATE, MPI_ERR_OTHER, MPI_ERR_UNKNOWN, MPI_ERR_IN_STATUS,
-    MPI_ERR_PENDING, MPI_ERR_NO_MEM, MPI_ERR_UNSUPPORTED_OPERATION, MPI_ERR_LASTCODE
-};
-
-/* What the library knows of a handle beside what the machine does. */
-enum { RVMC_PERSISTENT = 1, RVMC_PARTITIONED = 2, RVMC_LARGE = 4, RVMC_SENDER = 8, RVMC_ACTIVE = 16 };
 struct rvmc_rest {
     char *buffer;
     long size;
     MPI_Comm communicator;
     int again, source, tag;                       /* of a message that was claimed: whose it is */
 };
+enum { RVMC_BEFORE, RVMC_BEGUN, RVMC_OVER };
+extern int rvmc_state;
 extern unsigned char rvmc_kinds[256];
 extern struct rvmc_rest rvmc_rests[256];
-extern int rvmc_errors_return, rvmc_begun, rvmc_over;
 extern void *rvmc_claims;
 
+/* What a program that uses them has linked: requests of the library's own, and what there is to do at the end. */
+extern struct rvmc_own {
+    long (*asked)(long number, MPI_Request *request, int *flag, MPI_Status *status);
+    long (*started)(MPI_Request request);
+    MPI_Request (*inner)(MPI_Request request);
+} rvmc_own;
+extern void (*rvmc_at_the_end)(void);
+
 /* docs/C.md, Large messages: a message of 4,096 bytes or more is a first piece of 4,096 bytes and its rest. */
-int rvmc_told(const char *call, long code);
 rvmc_answer rvmc_give_rest(const void *buffer, long size, int dest, int tag, MPI_Comm c);
 long rvmc_take_rest(const struct rvmc_rest *rest, MPI_Status *status, long code);
 rvmc_answer rvmc_claim(MPI_Comm c, MPI_Message message, MPI_Status *status, int keep);
@@ -112,21 +45,51 @@ rvmc_answer rvmc_large_send_init(const void *buffer, long size, int dest, int ta
 void rvmc_large_freed(MPI_Request request);
 long rvmc_large_started(MPI_Request request);
 
-/* By default an error is told and ends the hart by a trap, at this place (9.3: MPI_ERRORS_ARE_FATAL). */
-RVMC_INLINE int rvmc_code(const char *call, long code)
-{
-    int error;
+/* --- errors (chapter 9) --- */
 
-    if (__builtin_expect(code == RVMC_OK, 1))
-        return MPI_SUCCESS;
-    error = rvmc_told(call, code);
-    if (!rvmc_errors_return)
+/* What isn't as it should be, of calls that name a communicator alone, of those with a buffer, of requests and of
+   partitions. By default it is told, and the answer is 0: then the hart ends by a trap at the place of the call (9.3:
+   MPI_ERRORS_ARE_FATAL). Else the answer is what the call returns. Beside the code stands of which argument it speaks: of
+   a source, and of which half of MPI_Sendrecv. */
+enum { RVMC_SOURCE = 256, RVMC_OUT = 512, RVMC_IN = 1024 };
+int rvmc_wrong_comm(const char *call, long code, MPI_Comm c);
+int rvmc_wrong(const char *call, long code, const void *buffer, long count, MPI_Datatype type, int peer, int tag, MPI_Comm c);
+int rvmc_wrong_request(const char *call, long code, MPI_Request request);
+int rvmc_wrong_parts(const char *call, long code, long parts, long size);
+
+RVMC_INLINE int rvmc_trapped(int error)
+{
+    if (!error)
         __asm__ volatile("ebreak # told");
     return error;
 }
+RVMC_INLINE int rvmc_comm_code(const char *call, long code, MPI_Comm c)
+{
+    if (__builtin_expect(code == RVMC_OK, 1))
+        return MPI_SUCCESS;
+    return rvmc_trapped(rvmc_wrong_comm(call, code, c));
+}
+RVMC_INLINE int rvmc_code(const char *call, long code, int of, const void *buffer, long count, MPI_Datatype type, int peer,
+                          int tag, MPI_Comm c)
+{
+    if (__builtin_expect(code == RVMC_OK, 1))
+        return MPI_SUCCESS;
+    return rvmc_trapped(rvmc_wrong(call, code + of, buffer, count, type, peer, tag, c));
+}
+RVMC_INLINE int rvmc_request_code(const char *call, long code, MPI_Request request)
+{
+    if (__builtin_expect(code == RVMC_OK, 1))
+        return MPI_SUCCESS;
+    return rvmc_trapped(rvmc_wrong_request(call, code, request));
+}
+RVMC_INLINE int rvmc_idle(void)
+{
+    return __builtin_expect(rvmc_state != RVMC_BEGUN, 0);
+}
+/* The machine refuses what is negative. */
 RVMC_INLINE long rvmc_bytes(long count, MPI_Datatype type)
 {
-    return count < 0 || !(type & 255) ? -1 : count * (type & 255);
+    return count < 0 || !RVMC_SIZE_OF(type) ? -1 : count * RVMC_SIZE_OF(type);
 }
 RVMC_INLINE long rvmc_first(long size)
 {
@@ -146,60 +109,74 @@ RVMC_INLINE MPI_Comm rvmc_comm(int number)
 
 /* --- the environment (chapters 9 and 11) --- */
 
+RVMC_INLINE int rvmc_begin_again(const char *call)
+{
+    if (rvmc_state != RVMC_BEFORE)
+        return rvmc_comm_code(call, RVMC_BEGUN_TWICE, MPI_COMM_WORLD);
+    rvmc_state = RVMC_BEGUN;
+    return MPI_SUCCESS;
+}
 RVMC_INLINE int MPI_Init(int *argc, char ***argv)
 {
     (void)argc;
     (void)argv;
-    rvmc_begun = 1;
-    return MPI_SUCCESS;
+    return rvmc_begin_again("MPI_Init");
 }
 RVMC_INLINE int MPI_Init_thread(int *argc, char ***argv, int required, int *provided)
 {
+    (void)argc;
+    (void)argv;
     (void)required;
     *provided = MPI_THREAD_MULTIPLE;
-    return MPI_Init(argc, argv);
+    return rvmc_begin_again("MPI_Init_thread");
 }
 RVMC_INLINE int MPI_Query_thread(int *provided) { *provided = MPI_THREAD_MULTIPLE; return MPI_SUCCESS; }
-RVMC_INLINE int MPI_Initialized(int *flag) { *flag = rvmc_begun; return MPI_SUCCESS; }
-RVMC_INLINE int MPI_Finalize(void) { rvmc_over = 1; return MPI_SUCCESS; }
-RVMC_INLINE int MPI_Finalized(int *flag) { *flag = rvmc_over; return MPI_SUCCESS; }
+RVMC_INLINE int MPI_Is_thread_main(int *flag) { *flag = rvmc_hart == 0; return MPI_SUCCESS; }
+RVMC_INLINE int MPI_Initialized(int *flag) { *flag = rvmc_state != RVMC_BEFORE; return MPI_SUCCESS; }
+RVMC_INLINE int MPI_Finalized(int *flag) { *flag = rvmc_state == RVMC_OVER; return MPI_SUCCESS; }
+RVMC_INLINE int MPI_Finalize(void)
+{
+    if (rvmc_idle())
+        return rvmc_comm_code("MPI_Finalize", RVMC_NOT_BEGUN, MPI_COMM_WORLD);
+    if (rvmc_at_the_end)
+        rvmc_at_the_end();
+    rvmc_state = RVMC_OVER;
+    return MPI_SUCCESS;
+}
 RVMC_INLINE int MPI_Get_version(int *version, int *subversion)
 {
     *version = MPI_VERSION;
     *subversion = MPI_SUBVERSION;
     return MPI_SUCCESS;
 }
-int MPI_Get_processor_name(char *name, int *length);
-int MPI_Abort(MPI_Comm c, int code) __attribute__((noreturn));
-int MPI_Error_string(int code, char *text, int *length);
-RVMC_INLINE int MPI_Error_class(int code, int *error_class) { *error_class = code; return MPI_SUCCESS; }
-RVMC_INLINE int MPI_Comm_set_errhandler(MPI_Comm c, MPI_Errhandler handler)
+RVMC_INLINE long rvmc_asked_of(long number, MPI_Comm c, int *value)
 {
-    (void)c;
-    rvmc_errors_return = handler == MPI_ERRORS_RETURN;
-    return MPI_SUCCESS;
-}
-RVMC_INLINE int MPI_Comm_get_errhandler(MPI_Comm c, MPI_Errhandler *handler)
-{
-    (void)c;
-    *handler = rvmc_errors_return ? MPI_ERRORS_RETURN : MPI_ERRORS_ARE_FATAL;
-    return MPI_SUCCESS;
+    rvmc_answer a;
+
+    if (rvmc_idle())
+        return RVMC_NOT_BEGUN;
+    a = rvmc_call(number, c, 0, 0, 0, 0, 0);
+    *value = (int)a.value;
+    return a.code;
 }
 RVMC_INLINE int MPI_Comm_rank(MPI_Comm c, int *rank)
 {
-    rvmc_answer a = rvmc_call(RVMC_RANK, c, 0, 0, 0, 0, 0);
-
-    *rank = (int)a.value;
-    return rvmc_code("MPI_Comm_rank", a.code);
+    return rvmc_comm_code("MPI_Comm_rank", rvmc_asked_of(RVMC_RANK, c, rank), c);
 }
 RVMC_INLINE int MPI_Comm_size(MPI_Comm c, int *size)
 {
-    rvmc_answer a = rvmc_call(RVMC_SIZE, c, 0, 0, 0, 0, 0);
-
-    *size = (int)a.value;
-    return rvmc_code("MPI_Comm_size", a.code);
+    return rvmc_comm_code("MPI_Comm_size", rvmc_asked_of(RVMC_SIZE, c, size), c);
 }
-RVMC_INLINE int MPI_Type_size(MPI_Datatype type, int *size) { *size = type & 255; return MPI_SUCCESS; }
+RVMC_INLINE int MPI_Comm_test_inter(MPI_Comm c, int *flag)
+{
+    int size;
+    long code = rvmc_asked_of(RVMC_SIZE, c, &size);
+
+    *flag = 0;
+    return rvmc_comm_code("MPI_Comm_test_inter", code, c);
+}
+RVMC_INLINE int MPI_Comm_get_parent(MPI_Comm *parent) { *parent = MPI_COMM_NULL; return MPI_SUCCESS; }
+RVMC_INLINE int MPI_Pcontrol(const int level, ...) { (void)level; return MPI_SUCCESS; }
 
 /* --- sending and receiving (3.2, 3.4) --- */
 
@@ -214,6 +191,8 @@ RVMC_INLINE rvmc_answer rvmc_send(long number, const void *buffer, long size, in
 {
     rvmc_answer first;
 
+    if (rvmc_idle())
+        return (rvmc_answer){RVMC_NOT_BEGUN, 0};
     if (size < RVMC_PIECE)
         return rvmc_send_small(number, buffer, size, dest, tag, c);
     first = rvmc_give_rest(buffer, size, dest, tag, c);
@@ -226,6 +205,8 @@ RVMC_INLINE long rvmc_receive(void *buffer, long size, int source, int tag, MPI_
     MPI_Status own, *where = status || size < RVMC_PIECE ? status : &own;
     long code;
 
+    if (rvmc_idle())
+        return RVMC_NOT_BEGUN;
     if (__builtin_expect(rvmc_claims != 0, 0) && rvmc_claimed(source, tag, c, &message, 0))
         return rvmc_claim_received(buffer, size, message, status);
     code = rvmc_call(RVMC_RECV, (long)buffer, rvmc_first(size), source, tag, c, (long)where).code;
@@ -233,15 +214,21 @@ RVMC_INLINE long rvmc_receive(void *buffer, long size, int source, int tag, MPI_
 }
 RVMC_INLINE int MPI_Send(const void *buffer, int count, MPI_Datatype type, int dest, int tag, MPI_Comm c)
 {
-    return rvmc_code("MPI_Send", rvmc_send(RVMC_SEND, buffer, rvmc_bytes(count, type), dest, tag, c).code);
+    long code = rvmc_send(RVMC_SEND, buffer, rvmc_bytes(count, type), dest, tag, c).code;
+
+    return rvmc_code("MPI_Send", code, 0, buffer, count, type, dest, tag, c);
 }
 RVMC_INLINE int MPI_Ssend(const void *buffer, int count, MPI_Datatype type, int dest, int tag, MPI_Comm c)
 {
-    return rvmc_code("MPI_Ssend", rvmc_send(RVMC_SSEND, buffer, rvmc_bytes(count, type), dest, tag, c).code);
+    long code = rvmc_send(RVMC_SSEND, buffer, rvmc_bytes(count, type), dest, tag, c).code;
+
+    return rvmc_code("MPI_Ssend", code, 0, buffer, count, type, dest, tag, c);
 }
 RVMC_INLINE int MPI_Recv(void *buffer, int count, MPI_Datatype type, int source, int tag, MPI_Comm c, MPI_Status *status)
 {
-    return rvmc_code("MPI_Recv", rvmc_receive(buffer, rvmc_bytes(count, type), source, tag, c, status));
+    long code = rvmc_receive(buffer, rvmc_bytes(count, type), source, tag, c, status);
+
+    return rvmc_code("MPI_Recv", code, RVMC_SOURCE, buffer, count, type, source, tag, c);
 }
 /* A standard send always copies its bytes and returns, so sending first and receiving then waits for nobody (3.10). */
 RVMC_INLINE int MPI_Sendrecv(const void *out, int out_count, MPI_Datatype out_type, int dest, int out_tag, void *in,
@@ -249,74 +236,76 @@ RVMC_INLINE int MPI_Sendrecv(const void *out, int out_count, MPI_Datatype out_ty
 {
     long code = rvmc_send(RVMC_SEND, out, rvmc_bytes(out_count, out_type), dest, out_tag, c).code;
 
-    if (!code)
-        code = rvmc_receive(in, rvmc_bytes(in_count, in_type), source, in_tag, c, status);
-    return rvmc_code("MPI_Sendrecv", code);
+    if (code)
+        return rvmc_code("MPI_Sendrecv", code, RVMC_OUT, out, out_count, out_type, dest, out_tag, c);
+    code = rvmc_receive(in, rvmc_bytes(in_count, in_type), source, in_tag, c, status);
+    return rvmc_code("MPI_Sendrecv", code, RVMC_IN + RVMC_SOURCE, in, in_count, in_type, source, in_tag, c);
 }
 RVMC_INLINE int MPI_Sendrecv_replace(void *buffer, int count, MPI_Datatype type, int dest, int out_tag, int source,
                                      int in_tag, MPI_Comm c, MPI_Status *status)
 {
     long code = rvmc_send(RVMC_SEND, buffer, rvmc_bytes(count, type), dest, out_tag, c).code;
 
-    if (!code)
-        code = rvmc_receive(buffer, rvmc_bytes(count, type), source, in_tag, c, status);
-    return rvmc_code("MPI_Sendrecv_replace", code);
-}
-/* 3.2.5: bytes that are no whole number of elements have no count. */
-RVMC_INLINE int MPI_Get_count(const MPI_Status *status, MPI_Datatype type, int *count)
-{
-    int size = type & 255;
-
-    *count = !size || status->rvmc_bytes % size ? MPI_UNDEFINED : status->rvmc_bytes / size;
-    return MPI_SUCCESS;
-}
-RVMC_INLINE int MPI_Get_elements(const MPI_Status *status, MPI_Datatype type, int *count)
-{
-    return MPI_Get_count(status, type, count);
+    if (code)
+        return rvmc_code("MPI_Sendrecv_replace", code, 0, buffer, count, type, dest, out_tag, c);
+    code = rvmc_receive(buffer, rvmc_bytes(count, type), source, in_tag, c, status);
+    return rvmc_code("MPI_Sendrecv_replace", code, RVMC_SOURCE, buffer, count, type, source, in_tag, c);
 }
 
 /* --- requests (3.7) --- */
 
-RVMC_INLINE int rvmc_made(const char *call, rvmc_answer a, MPI_Request *request, int kind)
+RVMC_INLINE long rvmc_made(rvmc_answer a, MPI_Request *request, int kind)
 {
     *request = a.code ? MPI_REQUEST_NULL : a.value;
     if (!a.code)
         rvmc_kinds[a.value & 255] = (unsigned char)kind;
-    return rvmc_code(call, a.code);
+    return a.code;
 }
-RVMC_INLINE int rvmc_made_receive(const char *call, rvmc_answer a, void *buffer, long size, MPI_Comm c, int kind,
-                                  MPI_Request *request)
+RVMC_INLINE long rvmc_made_receive(rvmc_answer a, void *buffer, long size, MPI_Comm c, int kind, MPI_Request *request)
 {
     if (size >= RVMC_PIECE && !a.code) {
         rvmc_rests[a.value & 255] = (struct rvmc_rest){buffer, size, c, 0, 0, 0};
         kind |= RVMC_LARGE;
     }
-    return rvmc_made(call, a, request, kind);
+    return rvmc_made(a, request, kind);
 }
 RVMC_INLINE int MPI_Isend(const void *buffer, int count, MPI_Datatype type, int dest, int tag, MPI_Comm c,
                           MPI_Request *request)
 {
-    return rvmc_made("MPI_Isend", rvmc_send(RVMC_ISEND, buffer, rvmc_bytes(count, type), dest, tag, c), request, 0);
+    long code = rvmc_made(rvmc_send(RVMC_ISEND, buffer, rvmc_bytes(count, type), dest, tag, c), request, RVMC_SENDER);
+
+    return rvmc_code("MPI_Isend", code, 0, buffer, count, type, dest, tag, c);
 }
 RVMC_INLINE int MPI_Issend(const void *buffer, int count, MPI_Datatype type, int dest, int tag, MPI_Comm c,
                            MPI_Request *request)
 {
-    return rvmc_made("MPI_Issend", rvmc_send(RVMC_ISSEND, buffer, rvmc_bytes(count, type), dest, tag, c), request, 0);
+    long code = rvmc_made(rvmc_send(RVMC_ISSEND, buffer, rvmc_bytes(count, type), dest, tag, c), request, RVMC_SENDER);
+
+    return rvmc_code("MPI_Issend", code, 0, buffer, count, type, dest, tag, c);
+}
+RVMC_INLINE long rvmc_posted(void *buffer, long size, int source, int tag, MPI_Comm c, MPI_Request *request)
+{
+    MPI_Message message;
+    rvmc_answer a = {RVMC_NOT_BEGUN, 0};
+
+    *request = MPI_REQUEST_NULL;
+    if (rvmc_idle())
+        return a.code;
+    if (__builtin_expect(rvmc_claims != 0, 0) && rvmc_claimed(source, tag, c, &message, 0)) {
+        a = rvmc_claim_posted(buffer, size, message);
+        if (!a.code)
+            *request = a.value;
+        return a.code;
+    }
+    a = rvmc_call(RVMC_IRECV, (long)buffer, rvmc_first(size), source, tag, c, 0);
+    return rvmc_made_receive(a, buffer, size, c, 0, request);
 }
 RVMC_INLINE int MPI_Irecv(void *buffer, int count, MPI_Datatype type, int source, int tag, MPI_Comm c,
                           MPI_Request *request)
 {
-    long size = rvmc_bytes(count, type);
-    MPI_Message message;
-    rvmc_answer a;
+    long code = rvmc_posted(buffer, rvmc_bytes(count, type), source, tag, c, request);
 
-    if (__builtin_expect(rvmc_claims != 0, 0) && rvmc_claimed(source, tag, c, &message, 0)) {
-        a = rvmc_claim_posted(buffer, size, message);
-        *request = a.code ? MPI_REQUEST_NULL : a.value;
-        return rvmc_code("MPI_Irecv", a.code);
-    }
-    a = rvmc_call(RVMC_IRECV, (long)buffer, rvmc_first(size), source, tag, c, 0);
-    return rvmc_made_receive("MPI_Irecv", a, buffer, size, c, 0, request);
+    return rvmc_code("MPI_Irecv", code, RVMC_SOURCE, buffer, count, type, source, tag, c);
 }
 
 /* Behind a call that completed the request: a handle that isn't persistent becomes null (3.7.3), and the rest of a large
@@ -337,6 +326,10 @@ RVMC_INLINE long rvmc_asked(long number, MPI_Request *request, int *flag, MPI_St
     MPI_Status own, *where = status;
     rvmc_answer a;
 
+    if (rvmc_idle())
+        return RVMC_NOT_BEGUN;
+    if (__builtin_expect(kind & (RVMC_OWN | RVMC_KEPT), 0))
+        return rvmc_own.asked(number, request, flag, status);
     if (kind & RVMC_LARGE) {
         rest = rvmc_rests[*request];
         where = status ? status : &own;
@@ -347,40 +340,35 @@ RVMC_INLINE long rvmc_asked(long number, MPI_Request *request, int *flag, MPI_St
 }
 RVMC_INLINE int MPI_Test(MPI_Request *request, int *flag, MPI_Status *status)
 {
-    return rvmc_code("MPI_Test", rvmc_asked(RVMC_TEST, request, flag, status));
+    MPI_Request was = *request;
+
+    return rvmc_request_code("MPI_Test", rvmc_asked(RVMC_TEST, request, flag, status), was);
 }
 RVMC_INLINE int MPI_Wait(MPI_Request *request, MPI_Status *status)
 {
+    MPI_Request was = *request;
     int flag;
 
-    return rvmc_code("MPI_Wait", rvmc_asked(RVMC_WAIT, request, &flag, status));
+    return rvmc_request_code("MPI_Wait", rvmc_asked(RVMC_WAIT, request, &flag, status), was);
 }
 
 /* The machine waits for an array of plain requests by one call. Others are waited for one by one; so are all where errors
    return, for each status has its error then (3.7.5). */
 int rvmc_one_by_one(int count, const MPI_Request *requests);
 void rvmc_all_completed(int count, MPI_Request *requests);
+int rvmc_wait_one_by_one(int count, MPI_Request *requests, MPI_Status *statuses);
 
 RVMC_INLINE int MPI_Waitall(int count, MPI_Request *requests, MPI_Status *statuses)
 {
-    int error = MPI_SUCCESS;
-    rvmc_answer a;
+    rvmc_answer a = {RVMC_NOT_BEGUN, 0};
 
-    if (!rvmc_one_by_one(count, requests)) {
+    if (!rvmc_idle() && rvmc_one_by_one(count, requests))
+        return rvmc_wait_one_by_one(count, requests, statuses);
+    if (!rvmc_idle())
         a = rvmc_call(RVMC_WAITALL, (long)requests, count, (long)statuses, 0, 0, 0);
-        if (a.code == RVMC_OK || a.code == RVMC_TRUNCATED)
-            rvmc_all_completed(count, requests);
-        return rvmc_code("MPI_Waitall", a.code);
-    }
-    for (int i = 0; i < count; i++) {
-        int flag, one = rvmc_code("MPI_Waitall",
-                                  rvmc_asked(RVMC_WAIT, requests + i, &flag, statuses ? statuses + i : 0));
-
-        if (statuses)
-            statuses[i].MPI_ERROR = one;
-        error = one ? MPI_ERR_IN_STATUS : error;
-    }
-    return error;
+    if (a.code == RVMC_OK || a.code == RVMC_TRUNCATED)
+        rvmc_all_completed(count, requests);
+    return rvmc_request_code("MPI_Waitall", a.code, MPI_REQUEST_NULL);
 }
 int MPI_Testall(int count, MPI_Request *requests, int *flag, MPI_Status *statuses);
 int MPI_Waitany(int count, MPI_Request *requests, int *index, MPI_Status *status);
@@ -395,6 +383,8 @@ RVMC_INLINE int MPI_Probe(int source, int tag, MPI_Comm c, MPI_Status *status)
     MPI_Status own;
     long code;
 
+    if (rvmc_idle())
+        return rvmc_comm_code("MPI_Probe", RVMC_NOT_BEGUN, c);
     if (__builtin_expect(rvmc_claims != 0, 0) && rvmc_claimed(source, tag, c, 0, status))
         return MPI_SUCCESS;
     code = rvmc_call(RVMC_PROBE, source, tag, c, (long)&own, 0, 0).code;
@@ -402,13 +392,15 @@ RVMC_INLINE int MPI_Probe(int source, int tag, MPI_Comm c, MPI_Status *status)
         code = rvmc_claim(c, 0, &own, tag == MPI_ANY_TAG ? 1 : 2).code;
     if (!code && status)
         *status = own;
-    return rvmc_code("MPI_Probe", code);
+    return rvmc_code("MPI_Probe", code, RVMC_SOURCE, 0, 0, MPI_BYTE, source, tag, c);
 }
 RVMC_INLINE int MPI_Iprobe(int source, int tag, MPI_Comm c, int *flag, MPI_Status *status)
 {
     MPI_Status own;
     rvmc_answer a;
 
+    if (rvmc_idle())
+        return rvmc_comm_code("MPI_Iprobe", RVMC_NOT_BEGUN, c);
     if (__builtin_expect(rvmc_claims != 0, 0) && rvmc_claimed(source, tag, c, 0, status)) {
         *flag = 1;
         return MPI_SUCCESS;
@@ -419,13 +411,16 @@ RVMC_INLINE int MPI_Iprobe(int source, int tag, MPI_Comm c, int *flag, MPI_Statu
         a.code = rvmc_claim(c, 0, &own, tag == MPI_ANY_TAG ? 1 : 2).code;
     if (a.value && !a.code && status)
         *status = own;
-    return rvmc_code("MPI_Iprobe", a.code);
+    return rvmc_code("MPI_Iprobe", a.code, RVMC_SOURCE, 0, 0, MPI_BYTE, source, tag, c);
 }
 RVMC_INLINE long rvmc_matched(long number, int source, int tag, MPI_Comm c, MPI_Message *message, MPI_Status *status)
 {
     MPI_Status own;
     rvmc_answer a;
 
+    *message = MPI_MESSAGE_NULL;
+    if (rvmc_idle())
+        return RVMC_NOT_BEGUN;
     if (__builtin_expect(rvmc_claims != 0, 0) && rvmc_claimed(source, tag, c, message, status))
         return RVMC_OK;
     a = rvmc_call(number, source, tag, c, (long)&own, 0, 0);
@@ -438,14 +433,16 @@ RVMC_INLINE long rvmc_matched(long number, int source, int tag, MPI_Comm c, MPI_
 }
 RVMC_INLINE int MPI_Mprobe(int source, int tag, MPI_Comm c, MPI_Message *message, MPI_Status *status)
 {
-    return rvmc_code("MPI_Mprobe", rvmc_matched(RVMC_MPROBE, source, tag, c, message, status));
+    long code = rvmc_matched(RVMC_MPROBE, source, tag, c, message, status);
+
+    return rvmc_code("MPI_Mprobe", code, RVMC_SOURCE, 0, 0, MPI_BYTE, source, tag, c);
 }
 RVMC_INLINE int MPI_Improbe(int source, int tag, MPI_Comm c, int *flag, MPI_Message *message, MPI_Status *status)
 {
     long code = rvmc_matched(RVMC_IMPROBE, source, tag, c, message, status);
 
     *flag = *message != MPI_MESSAGE_NULL;
-    return rvmc_code("MPI_Improbe", code);
+    return rvmc_code("MPI_Improbe", code, RVMC_SOURCE, 0, 0, MPI_BYTE, source, tag, c);
 }
 /* A claimed large message has a number below MPI_MESSAGE_NO_PROC: the address of what the library keeps, less than 0. */
 RVMC_INLINE int MPI_Mrecv(void *buffer, int count, MPI_Datatype type, MPI_Message *message, MPI_Status *status)
@@ -457,7 +454,7 @@ RVMC_INLINE int MPI_Mrecv(void *buffer, int count, MPI_Datatype type, MPI_Messag
     else
         code = rvmc_call(RVMC_MRECV, (long)buffer, rvmc_first(size), *message, (long)status, 0, 0).code;
     *message = MPI_MESSAGE_NULL;
-    return rvmc_code("MPI_Mrecv", code);
+    return rvmc_code("MPI_Mrecv", code, RVMC_SOURCE, buffer, count, type, 0, 0, MPI_COMM_WORLD);
 }
 RVMC_INLINE int MPI_Imrecv(void *buffer, int count, MPI_Datatype type, MPI_Message *message, MPI_Request *request)
 {
@@ -470,7 +467,7 @@ RVMC_INLINE int MPI_Imrecv(void *buffer, int count, MPI_Datatype type, MPI_Messa
     *request = a.code ? MPI_REQUEST_NULL : a.value;
     if (!large && !a.code)
         rvmc_kinds[a.value & 255] = 0;
-    return rvmc_code("MPI_Imrecv", a.code);
+    return rvmc_code("MPI_Imrecv", a.code, RVMC_SOURCE, buffer, count, type, 0, 0, MPI_COMM_WORLD);
 }
 
 /* --- persistent requests (3.9) --- */
@@ -478,26 +475,38 @@ RVMC_INLINE int MPI_Imrecv(void *buffer, int count, MPI_Datatype type, MPI_Messa
 RVMC_INLINE int MPI_Send_init(const void *buffer, int count, MPI_Datatype type, int dest, int tag, MPI_Comm c,
                               MPI_Request *request)
 {
-    long size = rvmc_bytes(count, type);
+    long code, size = rvmc_bytes(count, type);
 
+    if (rvmc_idle())
+        return rvmc_comm_code("MPI_Send_init", RVMC_NOT_BEGUN, c);
     if (size >= RVMC_PIECE)
-        return rvmc_made("MPI_Send_init", rvmc_large_send_init(buffer, size, dest, tag, c), request,
+        code = rvmc_made(rvmc_large_send_init(buffer, size, dest, tag, c), request,
                          RVMC_PERSISTENT | RVMC_LARGE | RVMC_SENDER);
-    return rvmc_made("MPI_Send_init", rvmc_send_small(RVMC_SEND_INIT, buffer, size, dest, tag, c), request,
-                     RVMC_PERSISTENT | RVMC_SENDER);
+    else
+        code = rvmc_made(rvmc_send_small(RVMC_SEND_INIT, buffer, size, dest, tag, c), request,
+                         RVMC_PERSISTENT | RVMC_SENDER);
+    return rvmc_code("MPI_Send_init", code, 0, buffer, count, type, dest, tag, c);
 }
 RVMC_INLINE int MPI_Recv_init(void *buffer, int count, MPI_Datatype type, int source, int tag, MPI_Comm c,
                               MPI_Request *request)
 {
-    long size = rvmc_bytes(count, type);
-    rvmc_answer a = rvmc_call(RVMC_RECV_INIT, (long)buffer, rvmc_first(size), source, tag, c, 0);
+    long code = RVMC_NOT_BEGUN, size = rvmc_bytes(count, type);
 
-    return rvmc_made_receive("MPI_Recv_init", a, buffer, size, c, RVMC_PERSISTENT, request);
+    if (!rvmc_idle())
+        code = rvmc_made_receive(rvmc_call(RVMC_RECV_INIT, (long)buffer, rvmc_first(size), source, tag, c, 0), buffer, size,
+                                 c, RVMC_PERSISTENT, request);
+    return rvmc_code("MPI_Recv_init", code, RVMC_SOURCE, buffer, count, type, source, tag, c);
 }
 RVMC_INLINE long rvmc_started(MPI_Request request)
 {
     int kind = rvmc_kind(request);
-    long code = (kind & RVMC_LARGE) || rvmc_claims ? rvmc_large_started(request) : RVMC_OK;
+    long code;
+
+    if (rvmc_idle())
+        return RVMC_NOT_BEGUN;
+    if (__builtin_expect(kind & RVMC_OWN, 0))
+        return rvmc_own.started(request);
+    code = (kind & RVMC_LARGE) || rvmc_claims ? rvmc_large_started(request) : RVMC_OK;
 
     if (!code)
         code = rvmc_call(RVMC_START, request, 0, 0, 0, 0, 0).code;
@@ -507,99 +516,109 @@ RVMC_INLINE long rvmc_started(MPI_Request request)
 }
 RVMC_INLINE int MPI_Start(MPI_Request *request)
 {
-    return rvmc_code("MPI_Start", rvmc_started(*request));
+    return rvmc_request_code("MPI_Start", rvmc_started(*request), *request);
 }
 RVMC_INLINE int MPI_Startall(int count, MPI_Request *requests)
 {
     long code = count < 0 ? RVMC_BAD_COUNT : RVMC_OK;
+    int i = 0;
 
-    for (int i = 0; i < count && !code; i++)
-        code = rvmc_started(requests[i]);
-    return rvmc_code("MPI_Startall", code);
+    while (i < count && !code)
+        code = rvmc_started(requests[i++]);
+    return rvmc_request_code("MPI_Startall", code, i > 0 ? requests[i - 1] : MPI_REQUEST_NULL);
 }
+/* A send that is complete is freed by its test; one that isn't yet stays among the 255, and is freed with the rank. */
 RVMC_INLINE int MPI_Request_free(MPI_Request *request)
 {
     int kind = rvmc_kind(*request);
-    rvmc_answer a = rvmc_call(RVMC_REQUEST_FREE, *request, 0, 0, 0, 0, 0);
+    MPI_Request was = *request;
+    rvmc_answer a;
 
+    if ((kind & (RVMC_PERSISTENT | RVMC_SENDER)) == RVMC_SENDER)
+        a = rvmc_call(RVMC_TEST, was, 0, 0, 0, 0, 0);
+    else
+        a = rvmc_call(RVMC_REQUEST_FREE, was, 0, 0, 0, 0, 0);
     if (!a.code) {
-        if ((kind & RVMC_LARGE) && (kind & RVMC_SENDER))
-            rvmc_large_freed(*request);
+        if ((kind & RVMC_LARGE) && (kind & RVMC_SENDER) && (kind & RVMC_PERSISTENT))
+            rvmc_large_freed(was);
         *request = MPI_REQUEST_NULL;
     }
-    return rvmc_code("MPI_Request_free", a.code);
+    return rvmc_request_code("MPI_Request_free", a.code, was);
 }
 
 /* --- partitioned requests (4.2) --- */
 
+RVMC_INLINE int rvmc_parts_code(const char *call, long code, int of, const void *buffer, long parts, MPI_Count count,
+                                MPI_Datatype type, int peer, int tag, MPI_Comm c)
+{
+    long size = rvmc_bytes(count, type);
+
+    if (__builtin_expect(code == RVMC_OK, 1))
+        return MPI_SUCCESS;
+    if (code == RVMC_BAD_PARTITION || (code == RVMC_BAD_COUNT && size >= 0))
+        return rvmc_trapped(rvmc_wrong_parts(call, code, parts, size));
+    return rvmc_trapped(rvmc_wrong(call, code + of, buffer, count, type, peer, tag, c));
+}
 RVMC_INLINE int MPI_Psend_init(const void *buffer, int partitions, MPI_Count count, MPI_Datatype type, int dest, int tag,
                                MPI_Comm c, MPI_Info info, MPI_Request *request)
 {
-    rvmc_answer a = {RVMC_BAD_BUFFER, 0};
+    rvmc_answer a = {buffer ? RVMC_NOT_BEGUN : RVMC_BAD_BUFFER, 0};
 
     (void)info;
-    if (buffer)
+    if (buffer && !rvmc_idle())
         a = rvmc_call(RVMC_PSEND_INIT, (long)buffer, partitions, rvmc_bytes(count, type), dest, tag, c);
-    return rvmc_made("MPI_Psend_init", a, request, RVMC_PARTITIONED | RVMC_SENDER);
+    a.code = rvmc_made(a, request, RVMC_PARTITIONED | RVMC_SENDER);
+    return rvmc_parts_code("MPI_Psend_init", a.code, 0, buffer, partitions, count, type, dest, tag, c);
 }
 RVMC_INLINE int MPI_Precv_init(void *buffer, int partitions, MPI_Count count, MPI_Datatype type, int source, int tag,
                                MPI_Comm c, MPI_Info info, MPI_Request *request)
 {
-    rvmc_answer a = rvmc_call(RVMC_PRECV_INIT, (long)buffer, partitions, rvmc_bytes(count, type), source, tag, c);
+    rvmc_answer a = {RVMC_NOT_BEGUN, 0};
 
     (void)info;
-    return rvmc_made("MPI_Precv_init", a, request, RVMC_PARTITIONED);
+    if (!rvmc_idle())
+        a = rvmc_call(RVMC_PRECV_INIT, (long)buffer, partitions, rvmc_bytes(count, type), source, tag, c);
+    a.code = rvmc_made(a, request, RVMC_PARTITIONED);
+    return rvmc_parts_code("MPI_Precv_init", a.code, RVMC_SOURCE, buffer, partitions, count, type, source, tag, c);
+}
+RVMC_INLINE int rvmc_part_code(const char *call, long code, int partition, MPI_Request request)
+{
+    if (__builtin_expect(code == RVMC_BAD_PARTITION, 0))
+        return rvmc_trapped(rvmc_wrong_parts(call, code, partition, -1));
+    return rvmc_request_code(call, code, request);
 }
 RVMC_INLINE int MPI_Pready(int partition, MPI_Request request)
 {
-    return rvmc_code("MPI_Pready", rvmc_call(RVMC_PREADY, request, partition, 0, 0, 0, 0).code);
+    long code = rvmc_call(RVMC_PREADY, request, partition, 0, 0, 0, 0).code;
+
+    return rvmc_part_code("MPI_Pready", code, partition, request);
 }
 RVMC_INLINE int MPI_Pready_range(int low, int high, MPI_Request request)
 {
     long code = RVMC_OK;
+    int i = low;
 
-    for (int i = low; i <= high && !code; i++)
-        code = rvmc_call(RVMC_PREADY, request, i, 0, 0, 0, 0).code;
-    return rvmc_code("MPI_Pready_range", code);
+    while (i <= high && !code)
+        code = rvmc_call(RVMC_PREADY, request, i++, 0, 0, 0, 0).code;
+    return rvmc_part_code("MPI_Pready_range", code, i - 1, request);
 }
-RVMC_INLINE int MPI_Pready_list(int length, const int *partitions, MPI_Request request)
+RVMC_INLINE int MPI_Pready_list(int length, const int partitions[], MPI_Request request)
 {
     long code = RVMC_OK;
+    int i = 0;
 
-    for (int i = 0; i < length && !code; i++)
-        code = rvmc_call(RVMC_PREADY, request, partitions[i], 0, 0, 0, 0).code;
-    return rvmc_code("MPI_Pready_list", code);
+    while (i < length && !code)
+        code = rvmc_call(RVMC_PREADY, request, partitions[i++], 0, 0, 0, 0).code;
+    return rvmc_part_code("MPI_Pready_list", code, i ? partitions[i - 1] : 0, request);
 }
 RVMC_INLINE int MPI_Parrived(MPI_Request request, int partition, int *flag)
 {
     rvmc_answer a = rvmc_call(RVMC_PARRIVED, request, partition, 0, 0, 0, 0);
 
     *flag = (int)a.value;
-    return rvmc_code("MPI_Parrived", a.code);
+    return rvmc_part_code("MPI_Parrived", a.code, partition, request);
 }
 
-/* --- collectives (chapter 6) --- */
-
-int MPI_Barrier(MPI_Comm c);
-int MPI_Bcast(void *buffer, int count, MPI_Datatype type, int root, MPI_Comm c);
-int MPI_Gather(const void *out, int out_count, MPI_Datatype out_type, void *in, int in_count, MPI_Datatype in_type, int root,
-               MPI_Comm c);
-int MPI_Gatherv(const void *out, int out_count, MPI_Datatype out_type, void *in, const int *in_counts, const int *places,
-                MPI_Datatype in_type, int root, MPI_Comm c);
-int MPI_Scatter(const void *out, int out_count, MPI_Datatype out_type, void *in, int in_count, MPI_Datatype in_type,
-                int root, MPI_Comm c);
-int MPI_Scatterv(const void *out, const int *out_counts, const int *places, MPI_Datatype out_type, void *in, int in_count,
-                 MPI_Datatype in_type, int root, MPI_Comm c);
-int MPI_Allgather(const void *out, int out_count, MPI_Datatype out_type, void *in, int in_count, MPI_Datatype in_type,
-                  MPI_Comm c);
-int MPI_Allgatherv(const void *out, int out_count, MPI_Datatype out_type, void *in, const int *in_counts,
-                   const int *places, MPI_Datatype in_type, MPI_Comm c);
-int MPI_Alltoall(const void *out, int out_count, MPI_Datatype out_type, void *in, int in_count, MPI_Datatype in_type,
-                 MPI_Comm c);
-int MPI_Reduce(const void *from, void *to, int count, MPI_Datatype type, MPI_Op op, int root, MPI_Comm c);
-int MPI_Allreduce(const void *from, void *to, int count, MPI_Datatype type, MPI_Op op, MPI_Comm c);
-int MPI_Scan(const void *from, void *to, int count, MPI_Datatype type, MPI_Op op, MPI_Comm c);
-int MPI_Exscan(const void *from, void *to, int count, MPI_Datatype type, MPI_Op op, MPI_Comm c);
-
+#include "lib/declared.h"
 #include "lib/lacks.h"
 #endif

@@ -21,9 +21,13 @@ enum {
 
 /* The codes that the library tells apart by name: those of the machine, and behind them its own. */
 enum {
-    RVMC_OK = 0, RVMC_BAD_BUFFER = 1, RVMC_BAD_COUNT = 2, RVMC_BAD_TAG = 3, RVMC_BAD_COMM = 5, RVMC_TRUNCATED = 7, RVMC_CODES = 17,
+    RVMC_OK = 0, RVMC_BAD_BUFFER = 1, RVMC_BAD_COUNT = 2, RVMC_BAD_TAG = 3, RVMC_BAD_RANK = 4, RVMC_BAD_COMM = 5,
+    RVMC_BAD_REQUEST = 6, RVMC_TRUNCATED = 7, RVMC_FULL = 8, RVMC_BAD_PARTITION = 9, RVMC_NO_CHANNEL = 10,
+    RVMC_SHAPE_DIFFERS = 11, RVMC_STILL_ACTIVE = 12, RVMC_BAD_MESSAGE = 14, RVMC_ALREADY_READY = 15, RVMC_NOT_ACTIVE = 16,
+    RVMC_CODES = 17,
     RVMC_LARGE_PROBE = RVMC_CODES, RVMC_BAD_ROOT, RVMC_BAD_OP, RVMC_OTHER_COUNT, RVMC_NO_MEMORY, RVMC_IN_PLACE,
-    RVMC_PARTS_AMONG
+    RVMC_PARTS_AMONG, RVMC_NOT_BEGUN, RVMC_BEGUN_TWICE, RVMC_BAD_TYPE, RVMC_ALIASED, RVMC_NOT_READY, RVMC_NO_BUFFER,
+    RVMC_TWO_BUFFERS, RVMC_NO_CANCEL, RVMC_SEVERAL_HARTS
 };
 
 /* The tags of the twin communicators. A rank sends itself those of harts and mutexes in the twin of communicator 0. */
@@ -41,6 +45,9 @@ enum {
 
 #define RVMC_PIECE 4096                           /* the most bytes of a message of the machine */
 
+/* How often the clock was read since the last call (clock.c). */
+extern unsigned long rvmc_looks;
+
 RVMC_INLINE rvmc_answer rvmc_call(long number, long x0, long x1, long x2, long x3, long x4, long x5)
 {
     register long a0 __asm__("a0") = x0;
@@ -54,6 +61,7 @@ RVMC_INLINE rvmc_answer rvmc_call(long number, long x0, long x1, long x2, long x
                      : "+r"(a0), "+r"(a1)
                      : "r"(a2), "r"(a3), "r"(a4), "r"(a5), "r"(a7)
                      : "memory", "ra");
+    rvmc_looks = 0;
     return (rvmc_answer){a0, a1};
 }
 

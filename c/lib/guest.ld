@@ -27,6 +27,10 @@ SECTIONS
         __preinit_array_end = .;
         KEEP(*(SORT(.fini_array.*) .fini_array))
         *(.rodata .rodata.* .srodata .srodata.*)
+        . = ALIGN(4);
+        rvmc_places = .;
+        *(rvmc_places)
+        rvmc_places_end = .;
         . = ALIGN(16);
     } :text
     rvmc_stacks = .;

@@ -6,6 +6,7 @@
 #include "system.h"
 
 int rvmc_rank;
+unsigned long rvmc_looks;
 _Thread_local int rvmc_hart;
 
 /* Puts out what the hart has printed. An output that is full can take no message either, so the trap is all there is. */
@@ -37,18 +38,22 @@ static int flush(FILE *stream)
 }
 
 static FILE out = FDEV_SETUP_STREAM(put_character, NULL, flush, _FDEV_SETUP_WRITE);
-FILE *const stdin = &out;
 FILE *const stdout = &out;
 FILE *const stderr = &out;
 
-/* One line that names the rank: what went wrong, before a trap. */
-void rvmc_tell(const char *what, const char *more)
+/* Begins a line that names the rank: what went wrong, before a trap. */
+void rvmc_begin_line(void)
 {
     if (rvmc_pages[rvmc_hart].filled)
         putchar('\n');
     fputs("rank ", stdout);
     putchar('0' + rvmc_rank);
     fputs(": ", stdout);
+}
+
+void rvmc_tell(const char *what, const char *more)
+{
+    rvmc_begin_line();
     fputs(what, stdout);
     fputs(more, stdout);
     putchar('\n');
@@ -72,7 +77,8 @@ void _exit(int code)
 {
     rvmc_put_line();
     if (rvmc_hart == 0) {
-        rvmc_threads_end();
+        if (RVMC_NUMBER(rvmc_harts) > 1)
+            rvmc_threads_end();
         for (long hart = 1; hart < RVMC_NUMBER(rvmc_harts); hart++)
             rvmc_call(RVMC_SEND, 0, 0, rvmc_rank, RVMC_TAG_WORK + hart, RVMC_TWIN(0), 0);
     }

@@ -12,6 +12,7 @@ struct rvmc_page {
 extern struct rvmc_page rvmc_pages[];
 
 void rvmc_put_line(void);
+void rvmc_begin_line(void);
 void rvmc_tell(const char *what, const char *more);
 void rvmc_null_pointer(void);
 void rvmc_null_call(void);

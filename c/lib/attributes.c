@@ -1,0 +1,331 @@
+/* attributes.c: attributes and names of communicators and datatypes (MPI 4.1, 7.7, 7.8). */
+#include <stdlib.h>
+#include <string.h>
+#include "../mpi.h"
+#include "errors.h"
+
+enum { FIRST_KEY = 16 };
+enum object { COMMUNICATOR, DATATYPE };
+
+/* A key that is freed stays as long as an attribute has it (7.7.2), so it isn't given again. */
+static struct key {
+    MPI_Comm_copy_attr_function *copy;            /* for the calls that make a communicator of another one */
+    MPI_Comm_delete_attr_function *gone;
+    void *extra;
+    enum object object;
+    int freed;
+} *keys;
+static int count_keys;
+
+static struct attribute {
+    struct attribute *next;
+    enum object object;
+    int handle, key;
+    void *value;
+} *attributes;
+
+static struct name {
+    struct name *next;
+    enum object object;
+    int handle;
+    char text[MPI_MAX_OBJECT_NAME];
+} *object_names;
+
+extern int rvmc_last_used_code __attribute__((weak));
+
+static int wrong_key(const char *call, int key)
+{
+    return rvmc_trapped(rvmc_raise(call, MPI_COMM_WORLD, MPI_ERR_KEYVAL, "keyval", key == MPI_KEYVAL_INVALID
+                                   ? "the key is MPI_KEYVAL_INVALID" : "%d is no key for this kind of object", (long)key));
+}
+
+static int wrong_object(const char *call, enum object object, int handle)
+{
+    int size;
+
+    if (object == DATATYPE)
+        return rvmc_code(call, RVMC_SIZE_OF(handle) ? RVMC_OK : RVMC_BAD_COUNT, 0, 0, 0, handle, 0, 0, MPI_COMM_WORLD);
+    return rvmc_comm_code(call, rvmc_asked_of(RVMC_SIZE, handle, &size), handle);
+}
+
+static struct key *key_of(enum object object, int key)
+{
+    struct key *found = key < FIRST_KEY || key >= FIRST_KEY + count_keys ? 0 : keys + key - FIRST_KEY;
+
+    return found && found->object == object ? found : 0;
+}
+
+int rvmc_dup_attribute(int object, int key, void *extra, void *value, void *copy, int *flag)
+{
+    (void)object;
+    (void)key;
+    (void)extra;
+    *(void **)copy = value;
+    *flag = 1;
+    return MPI_SUCCESS;
+}
+
+static int create_key(enum object object, MPI_Comm_copy_attr_function *copy, MPI_Comm_delete_attr_function *gone, int *key,
+                      void *extra)
+{
+    struct key *more = realloc(keys, (count_keys + 1) * sizeof *keys);
+
+    if (!more)
+        return rvmc_full_heap("MPI_Comm_create_keyval");
+    keys = more;
+    keys[count_keys] = (struct key){copy, gone, extra, object, 0};
+    *key = FIRST_KEY + count_keys++;
+    return MPI_SUCCESS;
+}
+
+static int free_key(const char *call, enum object object, int *key)
+{
+    struct key *found = key_of(object, *key);
+
+    if (!found || found->freed)
+        return wrong_key(call, *key);
+    found->freed = 1;
+    *key = MPI_KEYVAL_INVALID;
+    return MPI_SUCCESS;
+}
+
+static struct attribute **place_of(enum object object, int handle, int key)
+{
+    struct attribute **at = &attributes;
+
+    while (*at && ((*at)->object != object || (*at)->handle != handle || (*at)->key != key))
+        at = &(*at)->next;
+    return at;
+}
+
+/* What the function of the key refuses stays. */
+static int delete_at(struct attribute **at)
+{
+    struct attribute *old = *at;
+    struct key *key = keys + old->key - FIRST_KEY;
+    int error = key->gone ? key->gone(old->handle, old->key, old->value, key->extra) : MPI_SUCCESS;
+
+    for (at = &attributes; !error && *at; at = &(*at)->next)
+        if (*at == old) {
+            *at = old->next;
+            free(old);
+            break;
+        }
+    return error;
+}
+
+/* At the end those of MPI_COMM_WORLD go, the newest first. */
+static void delete_all(void)
+{
+    struct attribute **at = &attributes;
+
+    while (*at)
+        if ((*at)->object != COMMUNICATOR || delete_at(at))
+            at = &(*at)->next;
+}
+
+static int set(const char *call, enum object object, int handle, int key, void *value)
+{
+    struct attribute **at, *new;
+    int error = wrong_object(call, object, handle);
+
+    if (error)
+        return error;
+    if (!key_of(object, key) || key_of(object, key)->freed)
+        return wrong_key(call, key);
+    at = place_of(object, handle, key);
+    if (*at && (error = delete_at(at)))
+        return error;
+    new = malloc(sizeof *new);
+    if (!new)
+        return rvmc_full_heap(call);
+    *new = (struct attribute){attributes, object, handle, key, value};
+    attributes = new;
+    rvmc_at_the_end = delete_all;
+    return MPI_SUCCESS;
+}
+
+/* What MPI itself says of MPI_COMM_WORLD (9.1.2), by pointers to numbers. */
+static int predefined(int key, void *value, int *flag)
+{
+    static int numbers[] = {
+        [MPI_TAG_UB] = RVMC_MOST_TAG, [MPI_HOST] = MPI_PROC_NULL, [MPI_IO] = MPI_ANY_SOURCE, [MPI_WTIME_IS_GLOBAL] = 0,
+        [MPI_UNIVERSE_SIZE] = 0, [MPI_LASTUSEDCODE] = MPI_ERR_LASTCODE, [MPI_APPNUM] = 0,
+    };
+
+    if (&rvmc_last_used_code)
+        numbers[MPI_LASTUSEDCODE] = rvmc_last_used_code;
+    *flag = key != MPI_UNIVERSE_SIZE;
+    if (*flag)
+        *(int **)value = numbers + key;
+    return MPI_SUCCESS;
+}
+
+static int get(const char *call, enum object object, int handle, int key, void *value, int *flag)
+{
+    struct attribute *found;
+    int error = wrong_object(call, object, handle);
+
+    if (error)
+        return error;
+    if (object == COMMUNICATOR && key >= MPI_TAG_UB && key <= MPI_APPNUM)
+        return predefined(key, value, flag);
+    if (!key_of(object, key))
+        return wrong_key(call, key);
+    found = *place_of(object, handle, key);
+    *flag = found != 0;
+    if (found)
+        *(void **)value = found->value;
+    return MPI_SUCCESS;
+}
+
+static int delete(const char *call, enum object object, int handle, int key)
+{
+    struct attribute **at;
+    int error = wrong_object(call, object, handle);
+
+    if (error)
+        return error;
+    if (!key_of(object, key))
+        return wrong_key(call, key);
+    at = place_of(object, handle, key);
+    return *at ? delete_at(at) : MPI_SUCCESS;
+}
+
+int MPI_Comm_create_keyval(MPI_Comm_copy_attr_function *copy, MPI_Comm_delete_attr_function *gone, int *key, void *extra)
+{
+    return create_key(COMMUNICATOR, copy, gone, key, extra);
+}
+
+int MPI_Comm_free_keyval(int *key)
+{
+    return free_key("MPI_Comm_free_keyval", COMMUNICATOR, key);
+}
+
+int MPI_Comm_set_attr(MPI_Comm c, int key, void *value)
+{
+    return set("MPI_Comm_set_attr", COMMUNICATOR, c, key, value);
+}
+
+int MPI_Comm_get_attr(MPI_Comm c, int key, void *value, int *flag)
+{
+    return get("MPI_Comm_get_attr", COMMUNICATOR, c, key, value, flag);
+}
+
+int MPI_Comm_delete_attr(MPI_Comm c, int key)
+{
+    return delete("MPI_Comm_delete_attr", COMMUNICATOR, c, key);
+}
+
+int MPI_Keyval_create(MPI_Copy_function *copy, MPI_Delete_function *gone, int *key, void *extra)
+{
+    return create_key(COMMUNICATOR, copy, gone, key, extra);
+}
+
+int MPI_Keyval_free(int *key)
+{
+    return free_key("MPI_Keyval_free", COMMUNICATOR, key);
+}
+
+int MPI_Attr_put(MPI_Comm c, int key, void *value)
+{
+    return set("MPI_Attr_put", COMMUNICATOR, c, key, value);
+}
+
+int MPI_Attr_get(MPI_Comm c, int key, void *value, int *flag)
+{
+    return get("MPI_Attr_get", COMMUNICATOR, c, key, value, flag);
+}
+
+int MPI_Attr_delete(MPI_Comm c, int key)
+{
+    return delete("MPI_Attr_delete", COMMUNICATOR, c, key);
+}
+
+int MPI_Type_create_keyval(MPI_Type_copy_attr_function *copy, MPI_Type_delete_attr_function *gone, int *key, void *extra)
+{
+    return create_key(DATATYPE, copy, gone, key, extra);
+}
+
+int MPI_Type_free_keyval(int *key)
+{
+    return free_key("MPI_Type_free_keyval", DATATYPE, key);
+}
+
+int MPI_Type_set_attr(MPI_Datatype type, int key, void *value)
+{
+    return set("MPI_Type_set_attr", DATATYPE, type, key, value);
+}
+
+int MPI_Type_get_attr(MPI_Datatype type, int key, void *value, int *flag)
+{
+    return get("MPI_Type_get_attr", DATATYPE, type, key, value, flag);
+}
+
+int MPI_Type_delete_attr(MPI_Datatype type, int key)
+{
+    return delete("MPI_Type_delete_attr", DATATYPE, type, key);
+}
+
+/* --- names (7.8) --- */
+
+static struct name *name_of(enum object object, int handle)
+{
+    struct name *name = object_names;
+
+    while (name && (name->object != object || name->handle != handle))
+        name = name->next;
+    return name;
+}
+
+static int set_name(const char *call, enum object object, int handle, const char *text)
+{
+    struct name *name = name_of(object, handle);
+    int error = wrong_object(call, object, handle);
+
+    if (error)
+        return error;
+    if (!name) {
+        name = malloc(sizeof *name);
+        if (!name)
+            return rvmc_full_heap(call);
+        name->next = object_names;
+        name->object = object;
+        name->handle = handle;
+        object_names = name;
+    }
+    strncpy(name->text, text, sizeof name->text - 1);
+    name->text[sizeof name->text - 1] = 0;
+    return MPI_SUCCESS;
+}
+
+int MPI_Comm_set_name(MPI_Comm c, const char *text)
+{
+    return set_name("MPI_Comm_set_name", COMMUNICATOR, c, text);
+}
+
+int MPI_Comm_get_name(MPI_Comm c, char *text, int *length)
+{
+    struct name *name = name_of(COMMUNICATOR, c);
+    int error = wrong_object("MPI_Comm_get_name", COMMUNICATOR, c);
+
+    if (error)
+        return error;
+    strcpy(text, name ? name->text : c == MPI_COMM_WORLD ? "MPI_COMM_WORLD" : "");
+    *length = (int)strlen(text);
+    return MPI_SUCCESS;
+}
+
+int MPI_Type_set_name(MPI_Datatype type, const char *text)
+{
+    return set_name("MPI_Type_set_name", DATATYPE, type, text);
+}
+
+int MPI_Type_get_name(MPI_Datatype type, char *text, int *length)
+{
+    struct name *name = name_of(DATATYPE, type);
+
+    strcpy(text, name ? name->text : rvmc_type_name(type));
+    *length = (int)strlen(text);
+    return MPI_SUCCESS;
+}

@@ -1,0 +1,7 @@
+/* say.h: a line of the rank, that tells what went wrong: %d is a long, %x an address, %s words. */
+#ifndef RVMC_SAY_H
+#define RVMC_SAY_H
+
+void rvmc_say(const char *format, ...);
+
+#endif

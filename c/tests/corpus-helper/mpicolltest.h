@@ -1,0 +1,21 @@
+/* mpicolltest.h: the blocking collectives under the names by which MPICH's tests call them, for c/tests/corpus. */
+#ifndef CORPUS_MPICOLLTEST_H
+#define CORPUS_MPICOLLTEST_H
+#define MTest_Barrier MPI_Barrier
+#define MTest_Bcast MPI_Bcast
+#define MTest_Gather MPI_Gather
+#define MTest_Gatherv MPI_Gatherv
+#define MTest_Scatter MPI_Scatter
+#define MTest_Scatterv MPI_Scatterv
+#define MTest_Allgather MPI_Allgather
+#define MTest_Allgatherv MPI_Allgatherv
+#define MTest_Alltoall MPI_Alltoall
+#define MTest_Alltoallv MPI_Alltoallv
+#define MTest_Alltoallw MPI_Alltoallw
+#define MTest_Reduce MPI_Reduce
+#define MTest_Allreduce MPI_Allreduce
+#define MTest_Reduce_scatter MPI_Reduce_scatter
+#define MTest_Reduce_scatter_block MPI_Reduce_scatter_block
+#define MTest_Scan MPI_Scan
+#define MTest_Exscan MPI_Exscan
+#endif
