@@ -1,14 +1,17 @@
-"""What the programs of this folder are, and what each rank of them may print: the files `programs` and
+"""What the programs of c/examples and c/programs are, and what each rank of them may print: the files `programs` and
 NAME.expected; and which programs c/course has. c/run-all, c/run-course, c/build-all and c/examples/by-mpi use it."""
 
 import os
 import re
+import shlex
 
 FOLDER = os.path.dirname(os.path.abspath(__file__))
 COURSE = os.path.join(os.path.dirname(FOLDER), "course")
+PROGRAMS = os.path.join(os.path.dirname(FOLDER), "programs")
 
-# the line that begins the part of a rank, and the one that begins what `--why` tells
-HEAD = re.compile(r"rank ([0-7])|why")
+# the line that begins the part of a rank, with the code by which it ends where that isn't 0, and the one that begins what
+# `--why` tells
+HEAD = re.compile(r"rank ([0-7])(?: ends (\d+))?|why")
 
 
 class Source:
@@ -26,16 +29,22 @@ class Source:
 
 
 class Program(Source):
-    """A line of the file `programs`."""
+    """A line of the file `programs` of c/examples or c/programs."""
 
-    def __init__(self, name, kind, status, options):
-        super().__init__(FOLDER, name, options)
+    def __init__(self, folder, name, kind, status, options):
+        super().__init__(folder, name, options)
         self.kind, self.status = kind, int(status)
         self.ranks = int(options[options.index("-n") + 1])
+        self.arguments = self.values("--arg")
+        self.input = (self.values("--stdin") or [None])[0]
+
+    def values(self, option):
+        """The words that stand behind an option, each time that it is given."""
+        return [word for before, word in zip(self.options, self.options[1:]) if before == option]
 
     def expected(self):
         """What is expected of it, by its file."""
-        with open(os.path.join(FOLDER, self.name + ".expected"), encoding="ascii") as file:
+        with open(os.path.join(self.folder, self.name + ".expected"), encoding="ascii") as file:
             return Expected(file.read(), self.ranks)
 
 
@@ -44,6 +53,7 @@ class Expected:
 
     def __init__(self, text, ranks):
         self.parts = {rank: [] for rank in range(ranks)}
+        self.codes = [0] * ranks
         self.why = []
         lines = None
         for line in text.splitlines():
@@ -53,6 +63,7 @@ class Expected:
             elif head[1]:
                 lines = []
                 self.parts[int(head[1])].append(lines)
+                self.codes[int(head[1])] = int(head[2] or 0)
             else:
                 lines = self.why
         for parts in self.parts.values():
@@ -70,7 +81,7 @@ class Expected:
 def lines_of(folder):
     """The words of each line of a folder's file `programs`."""
     with open(os.path.join(folder, "programs"), encoding="ascii") as file:
-        return [line.split() for line in file if line.strip() and not line.startswith("#")]
+        return [shlex.split(line) for line in file if line.strip() and not line.startswith("#")]
 
 
 def course():
@@ -79,9 +90,9 @@ def course():
 
 
 def programs(names=()):
-    """The programs in the order of the file: those that are named, or all."""
-    found = [Program(*line[:3], line[3:]) for line in lines_of(FOLDER)]
+    """The programs of c/examples and of c/programs, in the order of their files: those that are named, or all."""
+    found = [Program(folder, *line[:3], line[3:]) for folder in (FOLDER, PROGRAMS) for line in lines_of(folder)]
     missing = set(names) - {program.name for program in found}
     if missing:
-        raise SystemExit(f"there is no program {', '.join(sorted(missing))} in the file `programs`")
+        raise SystemExit(f"there is no program {', '.join(sorted(missing))} in the files `programs`")
     return [program for program in found if not names or program.name in names]
