@@ -15,7 +15,7 @@ use Rattle.cl_state.specs.declared.state.RankState.{RankState}
 use Rattle.cl_order_laws.specs.Closed.{IsCovered, IsDone, IsSamePlace, Node, Plans, one_more}
 use Rattle.cl_order_laws.specs.Laws.{AreAlike, IsReached}
 use Rattle.cl_order_laws.specs.Sure.{Settles}
-use Rattle.cl_order_laws.proofs.Covered.{covered_on, only_one}
+use Rattle.cl_order_laws.proofs.Covered.{covered_among, covered_on, only_one}
 use Rattle.cl_order_laws.proofs.Likeness.{itself}
 use Rattle.cl_moves.specs.Ahead.{GoesAhead}
 use Rattle.cl_moves.specs.Posts.{most_posts}
@@ -24,9 +24,10 @@ use Rattle.cl_moves.proofs.Surely.{alike_by, sure_ahead, sure_more, went_covers}
 use Rattle.cl_moves.specs.Standing.{IsWay, StandsAt, by_order, node_of}
 use Rattle.cl_moves.specs.declared.standing.Standing.{Standing}
 use Rattle.cl_explore.specs.Kept.{AreSamePlaces, HaveStayedSince, IsBefore, IsKeptAs, IsKeptOf, IsLed, KeptStandsAt}
-use Rattle.cl_explore.specs.Covering.{AreAlikeNodes, AreNodes, Grows, IsClosedAt, IsReachedTurn, Reaches}
+use Rattle.cl_explore.specs.Covering.{AreAlikeNodes, AreJoined, AreLeads, AreNodes, Grows, HasLead, IsClosedAt, IsClosedFrom, IsReachedFrom, IsReachedTurn, LeadsGrow, Reaches}
 use Rattle.cl_explore.specs.Searching.{Arrives, GoesOn, IsFoundIn}
 use Rattle.cl_explore.specs.declared.kept.KeptNode.{KeptNode}
+use Rattle.cl_explore.specs.declared.leads.Lead.{Lead}
 use Rattle.cl_explore.proofs.Lists.{at_inside, at_last, stays_at, was_or_new}
 use Rattle.cl_explore.proofs.Keeping.{found_reached, kept_stands, led_more, node_found, start_found}
 use Rattle.cl_explore.proofs.Staying.{have_stayed}
@@ -119,17 +120,99 @@ reaches_on false order nodes here there cov next =
     covered_on (by_order order) (there ∷ []) nodes here cov
     (subst (λ (n : Node). IsCovered (by_order order) nodes n) (only_one there cov.node cov.index cov.there) next)
 
-pub turn_more : (sure : Bool) (order : List ℕ) (nodes more : List Node) (node : Node) (e : Step) → Grows nodes more
-    → IsReachedTurn sure order nodes node e → IsReachedTurn sure order more node e
-turn_more sure order nodes more node e grows reached = λ new leads.
-    reaches_more sure order nodes more (node_of new (one_more node.had e.rank)) grows (reached new leads)
+-- what nodes reach is reached by each list that has them
+pub among_one : (nodes : List Node) (i : ℕ) (node : Node) → slice_get nodes i ≡ Some node → (j : ℕ) (x : Node)
+    → slice_get (node ∷ []) j ≡ Some x → (k : ℕ) × (slice_get nodes k ≡ Some x)
+among_one nodes i node at j x is = (i, subst (λ y. slice_get nodes i ≡ Some y) (only_one node x j is) at)
 
-pub closed_more : (sure : Bool) (order : List ℕ) (nodes more : List Node) (node : Node) (r : ℕ) → Grows nodes more
-    → IsClosedAt sure order nodes node r → IsClosedAt sure order more node r
-closed_more sure order nodes more node r grows closed = λ rank at. elim (closed rank at) [
+module _ (plans : Plans) (nodes more : List Node)
+    (among : (i : ℕ) (node : Node) → slice_get nodes i ≡ Some node → (j : ℕ) × (slice_get more j ≡ Some node)) where
+  covered_in : (here : Node) → IsCovered plans nodes here → IsCovered plans more here
+  covered_in here cov = covered_among plans nodes more here cov (among cov.index cov.node cov.there)
+
+  pub settles_in : (most n : ℕ) (here : Node) → Settles plans most nodes n here → Settles plans most more n here
+  settles_in most zero here cov = covered_in here cov
+  settles_in most (suc n) here settles = elim settles [
+    | inl cov ↦ inl (covered_in here cov)
+    | inr on ↦ elim on [
+      | inl ahead ↦ inr (inl (ahead.0, ahead.1, settles_in most n ahead.0 ahead.2))
+      | inr turn ↦ inr (inr (
+        turn.0,
+        turn.1,
+        λ e new is hart leads.
+            settles_in most n (node_of new (one_more here.had turn.0)) (turn.2 e new is hart leads),
+      ))
+    ]
+  ]
+
+pub reaches_in : (sure : Bool) (order : List ℕ) (nodes : List Node) (i : ℕ) (node here : Node)
+    → slice_get nodes i ≡ Some node → Reaches sure order (node ∷ []) here → Reaches sure order nodes here
+reaches_in true order nodes i node here at settled =
+    (settled.0, settles_in (by_order order) (node ∷ []) nodes (among_one nodes i node at) most_posts settled.0 here settled.1)
+reaches_in false order nodes i node here at cov =
+    covered_in (by_order order) (node ∷ []) nodes (among_one nodes i node at) here cov
+
+-- ---- moves that led somewhere
+
+pub lead_more : (leads more : List Lead) (i j : ℕ) → LeadsGrow leads more → HasLead leads i j → HasLead more i j
+lead_more leads more i j grows led = (led.0, led.1, grows led.0 led.1 led.2, led.3, led.4)
+
+pub from_more : (sure : Bool) (order : List ℕ) (leads longer : List Lead) (i : ℕ) (nodes more : List Node) (here : Node)
+    → Grows nodes more → LeadsGrow leads longer → IsReachedFrom sure order leads i nodes here
+    → IsReachedFrom sure order longer i more here
+from_more sure order leads longer i nodes more here grows on reached = record {
+  number = reached.number;
+  next = reached.next;
+  led = lead_more leads longer i reached.number on reached.led;
+  there = grows reached.number reached.next reached.there;
+  reaches = reached.reaches;
+}
+
+pub turn_more : (sure : Bool) (order : List ℕ) (leads longer : List Lead) (i : ℕ) (nodes more : List Node) (node : Node)
+    (e : Step) → Grows nodes more → LeadsGrow leads longer → IsReachedTurn sure order leads i nodes node e
+    → IsReachedTurn sure order longer i more node e
+turn_more sure order leads longer i nodes more node e grows on reached = λ new is.
+    from_more sure order leads longer i nodes more (node_of new (one_more node.had e.rank)) grows on (reached new is)
+
+pub closed_more : (sure : Bool) (order : List ℕ) (leads longer : List Lead) (i : ℕ) (nodes more : List Node) (node : Node)
+    (r : ℕ) → Grows nodes more → LeadsGrow leads longer → IsClosedFrom sure order leads i nodes node r
+    → IsClosedFrom sure order longer i more node r
+closed_more sure order leads longer i nodes more node r grows on closed = λ rank at. elim (closed rank at) [
   | inl done ↦ inl done
-  | inr reached ↦ inr (λ e new is hart leads.
-      reaches_more sure order nodes more (node_of new (one_more node.had r)) grows (reached e new is hart leads))
+  | inr reached ↦ inr (λ e new is hart turn.
+      from_more sure order leads longer i nodes more (node_of new (one_more node.had r)) grows on (reached e new is hart turn))
+]
+
+-- a node that is closed so is closed over all nodes
+pub closed_over : (sure : Bool) (order : List ℕ) (leads : List Lead) (i : ℕ) (nodes : List Node) (node : Node) (r : ℕ)
+    → IsClosedFrom sure order leads i nodes node r → IsClosedAt sure order nodes node r
+closed_over sure order leads i nodes node r closed = λ rank at. elim (closed rank at) [
+  | inl done ↦ inl done
+  | inr reached ↦ inr (λ e new is hart turn.
+      let f = reached e new is hart turn in
+      reaches_in sure order nodes f.number f.next (node_of new (one_more node.had r)) f.there f.reaches)
+]
+
+-- what leads there are still lead between nodes that grow
+pub leads_more : (order : List ℕ) (nodes more : List Node) (leads : List Lead) → Grows nodes more
+    → AreLeads order nodes leads → AreLeads order more leads
+leads_more order nodes more leads grows are = λ k lead at.
+    let v = are k lead at in
+    (v.0, v.1, grows lead.from v.0 v.2, grows lead.to v.1 v.3, v.4)
+
+pub leads_on : (order : List ℕ) (nodes : List Node) (leads : List Lead) (lead : Lead) (from to : Node)
+    → AreLeads order nodes leads → slice_get nodes lead.from ≡ Some from → slice_get nodes lead.to ≡ Some to
+    → AreJoined order from to → AreLeads order nodes (leads ++ lead ∷ [])
+leads_on order nodes leads lead from to are start end joined = λ k x at. elim (was_or_new leads lead k x at) [
+  | inl was ↦ are k x was
+  | inr new ↦
+      let is : lead ≡ x = same_Some lead x new.1 in (
+        from,
+        to,
+        subst (λ (l : Lead). slice_get nodes l.from ≡ Some from) is start,
+        subst (λ (l : Lead). slice_get nodes l.to ≡ Some to) is end,
+        joined,
+      )
 ]
 
 pub are_more : (image : ImageParts) (order : List ℕ) (kept : List KeptNode) (nodes : List Node) (k : KeptNode) (node : Node)
@@ -215,7 +298,7 @@ alike_itself order here reached = record {
 
 -- alike a node that is kept
 pub arrives_found : (order : List ℕ) (kept : List KeptNode) (parent i : ℕ) (standing : Standing)
-    → IsFoundIn order kept standing i → Arrives order kept parent standing kept
+    → IsFoundIn order kept standing i → Arrives order kept parent standing kept i
 arrives_found order kept parent i standing in_it = λ image nodes before here are at from way.
     let v = are.each i in_it.0 in_it.1 in
     record {
@@ -223,7 +306,6 @@ arrives_found order kept parent i standing in_it = λ image nodes before here ar
       grows = grows_none nodes;
       are = are;
       holds = (
-        i,
         v.0,
         v.1,
         alike_found image order standing in_it.0 here v.0 at v.2
@@ -256,10 +338,10 @@ stayed_since image order kept (x ∷ nodes) parent standing before here are at f
     have_stayed image order k standing before here (subst (KeptStandsAt image k) same v.2) at way
 
 -- kept as one more
-pub arrives_new : (order : List ℕ) (kept new : List KeptNode) (parent : ℕ) (standing : Standing) (k : KeptNode)
-    (cluster : RanksAt) → (HaveStayedSince kept parent standing → cluster ≡ ranks_at standing.cluster)
-    → IsKeptAs standing cluster parent k → new ≡ kept ++ k ∷ [] → Arrives order kept parent standing new
-arrives_new order kept new parent standing k cluster beside keeps same = λ image nodes before here are at from way.
+pub arrives_new : (order : List ℕ) (kept new : List KeptNode) (parent number : ℕ) (standing : Standing) (k : KeptNode)
+    (cluster : RanksAt) → number ≡ length kept → (HaveStayedSince kept parent standing → cluster ≡ ranks_at standing.cluster)
+    → IsKeptAs standing cluster parent k → new ≡ kept ++ k ∷ [] → Arrives order kept parent standing new number
+arrives_new order kept new parent number standing k cluster last beside keeps same = λ image nodes before here are at from way.
     let is = kept_of standing parent k cluster keeps
     (beside (stayed_since image order kept nodes parent standing before here are at from way)) in
     let reached = found_reached image order here
@@ -274,5 +356,9 @@ arrives_new order kept new parent standing k cluster beside keeps same = λ imag
             from = subst (λ p. IsBefore image nodes p (length nodes) before) (sym is.parent_is) from;
             way = subst (λ es. IsWay (by_order order) before es here) (sym is.turns) way;
           }));
-      holds = (length nodes, here, at_last nodes here, alike_itself order here reached);
+      holds = (
+        here,
+        subst (λ n. slice_get (nodes ++ here ∷ []) n ≡ Some here) (are.many ∙ sym last) (at_last nodes here),
+        alike_itself order here reached,
+      );
     }

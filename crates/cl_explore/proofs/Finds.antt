@@ -1,5 +1,5 @@
 -- The search as a whole.
-use Rattle.std.specs.Prelude.{ℕ, zero, suc, ◌+◌, ◌<◌, ◌≤◌, ◌≡◌, ◌⊎◌, List, [], ◌∷◌, ◌++◌, length, reverse, slice_get, Some, Bool, true, false, Result, Ok, Err, IfOk, map}
+use Rattle.std.specs.Prelude.{ℕ, zero, suc, ◌+◌, ◌<◌, ◌≤◌, ◌≡◌, ◌⊎◌, List, [], ◌∷◌, ◌++◌, length, option_map, reverse, slice_get, Option, None, Some, Bool, true, false, Result, Ok, Err, IfOk, map}
 use Rattle.std.proofs.Common.{refl, sym, ap, ◌∙◌, subst, arith, inl, inr}
 use Rattle.std.proofs.lemmas.Bool.{cases_eq}
 use Rattle.std.proofs.lemmas.List.{reverse-append, reverse-reverse}
@@ -19,23 +19,30 @@ use Rattle.cl_moves.specs.Standing.{IsStart, IsWay, StandsAt, by_order, first_no
 use Rattle.cl_moves.specs.Posts.{most_posts}
 use Rattle.cl_moves.specs.declared.standing.Standing.{Standing}
 use Rattle.cl_explore.specs.Kept.{IsBefore, IsLed}
-use Rattle.cl_explore.specs.Covering.{AreNodes, HasRoom, HasRoomAt, IsClosedAt, Reaches}
-use Rattle.cl_explore.specs.Ends.{AreAllEnds, AreTurnsTo, BeginsAt, BeginsWell, Explored, ExploredFrom, ExploresFrom, Notes}
+use Rattle.rv_image.specs.Image.{IsImage}
+use Rattle.cl_deadlock.specs.Why.{IsVerdictOf}
+use Rattle.cl_explore.specs.Companies.{IsCompanyAt, IsJudged, NotesStuck}
+use Rattle.cl_explore.specs.Covering.{AreLeads, AreNodes, HasRoom, HasRoomAt, IsClosedAt, IsClosedFrom, Reaches}
+use Rattle.cl_explore.specs.Ends.{AreAllEnds, AreTurnsTo, BeginsAt, BeginsWell, Explored, ExploredFrom, ExploresFrom, Findings, Notes}
 use Rattle.cl_explore.specs.Orders.{named}
-use Rattle.cl_explore.specs.Searching.{Arrives, GoesOn, IsVisited, KeepsOf}
+use Rattle.cl_explore.specs.Searching.{AreFound, Arrives, FindsMore, GoesOn, IsVisited, KeepsOf}
+use Rattle.cl_explore.specs.declared.companies.Company.{Company}
 use Rattle.cl_explore.specs.declared.kept.KeptNode.{KeptNode}
+use Rattle.cl_explore.specs.declared.moving.Visit.{Visit}
+use Rattle.cl_explore.specs.declared.search.Search.{Search}
 use Rattle.cl_explore.proofs.Lists.{at_inside, at_last, stays_at, was_or_new}
 use Rattle.cl_explore.proofs.Keeping.{led_at, no_way, way_on}
-use Rattle.cl_explore.proofs.Covers.{closed_more, covered_alike, reaches_covered, reaches_more}
+use Rattle.cl_explore.proofs.Covers.{closed_more, closed_over, covered_alike, reaches_covered, reaches_more}
 
 -- ---- the first node
 
 no_nodes : (image : ImageParts) (order : List ℕ) → AreNodes image order [] []
 no_nodes image order = record { many = refl; each = λ i k at. absurd (cc) }
 
-pub begins : (sure : Bool) (order : List ℕ) (none new : List KeptNode) (start there : Standing) → none ≡ []
-    → GoesOn sure order start there → Arrives order none 0 there new → BeginsAt sure order start new
-begins sure order none new start there empty ahead arrives = λ image here stands way.
+pub begins : (sure : Bool) (order : List ℕ) (none : List KeptNode) (new : Search) (number : ℕ) (start there : Standing)
+    → none ≡ [] → new.leads.items ≡ [] → GoesOn sure order start there
+    → Arrives order none 0 there new.nodes.items number → BeginsAt sure order start new
+begins sure order none new number start there empty still ahead arrives = λ image here stands way.
     let first = first_node image in
     let plans = by_order order in
     let far = ahead image first here stands way (image, [], refl) in
@@ -45,136 +52,194 @@ begins sure order none new start there empty ahead arrives = λ image here stand
     record {
       nodes = kept.more;
       are = kept.are;
+      still = still;
       start_is = far.3 kept.more (reaches_covered sure order kept.more far.0
-          (covered_alike plans kept.more far.0 alike.1 alike.0 alike.3 alike.2));
+          (covered_alike plans kept.more far.0 alike.0 number alike.2 alike.1));
     }
 
 -- ---- so many nodes were visited
 
-pub record SoFar (sure : Bool) (image : ImageParts) (order : List ℕ) (start : Node) (kept : List KeptNode)
-    (ends : List ℕ) (done : ℕ) : Type 0 where
+pub record SoFar (sure : Bool) (image : ImageParts) (order : List ℕ) (start : Node) (search : Search)
+    (ends : List ℕ) (companies : List Company) (done : ℕ) : Type 0 where
   pub nodes : List Node
-  pub are : AreNodes image order kept nodes
+  pub found : AreFound image order search nodes
   pub start_is : Reaches sure order nodes start
-  pub closed : (i r : ℕ) (node : Node) → i < done → slice_get nodes i ≡ Some node → IsClosedAt sure order nodes node r
+  pub closed : (i r : ℕ) (node : Node) → i < done → slice_get nodes i ≡ Some node
+      → IsClosedFrom sure order search.leads.items i nodes node r
   pub few : (i : ℕ) (node : Node) → i < done → slice_get nodes i ≡ Some node → HasRoom sure (hub_of node.cluster.journal)
   pub told : (k i : ℕ) → slice_get ends k ≡ Some i
       → (node : Node) × (slice_get nodes i ≡ Some node) × IsEnd (by_order order) node.cluster
   pub all : (i : ℕ) (node : Node) → i < done → slice_get nodes i ≡ Some node → IsEnd (by_order order) node.cluster
       → (k : ℕ) × (slice_get ends k ≡ Some i)
+  pub stuck : IsImage image → (k : ℕ) (company : Company) → slice_get companies k ≡ Some company
+      → IsCompanyAt nodes company
+  pub judged : IsImage image → (i : ℕ) (node : Node) → i < done → slice_get nodes i ≡ Some node
+      → IsJudged companies i node.cluster
 
-pub none_so_far : (sure : Bool) (image : ImageParts) (order : List ℕ) (start : Node) (kept : List KeptNode)
-    (ends : List ℕ) → BeginsWell sure image order start kept → ends ≡ [] → SoFar sure image order start kept ends 0
-none_so_far sure image order start kept ends begun none = record {
+pub none_so_far : (sure : Bool) (image : ImageParts) (order : List ℕ) (start : Node) (search : Search)
+    (ends : List ℕ) (companies : List Company) → BeginsWell sure image order start search → ends ≡ [] → companies ≡ []
+    → SoFar sure image order start search ends companies 0
+none_so_far sure image order start search ends companies begun none nobody = record {
   nodes = begun.nodes;
-  are = begun.are;
+  found = record {
+    are = begun.are;
+    leads = λ k lead at.
+        let no : slice_get [] k ≡ Some lead = subst (λ xs. slice_get xs k ≡ Some lead) begun.still at in absurd (cc);
+  };
   start_is = begun.start_is;
   closed = λ i r node low at. absurd (omega (arith, low));
   few = λ i node low at. absurd (omega (arith, low));
   told = λ k i at.
       let no : slice_get [] k ≡ Some i = subst (λ xs. slice_get xs k ≡ Some i) none at in absurd (cc);
   all = λ i node low at end. absurd (omega (arith, low));
+  stuck = λ right k company at.
+      let no : slice_get [] k ≡ Some company = subst (λ xs. slice_get xs k ≡ Some company) nobody at in absurd (cc);
+  judged = λ right i node low at. absurd (omega (arith, low));
 }
 
-module _ (sure : Bool) (image : ImageParts) (order : List ℕ) (start : Node) (old new : List KeptNode) (ends : List ℕ)
-    (done : ℕ) (explored : SoFar sure image order start old ends done) (inside : done < length old)
-    (room : HasRoomAt sure old done) (end : Bool) (visit : KeepsOf order old done new (IsVisited sure order end)) where
+-- ---- companies that are noted
+
+noted_stays : (old new : List Company) (stuck : Option (List ℕ)) (node : ℕ) → NotesStuck old stuck node new
+    → (k : ℕ) (company : Company) → slice_get old k ≡ Some company → slice_get new k ≡ Some company
+noted_stays old new None node notes k company at = subst (λ cs. slice_get cs k ≡ Some company) (sym notes) at
+noted_stays old new (Some ranks) node notes k company at =
+    subst (λ cs. slice_get cs k ≡ Some company) (sym notes.3) (stays_at old notes.0 k company at)
+
+noted_before : (old new : List Company) (stuck : Option (List ℕ)) (node : ℕ) → NotesStuck old stuck node new
+    → (k : ℕ) (company : Company) → slice_get new k ≡ Some company
+    → (slice_get old k ≡ Some company) ⊎ ((company.node ≡ node) × (stuck ≡ Some company.ranks.items))
+noted_before old new None node notes k company at = inl (subst (λ cs. slice_get cs k ≡ Some company) notes at)
+noted_before old new (Some ranks) node notes k company at =
+    elim (was_or_new old notes.0 k company (subst (λ cs. slice_get cs k ≡ Some company) notes.3 at)) [
+      | inl was ↦ inl was
+      | inr last ↦
+          let is : notes.0 ≡ company = same_Some notes.0 company last.1 in
+          inr (
+            ap (λ (c : Company). c.node) (sym is) ∙ notes.1,
+            ap (λ rs. Some rs) (sym notes.2 ∙ ap (λ (c : Company). c.ranks.items) is),
+          )
+    ]
+
+-- the verdict on the node is noted, if it is one
+noted_now : (old new : List Company) (stuck : Option (List ℕ)) (node : ℕ) (cluster : Cluster)
+    → NotesStuck old stuck node new → IsVerdictOf cluster stuck → IsJudged new node cluster
+noted_now old new None node cluster notes verdict = inl verdict
+noted_now old new (Some ranks) node cluster notes verdict = inr (
+  length old,
+  notes.0,
+  subst (λ cs. slice_get cs (length old) ≡ Some notes.0) (sym notes.3) (at_last old notes.0),
+  notes.1,
+  subst (λ rs. IsVerdictOf cluster (Some rs)) (sym notes.2) verdict,
+)
+
+judged_still : (old new : List Company) (stuck : Option (List ℕ)) (node : ℕ) → NotesStuck old stuck node new → (i : ℕ)
+    (cluster : Cluster) → IsJudged old i cluster → IsJudged new i cluster
+judged_still old new stuck node notes i cluster (inl none) = inl none
+judged_still old new stuck node notes i cluster (inr noted) =
+    inr (noted.0, noted.1, noted_stays old new stuck node notes noted.0 noted.1 noted.2, noted.3, noted.4)
+
+-- ---- one node more
+
+-- the ends are told so far, and of the node itself if it is one
+record EndsNoted (ends now : List ℕ) (done : ℕ) (end : Bool) : Type 0 where
+  was : (k i : ℕ) → slice_get now k ≡ Some i → (slice_get ends k ≡ Some i) ⊎ ((i ≡ done) × (end ≡ true))
+  stays : (k i : ℕ) → slice_get ends k ≡ Some i → slice_get now k ≡ Some i
+  here : end ≡ true → (k : ℕ) × (slice_get now k ≡ Some done)
+
+ends_noted : (ends now : List ℕ) (done : ℕ) (end : Bool) → Notes ends end done now → EndsNoted ends now done end
+ends_noted ends now done true notes = subst (λ xs. EndsNoted ends xs done true) (sym notes) (record {
+  was = λ k i at. elim (was_or_new ends done k i at) [
+    | inl before ↦ inl before
+    | inr last ↦ inr (sym (same_Some done i last.1), refl)
+  ];
+  stays = λ k i at. stays_at ends done k i at;
+  here = λ its. (length ends, at_last ends done);
+})
+ends_noted ends now done false notes = subst (λ xs. EndsNoted ends xs done false) (sym notes) (record {
+  was = λ k i at. inl at;
+  stays = λ k i at. at;
+  here = λ is. absurd (cc);
+})
+
+module _ (sure : Bool) (image : ImageParts) (order : List ℕ) (start : Node) (old new : Search) (ends now : List ℕ)
+    (companies after : List Company) (done : ℕ) (explored : SoFar sure image order start old ends companies done)
+    (inside : done < length old.nodes.items) (room : HasRoomAt sure old.nodes.items done) (visit : Visit)
+    (visits : KeepsOf order old done new (IsVisited sure order new.leads.items done visit)) where
   abbrev nodes : List Node
   nodes = explored.nodes
 
   node : (node : Node) × (slice_get nodes done ≡ Some node)
-  node = at_inside nodes done (subst (λ c. done < c) (sym (explored.are).many) inside)
+  node = at_inside nodes done (subst (λ c. done < c) (sym ((explored.found).are).many) inside)
 
   node_room : HasRoom sure (hub_of (node.0).cluster.journal)
   node_room =
-      let v = led_at image order old nodes explored.are done node.0 node.1 in
+      let v = led_at image order old.nodes.items nodes (explored.found).are done node.0 node.1 in
       subst (HasRoom sure) (v.2).whole (room v.0 v.1)
 
-  -- one node more was visited, and the ends are told so far
-  more : (now : List ℕ)
-      → ((k i : ℕ) → slice_get now k ≡ Some i
-      → (slice_get ends k ≡ Some i) ⊎ ((i ≡ done) × (end ≡ true)))
-      → ((k i : ℕ) → slice_get ends k ≡ Some i → slice_get now k ≡ Some i)
-      → (end ≡ true → (k : ℕ) × (slice_get now k ≡ Some done)) → SoFar sure image order start new now (done + 1)
-  more now was stays here =
-      let far = visit image nodes node.0 explored.are node.1 in
-      let there = far.grows done node.0 node.1 in
+  far : FindsMore image order old nodes new (λ more. IsVisited sure order new.leads.items done visit image more node.0)
+  far = visits image nodes node.0 explored.found node.1
+
+  there : slice_get far.more done ≡ Some node.0
+  there = far.grows done node.0 node.1
+
+  -- a node that was visited before, or the last one
+  each : (P : ℕ → Node → Type 0) → P done node.0 → ((i : ℕ) (x : Node) → i < done → slice_get nodes i ≡ Some x → P i x)
+      → (i : ℕ) (x : Node) → i < done + 1 → slice_get far.more i ≡ Some x → P i x
+  each P last before i x low at = elim (cases_eq done i) [
+    | inl same ↦
+        let is : node.0 ≡ x = same_Some node.0 x (sym there ∙ subst (λ j. slice_get far.more j ≡ Some x) (sym same) at) in
+        subst (λ j. P j x) same (subst (P done) is last)
+    | inr other ↦
+        let y = at_inside nodes i (omega (arith, low, other, inside, ((explored.found).are).many)) in
+        subst (P i) (same_Some y.0 x (sym (far.grows i y.0 y.1) ∙ at)) (before i y.0 (omega (arith, low, other)) y.1)
+  ]
+
+  -- its number is still one of those that are kept
+  pub still_inside : done < length new.nodes.items
+  still_inside =
+      let low = slice_get_within far.more done node.0 there in omega (arith, low, ((far.found).are).many)
+
+  pub more : Notes ends visit.end done now
+      → NotesStuck companies (option_map (λ ranks. ranks.items) visit.stuck) done after
+      → SoFar sure image order start new now after (done + 1)
+  more ended stuck =
+      let noted = ends_noted ends now done visit.end ended in
       record {
         nodes = far.more;
-        are = far.are;
+        found = far.found;
         start_is = reaches_more sure order nodes far.more start far.grows explored.start_is;
-        closed = λ i r x low at. elim (cases_eq done i) [
-          | inl same ↦
-              subst (λ y. IsClosedAt sure order far.more y r)
-              (same_Some node.0 x (sym there ∙ subst (λ j. slice_get far.more j ≡ Some x) (sym same) at)) (far.holds.0 r)
-          | inr other ↦
-              let y = earlier i (omega (arith, low, other)) in
-              subst (λ z. IsClosedAt sure order far.more z r) (same_Some y.0 x (sym (far.grows i y.0 y.1) ∙ at))
-              (closed_more sure order nodes far.more y.0 r far.grows
-              (explored.closed i r y.0 (omega (arith, low, other)) y.1))
-        ];
-        few = λ i x low at. elim (cases_eq done i) [
-          | inl same ↦
-              subst (λ (y : Node). HasRoom sure (hub_of y.cluster.journal))
-              (same_Some node.0 x (sym there ∙ subst (λ j. slice_get far.more j ≡ Some x) (sym same) at)) node_room
-          | inr other ↦
-              let y = earlier i (omega (arith, low, other)) in
-              subst (λ (z : Node). HasRoom sure (hub_of z.cluster.journal)) (same_Some y.0 x (sym (far.grows i y.0 y.1) ∙ at))
-              (explored.few i y.0 (omega (arith, low, other)) y.1)
-        ];
-        told = λ k i at. elim (was k i at) [
+        closed = λ i r x low at.
+            each (λ j y. IsClosedFrom sure order new.leads.items j far.more y r) ((far.holds).closed r)
+            (λ j y less was. closed_more sure order old.leads.items new.leads.items j nodes far.more y r far.grows far.leads
+            (explored.closed j r y less was)) i x low at;
+        few = each (λ j y. HasRoom sure (hub_of y.cluster.journal)) node_room explored.few;
+        told = λ k i at. elim (noted.was k i at) [
           | inl before ↦ let v = explored.told k i before in (v.0, far.grows i v.0 v.1, v.2)
           | inr last ↦ (
             node.0,
             subst (λ j. slice_get far.more j ≡ Some node.0) (sym last.0) there,
-            (far.holds.1).0 last.1,
+            ((far.holds).end).0 last.1,
           )
         ];
-        all = λ i x low at ended. elim (cases_eq done i) [
-          | inl same ↦
-              let is : node.0 ≡ x = same_Some node.0 x (sym there ∙ subst (λ j. slice_get far.more j ≡ Some x) (sym same) at) in
-              let k = here ((far.holds.1).1 (subst (λ (y : Node). IsEnd (by_order order) y.cluster) (sym is) ended)) in
-              (k.0, k.1 ∙ ap (λ j. Some j) same)
-          | inr other ↦
-              let y = earlier i (omega (arith, low, other)) in
-              let is : y.0 ≡ x = same_Some y.0 x (sym (far.grows i y.0 y.1) ∙ at) in
-              let k = explored.all i y.0 (omega (arith, low, other)) y.1
-              (subst (λ (z : Node). IsEnd (by_order order) z.cluster) (sym is) ended) in
-              (k.0, stays k.0 i k.1)
-        ];
+        all = each (λ j y. IsEnd (by_order order) y.cluster → (k : ℕ) × (slice_get now k ≡ Some j))
+            (λ is. noted.here (((far.holds).end).1 is))
+            (λ j y less was is. let k = explored.all j y less was is in (k.0, noted.stays k.0 j k.1));
+        stuck = λ right k company at.
+            elim (noted_before companies after (option_map (λ ranks. ranks.items) visit.stuck) done stuck k company at) [
+              | inl before ↦ let v = explored.stuck right k company before in (v.0, far.grows company.node v.0 v.1, v.2)
+              | inr last ↦ (
+                node.0,
+                subst (λ j. slice_get far.more j ≡ Some node.0) (sym last.0) there,
+                subst (IsVerdictOf (node.0).cluster) last.1 ((far.holds).stuck right),
+              )
+            ];
+        judged = λ right.
+            each (λ j y. IsJudged after j y.cluster)
+            (noted_now companies after (option_map (λ ranks. ranks.items) visit.stuck) done (node.0).cluster stuck
+            ((far.holds).stuck right))
+            (λ j y less was. judged_still companies after (option_map (λ ranks. ranks.items) visit.stuck) done stuck j
+            y.cluster (explored.judged right j y less was));
       }
-    where
-      earlier : (i : ℕ) → i < done → (y : Node) × (slice_get nodes i ≡ Some y)
-      earlier i low = at_inside nodes i (omega (arith, low, inside, (explored.are).many))
-
-  -- its number is still one of those that are kept
-  pub still_inside : done < length new
-  still_inside =
-      let far = visit image nodes node.0 explored.are node.1 in
-      let low = slice_get_within far.more done node.0 (far.grows done node.0 node.1) in omega (arith, low, (far.are).many)
-
-  pub more_ended : end ≡ true → (now : List ℕ) → now ≡ ends ++ done ∷ [] → SoFar sure image order start new now (done + 1)
-  more_ended is now same = subst (λ xs. SoFar sure image order start new xs (done + 1)) (sym same)
-      (more (ends ++ done ∷ [])
-      (λ k i at. elim (was_or_new ends done k i at) [
-        | inl before ↦ inl before
-        | inr last ↦ inr (sym (same_Some done i last.1), is)
-      ])
-      (λ k i at. stays_at ends done k i at)
-      (λ its. (length ends, at_last ends done)))
-
-  pub more_going : end ≡ false → SoFar sure image order start new ends (done + 1)
-  more_going not_end = more ends (λ k i at. inl at) (λ k i at. at)
-      (λ is. let no : true ≡ false = sym is ∙ not_end in absurd (cc))
-
-pub more_noted : (sure : Bool) (image : ImageParts) (order : List ℕ) (start : Node) (old new : List KeptNode)
-    (ends now : List ℕ) (done : ℕ) → SoFar sure image order start old ends done → done < length old
-    → HasRoomAt sure old done → (end : Bool) → KeepsOf order old done new (IsVisited sure order end) → Notes ends end done now → SoFar sure image order start new now (done + 1)
-more_noted sure image order start old new ends now done explored inside room true visit notes =
-    more_ended sure image order start old new ends done explored inside room true visit refl now notes
-more_noted sure image order start old new ends now done explored inside room false visit notes =
-    subst (λ xs. SoFar sure image order start new xs (done + 1)) (sym notes)
-    (more_going sure image order start old new ends done explored inside room false visit refl)
 
 -- ---- in the end
 
@@ -192,79 +257,101 @@ ends_by false order nodes start reach room closed few = λ steps end run follow 
     every_end_law (by_order order) nodes start reach
     (record { each = λ i r node rank at here. closed i r node at rank here }) steps end run follow ended
 
-module _ (sure : Bool) (image : ImageParts) (order : List ℕ) (start : Node) (kept : List KeptNode) (ends : List ℕ)
-    (done : ℕ) (explored : SoFar sure image order start kept ends done) (room : HasRoom sure (hub_of start.cluster.journal))
-  where
-    all_ends : length kept ≤ done → AreAllEnds order start explored.nodes ends
-    all_ends all = λ steps end run follow ended.
-        let low : (i : ℕ) (node : Node) → slice_get explored.nodes i ≡ Some node → i < done =
-        λ i node at.
-        let inside = slice_get_within explored.nodes i node at in omega (arith, inside, all, (explored.are).many) in
-        let found = ends_by sure order explored.nodes start explored.start_is room
-        (λ i r node at. explored.closed i r node (low i node at) at) (λ i node at. explored.few i node (low i node at) at)
-        steps end run follow ended in
-        let k = explored.all found.0 found.1 (low found.0 found.1 found.2) found.2
-        (ends_law.ends (by_order order) end (found.1).cluster found.3 ended) in
-        (k.0, found.0, found.1, k.1, found.2, found.3)
+module _ (sure : Bool) (image : ImageParts) (order : List ℕ) (start : Node) (search : Search) (found : Findings)
+    (done : ℕ) (explored : SoFar sure image order start search found.ends found.companies done)
+    (kept : found.kept ≡ search.nodes.items) (leads : found.leads ≡ search.leads.items)
+    (room : HasRoom sure (hub_of start.cluster.journal)) where
+  abbrev them : List Node
+  them = explored.nodes
 
-    pub tells_all : (left : ℕ) → length kept ≤ done + left
-        → (e : ExploredFrom image order start kept ends left) × (e.sure ≡ sure)
-    tells_all left many = (
-      record {
-        nodes = explored.nodes;
-        are = explored.are;
-        sure = sure;
-        start_is = explored.start_is;
-        room = room;
-        closed = λ i r node visited. explored.closed i r node (low i visited.0) visited.1;
-        few = λ i node visited. explored.few i node (low i visited.0) visited.1;
-        sound = explored.told;
-        told = λ i node visited ended. explored.all i node (low i visited.0) visited.1 ended;
-        all = λ is. all_ends (omega (arith, is, many));
-      },
-      refl,
-    )
-      where
-        low : (i : ℕ) → i + left < length explored.nodes → i < done
-        low i inside = omega (arith, inside, many, (explored.are).many)
+  closed_at : (i r : ℕ) (node : Node) → i < done → slice_get them i ≡ Some node → IsClosedAt sure order them node r
+  closed_at i r node low at =
+      closed_over sure order search.leads.items i them node r (explored.closed i r node low at)
+
+  all_ends : length search.nodes.items ≤ done → AreAllEnds order start them found.ends
+  all_ends all = λ steps end run follow ended.
+      let low : (i : ℕ) (node : Node) → slice_get them i ≡ Some node → i < done =
+      λ i node at.
+      let inside = slice_get_within them i node at in omega (arith, inside, all, ((explored.found).are).many) in
+      let one = ends_by sure order them start explored.start_is room
+      (λ i r node at. closed_at i r node (low i node at) at) (λ i node at. explored.few i node (low i node at) at)
+      steps end run follow ended in
+      let k = explored.all one.0 one.1 (low one.0 one.1 one.2) one.2
+      (ends_law.ends (by_order order) end (one.1).cluster one.3 ended) in
+      (k.0, one.0, one.1, k.1, one.2, one.3)
+
+  pub tells_all : length search.nodes.items ≤ done + found.left
+      → (e : ExploredFrom image order start found) × (e.sure ≡ sure)
+  tells_all many = (
+    record {
+      nodes = them;
+      are = subst (λ ks. AreNodes image order ks them) (sym kept) (explored.found).are;
+      sure = sure;
+      start_is = explored.start_is;
+      room = room;
+      leads = subst (AreLeads order them) (sym leads) (explored.found).leads;
+      follows = λ i r node visited.
+          subst (λ ls. IsClosedFrom sure order ls i them node r) (sym leads)
+          (explored.closed i r node (low i visited.0) visited.1);
+      closed = λ i r node visited. closed_at i r node (low i visited.0) visited.1;
+      few = λ i node visited. explored.few i node (low i visited.0) visited.1;
+      sound = explored.told;
+      told = λ i node visited ended. explored.all i node (low i visited.0) visited.1 ended;
+      stuck = explored.stuck;
+      judged = λ right i node visited. explored.judged right i node (low i visited.0) visited.1;
+      all = λ is. all_ends (omega (arith, is, many));
+    },
+    refl,
+  )
+    where
+      low : (i : ℕ) → i + found.left < length them → i < done
+      low i inside = omega (arith, inside, many, ((explored.found).are).many)
 
 -- ---- from whichever node the search begins at
 
 -- so it is, and the moves of no more nodes were made than are there
-abbrev pub SoFarFrom : Bool → List ℕ → Standing → List KeptNode → List ℕ → ℕ → Type 0
-SoFarFrom sure order standing kept ends done =
+abbrev pub SoFarFrom : Bool → List ℕ → Standing → Search → List ℕ → List Company → ℕ → Type 0
+SoFarFrom sure order standing search ends companies done =
     (image : ImageParts) (here : Node) → StandsAt image standing here
     → IsWay (by_order order) (first_node image) standing.steps.items here
-    → SoFar sure image order here kept ends done × (done ≤ length kept)
+    → SoFar sure image order here search ends companies done × (done ≤ length search.nodes.items)
 
-pub none_from : (sure : Bool) (order : List ℕ) (standing : Standing) (kept : List KeptNode) (ends : List ℕ)
-    → BeginsAt sure order standing kept → ends ≡ [] → SoFarFrom sure order standing kept ends 0
-none_from sure order standing kept ends begun none = λ image here stands way. (
-  none_so_far sure image order here kept ends (begun image here stands way) none,
+pub none_from : (sure : Bool) (order : List ℕ) (standing : Standing) (search : Search) (ends : List ℕ)
+    (companies : List Company) → BeginsAt sure order standing search → ends ≡ [] → companies ≡ []
+    → SoFarFrom sure order standing search ends companies 0
+none_from sure order standing search ends companies begun none nobody = λ image here stands way. (
+  none_so_far sure image order here search ends companies (begun image here stands way) none nobody,
   omega (arith),
 )
 
-pub more_from : (sure : Bool) (order : List ℕ) (standing : Standing) (old new : List KeptNode) (ends now : List ℕ)
-    (done : ℕ) → SoFarFrom sure order standing old ends done → done < length old → HasRoomAt sure old done → (end : Bool)
-    → KeepsOf order old done new (IsVisited sure order end) → Notes ends end done now
-    → SoFarFrom sure order standing new now (done + 1)
-more_from sure order standing old new ends now done so_far inside room end visit notes = λ image here stands way.
+pub more_from : (sure : Bool) (order : List ℕ) (standing : Standing) (old new : Search) (ends now : List ℕ)
+    (companies after : List Company) (done : ℕ) → SoFarFrom sure order standing old ends companies done
+    → done < length old.nodes.items → HasRoomAt sure old.nodes.items done → (visit : Visit)
+    → KeepsOf order old done new (IsVisited sure order new.leads.items done visit) → Notes ends visit.end done now
+    → NotesStuck companies (option_map (λ ranks. ranks.items) visit.stuck) done after
+    → SoFarFrom sure order standing new now after (done + 1)
+more_from sure order standing old new ends now companies after done so_far inside room visit visits notes stuck =
+    λ image here stands way.
     let s = so_far image here stands way in
-    let still = still_inside sure image order here old new ends done s.0 inside room end visit in
-    (more_noted sure image order here old new ends now done s.0 inside room end visit notes, omega (arith, still))
+    let still = still_inside sure image order here old new ends now companies after done s.0 inside room visit visits in (
+      more sure image order here old new ends now companies after done s.0 inside room visit visits notes stuck,
+      omega (arith, still),
+    )
 
-pub tells_from : (sure : Bool) (order : List ℕ) (standing : Standing) (kept : List KeptNode) (ends : List ℕ)
-    (done left : ℕ) → HasRoom sure standing.whole → SoFarFrom sure order standing kept ends done
-    → length kept ≤ done + left → ExploresFrom sure order standing kept ends left
-tells_from sure order standing kept ends done left room so_far many = λ image here stands way.
-    tells_all sure image order here kept ends done (so_far image here stands way).0
-    (subst (HasRoom sure) stands.whole room) left many
+pub tells_from : (sure : Bool) (order : List ℕ) (standing : Standing) (search : Search) (found : Findings)
+    (done : ℕ) → HasRoom sure standing.whole
+    → SoFarFrom sure order standing search found.ends found.companies done → found.kept ≡ search.nodes.items
+    → found.leads ≡ search.leads.items → length search.nodes.items ≤ done + found.left
+    → ExploresFrom sure order standing found
+tells_from sure order standing search found done room so_far kept leads many = λ image here stands way.
+    tells_all sure image order here search found done (so_far image here stands way).0 kept leads
+    (subst (HasRoom sure) stands.whole room) many
 
 -- from the loaded cluster
-pub explored_start : (sure : Bool) (image : ImageParts) (order : List ℕ) (standing : Standing) (kept : List KeptNode)
-    (ends : List ℕ) (left : ℕ) → IsStart image standing → ExploresFrom sure order standing kept ends left
-    → (e : Explored image order kept ends left) × (e.sure ≡ sure)
-explored_start sure image order standing kept ends left start explores =
+pub explored_start : (sure : Bool) (image : ImageParts) (order : List ℕ) (standing : Standing) (found : Findings)
+    → IsStart image standing → ExploresFrom sure order standing found
+    → (e : Explored image order found) × (e.sure ≡ sure)
+explored_start sure image order standing found start explores =
     explores image (first_node image) start.stands
     (no_way (by_order order) (first_node image) standing.steps.items start.steps)
 

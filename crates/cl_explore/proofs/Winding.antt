@@ -1,7 +1,8 @@
 -- Turns that are kept as runs, and wound off again.
-use Rattle.std.specs.Prelude.{ℕ, suc, ◌+◌, ◌-◌, ◌<◌, ◌≡◌, List, [], ◌∷◌, ◌++◌, reverse}
-use Rattle.std.proofs.Common.{sym, ap, ◌∙◌, subst, arith}
-use Rattle.std.proofs.lemmas.List.{append-nil, append_assoc, reverse-append}
+use Rattle.std.specs.Prelude.{ℕ, zero, suc, ◌+◌, ◌-◌, ◌<◌, ◌≡◌, List, [], ◌∷◌, ◌++◌, length, reverse, slice_get, Some, take}
+use Rattle.std.proofs.Common.{refl, sym, ap, ◌∙◌, subst, arith}
+use Rattle.std.proofs.lemmas.List.{append-nil, append_assoc, length-append, reverse-append}
+use Rattle.std.proofs.lemmas.Option.{same_Some}
 use Rattle.cl_machine.specs.declared.steps.Step.{Step}
 use Rattle.cl_order_laws.specs.Alike.{at_stamp}
 use Rattle.cl_explore.specs.Runs.{Continues, all_turns, later, run_turns}
@@ -66,3 +67,35 @@ run_back left before run back new all is more was =
     ∙ (ap reverse (all_more before run) ∙ reverse-append (all_turns before) (run_turns run)) in
     ap (λ es. es ++ reverse (all_turns before)) more
     ∙ (append_assoc back (reverse (run_turns run)) (reverse (all_turns before)) ∙ (ap (λ es. back ++ es) (sym turns) ∙ was))
+
+-- ---- how many
+
+later_length : (turn : Step) (n : ℕ) → length (later turn n) ≡ n
+later_length turn zero = refl
+later_length turn (suc n) =
+    let e = later_length turn n in
+    omega (arith, e, length-append (later turn n) (at_stamp turn (turn.stamp + suc n) ∷ []))
+
+pub run_length : (run : Run) → length (run_turns run) ≡ suc (run.last - run.turn.stamp)
+run_length run = ap suc (later_length run.turn (run.last - run.turn.stamp))
+
+-- the turns of the first so many runs
+pub counted_next : (runs : List Run) (place : ℕ) (run : Run) → slice_get runs place ≡ Some run
+    → length (all_turns (take (suc place) runs)) ≡ length (all_turns (take place runs)) + length (run_turns run)
+counted_next [] place run at = absurd (cc)
+counted_next (x ∷ runs) zero run at =
+    let none : length (run_turns run) ≡ 0 + length (run_turns run) = omega arith in
+    ap (λ (r : Run). length (run_turns r ++ [])) (same_Some x run at) ∙ (ap length (append-nil (run_turns run)) ∙ none)
+counted_next (x ∷ runs) (suc place) run at =
+    let e = counted_next runs place run at in
+    let a = length-append (run_turns x) (all_turns (take (suc place) runs)) in
+    let b = length-append (run_turns x) (all_turns (take place runs)) in
+    omega (arith, e, a, b)
+
+pub counted_all : (runs : List Run) → length (all_turns (take (length runs) runs)) ≡ length (all_turns runs)
+counted_all [] = refl
+counted_all (x ∷ runs) =
+    let e = counted_all runs in
+    let a = length-append (run_turns x) (all_turns (take (length runs) runs)) in
+    let b = length-append (run_turns x) (all_turns runs) in
+    omega (arith, e, a, b)

@@ -1,5 +1,5 @@
 -- Lists of nodes that grow, and what they cover.
-use Rattle.std.specs.Prelude.{ℕ, ◌<◌, ◌≡◌, ◌⊎◌, List, length, slice_get, Some, Bool, true, false}
+use Rattle.std.specs.Prelude.{ℕ, ◌<◌, ◌≡◌, ◌⊎◌, List, [], ◌∷◌, length, slice_get, Some, Bool, true, false}
 use Rattle.rv_image.specs.declared.images.ImageParts.{ImageParts}
 use Rattle.cl_record.specs.Plans.{in_slot}
 use Rattle.cl_state.specs.Rank.{Rank}
@@ -10,10 +10,11 @@ use Rattle.mp_alike_laws.specs.Renaming.{Renaming}
 use Rattle.cl_order_laws.specs.Alike.{AlikeClusters, Leads}
 use Rattle.cl_order_laws.specs.Closed.{IsCovered, IsDone, IsSamePlace, Node, Plans, one_more}
 use Rattle.cl_order_laws.specs.Sure.{IsSettledBy}
-use Rattle.cl_moves.specs.Standing.{by_order, node_of}
+use Rattle.cl_moves.specs.Standing.{IsWay, by_order, node_of}
 use Rattle.cl_moves.specs.Posts.{most_posts}
 use Rattle.cl_explore.specs.Kept.{IsLed, KeptStandsAt}
 use Rattle.cl_explore.specs.declared.kept.KeptNode.{KeptNode}
+use Rattle.cl_explore.specs.declared.leads.Lead.{Lead}
 
 -- each node stands where it stood
 abbrev pub Grows : List Node → List Node → Type 0
@@ -32,10 +33,33 @@ pub record AreAlikeNodes (plans : Plans) (one other : Node) : Type 0 where
   pub places : (r : ℕ) (rank : Rank) → slice_get one.cluster.ranks r ≡ Some rank
       → IsSamePlace (plans r) (one.had r) (other.had r) ⊎ IsDone (plans r) rank
 
--- one of the nodes is alike this one
-abbrev pub IsAlikeOneOf : List ℕ → List Node → Node → Type 0
-IsAlikeOneOf order nodes here =
-    (i : ℕ) × (node : Node) × (slice_get nodes i ≡ Some node) × AreAlikeNodes (by_order order) here node
+-- the node of this number is alike this one
+abbrev pub IsAlikeAt : List ℕ → List Node → ℕ → Node → Type 0
+IsAlikeAt order nodes i here = (node : Node) × (slice_get nodes i ≡ Some node) × AreAlikeNodes (by_order order) here node
+
+-- ---- where moves led
+
+-- a move led from the node of the one number to that of the other
+abbrev pub HasLead : List Lead → ℕ → ℕ → Type 0
+HasLead leads i j = (k : ℕ) × (lead : Lead) × (slice_get leads k ≡ Some lead) × (lead.from ≡ i) × (lead.to ≡ j)
+
+-- turns by the order lead from the one node to one that is alike the other
+pub record AreJoined (order : List ℕ) (from to : Node) : Type 0 where
+  pub steps : List Step
+  pub there : Node
+  pub way : IsWay (by_order order) from steps there
+  pub alike : AreAlikeNodes (by_order order) there to
+
+-- and so from the first node of each lead to its second
+abbrev pub AreLeads : List ℕ → List Node → List Lead → Type 0
+AreLeads order nodes leads =
+    (k : ℕ) (lead : Lead) → slice_get leads k ≡ Some lead
+    → (from : Node) × (to : Node) × (slice_get nodes lead.from ≡ Some from) × (slice_get nodes lead.to ≡ Some to)
+    × AreJoined order from to
+
+-- each lead stands where it stood
+abbrev pub LeadsGrow : List Lead → List Lead → Type 0
+LeadsGrow leads more = (k : ℕ) (lead : Lead) → slice_get leads k ≡ Some lead → slice_get more k ≡ Some lead
 
 -- ---- what is reached from a node
 
@@ -53,11 +77,28 @@ HasRoom false hub = Unit {0}
 abbrev pub HasRoomAt : Bool → List KeptNode → ℕ → Type 0
 HasRoomAt sure kept i = (k : KeptNode) → slice_get kept i ≡ Some k → HasRoom sure k.whole
 
--- wherever this turn of the node leads is reached
-abbrev pub IsReachedTurn : Bool → List ℕ → List Node → Node → Step → Type 0
-IsReachedTurn sure order nodes node e =
+-- one of the nodes to which moves of the node of this number led reaches it
+pub record IsReachedFrom (sure : Bool) (order : List ℕ) (leads : List Lead) (i : ℕ) (nodes : List Node) (here : Node)
+    : Type 0 where
+  pub number : ℕ
+  pub next : Node
+  pub led : HasLead leads i number
+  pub there : slice_get nodes number ≡ Some next
+  pub reaches : Reaches sure order (next ∷ []) here
+
+-- wherever this turn of the node of this number leads is reached so
+abbrev pub IsReachedTurn : Bool → List ℕ → List Lead → ℕ → List Node → Node → Step → Type 0
+IsReachedTurn sure order leads i nodes node e =
     (new : Cluster) → Leads node.cluster e new
-    → Reaches sure order nodes (node_of new (one_more node.had e.rank))
+    → IsReachedFrom sure order leads i nodes (node_of new (one_more node.had e.rank))
+
+-- all harts of the rank are stopped, or wherever its next turn leads is reached so
+abbrev pub IsClosedFrom : Bool → List ℕ → List Lead → ℕ → List Node → Node → ℕ → Type 0
+IsClosedFrom sure order leads i nodes node r =
+    (rank : Rank) → slice_get node.cluster.ranks r ≡ Some rank
+    → IsDone (in_slot order) rank
+    ⊎ ((e : Step) (new : Cluster) → e.rank ≡ r → e.hart ≡ in_slot order (node.had r) → Leads node.cluster e new
+    → IsReachedFrom sure order leads i nodes (node_of new (one_more node.had r)))
 
 -- all harts of the rank are stopped, or wherever its next turn leads is reached
 abbrev pub IsClosedAt : Bool → List ℕ → List Node → Node → ℕ → Type 0

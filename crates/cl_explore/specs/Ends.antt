@@ -1,5 +1,6 @@
 -- What an exploration tells.
 use Rattle.std.specs.Prelude.{ℕ, ◌+◌, ◌<◌, ◌≤◌, ◌≡◌, ◌⊎◌, List, [], ◌∷◌, ◌++◌, length, slice_get, Option, Some, None, Bool, true, false}
+use Rattle.rv_image.specs.Image.{IsImage}
 use Rattle.rv_image.specs.declared.images.ImageParts.{ImageParts}
 use Rattle.cl_machine.specs.Cluster.{Cluster, IsRun}
 use Rattle.cl_machine.specs.declared.steps.Step.{Step}
@@ -9,9 +10,14 @@ use Rattle.cl_order_laws.specs.Closed.{FollowPlans, IsEnd, Node}
 use Rattle.cl_order_laws.specs.Laws.{AreAlike}
 use Rattle.cl_moves.specs.Standing.{IsWay, StandsAt, by_order, first_node}
 use Rattle.cl_moves.specs.declared.standing.Standing.{Standing}
-use Rattle.cl_explore.specs.Covering.{AreNodes, HasRoom, IsClosedAt, Reaches}
+use Rattle.cl_explore.specs.Companies.{IsCompanyAt, IsJudged}
+use Rattle.cl_explore.specs.Covering.{AreLeads, AreNodes, HasRoom, IsClosedAt, IsClosedFrom, Reaches}
 use Rattle.cl_explore.specs.Orders.{IsOrderedWay}
+use Rattle.cl_explore.specs.declared.companies.Company.{Company}
+use Rattle.cl_explore.specs.declared.exploring.Exploration.{Exploration}
 use Rattle.cl_explore.specs.declared.kept.KeptNode.{KeptNode}
+use Rattle.cl_explore.specs.declared.leads.Lead.{Lead}
+use Rattle.cl_explore.specs.declared.search.Search.{Search}
 
 -- at each end that is told nobody goes on
 abbrev pub AreEnds : List ℕ → List Node → List ℕ → Type 0
@@ -28,50 +34,73 @@ AreAllEnds order start nodes ends =
     → (k : ℕ) × (i : ℕ) × (node : Node) × (slice_get ends k ≡ Some i) × (slice_get nodes i ≡ Some node)
     × AreAlike end node.cluster
 
+-- what a search found: the nodes that are kept, which of them are ends, which ranks are stuck in which of them, between
+-- which of them moves led, and how many are left whose moves weren't made
+pub record Findings : Type 0 where
+  pub kept : List KeptNode
+  pub ends : List ℕ
+  pub companies : List Company
+  pub leads : List Lead
+  pub left : ℕ
+
+abbrev pub findings : Exploration → Findings
+findings found = record {
+  kept = found.nodes.items;
+  ends = found.ends.items;
+  companies = found.companies.items;
+  leads = found.leads.items;
+  left = found.left;
+}
+
 -- the node of this number is one whose moves were made: all but the last ones
 abbrev pub IsVisitedNode : List Node → ℕ → ℕ → Node → Type 0
 IsVisitedNode nodes left i node = (i + left < length nodes) × (slice_get nodes i ≡ Some node)
 
 -- what is kept are nodes to each of which its turns led, they reach the start, those whose moves were made are closed over
--- them, with few posts where calls for what is there are made at once, the ends are ends, each of those that is one is
--- told, and where no node is left they are all
-pub record ExploredFrom (image : ImageParts) (order : List ℕ) (start : Node) (kept : List KeptNode) (ends : List ℕ)
-    (left : ℕ) : Type 0 where
+-- them, with few posts where calls for what is there are made at once, and moves led between them; the ends are ends, and
+-- each of those that is one is told; the companies are the most ranks that are stuck together in a node, and each is told
+-- of those; and where no node is left the ends are all
+pub record ExploredFrom (image : ImageParts) (order : List ℕ) (start : Node) (found : Findings) : Type 0 where
   pub nodes : List Node
-  pub are : AreNodes image order kept nodes
+  pub are : AreNodes image order found.kept nodes
   pub sure : Bool
   pub start_is : Reaches sure order nodes start
   pub room : HasRoom sure (hub_of start.cluster.journal)
-  pub closed : (i r : ℕ) (node : Node) → IsVisitedNode nodes left i node → IsClosedAt sure order nodes node r
-  pub few : (i : ℕ) (node : Node) → IsVisitedNode nodes left i node → HasRoom sure (hub_of node.cluster.journal)
-  pub sound : AreEnds order nodes ends
-  pub told : (i : ℕ) (node : Node) → IsVisitedNode nodes left i node → IsEnd (by_order order) node.cluster
-      → (k : ℕ) × (slice_get ends k ≡ Some i)
-  pub all : left ≡ 0 → AreAllEnds order start nodes ends
+  pub leads : AreLeads order nodes found.leads
+  pub follows : (i r : ℕ) (node : Node) → IsVisitedNode nodes found.left i node
+      → IsClosedFrom sure order found.leads i nodes node r
+  pub closed : (i r : ℕ) (node : Node) → IsVisitedNode nodes found.left i node → IsClosedAt sure order nodes node r
+  pub few : (i : ℕ) (node : Node) → IsVisitedNode nodes found.left i node → HasRoom sure (hub_of node.cluster.journal)
+  pub sound : AreEnds order nodes found.ends
+  pub told : (i : ℕ) (node : Node) → IsVisitedNode nodes found.left i node → IsEnd (by_order order) node.cluster
+      → (k : ℕ) × (slice_get found.ends k ≡ Some i)
+  pub stuck : IsImage image → (k : ℕ) (company : Company) → slice_get found.companies k ≡ Some company
+      → IsCompanyAt nodes company
+  pub judged : IsImage image → (i : ℕ) (node : Node) → IsVisitedNode nodes found.left i node
+      → IsJudged found.companies i node.cluster
+  pub all : found.left ≡ 0 → AreAllEnds order start nodes found.ends
 
 -- from the loaded cluster
-abbrev pub Explored : ImageParts → List ℕ → List KeptNode → List ℕ → ℕ → Type 0
-Explored image order kept ends left = ExploredFrom image order (first_node image) kept ends left
+abbrev pub Explored : ImageParts → List ℕ → Findings → Type 0
+Explored image order found = ExploredFrom image order (first_node image) found
 
 -- without calls that are made at once
-abbrev pub ExploredPlainly : ImageParts → List ℕ → List KeptNode → List ℕ → ℕ → Type 0
-ExploredPlainly image order kept ends left =
-    (explored : Explored image order kept ends left) × (explored.sure ≡ false)
+abbrev pub ExploredPlainly : ImageParts → List ℕ → Findings → Type 0
+ExploredPlainly image order found = (explored : Explored image order found) × (explored.sure ≡ false)
 
 -- whichever node it is at which the search begins, and to which its steps led from the loaded cluster
-abbrev pub ExploresFrom : Bool → List ℕ → Standing → List KeptNode → List ℕ → ℕ → Type 0
-ExploresFrom sure order standing kept ends left =
+abbrev pub ExploresFrom : Bool → List ℕ → Standing → Findings → Type 0
+ExploresFrom sure order standing found =
     (image : ImageParts) (here : Node) → StandsAt image standing here
     → IsWay (by_order order) (first_node image) standing.steps.items here
-    → (explored : ExploredFrom image order here kept ends left) × (explored.sure ≡ sure)
+    → (explored : ExploredFrom image order here found) × (explored.sure ≡ sure)
 
 -- from where these turns lead
-pub record ExploredBehind (image : ImageParts) (order : List ℕ) (turns : List Turn) (kept : List KeptNode)
-    (ends : List ℕ) (left : ℕ) : Type 0 where
+pub record ExploredBehind (image : ImageParts) (order : List ℕ) (turns : List Turn) (found : Findings) : Type 0 where
   pub steps : List Step
   pub start : Node
   pub ordered : IsOrderedWay image order turns steps start
-  pub explored : ExploredFrom image order start kept ends left
+  pub explored : ExploredFrom image order start found
 
 -- turns that lead to whichever node is kept at this number
 abbrev pub AreTurnsTo : List KeptNode → ℕ → List Turn → Type 0
@@ -86,25 +115,35 @@ abbrev pub AreEnough : Option ℕ → ℕ → Type 0
 AreEnough None left = ⊥
 AreEnough (Some least) left = least ≤ left
 
--- no node is left, or the moves of as many as were allowed have been made, or enough are left
-abbrev pub IsBounded : ℕ → Option ℕ → ℕ → ℕ → Type 0
-IsBounded states enough many left = (left ≡ 0) ⊎ ((many ≡ states + left) ⊎ AreEnough enough left)
+-- a node was reached from the one before by more turns than a rank was let take at once
+abbrev pub IsLonger : ℕ → KeptNode → Type 0
+IsLonger most kept = most < length kept.turns
+
+abbrev pub HasLonger : ℕ → List KeptNode → Type 0
+HasLonger most kept = (i : ℕ) × (node : KeptNode) × (slice_get kept i ≡ Some node) × IsLonger most node
+
+-- no node is left, or the moves of as many as were allowed have been made, or enough are left, or some rank takes more
+-- turns by itself than it was let take at once
+abbrev pub IsBounded : ℕ → Option ℕ → ℕ → List KeptNode → ℕ → Type 0
+IsBounded states enough most kept left =
+    (left ≡ 0) ⊎ ((length kept ≡ states + left) ⊎ (AreEnough enough left ⊎ HasLonger most kept))
 
 -- ---- on the way
 
--- what is kept reaches the start
-pub record BeginsWell (sure : Bool) (image : ImageParts) (order : List ℕ) (start : Node) (kept : List KeptNode)
+-- what is kept reaches the start, and no move has led anywhere
+pub record BeginsWell (sure : Bool) (image : ImageParts) (order : List ℕ) (start : Node) (search : Search)
     : Type 0 where
   pub nodes : List Node
-  pub are : AreNodes image order kept nodes
+  pub are : AreNodes image order search.nodes.items nodes
+  pub still : search.leads.items ≡ []
   pub start_is : Reaches sure order nodes start
 
 -- whichever node the standing is, to which its steps led from the loaded cluster
-abbrev pub BeginsAt : Bool → List ℕ → Standing → List KeptNode → Type 0
-BeginsAt sure order standing kept =
+abbrev pub BeginsAt : Bool → List ℕ → Standing → Search → Type 0
+BeginsAt sure order standing search =
     (image : ImageParts) (here : Node) → StandsAt image standing here
     → IsWay (by_order order) (first_node image) standing.steps.items here
-    → BeginsWell sure image order here kept
+    → BeginsWell sure image order here search
 
 -- a node is noted behind the others if it is an end
 abbrev pub Notes : List ℕ → Bool → ℕ → List ℕ → Type 0

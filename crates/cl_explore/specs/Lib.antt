@@ -1,8 +1,10 @@
 pub mod Kept
 pub mod Covering
+pub mod Companies
 pub mod Searching
 pub mod Orders
 pub mod Ends
+pub mod Visiting
 pub mod Runs
 pub mod Likeness
 pub mod Sorting

@@ -1,15 +1,20 @@
 -- What a search has done.
-use Rattle.std.specs.Prelude.{ℕ, ◌≡◌, ◌<◌, ◌^◌, ◌↔◌, List, length, slice_get, Some, Bool, true}
+use Rattle.std.specs.Prelude.{ℕ, ◌≡◌, ◌<◌, ◌^◌, ◌↔◌, List, length, option_map, slice_get, Some, Bool, true}
+use Rattle.rv_image.specs.Image.{IsImage}
 use Rattle.rv_image.specs.declared.images.ImageParts.{ImageParts}
 use Rattle.cl_record.specs.Plans.{in_slot}
+use Rattle.cl_deadlock.specs.Why.{IsVerdictOf}
 use Rattle.cl_machine.specs.declared.steps.Step.{Step}
 use Rattle.cl_order_laws.specs.Closed.{IsEnd, Node}
 use Rattle.cl_order_laws.specs.Laws.{IsReached}
 use Rattle.cl_moves.specs.Standing.{IsWay, StandsAt, by_order}
 use Rattle.cl_moves.specs.declared.standing.Standing.{Standing}
 use Rattle.cl_explore.specs.Kept.{AreSamePlaces, IsAlikeKept, IsBefore, IsLiveAt}
-use Rattle.cl_explore.specs.Covering.{AreNodes, Grows, IsAlikeOneOf, IsClosedAt, IsReachedTurn, Reaches}
+use Rattle.cl_explore.specs.Covering.{AreLeads, AreNodes, Grows, IsAlikeAt, IsClosedFrom, IsReachedTurn, LeadsGrow, Reaches}
 use Rattle.cl_explore.specs.declared.kept.KeptNode.{KeptNode}
+use Rattle.cl_explore.specs.declared.leads.Lead.{Lead}
+use Rattle.cl_explore.specs.declared.moving.Visit.{Visit}
+use Rattle.cl_explore.specs.declared.search.Search.{Search}
 
 -- more is kept than before, and of these nodes something holds
 pub record Keeps (image : ImageParts) (order : List ℕ) (nodes : List Node) (new : List KeptNode)
@@ -25,32 +30,46 @@ IsFoundIn order kept standing i =
     (node : KeptNode) × (slice_get kept i ≡ Some node) × IsAlikeKept order standing node
     × AreSamePlaces order standing node.had.items
 
--- where a standing came from the node of this number is among the nodes, or alike one of them
-abbrev pub Arrives : List ℕ → List KeptNode → ℕ → Standing → List KeptNode → Type 0
-Arrives order old parent standing new =
+-- where a standing came from the node of this number is alike the node of another number, or is that node
+abbrev pub Arrives : List ℕ → List KeptNode → ℕ → Standing → List KeptNode → ℕ → Type 0
+Arrives order old parent standing new number =
     (image : ImageParts) (nodes : List Node) (before here : Node) → AreNodes image order old nodes
     → StandsAt image standing here → IsBefore image nodes parent (length nodes) before
     → IsWay (by_order order) before standing.steps.items here
-    → Keeps image order nodes new (λ more. IsAlikeOneOf order more here)
+    → Keeps image order nodes new (λ more. IsAlikeAt order more number here)
+
+-- what a search found are these nodes, and its moves led between them
+pub record AreFound (image : ImageParts) (order : List ℕ) (search : Search) (nodes : List Node) : Type 0 where
+  pub are : AreNodes image order search.nodes.items nodes
+  pub leads : AreLeads order nodes search.leads.items
+
+-- more was found than before, and of these nodes something holds
+pub record FindsMore (image : ImageParts) (order : List ℕ) (old : Search) (nodes : List Node) (new : Search)
+    (P : List Node → Type 0) : Type 0 where
+  pub more : List Node
+  pub grows : Grows nodes more
+  pub found : AreFound image order new more
+  pub leads : LeadsGrow old.leads.items new.leads.items
+  pub holds : P more
 
 -- of a node of the list something holds then
-abbrev pub KeepsOf : List ℕ → List KeptNode → ℕ → List KeptNode → (List Node → Node → Type 0) → Type 0
+abbrev pub KeepsOf : List ℕ → Search → ℕ → Search → (ImageParts → List Node → Node → Type 0) → Type 0
 KeepsOf order old n new P =
-    (image : ImageParts) (nodes : List Node) (node : Node) → AreNodes image order old nodes
+    (image : ImageParts) (nodes : List Node) (node : Node) → AreFound image order old nodes
     → slice_get nodes n ≡ Some node
-    → Keeps image order nodes new (λ more. P more node)
+    → FindsMore image order old nodes new (λ more. P image more node)
 
 -- the turn is one of the hart whose turn it is in its rank, at a stamp that a step may have
 abbrev pub IsPlanned : List ℕ → Node → Step → Type 0
 IsPlanned order node e = (e.hart ≡ in_slot order (node.had e.rank)) × (e.stamp < 2 ^ 62)
 
 -- of a node of the list at which a standing is something holds then, and the standing is there again
-abbrev pub KeepsAt : List ℕ → List KeptNode → ℕ → Standing → List KeptNode → Standing → (Node → Type 0)
+abbrev pub KeepsAt : List ℕ → Search → ℕ → Standing → Search → Standing → (Node → Type 0)
     → (List Node → Node → Type 0) → Type 0
 KeepsAt order old n live new after Needs P =
-    (image : ImageParts) (nodes : List Node) (node : Node) → AreNodes image order old nodes
+    (image : ImageParts) (nodes : List Node) (node : Node) → AreFound image order old nodes
     → slice_get nodes n ≡ Some node → IsLiveAt image live node → Needs node
-    → Keeps image order nodes new (λ more. P more node) × IsLiveAt image after node
+    → FindsMore image order old nodes new (λ more. P more node) × IsLiveAt image after node
 
 -- turns that are taken at once led from whichever node the old standing was to one that the new standing is, and what
 -- reaches the one reaches the other
@@ -61,35 +80,38 @@ GoesOn sure order old new =
     → (there : Node) × StandsAt image new there × IsWay (by_order order) start new.steps.items there
     × ((nodes : List Node) → Reaches sure order nodes there → Reaches sure order nodes here)
 
--- where it is one, wherever it leads is reached then
-abbrev pub Goes : Bool → List ℕ → List KeptNode → ℕ → Standing → Step → List KeptNode → Standing → Type 0
+-- where it is one, wherever it leads is reached then by a node to which a move led
+abbrev pub Goes : Bool → List ℕ → Search → ℕ → Standing → Step → Search → Standing → Type 0
 Goes sure order old n live e new after =
     KeepsAt order old n live new after (λ node. IsPlanned order node e)
-    (λ more node. IsReachedTurn sure order more node e)
+    (λ more node. IsReachedTurn sure order new.leads.items n more node e)
 
 abbrev pub ArePlanned : List ℕ → Node → List Step → Type 0
 ArePlanned order node turns = (i : ℕ) (e : Step) → slice_get turns i ≡ Some e → IsPlanned order node e
 
-abbrev pub AreReached : Bool → List ℕ → List Step → List Node → Node → Type 0
-AreReached sure order turns nodes node =
-    (i : ℕ) (e : Step) → slice_get turns i ≡ Some e → IsReachedTurn sure order nodes node e
+abbrev pub AreReached : Bool → List ℕ → List Lead → ℕ → List Step → List Node → Node → Type 0
+AreReached sure order leads n turns nodes node =
+    (i : ℕ) (e : Step) → slice_get turns i ≡ Some e → IsReachedTurn sure order leads n nodes node e
 
 -- and so of each of these turns
-abbrev pub GoesEach : Bool → List ℕ → List KeptNode → ℕ → Standing → List Step → List KeptNode → Standing → Type 0
+abbrev pub GoesEach : Bool → List ℕ → Search → ℕ → Standing → List Step → Search → Standing → Type 0
 GoesEach sure order old n live turns new after =
     KeepsAt order old n live new after (λ node. ArePlanned order node turns)
-    (λ more node. AreReached sure order turns more node)
+    (λ more node. AreReached sure order new.leads.items n turns more node)
 
 -- the first so many ranks of a node are closed
-abbrev pub AreClosedBelow : Bool → List ℕ → ℕ → List Node → Node → Type 0
-AreClosedBelow sure order count nodes node = (r : ℕ) → r < count → IsClosedAt sure order nodes node r
+abbrev pub AreClosedBelow : Bool → List ℕ → List Lead → ℕ → ℕ → List Node → Node → Type 0
+AreClosedBelow sure order leads n count nodes node = (r : ℕ) → r < count → IsClosedFrom sure order leads n nodes node r
 
--- each rank is, and it is told whether nobody goes on
-abbrev pub IsVisited : Bool → List ℕ → Bool → List Node → Node → Type 0
-IsVisited sure order end nodes node =
-    ((r : ℕ) → IsClosedAt sure order nodes node r) × ((end ≡ true) ↔ IsEnd (by_order order) node.cluster)
+-- each rank is, and it is told whether nobody goes on, and which ranks are stuck
+pub record IsVisited (sure : Bool) (order : List ℕ) (leads : List Lead) (n : ℕ) (visit : Visit) (image : ImageParts)
+    (nodes : List Node) (node : Node) : Type 0 where
+  pub closed : (r : ℕ) → IsClosedFrom sure order leads n nodes node r
+  pub end : (visit.end ≡ true) ↔ IsEnd (by_order order) node.cluster
+  pub stuck : IsImage image → IsVerdictOf node.cluster (option_map (λ ranks. ranks.items) visit.stuck)
 
 -- where a standing is the node, the rank is closed
-abbrev pub ClosesRank : Bool → List ℕ → List KeptNode → ℕ → Standing → ℕ → List KeptNode → Standing → Type 0
+abbrev pub ClosesRank : Bool → List ℕ → Search → ℕ → Standing → ℕ → Search → Standing → Type 0
 ClosesRank sure order old n live rank new after =
-    KeepsAt order old n live new after (λ node. Unit {0}) (λ more node. IsClosedAt sure order more node rank)
+    KeepsAt order old n live new after (λ node. Unit {0})
+    (λ more node. IsClosedFrom sure order new.leads.items n more node rank)

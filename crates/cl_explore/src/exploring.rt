@@ -1,18 +1,20 @@
 //! The search from the loaded cluster on.
 
-ghost use Rattle.std.specs.Prelude.{◌≡◌, ◌⊎◌, ◌<◌, ◌≤◌, ◌+◌, ◌-◌, ℕ, List, [], Some, IfErr, IfOk, IfSome, IsFalse, IsTrue, OnOk, false, is_some, length, reverse, slice_get, true};
+ghost use Rattle.std.specs.Prelude.{◌≡◌, ◌⊎◌, ◌<◌, ◌≤◌, ◌-◌, ℕ, List, [], None, Some, IfErr, IfOk, IfSome, IsFalse, IsTrue, OnOk, false, is_some, length, reverse, slice_get, true};
 ghost use Rattle.rv_image.specs.declared.images.ImageParts.{ImageParts};
 ghost use Rattle.cl_order_laws.specs.Closed.{Node};
 ghost use Rattle.cl_moves.specs.Standing.{IsWay, by_order, first_node};
 ghost use Rattle.cl_moves.specs.declared.standing.Standing.{Standing as StandingView};
 ghost use Rattle.cl_explore.specs.Covering.{AreNodes, HasRoom, HasRoomAt};
-ghost use Rattle.cl_explore.specs.Ends.{AreEnough, AreTurnsTo, BeginsAt, Explored, ExploredBehind, ExploredPlainly, ExploresFrom, IsBounded, Notes};
+ghost use Rattle.cl_explore.specs.Ends.{AreEnough, AreTurnsTo, BeginsAt, Explored, ExploredBehind, ExploredPlainly, ExploresFrom, HasLonger, IsBounded, IsLonger, Notes, findings};
+ghost use Rattle.cl_explore.specs.Visiting.{NotesVisit, findings_of};
 ghost use Rattle.cl_explore.specs.Orders.{OrderFaultHolds};
 
+use crate::companies::{Company, note_stuck};
 use crate::course::{Course, Manner};
 use crate::kept::KeptNode;
 use crate::leads::Lead;
-use crate::moving::settle;
+use crate::moving::{Visit, settle};
 use crate::orders::{OrderFault, follow, turns_in};
 use crate::search::Search;
 use cl_machine::Step;
@@ -25,6 +27,10 @@ use std::alloc::{AllocError, Global};
 /// How many posts are too many beside calls that are made at once: a hub holds one message more.
 const MOST_POSTS: u64 = 65535;
 
+/// Of how many nodes the moves are made at most of which one led to a new node by more turns of a rank's own than it was let
+/// take at once: a rank that counts would lead to new nodes without end.
+const DEEP_NODES: usize = 16;
+
 /// Where a search came.
 #[derive(Drop)]
 pub struct Exploration {
@@ -32,6 +38,8 @@ pub struct Exploration {
     pub nodes: Vec<KeptNode>,
     /// The numbers of those from which nobody goes on, of the nodes whose moves were made.
     pub ends: Vec<usize>,
+    /// The ranks that are stuck in those in which some are, of the nodes whose moves were made.
+    pub companies: Vec<Company>,
     /// How many nodes are left whose moves weren't made. With none the nodes are closed.
     pub left: usize,
     /// The first rank that takes more turns by itself than it was let at once, if there is one.
@@ -61,12 +69,21 @@ fn goes_on(enough: Option<usize>, done: usize, nodes: usize) -> bool
     }
 }
 
+/// What is noted of the nodes whose moves were made.
+#[derive(Drop)]
+struct Noted {
+    ends: Vec<usize>,
+    companies: Vec<Company>,
+    long: Option<u8>,
+    /// Of how many nodes a move led to a new node by more turns of a rank's own than it was let take at once.
+    deep: usize,
+}
+
 /// What a search that came to an end tells of its nodes.
 #[derive(Drop)]
 struct Told {
-    ends: Vec<usize>,
+    noted: Noted,
     left: usize,
-    long: Option<u8>,
 }
 
 /// A standing is the first node of a search, once each rank took its turns that are taken at once. Answers the first rank
@@ -78,10 +95,11 @@ fn begin(
 ) -> Result<Option<u8>, MoveFault>
     requires order { 0 < length course.now.order.now }
     requires none { search.old.nodes.items ≡ [] }
-    ensures { OnOk result (BeginsAt course.now.sure course.now.order.now standing.old search.new.nodes.items) }
+    requires still { search.old.leads.items ≡ [] }
+    ensures { OnOk result (BeginsAt course.now.sure course.now.order.now standing.old search.new) }
 {
     let long = settle(course, standing)?;
-    search.arrive(course, standing, 0, 0)?;
+    let _first = search.arrive(course, standing, 0, 0)?;
     Ok(long)
 }
 
@@ -114,37 +132,82 @@ fn has_room_at(sure: bool, nodes: &[KeptNode], node: usize) -> bool
     }
 }
 
+/// Whether a node was reached by more turns than so many.
+fn is_longer(kept: &KeptNode, most: u64) -> bool
+    ensures { IsTrue result → IsLonger most kept.now }
+{
+    kept.turns.are_more_than(most)
+}
+
+/// Whether one of the nodes was.
+fn has_longer(nodes: &[KeptNode], most: u64) -> bool
+    ensures { IsTrue result → HasLonger most nodes.now }
+{
+    for place in 0..nodes.len() {
+        if is_longer(&nodes[place], most) {
+            return true;
+        }
+    }
+    false
+}
+
+/// Whether the moves of as many deep nodes were made as are allowed.
+fn is_deep(deep: usize, nodes: &[KeptNode], most: u64) -> bool
+    ensures { IsTrue result → HasLonger most nodes.now }
+{
+    deep >= DEEP_NODES && has_longer(nodes, most)
+}
+
+/// Notes what is known of the node of this number.
+fn note_visit(noted: &mut Noted, visit: Visit, node: usize) -> Result<(), AllocError>
+    ensures { OnOk result (NotesVisit noted.old visit node noted.new) }
+{
+    note(&mut noted.ends, visit.end, node)?;
+    if visit.long.is_some() {
+        noted.deep = noted.deep.saturating_add(1);
+    }
+    if noted.long.is_none() {
+        noted.long = visit.long;
+    }
+    note_stuck(&mut noted.companies, visit.stuck, node)
+}
+
 /// The moves of one node after another are made, within bounds. None where calls for what is there are made at once, and a
 /// hub came to have too many posts for that.
 fn visit_each(
     course: &Manner<'_>,
     search: &mut Search,
-    mut long: Option<u8>,
+    long: Option<u8>,
     bounds: Bounds,
 ) -> Result<Option<Told>, MoveFault>
     requires { 0 < length course.now.order.now }
     ensures ends { IfOk result (λ o. IfSome o (λ told. (standing : StandingView) → HasRoom course.now.sure standing.whole
-        → BeginsAt course.now.sure course.now.order.now standing search.old.nodes.items
-        → ExploresFrom course.now.sure course.now.order.now standing search.new.nodes.items told.ends.items told.left)) }
+        → BeginsAt course.now.sure course.now.order.now standing search.old
+        → ExploresFrom course.now.sure course.now.order.now standing (findings_of search.new told))) }
     ensures most { IfOk result (λ o. IfSome o (λ told.
-        IsBounded bounds.states bounds.enough (length search.new.nodes.items) told.left)) }
+        IsBounded bounds.states bounds.enough course.now.most search.new.nodes.items told.left)) }
     ensures plain { course.now.sure ≡ false → IfOk result (λ o. is_some o ≡ true) }
 {
-    let mut ends = Vec::new(course.alloc);
+    let mut noted = Noted {
+        ends: Vec::new(course.alloc),
+        companies: Vec::new(course.alloc),
+        long,
+        deep: 0,
+    };
     let mut done = 0;
-    'rest: while done < bounds.states && goes_on(bounds.enough, done, search.nodes.len()) {
+    'rest: while done < bounds.states
+        && goes_on(bounds.enough, done, search.nodes.len())
+        && !is_deep(noted.deep, search.nodes.as_slice(), course.most)
+    {
         if !has_room_at(course.sure, search.nodes.as_slice(), done) {
             return Ok(None);
         }
         let visit = search.visit(course, done)?;
-        note(&mut ends, visit.end, done)?;
-        if long.is_none() {
-            long = visit.long;
-        }
+        note_visit(&mut noted, visit, done)?;
         done += 1;
     }
     let left = search.nodes.len().saturating_sub(done);
-    Ok(Some(Told { ends, left, long }))
+    Ok(Some(Told { noted, left }))
 }
 
 /// All clusters to which any order of turns leads from a standing, but for those that are alike one of them, and which of
@@ -156,10 +219,10 @@ fn search_on(
     bounds: Bounds,
 ) -> Result<Option<Exploration>, MoveFault>
     requires { 0 < length course.now.order.now }
-    ensures ends { IfOk result (λ o. IfSome o (λ found. ExploresFrom course.now.sure course.now.order.now standing.old
-        found.nodes.items found.ends.items found.left)) }
+    ensures ends { IfOk result (λ o. IfSome o (λ found.
+        ExploresFrom course.now.sure course.now.order.now standing.old (findings found))) }
     ensures most { IfOk result (λ o. IfSome o (λ found.
-        IsBounded bounds.states bounds.enough (length found.nodes.items) found.left)) }
+        IsBounded bounds.states bounds.enough course.now.most found.nodes.items found.left)) }
     ensures plain { course.now.sure ≡ false → IfOk result (λ o. is_some o ≡ true) }
 {
     if !has_room(course.sure, &standing.whole) {
@@ -172,9 +235,10 @@ fn search_on(
     };
     Ok(Some(Exploration {
         nodes: search.nodes,
-        ends: told.ends,
+        ends: told.noted.ends,
+        companies: told.noted.companies,
         left: told.left,
-        long: told.long,
+        long: told.noted.long,
         leads: search.leads,
     }))
 }
@@ -187,10 +251,9 @@ fn search(
     sure: bool,
 ) -> Result<Option<Exploration>, MoveFault>
     requires { 0 < length course.now.order.now }
-    ensures ends { IfOk result (λ o. IfSome o (λ found. ExploresFrom sure course.now.order.now standing found.nodes.items
-        found.ends.items found.left)) }
+    ensures ends { IfOk result (λ o. IfSome o (λ found. ExploresFrom sure course.now.order.now standing (findings found))) }
     ensures most { IfOk result (λ o. IfSome o (λ found.
-        IsBounded bounds.states bounds.enough (length found.nodes.items) found.left)) }
+        IsBounded bounds.states bounds.enough course.now.most found.nodes.items found.left)) }
     ensures plain { sure ≡ false → IfOk result (λ o. is_some o ≡ true) }
 {
     let manner = Manner {
@@ -209,9 +272,9 @@ fn search_plainly(
     bounds: Bounds,
 ) -> Result<Exploration, MoveFault>
     requires { 0 < length course.now.order.now }
-    ensures ends { IfOk result (λ found. ExploresFrom false course.now.order.now standing found.nodes.items
-        found.ends.items found.left) }
-    ensures most { IfOk result (λ found. IsBounded bounds.states bounds.enough (length found.nodes.items) found.left) }
+    ensures ends { IfOk result (λ found. ExploresFrom false course.now.order.now standing (findings found)) }
+    ensures most { IfOk result (λ found.
+        IsBounded bounds.states bounds.enough course.now.most found.nodes.items found.left) }
 {
     match search(course, standing, bounds, false)? {
         Some(found) => Ok(found),
@@ -221,14 +284,15 @@ fn search_plainly(
 
 /// All clusters to which any order of turns leads, but for those that are alike one of them, and which of them are ends:
 /// breadth first, ranks in order. Where none is left, each run that follows the order of harts and ends where nobody goes
-/// on ends in a cluster that is alike an end that is told. Some are left only where the moves of as many as were allowed
-/// have been made.
+/// on ends in a cluster that is alike an end that is told, and no run by that order comes to a cluster in which other ranks are
+/// stuck than in one of the nodes. Some are left only where the moves of as many as were allowed have been made, or where a
+/// rank took more turns by itself than it was let at once.
 ///
 /// Refusals: Clock, Memory.
 pub fn explore(course: &Course<'_>, image: &Image, states: usize) -> Result<Exploration, MoveFault>
     requires { 0 < length course.now.order.now }
-    ensures ends { IfOk result (λ found. Explored image.now course.now.order.now found.nodes.items found.ends.items found.left) }
-    ensures most { IfOk result (λ found. (found.left ≡ 0) ⊎ (length found.nodes.items ≡ states + found.left)) }
+    ensures ends { IfOk result (λ found. Explored image.now course.now.order.now (findings found)) }
+    ensures most { IfOk result (λ found. IsBounded states None course.now.most found.nodes.items found.left) }
 {
     let bounds = Bounds {
         states,
@@ -243,7 +307,8 @@ pub fn explore(course: &Course<'_>, image: &Image, states: usize) -> Result<Expl
 }
 
 /// The same until so many nodes are left or more, from each of which one may go on by itself, and without calls that are
-/// made at once. Fewer are left only where the moves of as many as were allowed have been made, or none is left.
+/// made at once. Fewer are left only where the moves of as many as were allowed have been made, none is left, or a rank took
+/// more turns by itself than it was let at once.
 ///
 /// Refusals: Clock, Memory.
 pub fn split(
@@ -253,9 +318,9 @@ pub fn split(
     least: usize,
 ) -> Result<Exploration, MoveFault>
     requires { 0 < length course.now.order.now }
-    ensures ends { IfOk result (λ found. ExploredPlainly image.now course.now.order.now found.nodes.items found.ends.items
-        found.left) }
-    ensures most { IfOk result (λ found. IsBounded states (Some least) (length found.nodes.items) found.left) }
+    ensures ends { IfOk result (λ found. ExploredPlainly image.now course.now.order.now (findings found)) }
+    ensures most { IfOk result (λ found.
+        IsBounded states (Some least) course.now.most found.nodes.items found.left) }
 {
     let standing = Standing::load(course.alloc, image)?;
     let bounds = Bounds {
@@ -275,9 +340,8 @@ pub fn explore_from(
     states: usize,
 ) -> Result<Exploration, OrderFault>
     requires { 0 < length course.now.order.now }
-    ensures ends { IfOk result (λ found. ExploredBehind image.now course.now.order.now turns.now found.nodes.items
-        found.ends.items found.left) }
-    ensures most { IfOk result (λ found. (found.left ≡ 0) ⊎ (length found.nodes.items ≡ states + found.left)) }
+    ensures ends { IfOk result (λ found. ExploredBehind image.now course.now.order.now turns.now (findings found)) }
+    ensures most { IfOk result (λ found. IsBounded states None course.now.most found.nodes.items found.left) }
     ensures fault { IfErr result (OrderFaultHolds image.now course.now.order.now turns.now) }
 {
     let bounds = Bounds {

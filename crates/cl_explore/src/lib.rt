@@ -1,5 +1,6 @@
 //! A search of all orders: from the loaded cluster each turn of each hart that is next in its rank, a look that misses
-//! too, until no node is left that isn't alike one that is kept.
+//! too, until no node is left that isn't alike one that is kept. Of each node it is decided whether nobody goes on there, and which
+//! ranks are stuck.
 //!
 //! The laws of closed sets are those of `cl_order_laws`; what is done at one cluster is `cl_moves`.
 #![tactic(auto)]
@@ -7,6 +8,7 @@
 mod alike_boxes;
 mod alike_harts;
 mod candidates;
+mod companies;
 mod course;
 mod exploring;
 mod kept;
@@ -18,6 +20,7 @@ mod runs;
 mod search;
 mod sorting;
 
+pub use companies::Company;
 pub use course::Course;
 pub use exploring::{Exploration, explore, explore_from, split};
 pub use kept::KeptNode;

@@ -8,13 +8,18 @@ ghost use Rattle.cl_explore.specs.declared.kept.KeptNode.{KeptNode as KeptView};
 use crate::course::Manner;
 use crate::leads::Lead;
 use crate::search::Search;
+use cl_deadlock::deadlock;
 use cl_machine::Step;
 use cl_moves::{MoveFault, Standing, is_done, is_end, turns_of};
 
-/// What was told of a node: whether nobody goes on there, and which rank takes more turns by itself than a search lets it.
-#[derive(Clone, Copy, Drop)]
+/// What is known of a node once its moves were made.
+#[derive(Drop)]
 pub(crate) struct Visit {
+    /// Whether nobody goes on there.
     pub end: bool,
+    /// The most ranks that are stuck together there, if a hart of theirs waits.
+    pub stuck: Option<Vec<u8>>,
+    /// The first rank of which a move led to a new node by more turns of its own than it was let take at once.
     pub long: Option<u8>,
 }
 
@@ -29,6 +34,11 @@ fn first_of(one: Option<u8>, other: Option<u8>) -> Option<u8> {
 /// Whether one of the two is.
 fn either(one: bool, other: bool) -> bool {
     one || other
+}
+
+/// Whether a rank that took fewer turns by itself than it was let, or not, came to a node behind the first so many.
+fn is_new_long(fewer: bool, to: usize, count: usize) -> bool {
+    !fewer && to >= count
 }
 
 /// The rank, where it would take more turns by itself.
@@ -64,8 +74,8 @@ pub(crate) fn settle(course: &Manner<'_>, live: &mut Standing) -> Result<Option<
 
 impl Search {
     /// One turn of a node at which a standing is, and behind it the turns that are taken at once: where it leads is kept,
-    /// unless it is alike a node. Then the standing is at the node again. Answers whether the rank would take more turns
-    /// by itself.
+    /// unless it is alike a node. Then the standing is at the node again. Answers whether it led to a new node from which
+    /// the rank would take more turns by itself.
     fn go(
         &mut self,
         course: &Manner<'_>,
@@ -74,8 +84,7 @@ impl Search {
         turn: Step,
     ) -> Result<bool, MoveFault>
         requires { 0 < length course.now.order.now }
-        ensures { OnOk result (Goes course.now.sure course.now.order.now self.old.nodes.items node live.old turn self.new.nodes.items
-            live.new) }
+        ensures { OnOk result (Goes course.now.sure course.now.order.now self.old node live.old turn self.new live.new) }
     {
         if node >= self.nodes.len() {
             return Ok(false);
@@ -87,6 +96,7 @@ impl Search {
             return Ok(false);
         }
         let fewer = go_on(course, live, rank)?;
+        let count = self.nodes.len();
         let to = self.arrive(course, live, node, usize::from(rank))?;
         self.leads.push(Lead { from: node, to })?;
         if node >= self.nodes.len() {
@@ -94,11 +104,11 @@ impl Search {
         }
         let again = &self.nodes[node];
         again.restore(course.alloc, live, usize::from(rank))?;
-        Ok(!fewer)
+        Ok(is_new_long(fewer, to, count))
     }
 
-    /// Each of these turns of a node at which a standing is. Answers whether the rank would take more turns by itself behind
-    /// one of them.
+    /// Each of these turns of a node at which a standing is. Answers whether one of them led to a new node from which the rank
+    /// would take more turns by itself.
     fn go_each(
         &mut self,
         course: &Manner<'_>,
@@ -107,8 +117,7 @@ impl Search {
         mut turns: Vec<Step>,
     ) -> Result<bool, MoveFault>
         requires { 0 < length course.now.order.now }
-        ensures { OnOk result (GoesEach course.now.sure course.now.order.now self.old.nodes.items node live.old turns.items
-            self.new.nodes.items live.new) }
+        ensures { OnOk result (GoesEach course.now.sure course.now.order.now self.old node live.old turns.items self.new live.new) }
     {
         let mut long = false;
         'rest: loop {
@@ -122,7 +131,8 @@ impl Search {
         }
     }
 
-    /// All turns that a rank of a node may take next. Answers the rank if it would take more turns by itself behind one.
+    /// All turns that a rank of a node may take next. Answers the rank if one led to a new node from which it would take more
+    /// turns by itself.
     fn go_rank(
         &mut self,
         course: &Manner<'_>,
@@ -131,8 +141,7 @@ impl Search {
         rank: u8,
     ) -> Result<Option<u8>, MoveFault>
         requires { 0 < length course.now.order.now }
-        ensures { OnOk result (ClosesRank course.now.sure course.now.order.now self.old.nodes.items node live.old rank self.new.nodes.items
-            live.new) }
+        ensures { OnOk result (ClosesRank course.now.sure course.now.order.now self.old node live.old rank self.new live.new) }
     {
         let place = usize::from(rank);
         if place >= live.cluster.ranks.len() {
@@ -150,7 +159,7 @@ impl Search {
         Ok(if_long(rank, long))
     }
 
-    /// All moves of a node at which a standing is. Answers whether nobody goes on there.
+    /// All moves of a node at which a standing is. Answers whether nobody goes on there, and who is stuck.
     fn visit_from(
         &mut self,
         course: &Manner<'_>,
@@ -159,8 +168,8 @@ impl Search {
     ) -> Result<Visit, MoveFault>
         requires { 0 < length course.now.order.now }
         ensures { (kept : KeptView) → slice_get self.old.nodes.items node ≡ Some kept → IsLiveOf kept live.old
-            → IfOk result (λ visit. KeepsOf course.now.order.now self.old.nodes.items node self.new.nodes.items
-            (IsVisited course.now.sure course.now.order.now visit.end)) }
+            → IfOk result (λ visit. KeepsOf course.now.order.now self.old node self.new
+            (IsVisited course.now.sure course.now.order.now self.new.leads.items node visit)) }
     {
         let end = is_end(&live.cluster, course.order)?;
         let mut long = None;
@@ -170,18 +179,20 @@ impl Search {
             let alone = self.go_rank(course, node, live, rank)?;
             long = first_of(long, alone);
         }
-        Ok(Visit { end, long })
+        let stuck = deadlock(course.alloc, &live.cluster)?;
+        Ok(Visit { end, stuck, long })
     }
 
-    /// All moves of a node. Answers whether nobody goes on there.
+    /// All moves of a node. Answers whether nobody goes on there, and who is stuck.
     pub(crate) fn visit(&mut self, course: &Manner<'_>, node: usize) -> Result<Visit, MoveFault>
         requires { 0 < length course.now.order.now }
-        ensures { IfOk result (λ visit. KeepsOf course.now.order.now self.old.nodes.items node self.new.nodes.items
-            (IsVisited course.now.sure course.now.order.now visit.end)) }
+        ensures { IfOk result (λ visit. KeepsOf course.now.order.now self.old node self.new
+            (IsVisited course.now.sure course.now.order.now self.new.leads.items node visit)) }
     {
         if node >= self.nodes.len() {
             return Ok(Visit {
                 end: false,
+                stuck: None,
                 long: None,
             });
         }

@@ -1,6 +1,6 @@
 //! Turns in their order, of which those of one hart that follow one another stamp by stamp are kept as one.
 
-ghost use Rattle.std.specs.Prelude.{◌≡◌, ◌+◌, ◌++◌, ◌∷◌, ◌≤◌, [], IfOk, IsTrue, OnOk, reverse};
+ghost use Rattle.std.specs.Prelude.{◌≡◌, ◌+◌, ◌++◌, ◌∷◌, ◌≤◌, ◌<◌, [], IfOk, IsTrue, OnOk, length, reverse};
 ghost use Rattle.cl_order_laws.specs.Alike.{at_stamp};
 ghost use Rattle.cl_explore.specs.Runs.{all_turns, run_turns, Continues};
 
@@ -98,6 +98,13 @@ fn unwind(alloc: Global, run: &Run, back: &mut Vec<Step>) -> Result<(), AllocErr
     Ok(())
 }
 
+/// How many turns a run has, or the greatest number where there are more.
+fn turns_in(run: &Run) -> u64
+    ensures { result ≤ length (run_turns run.now) }
+{
+    run.last.saturating_sub(run.turn.stamp()).saturating_add(1)
+}
+
 impl Runs {
     /// These steps, in memory of their own. The only error is want of memory.
     pub fn of(alloc: Global, steps: &[Step]) -> Result<Runs, AllocError>
@@ -122,5 +129,20 @@ impl Runs {
             left = before;
         }
         Ok(())
+    }
+
+    /// Whether there are more turns than so many.
+    pub fn are_more_than(&self, many: u64) -> bool
+        ensures { IsTrue result → many < length self.now }
+    {
+        let runs = self.runs.as_slice();
+        let mut count: u64 = 0;
+        for place in 0..runs.len() {
+            count = count.saturating_add(turns_in(&runs[place]));
+        }
+        if count > many {
+            return true;
+        }
+        false
     }
 }

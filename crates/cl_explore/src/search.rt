@@ -1,6 +1,6 @@
 //! Nodes that were found, and one more.
 
-ghost use Rattle.std.specs.Prelude.{◌≡◌, ◌<◌, ◌%◌, ◌⊎◌, [], IfOk, IfSome, OnOk, true, length};
+ghost use Rattle.std.specs.Prelude.{◌≡◌, ◌<◌, ◌%◌, ◌⊎◌, [], IfOk, IfSome, true, length};
 ghost use Rattle.cl_record.specs.Plans.{in_slot};
 ghost use Rattle.cl_state.specs.Room.{rank_of};
 ghost use Rattle.cl_replay.specs.Kept.{ranks_at};
@@ -59,7 +59,8 @@ fn are_same_places(order: &[u8], standing: &Standing, other: &[u64]) -> bool
 impl Search {
     /// No nodes. The only error is want of memory.
     pub(crate) fn new(alloc: Global) -> Result<Search, AllocError>
-        ensures { IfOk result (λ search. search.nodes.items ≡ []) }
+        ensures nodes { IfOk result (λ search. search.nodes.items ≡ []) }
+        ensures leads { IfOk result (λ search. search.leads.items ≡ []) }
     {
         Ok(Search {
             nodes: Vec::new(alloc),
@@ -153,8 +154,9 @@ impl Search {
         rank: usize,
     ) -> Result<usize, MoveFault>
         requires { 0 < length course.now.order.now }
-        ensures { OnOk result (Arrives course.now.order.now self.old.nodes.items parent standing.now
+        ensures arrives { IfOk result (Arrives course.now.order.now self.old.nodes.items parent standing.now
             self.new.nodes.items) }
+        ensures leads { self.new.leads ≡ self.old.leads }
     {
         let key = key_of(standing);
         let found = self.finds(course, standing, key)?;

@@ -23,6 +23,7 @@ use Rattle.cl_explore.proofs.Covers.{reaches_on}
 use Rattle.cl_explore.proofs.Finds.{ends_by}
 use Rattle.cl_explore.proofs.Lists.{at_inside}
 use Rattle.rvmc_starts.specs.declared.starts.Start.{Start}
+use Rattle.rvmc_explore.specs.Outcomes.{IsEndBody}
 use Rattle.rvmc_explore.specs.SplitLaw.{HasEndAs, IsToldWhole, SplitLaw}
 use Rattle.rvmc_explore.specs.Splitting.{IsSplit, IsStartNumber}
 
@@ -48,8 +49,8 @@ room_covered false plans node here cov room = tt
 
 -- ---- the law
 
-module _ (image : ImageParts) (order : List ℕ) (states least : ℕ) (text : List ℕ)
-    (split : IsSplit image order states least text)
+module _ (image : ImageParts) (order : List ℕ) (states turns least : ℕ) (text : List ℕ)
+    (split : IsSplit image order states turns least text)
     (told : (k : ℕ) (start : Start) → slice_get split.starts k ≡ Some start → IsToldWhole image start) where
   abbrev plans : Plans
   plans = by_order order
@@ -59,16 +60,16 @@ module _ (image : ImageParts) (order : List ℕ) (states least : ℕ) (text : Li
 
   -- the nodes of what was told
   abbrev nodes_of : (start : Start) → IsToldWhole image start → List Node
-  nodes_of start its = (((its.tells).behind).explored).nodes
+  nodes_of start its = ((((its.tells).listed).behind).explored).nodes
 
   harts_are : (k : ℕ) (start : Start) → slice_get split.starts k ≡ Some start → start.harts ≡ order
   harts_are k start at = ((split.are).each k start at).4
 
   -- what was told of a start begins where its turns lead
   begins_at : (k : ℕ) (start : Start) (at : slice_get split.starts k ≡ Some start) (steps : List Step) (node : Node)
-      → IsOrderedWay image order start.turns steps node → ((((told k start at).tells).behind).start) ≡ node
+      → IsOrderedWay image order start.turns steps node → (((((told k start at).tells).listed).behind).start) ≡ node
   begins_at k start at steps node way =
-      let behind = ((told k start at).tells).behind in
+      let behind = (((told k start at).tells).listed).behind in
       one_place image order start.harts start steps behind.steps node behind.start (harts_are k start at) way behind.ordered
 
   -- where it has each end of the runs that begin there
@@ -80,15 +81,16 @@ module _ (image : ImageParts) (order : List ℕ) (states least : ℕ) (text : Li
       let its = told k start at in
       let ns = nodes_of start its in
       let same = harts_are k start at in
-      let explored = ((its.tells).behind).explored in
-      let first : ((its.tells).behind).start ≡ node = begins_at k start at steps node way in
+      let listed = (its.tells).listed in
+      let explored = (listed.behind).explored in
+      let first : (listed.behind).start ≡ node = begins_at k start at steps node way in
       let reach : Reaches explored.sure order ns node =
       subst (λ (n : Node). Reaches explored.sure order ns n) first
-      (subst (λ (o : List ℕ). Reaches explored.sure o ns ((its.tells).behind).start) same explored.start_is) in
+      (subst (λ (o : List ℕ). Reaches explored.sure o ns (listed.behind).start) same explored.start_is) in
       let posts = ap (λ (n : Node). hub_of n.cluster.journal) first in
       let room : HasRoom explored.sure (hub_of node.cluster.journal) =
       subst (HasRoom explored.sure) posts explored.room in
-      let visited : (i : ℕ) (n : Node) → slice_get ns i ≡ Some n → i + (its.tells).left < length ns =
+      let visited : (i : ℕ) (n : Node) → slice_get ns i ≡ Some n → i + (listed.found).left < length ns =
       λ i n there. omega (arith, slice_get_within ns i n there, its.whole) in
       ends_by explored.sure order ns here (reaches_on explored.sure order ns here node cov reach)
       (room_covered explored.sure plans node here cov room)
@@ -98,7 +100,7 @@ module _ (image : ImageParts) (order : List ℕ) (states least : ℕ) (text : Li
       (λ i n there. explored.few i n (visited i n there, there)) more end run follow is
 
   -- the moves of the nodes that aren't left were made, each where others lead
-  closed_at : (i r : ℕ) (node : Node) → i + split.left < length nodes → slice_get nodes i ≡ Some node
+  closed_at : (i r : ℕ) (node : Node) → i + (split.found).left < length nodes → slice_get nodes i ≡ Some node
       → IsClosedAt false order nodes node r
   closed_at i r node low there =
       subst (λ sure. IsClosedAt sure order nodes node r) split.plain ((split.explored).closed i r node (low, there))
@@ -111,21 +113,25 @@ module _ (image : ImageParts) (order : List ℕ) (states least : ℕ) (text : Li
     told_end k start at i node there alike =
         let its = told k start at in
         let tells = its.tells in
+        let listed = tells.listed in
         let ended = ends_law.ends plans end node.cluster alike is in
         let mine = subst (λ (o : List ℕ). IsEnd (by_order o) node.cluster) (sym (harts_are k start at)) ended in
-        let place = ((tells.behind).explored).told i node
+        let place = ((listed.behind).explored).told i node
         (omega (arith, slice_get_within (nodes_of start its) i node there, its.whole), there) mine in
-        let inside = slice_get_within tells.ends place.0 i place.1 in
-        let text = at_inside (tells.part).ends place.0 (omega (arith, inside, (tells.told).many)) in
+        let body = (listed.are).ends place.0 i place.1 in
+        let has = body.1 in
+        let inside = slice_get_within tells.told has.0 has.1 has.2 in
+        let text = at_inside (tells.part).ends has.0 (omega (arith, inside, (tells.ends).many)) in
+        let of = (tells.ends).each has.0 has.1 text.0 has.2 text.1 in
         record {
-          place = place.0;
+          place = has.0;
           number = i;
           node = node;
           text = text.0;
-          is_end = place.1;
           there = there;
           alike = alike;
           spelled = text.1;
+          body = subst (IsEndBody start.harts image (listed.found).kept i) (sym (of.body ∙ has.3)) body.2;
         }
 
     abbrev Told : Type 0
@@ -133,7 +139,7 @@ module _ (image : ImageParts) (order : List ℕ) (states least : ℕ) (text : Li
 
     -- by the start at a node that covers
     by_start : (i : ℕ) (node here : Node) → slice_get nodes i ≡ Some node
-        → IsStartNumber (length nodes) split.left split.ends i → IsCovered plans (node ∷ []) here → (more : List Step)
+        → IsStartNumber (length nodes) (split.found).left (split.found).ends i → IsCovered plans (node ∷ []) here → (more : List Step)
         → IsRun here.cluster more end → FollowPlans plans here.had more → Told
     by_start i node here there number cov more run follow =
         let v = split.reach i node there number in
@@ -142,7 +148,7 @@ module _ (image : ImageParts) (order : List ℕ) (states least : ℕ) (text : Li
 
     told_from : (steps : List Step) (c : Cluster) (had : Turns) → IsCovered plans nodes (node_of c had)
         → IsRun c steps end → FollowPlans plans had steps → Told
-    told_from [] c had cov run follow = elim (cases_lt (cov.index + split.left) (length nodes)) [
+    told_from [] c had cov run follow = elim (cases_lt (cov.index + (split.found).left) (length nodes)) [
       | inr past ↦ by_start cov.index cov.node (node_of c had) cov.there
           (inl (past, slice_get_within nodes cov.index cov.node cov.there))
           (covered_among plans nodes (cov.node ∷ []) (node_of c had) cov (0, refl)) [] run follow
@@ -154,7 +160,7 @@ module _ (image : ImageParts) (order : List ℕ) (states least : ℕ) (text : Li
           (inr ((split.explored).told cov.index cov.node (low, cov.there) ended))
           (covered_among plans nodes (cov.node ∷ []) (node_of c had) cov (0, refl)) [] run follow
     ]
-    told_from (e ∷ es) c had cov run follow = elim (cases_lt (cov.index + split.left) (length nodes)) [
+    told_from (e ∷ es) c had cov run follow = elim (cases_lt (cov.index + (split.found).left) (length nodes)) [
       | inr past ↦ by_start cov.index cov.node (node_of c had) cov.there
           (inl (past, slice_get_within nodes cov.index cov.node cov.there))
           (covered_among plans nodes (cov.node ∷ []) (node_of c had) cov (0, refl)) (e ∷ es) run follow
@@ -164,7 +170,7 @@ module _ (image : ImageParts) (order : List ℕ) (states least : ℕ) (text : Li
     ]
 
 pub split_law : SplitLaw
-split_law image order states least text split told steps end run follow is =
-    told_from image order states least text split told end is steps (loaded_cluster image) none_had
+split_law image order states turns least text split told steps end run follow is =
+    told_from image order states turns least text split told end is steps (loaded_cluster image) none_had
     (subst (λ sure. Reaches sure order (split.explored).nodes (first_node image)) split.plain (split.explored).start_is) run
     follow

@@ -1,5 +1,5 @@
-pub mod AllEnds
-pub mod EachStart
-pub mod EachEnd
-pub mod Apart
+pub mod Listed
+pub mod Marked
 pub mod ToEnds
+pub mod EachStart
+pub mod Apart

@@ -9,10 +9,12 @@ use Rattle.cl_machine.specs.declared.steps.Step.{Step}
 use Rattle.cl_order_laws.specs.Closed.{Node}
 use Rattle.cl_moves.specs.Standing.{IsWay, by_order, first_node}
 use Rattle.cl_explore.specs.Covering.{AreNodes}
-use Rattle.cl_explore.specs.Ends.{ExploredFrom}
+use Rattle.cl_explore.specs.Ends.{ExploredFrom, findings}
 use Rattle.cl_explore.specs.declared.exploring.Exploration.{Exploration}
 use Rattle.cl_explore.specs.declared.kept.KeptNode.{KeptNode}
+use Rattle.rvmc_explore.specs.Outcomes.{AreTold, nodes_told}
 use Rattle.rvmc_explore.specs.Recorded.{Leads, numbered}
+use Rattle.rvmc_explore.specs.declared.outcomes.Outcome.{Outcome}
 
 -- the steps are those of a run by the order to the node, as a record has them
 pub record IsRecordTo (image : ImageParts) (order : List ℕ) (here : Node) (steps : List Step) : Type 0 where
@@ -28,8 +30,8 @@ LeadInOrder kept at steps =
     → AreNodes image order kept nodes → slice_get nodes at ≡ Some here → IsRecordTo image order here steps
 
 -- whatever was searched, from wherever
-abbrev pub RecordsIn : Exploration → ℕ → Option (List Step) → Type 0
-RecordsIn found number steps =
+abbrev pub RecordsIn : Exploration → List Outcome → ℕ → Option (List Step) → Type 0
+RecordsIn found told number steps =
     (image : ImageParts) (order : List ℕ) (start : Node) → IsImage image
-    → (explored : ExploredFrom image order start found.nodes.items found.ends.items found.left)
-    → Leads image order explored.nodes (numbered found.ends.items number) steps
+    → (explored : ExploredFrom image order start (findings found)) → AreTold order image (findings found) told
+    → Leads image order explored.nodes (numbered (nodes_told told) number) steps

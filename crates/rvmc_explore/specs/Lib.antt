@@ -1,4 +1,6 @@
 pub mod Ends
+pub mod Searched
+pub mod Outcomes
 pub mod Telling
 pub mod There
 pub mod Recorded

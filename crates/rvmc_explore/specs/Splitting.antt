@@ -5,7 +5,7 @@ use Rattle.rv_image.specs.Text.{image_text}
 use Rattle.rv_image.specs.declared.images.ImageParts.{ImageParts}
 use Rattle.cl_machine.specs.declared.steps.Step.{Step}
 use Rattle.cl_order_laws.specs.Closed.{Node}
-use Rattle.cl_explore.specs.Ends.{AreTurnsTo, Explored, IsBounded}
+use Rattle.cl_explore.specs.Ends.{AreTurnsTo, Explored, Findings, IsBounded}
 use Rattle.cl_explore.specs.Orders.{IsOrderedWay}
 use Rattle.cl_explore.specs.declared.kept.KeptNode.{KeptNode}
 use Rattle.rvmc_report.specs.Report.{newline}
@@ -83,15 +83,13 @@ Reach image order nodes ends left starts =
 
 -- the starts of a search that went on until so many nodes were left, or as far as it might, without calls that are made at
 -- once
-pub record IsSplit (image : ImageParts) (order : List ℕ) (states least : ℕ) (text : List ℕ) : Type 0 where
-  pub kept : List KeptNode
-  pub ends : List ℕ
-  pub left : ℕ
-  pub explored : Explored image order kept ends left
+pub record IsSplit (image : ImageParts) (order : List ℕ) (states turns least : ℕ) (text : List ℕ) : Type 0 where
+  pub found : Findings
+  pub explored : Explored image order found
   pub plain : explored.sure ≡ false
-  pub most : IsBounded states (Some least) (length kept) left
+  pub most : IsBounded states (Some least) turns found.kept found.left
   pub starts : List Start
   pub split : ℕ
   pub are : AreStartsOf image order split starts
-  pub reach : Reach image order explored.nodes ends left starts
+  pub reach : Reach image order explored.nodes found.ends found.left starts
   pub spelled : text ≡ flat_map start_line starts

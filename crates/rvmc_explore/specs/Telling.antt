@@ -1,17 +1,17 @@
 -- What is told of a search.
-use Rattle.std.specs.Prelude.{ℕ, ◌+◌, ◌≡◌, ◌⊎◌, ◌++◌, ◌==◌, List, [], ◌∷◌, Bool, false, Option, Some, None, codes, if◌then◌else◌, length, slice_get}
+use Rattle.std.specs.Prelude.{ℕ, ◌+◌, ◌≡◌, ◌++◌, ◌==◌, ◌||◌, List, [], ◌∷◌, Bool, false, not, Option, Some, None, codes, if◌then◌else◌, length, slice_get}
 use Rattle.std.specs.Fmt.{decimal}
 use Rattle.std.specs.List.{list_any}
 use Rattle.rv_image.specs.declared.images.ImageParts.{ImageParts}
-use Rattle.cl_explore.specs.Ends.{Explored}
-use Rattle.cl_explore.specs.Kept.{cluster_of}
+use Rattle.cl_explore.specs.Ends.{Findings}
+use Rattle.cl_explore.specs.declared.companies.Company.{Company}
 use Rattle.cl_explore.specs.declared.kept.KeptNode.{KeptNode}
-use Rattle.cl_replay.specs.Kept.{snapshot}
-use Rattle.cl_replay.specs.declared.states.ClusterState.{ClusterState}
 use Rattle.rvmc_report.specs.Report.{has_trapped, newline}
-use Rattle.rvmc_explore.specs.Ends.{IsEndText, one_waits}
+use Rattle.rvmc_explore.specs.Ends.{one_waits}
+use Rattle.rvmc_explore.specs.Outcomes.{IsListOf}
+use Rattle.rvmc_explore.specs.declared.outcomes.Outcome.{Outcome}
 
--- ---- one end
+-- ---- one outcome
 
 -- `end N`
 abbrev pub end_number : ℕ → List ℕ
@@ -21,28 +21,18 @@ end_number number = codes "end " ++ decimal number
 abbrev pub AddsHead : ℕ → List ℕ → List ℕ → Type 0
 AddsHead number old new = (more : List ℕ) × (new ≡ old ++ (end_number number ++ (more ++ newline)))
 
--- the state is what is kept of the node of this number
-pub record IsKeptState (kept : List KeptNode) (node : ℕ) (state : ClusterState) : Type 0 where
-  pub what : KeptNode
-  pub there : slice_get kept node ≡ Some what
-  pub same : snapshot state ≡ cluster_of what
-
--- a text with all that is told of the end behind it
-pub record AddsEnd (order : List ℕ) (image : ImageParts) (kept : List KeptNode) (number node : ℕ) (old new : List ℕ)
-    : Type 0 where
-  pub headed : List ℕ
-  pub head : AddsHead number old headed
-  pub state : ClusterState
-  pub is : IsKeptState kept node state
-  pub told : IsEndText order image state headed new
+-- a text with all that is told of an outcome behind it
+abbrev pub AddsOutcome : ℕ → Outcome → List ℕ → List ℕ → Type 0
+AddsOutcome number outcome old new =
+    (headed : List ℕ) × AddsHead number old headed × (new ≡ headed ++ outcome.body.items)
 
 -- ---- all of them
 
 -- the first has this number
-abbrev pub AddsEnds : List ℕ → ImageParts → List KeptNode → ℕ → List ℕ → List ℕ → List ℕ → Type 0
-AddsEnds order image kept number [] old new = new ≡ old
-AddsEnds order image kept number (node ∷ nodes) old new =
-    (mid : List ℕ) × AddsEnd order image kept number node old mid × AddsEnds order image kept (number + 1) nodes mid new
+abbrev pub AddsOutcomes : ℕ → List Outcome → List ℕ → List ℕ → Type 0
+AddsOutcomes number [] old new = new ≡ old
+AddsOutcomes number (outcome ∷ outcomes) old new =
+    (mid : List ℕ) × AddsOutcome number outcome old mid × AddsOutcomes (number + 1) outcomes mid new
 
 -- `1 end`, `2 ends`
 abbrev pub count_text : ℕ → List ℕ → List ℕ
@@ -88,24 +78,36 @@ holds_of p (Some node) = p node
 abbrev pub any_end : (KeptNode → Bool) → List KeptNode → List ℕ → Bool
 any_end p kept ends = list_any (λ node. holds_of p (slice_get kept node)) ends
 
--- 4 where not all ends are told, else 3 where a hart trapped at one, else 7 where one waits at one, else 0
-abbrev pub search_status : ℕ → Bool → Bool → ℕ
-search_status left trapped stuck =
-    if (left == 0) then (if trapped then 3 else (if stuck then 7 else 0)) else 4
+-- 4 where not all is told, else 3 where a hart trapped at an end, else 7 where one waits for ever, else 8 where some runs
+-- go on for ever, else 0
+abbrev pub search_status : ℕ → Bool → Bool → Bool → ℕ
+search_status left trapped stuck unending =
+    if (left == 0) then (if trapped then 3 else (if stuck then 7 else (if unending then 8 else 0))) else 4
+
+abbrev pub is_some_company : List Company → Bool
+is_some_company companies = not (length companies == 0)
+
+-- a hart that takes turns waits at an end, or some ranks are stuck anywhere
+abbrev pub is_stuck : List ℕ → Findings → Bool
+is_stuck order found = any_end (waits_in order) found.kept found.ends || is_some_company found.companies
+
+abbrev pub status_of : List ℕ → Findings → Bool → ℕ
+status_of order found unending =
+    search_status found.left (any_end trapped_in found.kept found.ends) (is_stuck order found) unending
 
 -- ---- the whole
 
--- each end that is told is one to which a run by the order leads, and they are all where it says so, as it does unless the
--- moves of as many states as are allowed were made
+-- each outcome that is told is one to which a run by the order leads, no two have the same text, and they are all where it
+-- says so, as it does unless the moves of as many states as are allowed were made, or a rank took more turns by itself
 pub record Tells (image : ImageParts) (order : List ℕ) (states turns : ℕ) (text : List ℕ) (status : ℕ) : Type 0 where
-  pub kept : List KeptNode
-  pub ends : List ℕ
-  pub left : ℕ
+  pub told : List Outcome
+  pub listed : IsListOf image order states turns told
   pub long : Option ℕ
-  pub explored : Explored image order kept ends left
-  pub most : (left ≡ 0) ⊎ (length kept ≡ states + left)
   pub unending : Bool
   pub body : List ℕ
-  pub told : AddsEnds order image kept 1 ends [] body
-  pub spelled : text ≡ body ++ (unending_line unending ++ last_line (length ends) (length kept) left long turns)
-  pub status_is : status ≡ search_status left (any_end trapped_in kept ends) (any_end (waits_in order) kept ends)
+  pub lines : AddsOutcomes 1 told [] body
+  pub spelled : text
+      ≡ body
+      ++ (unending_line unending
+      ++ last_line (length told) (length (listed.found).kept) (listed.found).left long turns)
+  pub status_is : status ≡ status_of order listed.found unending

@@ -42,12 +42,13 @@ fn verdict(alloc: Global, left: usize, long: Option<u8>, turns: u64) -> Result<S
 pub(crate) fn last_line(
     alloc: Global,
     found: &Exploration,
+    ends: usize,
     turns: u64,
 ) -> Result<String, AllocError>
     ensures { IfOk result (λ text. string_bytes text
-        ≡ last_line (length found.now.ends.items) (length found.now.nodes.items) found.now.left found.now.long turns) }
+        ≡ last_line ends (length found.now.nodes.items) found.now.left found.now.long turns) }
 {
-    let ends = counted(alloc, found.ends.len(), "end")?;
+    let ends = counted(alloc, ends, "end")?;
     let states = counted(alloc, found.nodes.len(), "state")?;
     let verdict = verdict(alloc, found.left, found.long, turns)?;
     format!(in alloc; "{ends} of {states}: {verdict}\n")

@@ -4,6 +4,7 @@ ghost use Rattle.std.specs.Prelude.{◌≡◌, ◌<◌, ◌+◌, IfOk, OnOk, len
 ghost use Rattle.rvmc_explore.specs.Telling.{AddsHead, end_number};
 
 use crate::differences::{Difference, first_difference};
+use crate::outcomes::Outcome;
 use cl_explore::Exploration;
 use cl_machine::Step;
 use cl_replay::replay;
@@ -73,13 +74,14 @@ fn difference_text(
     alloc: Global,
     image: &Image,
     found: &Exploration,
+    told: &[Outcome],
     number: usize,
 ) -> Result<Vec<u8>, AllocError> {
-    let (Some(end), Some(one)) = (found.ends.get(number), found.ends.get(0)) else {
+    let (Some(end), Some(one)) = (told.get(number), told.get(0)) else {
         return Ok(Vec::new(alloc));
     };
-    let steps = found.steps_to(alloc, *end)?;
-    let first = found.steps_to(alloc, *one)?;
+    let steps = found.steps_to(alloc, end.node)?;
+    let first = found.steps_to(alloc, one.node)?;
     let ranks = image.parts().ranks;
     match first_difference(alloc, ranks, steps.as_slice(), first.as_slice())? {
         None => Ok(Vec::new(alloc)),
@@ -87,19 +89,20 @@ fn difference_text(
     }
 }
 
-/// Adds the line of the end at this place: its number, and by which message it differs from the first one.
+/// Adds the line of the outcome at this place: its number, and by which message it differs from the first one.
 pub(crate) fn put_head(
     alloc: Global,
     text: &mut Vec<u8>,
     image: &Image,
     found: &Exploration,
+    told: &[Outcome],
     place: usize,
 ) -> Result<(), AllocError>
-    requires { place < length found.now.ends.items }
+    requires { place < length told.now }
     ensures { OnOk result (AddsHead (place + 1) text.old.items text.new.items) }
 {
     let name = number_text(alloc, place + 1)?;
-    let other = difference_text(alloc, image, found, place)?;
+    let other = difference_text(alloc, image, found, told, place)?;
     text.extend_from_slice(name.as_bytes())?;
     text.extend_from_slice(other.as_slice())?;
     text.push(b'\n')?;

@@ -4,7 +4,8 @@ ghost use Rattle.std.specs.Prelude.{◌≡◌, slice_get};
 ghost use Rattle.std.specs.List.{list_any};
 ghost use Rattle.rvmc_report.specs.Report.{has_trapped, is_trapped};
 ghost use Rattle.rvmc_explore.specs.Ends.{one_waits};
-ghost use Rattle.rvmc_explore.specs.Telling.{any_end, holds_of, search_status, trapped_in, waits_in};
+ghost use Rattle.cl_explore.specs.Ends.{findings};
+ghost use Rattle.rvmc_explore.specs.Telling.{any_end, holds_of, status_of, trapped_in, waits_in};
 
 use crate::ends::waits;
 use cl_explore::{Exploration, KeptNode};
@@ -70,11 +71,10 @@ fn any_waits(nodes: &[KeptNode], order: &[u8], ends: &[usize]) -> bool
     ends.iter().any(|node| waits_in(nodes, order, *node))
 }
 
-/// The status of a search: 4 where not all ends are told, else 3 where a hart trapped at one, else 7 where a hart that
-/// takes turns waits at one, else 0.
-pub(crate) fn search_status(found: &Exploration, order: &[u8]) -> u8
-    ensures { result ≡ search_status found.now.left (any_end trapped_in found.now.nodes.items found.now.ends.items)
-        (any_end (waits_in order.now) found.now.nodes.items found.now.ends.items) }
+/// The status of a search: 4 where not all is told, else 3 where a hart trapped at an end, else 7 where a hart that takes turns
+/// waits at one, or some ranks are stuck, else 8 where some runs go on for ever, else 0.
+pub(crate) fn search_status(found: &Exploration, order: &[u8], unending: bool) -> u8
+    ensures { result ≡ status_of order.now (findings found.now) unending }
 {
     if found.left > 0 {
         return 4;
@@ -84,5 +84,8 @@ pub(crate) fn search_status(found: &Exploration, order: &[u8]) -> u8
     if any_trapped(nodes, ends) {
         return 3;
     }
-    if any_waits(nodes, order, ends) { 7 } else { 0 }
+    if any_waits(nodes, order, ends) || found.companies.len() > 0 {
+        return 7;
+    }
+    if unending { 8 } else { 0 }
 }

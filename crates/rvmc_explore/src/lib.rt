@@ -1,5 +1,5 @@
-//! What a search of all orders tells, as text: each end, the first message by which it differs from the first one, and
-//! whether these are all; and a record of one.
+//! What a search of all orders tells, as text: each end, ranks that are stuck while others run on, the first message by which
+//! one differs from the first one, and whether these are all; and a record of one.
 #![tactic(auto)]
 
 mod asked;
@@ -9,6 +9,7 @@ mod ends;
 mod heads;
 mod judging;
 pub mod laws;
+mod outcomes;
 mod recording;
 mod splitting;
 mod starting;

@@ -1,27 +1,29 @@
-//! A record of an end.
+//! A record of an outcome.
 
 ghost use Rattle.std.specs.Prelude.{◌≡◌, ◌<◌, IfOk, length};
 ghost use Rattle.std.specs.Option.{option_map};
 ghost use Rattle.rvmc_explore.specs.InnerRecorded.{LeadInOrder, RecordsIn};
+ghost use Rattle.rvmc_explore.specs.Outcomes.{nodes_told};
 ghost use Rattle.rvmc_explore.specs.Recorded.{RecordsEnd, numbered};
 
 use crate::asked::Asked;
+use crate::outcomes::{Outcome, tell};
 use cl_explore::{Course, Exploration, explore, in_order};
 use cl_machine::Step;
 use cl_moves::MoveFault;
 use rv_image::Image;
 use std::alloc::{AllocError, Global};
 
-/// The end of this number, from 1.
-fn numbered(ends: &[usize], number: u64) -> Option<usize>
-    ensures { result ≡ numbered ends.now number }
+/// The node of the outcome of this number, from 1.
+fn numbered(told: &[Outcome], number: u64) -> Option<usize>
+    ensures { result ≡ numbered (nodes_told told.now) number }
 {
     if number == 0 {
         return None;
     }
     let before = (number - 1) as usize;
-    if before < ends.len() {
-        Some(ends[before])
+    if before < told.len() {
+        Some(told[before].node)
     } else {
         None
     }
@@ -35,22 +37,23 @@ fn steps_to(alloc: Global, found: &Exploration, node: usize) -> Result<Vec<Step>
     in_order(alloc, turns.as_slice())
 }
 
-/// The same of the end of this number, from 1. None where there are fewer ends.
+/// The same of the outcome of this number, from 1. None where there are fewer.
 pub(crate) fn record_in(
     alloc: Global,
     found: &Exploration,
+    told: &[Outcome],
     number: u64,
 ) -> Result<Option<Vec<Step>>, AllocError>
-    ensures { IfOk result (λ steps. RecordsIn found.now number (option_map (λ s. s.items) steps)) }
+    ensures { IfOk result (λ steps. RecordsIn found.now told.now number (option_map (λ s. s.items) steps)) }
 {
-    match numbered(found.ends.as_slice(), number) {
+    match numbered(told, number) {
         None => Ok(None),
         Some(node) => Ok(Some(steps_to(alloc, found, node)?)),
     }
 }
 
-/// The steps that lead from the loaded cluster to the end of this number, from 1, in the order of a record: a run that
-/// ends there. None where there are fewer ends.
+/// The steps that lead from the loaded cluster to the outcome of this number, from 1, in the list that `explored` tells, in the
+/// order of a record: a run that comes there. None where there are fewer.
 ///
 /// Refusals: Clock, Memory.
 pub fn recorded(
@@ -60,9 +63,10 @@ pub fn recorded(
     number: u64,
 ) -> Result<Option<Vec<Step>>, MoveFault>
     requires { 0 < length asked.now.order.now }
-    ensures { IfOk result (λ steps. RecordsEnd image.now asked.now.order.now number (option_map (λ s. s.items) steps)) }
+    ensures { IfOk result (λ steps. RecordsEnd image.now asked.now.order.now asked.now.states asked.now.turns number
+        (option_map (λ s. s.items) steps)) }
 {
-    // whoever asks for the parts knows that the image is one
+    // ghost: brings into scope that the image is one
     let _parts = image.parts();
     let course = Course {
         alloc,
@@ -70,5 +74,6 @@ pub fn recorded(
         most: asked.turns,
     };
     let found = explore(&course, image, asked.states)?;
-    Ok(record_in(alloc, &found, number)?)
+    let told = tell(alloc, image, asked.order, &found)?;
+    Ok(record_in(alloc, &found, told.as_slice(), number)?)
 }

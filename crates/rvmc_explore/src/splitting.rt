@@ -163,7 +163,7 @@ pub fn split(
     least: usize,
 ) -> Result<Vec<u8>, MoveFault>
     requires { 0 < length asked.now.order.now }
-    ensures { IfOk result (λ text. IsSplit image.now asked.now.order.now asked.now.states least text.items) }
+    ensures { IfOk result (λ text. IsSplit image.now asked.now.order.now asked.now.states asked.now.turns least text.items) }
 {
     let course = Course {
         alloc,

@@ -1,20 +1,20 @@
 //! What is told of one start of a split.
 
-ghost use Rattle.std.specs.Prelude.{◌≡◌, ◌<◌, ◌⊎◌, ◌+◌, ℕ, IfErr, IfOk, IsTrue, Some, length, slice_get};
+ghost use Rattle.std.specs.Prelude.{◌≡◌, ◌<◌, IfErr, IfOk, None, Some, length, slice_get};
 ghost use Rattle.std.specs.Option.{option_map};
 ghost use Rattle.rv_image.specs.Text.{image_text};
-ghost use Rattle.cl_explore.specs.Ends.{ExploredBehind};
+ghost use Rattle.cl_explore.specs.Ends.{ExploredBehind, IsBounded, findings};
 ghost use Rattle.rvmc_starts.specs.Sums.{sum_of};
 ghost use Rattle.rvmc_explore.specs.Starting.{AreEndsTold, IsEndTold, IsLine, RecordsEndBehind, StartFaultHolds, TellsFrom};
-ghost use Rattle.rvmc_explore.specs.There.{AreThere};
+ghost use Rattle.rvmc_explore.specs.declared.outcomes.Outcome.{Outcome as OutcomeView};
 ghost use Rattle.rvmc_explore.specs.declared.starting.StartFault.TheVariants as faults;
 
-use crate::ends::put_end;
 use crate::heads::put_head;
 use crate::judging::search_status;
+use crate::outcomes::{Outcome, tell};
 use crate::recording::record_in;
 use crate::splitting::sum_of_image;
-use crate::telling::{Told, state_at};
+use crate::telling::Told;
 use crate::unending::is_unending;
 use cl_explore::{Course, Exploration, OrderFault, explore_from};
 use cl_machine::Step;
@@ -63,46 +63,42 @@ fn first_line(alloc: Global, text: &[u8]) -> Result<Vec<u8>, AllocError>
     Ok(line)
 }
 
-/// What is told of the end at this place: its line, and its text.
+/// What is told of the outcome at this place: its line, and its text.
 fn end_told(
     alloc: Global,
     image: &Image,
-    order: &[u8],
     found: &Exploration,
+    told: &[Outcome],
     place: usize,
 ) -> Result<EndText, AllocError>
-    requires within { place < length found.now.ends.items }
-    requires there { AreThere found.now.nodes.items found.now.ends.items }
-    ensures { IfOk result (λ end. (node : ℕ) → slice_get found.now.ends.items place ≡ Some node
-        → IsEndTold order.now image.now found.now.nodes.items node end) }
+    requires { place < length told.now }
+    ensures { IfOk result (λ end. (outcome : OutcomeView) → slice_get told.now place ≡ Some outcome
+        → IsEndTold outcome end) }
 {
     let mut head = Vec::new(alloc);
-    put_head(alloc, &mut head, image, found, place)?;
-    let state = state_at(alloc, found, found.ends[place])?;
-    let mut body = Vec::new(alloc);
-    put_end(alloc, &mut body, image, order, &state)?;
+    put_head(alloc, &mut head, image, found, told, place)?;
+    let line = first_line(alloc, head.as_slice())?;
     Ok(EndText {
-        head: Text::from_vec(first_line(alloc, head.as_slice())?),
-        body: Text::from_vec(body),
+        head: Text::from_vec(line),
+        body: Text::copy_of(alloc, told[place].body.as_slice())?,
     })
 }
 
-/// What is told of all ends, in their order.
+/// What is told of all outcomes, in their order.
 fn ends_told(
     alloc: Global,
     image: &Image,
-    order: &[u8],
     found: &Exploration,
+    told: &[Outcome],
 ) -> Result<Vec<EndText>, AllocError>
-    requires { AreThere found.now.nodes.items found.now.ends.items }
-    ensures { IfOk result (λ told. AreEndsTold order.now image.now found.now.nodes.items found.now.ends.items told.items) }
+    ensures { IfOk result (λ ends. AreEndsTold told.now ends.items) }
 {
-    let mut told = Vec::new(alloc);
-    for place in 0..found.ends.len() {
-        let end = end_told(alloc, image, order, found, place)?;
-        told.push(end)?;
+    let mut ends = Vec::new(alloc);
+    for place in 0..told.len() {
+        let end = end_told(alloc, image, found, told, place)?;
+        ends.push(end)?;
     }
-    Ok(told)
+    Ok(ends)
 }
 
 /// A search from a start.
@@ -116,9 +112,8 @@ fn searched(
 ) -> Result<Exploration, StartFault>
     requires { 0 < length start.now.harts }
     ensures known { IfOk result (λ found. start.now.image ≡ sum_of (image_text image.now)) }
-    ensures ends { IfOk result (λ found. ExploredBehind image.now start.now.harts start.now.turns found.nodes.items
-        found.ends.items found.left) }
-    ensures most { IfOk result (λ found. (found.left ≡ 0) ⊎ (length found.nodes.items ≡ reach.states + found.left)) }
+    ensures ends { IfOk result (λ found. ExploredBehind image.now start.now.harts start.now.turns (findings found)) }
+    ensures most { IfOk result (λ found. IsBounded reach.states None reach.turns found.nodes.items found.left) }
     ensures fault { IfErr result (StartFaultHolds image.now start.now) }
 {
     if sum_of_image(alloc, image)? != start.image {
@@ -148,13 +143,17 @@ pub fn explored_from(
     reach: Reach,
 ) -> Result<Told, StartFault>
     requires { 0 < length start.now.harts }
-    ensures told { IfOk result (λ told. TellsFrom image.now start.now reach.states told.text.items told.status) }
+    ensures told { IfOk result (λ told. TellsFrom image.now start.now reach.states reach.turns told.text.items told.status) }
     ensures fault { IfErr result (StartFaultHolds image.now start.now) }
 {
+    // ghost: brings into scope that the image is one
+    let _parts = image.parts();
     let found = searched(alloc, image, start, reach)?;
     let order = start.harts.as_slice();
-    let ends = ends_told(alloc, image, order, &found)?;
-    let status = search_status(&found, order);
+    let told = tell(alloc, image, order, &found)?;
+    let ends = ends_told(alloc, image, &found, told.as_slice())?;
+    let unending = is_unending(alloc, &found)?;
+    let status = search_status(&found, order, unending);
     let part = Part {
         number: start.number,
         count: start.count,
@@ -165,15 +164,15 @@ pub fn explored_from(
         states: found.nodes.len() as u64,
         left: found.left as u64,
         status,
-        unending: is_unending(alloc, &found)?,
+        unending,
     };
     let mut text = Vec::new(alloc);
     put_part(alloc, &mut text, &part)?;
     Ok(Told { text, status })
 }
 
-/// The steps that lead from the loaded cluster to the end of this number, from 1, of a search from a start, in the order
-/// of a record. None where there are fewer ends.
+/// The steps that lead from the loaded cluster to the outcome of this number, from 1, in the list that `explored_from` tells, in
+/// the order of a record. None where there are fewer.
 ///
 /// Refusals: as those of `explored_from`.
 pub fn recorded_from(
@@ -184,11 +183,13 @@ pub fn recorded_from(
     number: u64,
 ) -> Result<Option<Vec<Step>>, StartFault>
     requires { 0 < length start.now.harts }
-    ensures steps { IfOk result (λ steps. RecordsEndBehind image.now start.now number (option_map (λ s. s.items) steps)) }
+    ensures steps { IfOk result (λ steps. RecordsEndBehind image.now start.now reach.states reach.turns number
+        (option_map (λ s. s.items) steps)) }
     ensures fault { IfErr result (StartFaultHolds image.now start.now) }
 {
-    // whoever asks for the parts knows that the image is one
+    // ghost: brings into scope that the image is one
     let _parts = image.parts();
     let found = searched(alloc, image, start, reach)?;
-    Ok(record_in(alloc, &found, number)?)
+    let told = tell(alloc, image, start.harts.as_slice(), &found)?;
+    Ok(record_in(alloc, &found, told.as_slice(), number)?)
 }

@@ -1,14 +1,15 @@
 //! All that is told of a search.
 
-ghost use Rattle.std.specs.Prelude.{◌≡◌, ◌<◌, ◌+◌, ℕ, Some, IfOk, OnOk, length, slice_get};
-ghost use Rattle.rvmc_explore.specs.Telling.{AddsEnd, AddsEnds, IsKeptState, Tells};
-ghost use Rattle.rvmc_explore.specs.There.{AreThere};
+ghost use Rattle.std.specs.Prelude.{◌≡◌, ◌<◌, ◌+◌, Some, IfOk, OnOk, length, slice_get};
+ghost use Rattle.rvmc_explore.specs.Telling.{AddsOutcome, AddsOutcomes, Tells};
+ghost use Rattle.rvmc_explore.specs.There.{IsKeptState};
+ghost use Rattle.rvmc_explore.specs.declared.outcomes.Outcome.{Outcome as OutcomeView};
 
 use crate::asked::Asked;
 use crate::closing::last_line;
-use crate::ends::put_end;
 use crate::heads::put_head;
 use crate::judging::search_status;
+use crate::outcomes::{Outcome, tell};
 use crate::unending::{is_unending, unending_line};
 use cl_explore::{Course, Exploration, explore};
 use cl_moves::MoveFault;
@@ -36,48 +37,45 @@ pub(crate) fn state_at(
     Ok(state)
 }
 
-/// Adds all that is told of the end at this place.
+/// Adds all that is told of the outcome at this place: its line, and its text.
 fn put_one(
     alloc: Global,
     text: &mut Vec<u8>,
     image: &Image,
-    order: &[u8],
     found: &Exploration,
+    told: &[Outcome],
     place: usize,
 ) -> Result<(), AllocError>
-    requires within { place < length found.now.ends.items }
-    requires there { AreThere found.now.nodes.items found.now.ends.items }
-    ensures { OnOk result ((node : ℕ) → slice_get found.now.ends.items place ≡ Some node
-        → AddsEnd order.now image.now found.now.nodes.items (place + 1) node text.old.items text.new.items) }
+    requires { place < length told.now }
+    ensures { OnOk result ((outcome : OutcomeView) → slice_get told.now place ≡ Some outcome
+        → AddsOutcome (place + 1) outcome text.old.items text.new.items) }
 {
-    put_head(alloc, text, image, found, place)?;
-    let state = state_at(alloc, found, found.ends[place])?;
-    put_end(alloc, text, image, order, &state)?;
+    put_head(alloc, text, image, found, told, place)?;
+    text.extend_from_slice(told[place].body.as_slice())?;
     Ok(())
 }
 
-/// Adds all that is told of all ends, in their order.
-fn put_ends(
+/// Adds all that is told of all outcomes, in their order.
+fn put_told(
     alloc: Global,
     text: &mut Vec<u8>,
     image: &Image,
-    order: &[u8],
     found: &Exploration,
+    told: &[Outcome],
 ) -> Result<(), AllocError>
-    requires { AreThere found.now.nodes.items found.now.ends.items }
-    ensures { OnOk result
-        (AddsEnds order.now image.now found.now.nodes.items 1 found.now.ends.items text.old.items text.new.items) }
+    ensures { OnOk result (AddsOutcomes 1 told.now text.old.items text.new.items) }
 {
-    for place in 0..found.ends.len() {
-        put_one(alloc, text, image, order, found, place)?;
+    for place in 0..told.len() {
+        put_one(alloc, text, image, found, told, place)?;
     }
     Ok(())
 }
 
-/// What a search tells: of each end its ranks, and what each waits for that waits there, and the first message by which
-/// it differs from the first one; whether some runs go on for ever, to no end; in the last line whether these are all.
-/// The status is 4 where they aren't, else 3 where
-/// a hart trapped at one, else 7 where a hart that takes turns waits at one, else 0.
+/// What a search tells: of each end its ranks, and what each waits for that waits there; of ranks that are stuck while others
+/// run on what they wait for; of each the first message by which it differs from the first one; whether some runs go on for
+/// ever, to no end; in the last line whether these are all. No two have the same text. The status is 4 where they aren't all,
+/// else 3 where a hart trapped at an end, else 7 where a hart that takes turns waits at one, or some ranks are stuck, else 8
+/// where some runs go on for ever, else 0.
 ///
 /// Refusals: Clock, Memory.
 pub fn explored(alloc: Global, image: &Image, asked: &Asked<'_>) -> Result<Told, MoveFault>
@@ -85,19 +83,22 @@ pub fn explored(alloc: Global, image: &Image, asked: &Asked<'_>) -> Result<Told,
     ensures { IfOk result (λ told. Tells image.now asked.now.order.now asked.now.states asked.now.turns told.text.items
         told.status) }
 {
+    // ghost: brings into scope that the image is one
+    let _parts = image.parts();
     let course = Course {
         alloc,
         order: asked.order,
         most: asked.turns,
     };
     let found = explore(&course, image, asked.states)?;
+    let told = tell(alloc, image, asked.order, &found)?;
     let mut text = Vec::new(alloc);
-    put_ends(alloc, &mut text, image, asked.order, &found)?;
+    put_told(alloc, &mut text, image, &found, told.as_slice())?;
     let unending = is_unending(alloc, &found)?;
     let line = unending_line(alloc, unending)?;
     text.extend_from_slice(line.as_bytes())?;
-    let last = last_line(alloc, &found, asked.turns)?;
+    let last = last_line(alloc, &found, told.len(), asked.turns)?;
     text.extend_from_slice(last.as_bytes())?;
-    let status = search_status(&found, asked.order);
+    let status = search_status(&found, asked.order, unending);
     Ok(Told { text, status })
 }

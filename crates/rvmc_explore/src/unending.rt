@@ -1,28 +1,50 @@
 //! Whether some runs go on for ever.
 
-ghost use Rattle.std.specs.Prelude.{◌≡◌, IfOk, string_bytes};
+ghost use Rattle.std.specs.Prelude.{◌≡◌, ◌⊎◌, ◌<◌, ℕ, List, IfOk, IsTrue, Some, length, slice_get, string_bytes, true};
+ghost use Rattle.rvmc_explore.specs.Searched.{AreSound};
 ghost use Rattle.rvmc_explore.specs.Telling.{unending_line};
 
 use cl_explore::{Exploration, Lead};
 use std::alloc::{AllocError, Global};
 
+/// Marks the node of this number, if it is there.
+fn mark(marks: &mut [bool], node: usize)
+    ensures { (i : ℕ) → slice_get marks.new i ≡ Some true → (slice_get marks.old i ≡ Some true) ⊎ (node ≡ i) }
+{
+    if node < marks.len() {
+        marks[node] = true;
+    }
+}
+
 /// A mark for each of so many nodes, set at these.
-fn marked_at(alloc: Global, count: usize, nodes: &[usize]) -> Result<Vec<bool>, AllocError> {
+fn marked_at(alloc: Global, count: usize, nodes: &[usize]) -> Result<Vec<bool>, AllocError>
+    ensures { IfOk result (λ marks. (i : ℕ) → slice_get marks.items i ≡ Some true
+        → (k : ℕ) × (slice_get nodes.now k ≡ Some i)) }
+{
     let mut marks = vec![in alloc; false; count]?;
-    for node in nodes {
-        if let Some(mark) = marks.get_mut(*node) {
-            *mark = true;
-        }
+    for place in 0..nodes.len() {
+        mark(marks.as_mut_slice(), nodes[place]);
     }
     Ok(marks)
 }
 
-/// Marks the node from which a move led, if the one is marked to which it led. Answers whether it wasn't marked before.
-fn mark_before(marks: &mut [bool], lead: Lead) -> bool {
-    if lead.to >= marks.len() || lead.from >= marks.len() {
+/// Whether the node of this number is marked.
+fn is_marked(marks: &[bool], node: usize) -> bool
+    ensures { IsTrue result → slice_get marks.now node ≡ Some true }
+{
+    if node >= marks.len() {
         return false;
     }
-    if !marks[lead.to] || marks[lead.from] {
+    marks[node]
+}
+
+/// Marks the node from which the move at this place led, if the one is marked to which it led. Answers whether it wasn't marked before.
+fn mark_before(marks: &mut [bool], leads: &[Lead], place: usize) -> bool
+    requires { place < length leads.now }
+    ensures { (targets : List ℕ) → AreSound leads.now targets marks.old → AreSound leads.now targets marks.new }
+{
+    let lead = &leads[place];
+    if lead.from >= marks.len() || !is_marked(marks, lead.to) || is_marked(marks, lead.from) {
         return false;
     }
     marks[lead.from] = true;
@@ -30,11 +52,12 @@ fn mark_before(marks: &mut [bool], lead: Lead) -> bool {
 }
 
 /// The same of each move, the last one first: most moves lead to later nodes. Answers whether one was marked.
-fn mark_all(marks: &mut [bool], leads: &[Lead]) -> bool {
+fn mark_all(marks: &mut [bool], leads: &[Lead]) -> bool
+    ensures { (targets : List ℕ) → AreSound leads.now targets marks.old → AreSound leads.now targets marks.new }
+{
     let mut more = false;
     for place in 0..leads.len() {
-        let lead = leads[leads.len() - 1 - place];
-        if mark_before(marks, lead) {
+        if mark_before(marks, leads, leads.len() - 1 - place) {
             more = true;
         }
     }
@@ -46,7 +69,9 @@ pub(crate) fn leading_to(
     alloc: Global,
     found: &Exploration,
     nodes: &[usize],
-) -> Result<Vec<bool>, AllocError> {
+) -> Result<Vec<bool>, AllocError>
+    ensures { IfOk result (λ marks. AreSound found.now.leads.items nodes.now marks.items) }
+{
     let mut marks = marked_at(alloc, found.nodes.len(), nodes)?;
     for _round in 0..found.nodes.len() {
         if !mark_all(marks.as_mut_slice(), found.leads.as_slice()) {

@@ -1,5 +1,5 @@
 -- What is told of a state: how its harts stand, the messages that weren't received, and the verdict.
-use Rattle.std.specs.Prelude.{ℕ, ◌≡◌, Bool, List, ◌++◌, codes, length, Option, Some, None}
+use Rattle.std.specs.Prelude.{ℕ, ◌≡◌, Bool, false, List, [], ◌++◌, codes, length, Option, Some, None, slice_get}
 use Rattle.std.specs.Fmt.{decimal}
 use Rattle.std.specs.List.{enumerate_from, flat_map}
 use Rattle.rv_image.specs.declared.images.ImageParts.{ImageParts}
@@ -53,3 +53,26 @@ pub record IsWhy (framed : Bool) (image : ImageParts) (state : ClusterState) (te
   pub found : Option (List ℕ)
   pub verdict : IsDeadlockVerdict state found
   pub is : text ≡ why_text framed image state found
+
+-- ---- ranks that are stuck while others run on
+
+abbrev pub rank_text_at : ImageParts → ClusterState → ℕ → Option RankState → List ℕ
+rank_text_at image state rank None = []
+rank_text_at image state rank (Some own) =
+    hart_waits_text false image.symbols state.hub state.boxes.items rank (rank_of own)
+
+-- the lines of the harts of this rank, if it is there
+abbrev pub rank_waits_text : ImageParts → ClusterState → ℕ → List ℕ
+rank_waits_text image state rank = rank_text_at image state rank (slice_get state.ranks.items rank)
+
+-- of these ranks, in order
+abbrev pub company_waits_text : ImageParts → ClusterState → List ℕ → List ℕ
+company_waits_text image state ranks = flat_map (rank_waits_text image state) ranks
+
+-- `deadlock: ranks 1 2 while others run on`
+abbrev pub stuck_text : List ℕ → List ℕ
+stuck_text ranks = codes "deadlock: ranks" ++ (more_ranks ranks ++ (codes " while others run on" ++ newline))
+
+-- and that they are stuck
+abbrev pub company_text : ImageParts → ClusterState → List ℕ → List ℕ
+company_text image state ranks = company_waits_text image state ranks ++ stuck_text ranks

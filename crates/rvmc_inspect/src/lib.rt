@@ -25,7 +25,7 @@ pub use finding::waits;
 pub use frames::{Frame, frame_above, own_frame};
 pub use harts::put_harts;
 pub use places::{nearest, put_place};
-pub use telling::why;
+pub use telling::{put_company, why};
 pub use unreceived::put_unreceived;
 pub use word_texts::{bytes_text, place_text, regs_text};
 pub use words::{Told, tell_all};

@@ -2,7 +2,7 @@
 
 ghost use Rattle.std.specs.Prelude.{◌≡◌, ◌++◌, IfOk, OnOk, string_bytes};
 ghost use Rattle.std.specs.Option.{option_map};
-ghost use Rattle.rvmc_inspect.specs.Why.{IsWhy, all_harts_text, deadlock_text, more_ranks, rank_word, deadlock_verdict_text};
+ghost use Rattle.rvmc_inspect.specs.Why.{IsWhy, all_harts_text, company_text, company_waits_text, deadlock_text, rank_waits_text, stuck_text, more_ranks, rank_word, deadlock_verdict_text};
 
 use crate::harts::put_harts;
 use crate::unreceived::put_unreceived;
@@ -92,4 +92,72 @@ pub fn why(
     put_unreceived(alloc, &mut text, state.ranks.len(), &state.hub)?;
     put_verdict(alloc, &mut text, &found)?;
     Ok(text)
+}
+
+/// Adds how the harts of a rank stand, if it is there.
+fn put_rank_waits(
+    alloc: Global,
+    text: &mut Vec<u8>,
+    image: &Image,
+    state: &ClusterState,
+    rank: u8,
+) -> Result<(), AllocError>
+    ensures { OnOk result (text.new.items ≡ text.old.items ++ rank_waits_text image.now state.now rank) }
+{
+    match state.ranks.get(usize::from(rank)) {
+        None => Ok(()),
+        Some(own) => put_harts(
+            alloc,
+            text,
+            image.parts().symbols.as_slice(),
+            &state.hub,
+            state.boxes.as_slice(),
+            usize::from(rank),
+            own,
+            false,
+        ),
+    }
+}
+
+/// The same of these ranks, in order.
+fn put_company_waits(
+    alloc: Global,
+    text: &mut Vec<u8>,
+    image: &Image,
+    state: &ClusterState,
+    ranks: &[u8],
+) -> Result<(), AllocError>
+    ensures { OnOk result (text.new.items ≡ text.old.items ++ company_waits_text image.now state.now ranks.now) }
+{
+    for rank in ranks {
+        put_rank_waits(alloc, text, image, state, *rank)?;
+    }
+    Ok(())
+}
+
+/// Adds that these ranks are in a deadlock, and that others run on.
+fn put_stuck(alloc: Global, text: &mut Vec<u8>, ranks: &[u8]) -> Result<(), AllocError>
+    ensures { OnOk result (text.new.items ≡ text.old.items ++ stuck_text ranks.now) }
+{
+    text.extend_from_slice(b"deadlock: ranks")?;
+    put_ranks(alloc, text, ranks)?;
+    text.extend_from_slice(b" while others run on")?;
+    text.push(b'\n')?;
+    Ok(())
+}
+
+/// Adds how the harts of ranks that are stuck stand, what each waits for, and that the others run on. The only error is want of
+/// memory.
+pub fn put_company(
+    alloc: Global,
+    text: &mut Vec<u8>,
+    image: &Image,
+    state: &ClusterState,
+    ranks: &[u8],
+) -> Result<(), AllocError>
+    ensures { OnOk result (text.new.items ≡ text.old.items ++ company_text image.now state.now ranks.now) }
+{
+    put_company_waits(alloc, text, image, state, ranks)?;
+    put_stuck(alloc, text, ranks)?;
+    Ok(())
 }

@@ -79,10 +79,13 @@ text_of parts count lacking =
     told_texts 1 ends ++ (unending_line (any_unending parts)
     ++ last_line (record { ends = length ends; states = sum_by (λ part. part.states) parts; count = count; lacking = lacking }))
 
--- 4 where some start isn't told whole, else 3 where a part has that, else 7 where one has that, else 0
+-- 4 where some start isn't told whole, else 3 where a part has that, else 7 where one has that, else 8 where one has that,
+-- else 0
 unfoldable pub status_together : List Part → Bool → ℕ
 status_together parts is_all =
-    if is_all then (if any_status parts 3 then 3 else (if any_status parts 7 then 7 else 0)) else 4
+    if is_all
+    then (if any_status parts 3 then 3 else (if any_status parts 7 then 7 else (if any_status parts 8 then 8 else 0)))
+    else 4
 
 -- how many starts the first part speaks of
 abbrev pub count_of : List Part → ℕ

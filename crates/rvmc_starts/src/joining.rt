@@ -182,7 +182,8 @@ fn any_status(parts: &[&Part], status: u8) -> bool
     parts.iter().any(|part| part.status == status)
 }
 
-/// 4 where some start isn't told whole, else 3 where a part has that, else 7 where one has that, else 0.
+/// 4 where some start isn't told whole, else 3 where a part has that, else 7 where one has that, else 8 where one has that,
+/// else 0.
 #[tactic(auto, using(crate::proofs::Steps::list_any_map), unfolding(crate::specs::Joining::status_together))]
 fn status_together(parts: &[&Part], is_all: bool) -> u8
     ensures { result ≡ status_together (map (λ part. part.now) parts.now) is_all }
@@ -193,6 +194,8 @@ fn status_together(parts: &[&Part], is_all: bool) -> u8
         3
     } else if any_status(parts, 7) {
         7
+    } else if any_status(parts, 8) {
+        8
     } else {
         0
     }
@@ -280,7 +283,8 @@ fn parts_in(alloc: Global, bytes: &[u8]) -> Result<Vec<Part>, JoinFault>
 /// What texts that stand one behind another, each as `put_part` writes it, tell together: each different end once, by its
 /// text's bytes, in the order of the texts; whether some runs go on for ever; whether these are all ends of all starts.
 /// One text of each start counts: the first that is whole, or else the first. States are the sum over those. The status is
-/// 4 where some start isn't told whole, else 3 where a text that counts has 3, else 7 where one has 7, else 0.
+/// 4 where some start isn't told whole, else 3 where a text that counts has 3, else 7 where one has 7, else 8 where one has 8,
+/// else 0.
 ///
 /// Refusals: NotAText, OtherSplit, Memory.
 pub fn join_texts(alloc: Global, bytes: &[u8]) -> Result<Joined, JoinFault>

@@ -20,15 +20,15 @@ fit_by : (image : ImageParts) (order : List ℕ) (nodes : List Node) (steps : Li
 fit_by image order nodes steps None is leads = absurd leads
 fit_by image order nodes steps (Some at) is leads = runs_fit image steps leads.node.cluster is leads.run
 
-pub ends_fit : (image : ImageParts) (order : List ℕ) (number : ℕ) (steps : List Step) → IsImage image
-    → RecordsEnd image order number (Some steps) → All (FitsStep image) steps
-ends_fit image order number steps is recorded =
-    fit_by image order (recorded.explored).nodes steps _ is recorded.leads
+pub ends_fit : (image : ImageParts) (order : List ℕ) (states turns number : ℕ) (steps : List Step) → IsImage image
+    → RecordsEnd image order states turns number (Some steps) → All (FitsStep image) steps
+ends_fit image order states turns number steps is recorded =
+    fit_by image order (((recorded.listed).searched).explored).nodes steps _ is recorded.leads
 
-pub ends_behind_fit : (image : ImageParts) (start : Start) (number : ℕ) (steps : List Step) → IsImage image
-    → RecordsEndBehind image start number (Some steps) → All (FitsStep image) steps
-ends_behind_fit image start number steps is recorded =
-    fit_by image start.harts (((recorded.behind).explored).nodes) steps _ is recorded.leads
+pub ends_behind_fit : (image : ImageParts) (start : Start) (states turns number : ℕ) (steps : List Step) → IsImage image
+    → RecordsEndBehind image start states turns number (Some steps) → All (FitsStep image) steps
+ends_behind_fit image start states turns number steps is recorded =
+    fit_by image start.harts ((((recorded.listed).behind).explored).nodes) steps _ is recorded.leads
 
 -- the harts of right plans are some
 pub names_one : (image : ImageParts) (order : List ℕ) (budget : ℕ) (plans : List Plan) → 1 ≤ image.ranks

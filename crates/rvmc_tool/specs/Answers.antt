@@ -185,12 +185,12 @@ IsExplored image harts states turns number text status =
 -- `explore --split`: starts, if the plan is right
 abbrev pub IsSplitOf : ImageParts → Option (List ℕ) → (count turns : ℕ) → List ℕ → ℕ → Type 0
 IsSplitOf image harts count turns text status =
-    ByPlans image turns harts (λ plans. IsSplitBy image (listed harts image.harts) count plans text status)
+    ByPlans image turns harts (λ plans. IsSplitBy image (listed harts image.harts) turns count plans text status)
 
 -- `explore --from`: each rank's harts take turns in the start's order
 abbrev pub IsExploredFrom : ImageParts → Start → (states turns : ℕ) → Option ℕ → List ℕ → ℕ → Type 0
 IsExploredFrom image start states turns number text status =
-    ByPlans image turns (Some start.harts) (λ plans. IsExploredFromBy image start states number plans text status)
+    ByPlans image turns (Some start.harts) (λ plans. IsExploredFromBy image start states turns number plans text status)
 
 -- ---- the commands
 

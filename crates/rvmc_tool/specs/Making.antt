@@ -99,9 +99,9 @@ IsMisplanned other image = ⊥
 -- by a right plan there is no such end, or nothing is told of the start
 abbrev pub IsUnexplored : ImageCommand → ImageParts → ExploreRefusal → Type 0
 IsUnexplored (Explore plan states turns number) image refusal =
-    ByPlans image turns plan (λ plans. HasPlans image plans × IsNoEnd image (listed plan image.harts) number refusal)
+    ByPlans image turns plan (λ plans. HasPlans image plans × IsNoEnd image (listed plan image.harts) states turns number refusal)
 IsUnexplored (ExploreFrom start states turns number) image refusal =
-    ByPlans image turns (Some start.harts) (λ plans. HasPlans image plans × IsNoStart image start number refusal)
+    ByPlans image turns (Some start.harts) (λ plans. HasPlans image plans × IsNoStart image start states turns number refusal)
 IsUnexplored other image refusal = ⊥
 
 -- Plans where they are wrong; of threads that were started, that one was refused, or that what they left doesn't fit

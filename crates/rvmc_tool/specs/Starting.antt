@@ -23,9 +23,9 @@ use Rattle.rvmc_tool.specs.Ends.{IsFaulty}
 -- ---- the starts of a split
 
 -- of a search of at most 1,000,000 states
-pub record IsSplitBy (image : ImageParts) (order : List ℕ) (count : ℕ) (plans : List Plan) (text : List ℕ) (status : ℕ)
-    : Type 0 where
-  pub told : HasPlans image plans → IsSplit image order 1000000 count text × (status ≡ 0)
+pub record IsSplitBy (image : ImageParts) (order : List ℕ) (turns count : ℕ) (plans : List Plan) (text : List ℕ)
+    (status : ℕ) : Type 0 where
+  pub told : HasPlans image plans → IsSplit image order 1000000 turns count text × (status ≡ 0)
   pub refused : ¬ HasPlans image plans → IsFaulty text status
 
 -- ---- what is told of one of them
@@ -35,32 +35,34 @@ abbrev pub IsMisstarted : ImageParts → Start → Type 0
 IsMisstarted image start =
     (start.image ≢ sum_of (image_text image)) ⊎ ((place : ℕ) × IsTurnless image start.harts start.turns place)
 
--- the text of the record of the end of this number: of a run that begins with the start's turns
-pub record IsRecordBehind (image : ImageParts) (start : Start) (number : ℕ) (text : List ℕ) : Type 0 where
+-- the text of the record of the outcome of this number in the list of what is told: of a run that begins with the start's turns
+pub record IsRecordBehind (image : ImageParts) (start : Start) (states turns number : ℕ) (text : List ℕ) : Type 0 where
   pub steps : List Step
-  pub recorded : RecordsEndBehind image start number (Some steps)
+  pub recorded : RecordsEndBehind image start states turns number (Some steps)
   pub inside : IsRecord image steps
   pub spelled : text ≡ record_text image steps
 
 -- what is told of all ends behind the start, or the record of the end of this number
-abbrev pub IsToldOfStart : ImageParts → Start → ℕ → Option ℕ → List ℕ → ℕ → Type 0
-IsToldOfStart image start states None text status = TellsFrom image start states text status
-IsToldOfStart image start states (Some number) text status = IsRecordBehind image start number text × (status ≡ 0)
+abbrev pub IsToldOfStart : ImageParts → Start → (states turns : ℕ) → Option ℕ → List ℕ → ℕ → Type 0
+IsToldOfStart image start states turns None text status = TellsFrom image start states turns text status
+IsToldOfStart image start states turns (Some number) text status =
+    IsRecordBehind image start states turns number text × (status ≡ 0)
 
 -- why nothing is told: that, or there is no such end
-abbrev pub IsNoStart : ImageParts → Start → Option ℕ → ExploreRefusal → Type 0
-IsNoStart image start asked refusal.OtherImage = start.image ≢ sum_of (image_text image)
-IsNoStart image start asked (refusal.NoTurn number) =
+abbrev pub IsNoStart : ImageParts → Start → (states turns : ℕ) → Option ℕ → ExploreRefusal → Type 0
+IsNoStart image start states turns asked refusal.OtherImage = start.image ≢ sum_of (image_text image)
+IsNoStart image start states turns asked (refusal.NoTurn number) =
     (place : ℕ) × (number ≡ place + 1) × IsTurnless image start.harts start.turns place
-IsNoStart image start asked (refusal.NoEnd number) = (asked ≡ Some number) × RecordsEndBehind image start number None
-IsNoStart image start asked other = ⊥
+IsNoStart image start states turns asked (refusal.NoEnd number) =
+    (asked ≡ Some number) × RecordsEndBehind image start states turns number None
+IsNoStart image start states turns asked other = ⊥
 
 -- it is told, or there is a fault
-pub record IsExploredFromBy (image : ImageParts) (start : Start) (states : ℕ) (number : Option ℕ) (plans : List Plan)
-    (text : List ℕ) (status : ℕ) : Type 0 where
+pub record IsExploredFromBy (image : ImageParts) (start : Start) (states turns : ℕ) (number : Option ℕ)
+    (plans : List Plan) (text : List ℕ) (status : ℕ) : Type 0 where
   pub told : HasPlans image plans
-      → IsToldOfStart image start states number text status
-      ⊎ (((refused : ExploreRefusal) × IsNoStart image start number refused) × IsFaulty text status)
+      → IsToldOfStart image start states turns number text status
+      ⊎ (((refused : ExploreRefusal) × IsNoStart image start states turns number refused) × IsFaulty text status)
   pub refused : ¬ HasPlans image plans → IsFaulty text status
 
 -- ---- what the texts tell together

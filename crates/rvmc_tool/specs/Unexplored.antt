@@ -5,7 +5,8 @@ use Rattle.rvmc_explore.specs.Recorded.{RecordsEnd}
 use Rattle.rvmc_report.specs.declared.faults.ExploreRefusal.{ExploreRefusal}
 use Rattle.rvmc_report.specs.declared.faults.ExploreRefusal.TheVariants as refusal
 
--- it was asked for, and there are fewer ends
-abbrev pub IsNoEnd : ImageParts → List ℕ → Option ℕ → ExploreRefusal → Type 0
-IsNoEnd image order asked (refusal.NoEnd number) = (asked ≡ Some number) × RecordsEnd image order number None
-IsNoEnd image order asked other = ⊥
+-- it was asked for, and the list of what is told has fewer
+abbrev pub IsNoEnd : ImageParts → List ℕ → (states turns : ℕ) → Option ℕ → ExploreRefusal → Type 0
+IsNoEnd image order states turns asked (refusal.NoEnd number) =
+    (asked ≡ Some number) × RecordsEnd image order states turns number None
+IsNoEnd image order states turns asked other = ⊥

@@ -1,4 +1,4 @@
-//! `explore`: the ends of all orders of ranks' turns, and the record of one.
+//! `explore`: the ends of all orders of ranks' turns, ranks that are stuck while others run on, and the record of one.
 
 ghost use Rattle.std.specs.Prelude.{◌≡◌, ◌<◌, IfErr, IfOk, Some, length};
 ghost use Rattle.cl_record.specs.Plans.{HasPlans};
@@ -50,10 +50,12 @@ fn record_of_end(
 ) -> Result<Answer, Fault>
     requires order { 0 < length asked.now.order.now }
     requires image { IsImage image.now }
-    ensures says { IfOk result (λ answer. IsEndRecord image.now asked.now.order.now number (output_bytes answer.output)
+    ensures says { IfOk result (λ answer. IsEndRecord image.now asked.now.order.now asked.now.states asked.now.turns number
+        (output_bytes answer.output)
         × (end_status answer.end ≡ 0)) }
     ensures whole { IfOk result (λ answer. IsWhole answer.end) }
-    ensures fault { IfErr result (IsMakingFault ⊥ ⊥ (IsNoEnd image.now asked.now.order.now (Some number))) }
+    ensures fault { IfErr result (IsMakingFault ⊥ ⊥ (IsNoEnd image.now asked.now.order.now asked.now.states asked.now.turns
+        (Some number))) }
 {
     match recorded(alloc, image, asked, number) {
         Ok(Some(steps)) => {
@@ -78,7 +80,7 @@ fn answered(
     ensures says { IfOk result (λ answer. IsToldOfSearch image.now asked.now.order.now asked.now.states asked.now.turns number
         (output_bytes answer.output) (end_status answer.end)) }
     ensures whole { IfOk result (λ answer. IsWhole answer.end) }
-    ensures fault { IfErr result (IsMakingFault ⊥ ⊥ (IsNoEnd image.now asked.now.order.now number)) }
+    ensures fault { IfErr result (IsMakingFault ⊥ ⊥ (IsNoEnd image.now asked.now.order.now asked.now.states asked.now.turns number)) }
 {
     match number {
         None => told(alloc, image, asked),
@@ -102,7 +104,7 @@ pub(crate) fn explore(
     ensures fault { IfErr result (IsMakingFault
         (ByPlans image.now turns harts.now (λ plans. ¬ (HasPlans image.now plans))) ⊥
         (λ refusal. ByPlans image.now turns harts.now (λ plans.
-        HasPlans image.now plans × IsNoEnd image.now (listed harts.now image.now.harts) number refusal))) }
+        HasPlans image.now plans × IsNoEnd image.now (listed harts.now image.now.harts) states turns number refusal))) }
 {
     let plans = plans_of(alloc, image, turns, harts)?;
     if !has_plans(image, plans.as_slice()) {

@@ -66,8 +66,8 @@ pub(crate) fn split(
 
 /// Why nothing is told of a start. Its turns are numbered from 1.
 fn fault_of(start: &Start, fault: StartFault) -> Fault
-    ensures { (image : ImageParts) (number : Option ℕ) → StartFaultHolds image start.now fault
-        → IsMakingFault ⊥ ⊥ (IsNoStart image start.now number) result }
+    ensures { (image : ImageParts) (states turns : ℕ) (number : Option ℕ) → StartFaultHolds image start.now fault
+        → IsMakingFault ⊥ ⊥ (IsNoStart image start.now states turns number) result }
 {
     match fault {
         StartFault::Memory => Fault::Memory,
@@ -82,10 +82,10 @@ fn fault_of(start: &Start, fault: StartFault) -> Fault
 /// What is told of a start, and its status.
 fn told(alloc: Global, image: &Image, start: &Start, reach: Reach) -> Result<Answer, Fault>
     requires { 0 < length start.now.harts }
-    ensures says { IfOk result (λ answer. TellsFrom image.now start.now reach.states (output_bytes answer.output)
+    ensures says { IfOk result (λ answer. TellsFrom image.now start.now reach.states reach.turns (output_bytes answer.output)
         (end_status answer.end)) }
     ensures whole { IfOk result (λ answer. IsWhole answer.end) }
-    ensures fault { IfErr result (IsMakingFault ⊥ ⊥ (IsNoStart image.now start.now None)) }
+    ensures fault { IfErr result (IsMakingFault ⊥ ⊥ (IsNoStart image.now start.now reach.states reach.turns None)) }
 {
     match explored_from(alloc, image, start, reach) {
         Ok(Told { text, status }) => Ok(Answer {
@@ -106,10 +106,11 @@ fn record_of_end(
 ) -> Result<Answer, Fault>
     requires harts { 0 < length start.now.harts }
     requires image { IsImage image.now }
-    ensures says { IfOk result (λ answer. IsRecordBehind image.now start.now number (output_bytes answer.output)
+    ensures says { IfOk result (λ answer. IsRecordBehind image.now start.now reach.states reach.turns number
+        (output_bytes answer.output)
         × (end_status answer.end ≡ 0)) }
     ensures whole { IfOk result (λ answer. IsWhole answer.end) }
-    ensures fault { IfErr result (IsMakingFault ⊥ ⊥ (IsNoStart image.now start.now (Some number))) }
+    ensures fault { IfErr result (IsMakingFault ⊥ ⊥ (IsNoStart image.now start.now reach.states reach.turns (Some number))) }
 {
     match recorded_from(alloc, image, start, reach, number) {
         Ok(Some(steps)) => {
@@ -132,10 +133,10 @@ fn answered(
 ) -> Result<Answer, Fault>
     requires harts { 0 < length start.now.harts }
     requires image { IsImage image.now }
-    ensures says { IfOk result (λ answer. IsToldOfStart image.now start.now reach.states number
+    ensures says { IfOk result (λ answer. IsToldOfStart image.now start.now reach.states reach.turns number
         (output_bytes answer.output) (end_status answer.end)) }
     ensures whole { IfOk result (λ answer. IsWhole answer.end) }
-    ensures fault { IfErr result (IsMakingFault ⊥ ⊥ (IsNoStart image.now start.now number)) }
+    ensures fault { IfErr result (IsMakingFault ⊥ ⊥ (IsNoStart image.now start.now reach.states reach.turns number)) }
 {
     match number {
         None => told(alloc, image, start, reach),
@@ -158,7 +159,7 @@ pub(crate) fn explore_from(
     ensures fault { IfErr result (IsMakingFault
         (ByPlans image.now turns (Some start.now.harts) (λ plans. ¬ (HasPlans image.now plans))) ⊥
         (λ refusal. ByPlans image.now turns (Some start.now.harts) (λ plans.
-        HasPlans image.now plans × IsNoStart image.now start.now number refusal))) }
+        HasPlans image.now plans × IsNoStart image.now start.now states turns number refusal))) }
 {
     let plans = plans(alloc, image.parts().ranks, start.harts.as_slice(), turns)?;
     if !has_plans(image, plans.as_slice()) {

@@ -1,7 +1,10 @@
+use Rattle.std.proofs.Common.{ap, ◌∙◌}
 use Rattle.cl_explore.proofs.Finds.{begins}
 use Rattle.cl_explore.proofs.exploring.begin.Goals as goal
 
 pub returns : goal.returns
 returns c =
-    begins c.args.course.now.sure c.args.course.now.order.now c.args.search.now.nodes.items c.arrive.new.self.nodes.items
-    c.args.standing.now c.settle.new.live c.requires.none c.in_ok-long.ensures c.in_ok-arrive.ensures
+    begins c.args.course.now.sure c.args.course.now.order.now c.args.search.now.nodes.items c.arrive.new.self
+    c.in_ok-_first._first c.args.standing.now c.settle.new.live c.requires.none
+    (ap (λ ls. ls.items) c.in_ok-_first.ensures.leads ∙ c.requires.still) c.in_ok-long.ensures
+    c.in_ok-_first.ensures.arrives

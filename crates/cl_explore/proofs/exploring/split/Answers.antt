@@ -1,5 +1,6 @@
 use Rattle.std.proofs.Common.{false}
 use Rattle.cl_moves.proofs.Asking.{if_ok_on}
+use Rattle.cl_explore.specs.Ends.{findings}
 use Rattle.cl_explore.proofs.Finds.{explored_start}
 use Rattle.cl_explore.proofs.exploring.split.Goals as goal
 
@@ -7,4 +8,4 @@ pub returns-clause-ends : goal.returns-clause-ends
 returns-clause-ends c =
     if_ok_on c.search_plainly.result
     (λ found from. explored_start false c.args.image.now c.args.course.now.order.now c.in_ok-standing.standing
-    found.nodes.items found.ends.items found.left c.in_ok-standing.ensures from) c.search_plainly.ensures.ends
+    (findings found) c.in_ok-standing.ensures from) c.search_plainly.ensures.ends

@@ -1,13 +1,16 @@
-use Rattle.std.proofs.Common.{arith, subst, length, ◌<◌}
+use Rattle.std.proofs.Common.{◌≡◌, ◌-◌, arith, inl, inr, subst, length, ◌<◌, refl}
+use Rattle.std.proofs.lemmas.Bool.{cases_lt}
 use Rattle.cl_explore.specs.Covering.{HasRoomAt}
+use Rattle.cl_explore.specs.Ends.{AreEnough, HasLonger}
 use Rattle.cl_explore.proofs.Finds.{more_from, none_from, tells_from}
 use Rattle.cl_explore.proofs.exploring.visit_each.Goals as goal
+use Rattle.cl_explore.proofs.exploring.visit_each.Goals.{then-rest-test+then-goes_on+else-not-is_deep, then-rest-test+else-goes_on, else-rest-test}
 
 pub rest-init : goal.rest-init
 rest-init c = (
   λ standing begun.
-      none_from c.args.course.now.sure c.args.course.now.order.now standing c.args.search.now.nodes.items
-      c.new-ends.result.items begun c.new-ends.ensures.items,
+      none_from c.args.course.now.sure c.args.course.now.order.now standing c.args.search.now
+      c.new.result.items c.new-2.result.items begun c.new.ensures.items c.new-2.ensures.items,
   omega (arith),
 )
 
@@ -15,17 +18,47 @@ pub rest-preserved : goal.rest-preserved
 rest-preserved c =
     let old = c.rest.search.nodes in
     let inside : c.rest.done < length old.items = omega (arith, c.goes_on.ensures.more c.if-goes_on.true, c.len.ensures, old.ok.0) in
-    let room = subst (λ ks. HasRoomAt c.args.course.now.sure ks c.rest.done) c.as_slice.ensures.value
+    let room = subst (λ ks. HasRoomAt c.args.course.now.sure ks c.rest.done) c.as_slice-in-rest.ensures.value
     (c.has_room_at.ensures.room c.if-not-has_room_at.false) in (
       λ standing begun.
-          more_from c.args.course.now.sure c.args.course.now.order.now standing old.items c.visit.new.self.nodes.items
-          c.rest.ends.items c.note.new.ends.items c.rest.done (c.rest.invariant.0 standing begun) inside room
-          c.in_ok-visit.visit.end c.in_ok-visit.ensures c.in_ok-note.ensures,
+          more_from c.args.course.now.sure c.args.course.now.order.now standing c.rest.search c.visit.new.self
+          c.rest.noted.ends.items c.note_visit.new.noted.ends.items c.rest.noted.companies.items
+          c.note_visit.new.noted.companies.items c.rest.done (c.rest.invariant.0 standing begun) inside room
+          c.in_ok-visit.visit c.in_ok-visit.ensures c.in_ok-note_visit.ensures.ends c.in_ok-note_visit.ensures.stuck,
       omega (arith, c.rest-test.true),
     )
 
 pub returns-clause-ends : goal.returns-clause-ends
 returns-clause-ends c = λ standing room begun.
-    tells_from c.args.course.now.sure c.args.course.now.order.now standing c.rest.search.nodes.items c.rest.ends.items
-    c.rest.done _ room (c.rest.invariant.0 standing begun)
+    tells_from c.args.course.now.sure c.args.course.now.order.now standing c.rest.search _
+    c.rest.done room (c.rest.invariant.0 standing begun) refl refl
     (omega (arith, c.saturating_sub-left.ensures, c.len-2.ensures, c.rest.search.nodes.ok.0))
+
+pub returns-clause-most : goal.returns-clause-most
+returns-clause-most c =
+    let old = c.rest.search.nodes in
+    elim c.rest-test.branch [
+      | then-rest-test+then-goes_on+else-not-is_deep w ↦
+          inr (inr (inr (subst (HasLonger c.args.course.now.most) w.as_slice.ensures.value
+          (w.is_deep.ensures w.if-not-is_deep.false))))
+      | then-rest-test+else-goes_on w ↦ elim (w.goes_on.ensures.end w.if-goes_on.false) [
+        | inl past ↦ inl (omega (arith, past, c.saturating_sub-left.ensures, w.len.ensures, c.len-2.ensures, old.ok.0))
+        | inr enough ↦
+            let same : w.len.result - c.rest.done ≡ c.saturating_sub-left.result =
+            omega (arith, c.saturating_sub-left.ensures, w.len.ensures, c.len-2.ensures) in
+            inr (inr (inl (subst (AreEnough c.args.bounds.enough) same enough)))
+      ]
+      | else-rest-test w ↦ elim (cases_lt (length old.items) c.rest.done) [
+        | inl few ↦ inl (omega (arith, few, c.saturating_sub-left.ensures, c.len-2.ensures, old.ok.0))
+        | inr some ↦ inr (inl
+            (omega (
+              arith,
+              some,
+              w.rest-test.false,
+              c.rest.invariant.1,
+              c.saturating_sub-left.ensures,
+              c.len-2.ensures,
+              old.ok.0,
+            )))
+      ]
+    ]

@@ -7,8 +7,8 @@ use Rattle.cl_explore.proofs.exploring.visit_each.Given as goal
 -- so many nodes were visited, and no more than are allowed
 abbrev pub invariant-rest : goal.invariant-rest
 invariant-rest l =
-    ((standing : Standing) → BeginsAt l.course.sure l.course.order.now standing l.fn.search.nodes.items
-    → SoFarFrom l.course.sure l.course.order.now standing l.search.nodes.items l.ends.items l.done)
+    ((standing : Standing) → BeginsAt l.course.sure l.course.order.now standing l.fn.search
+    → SoFarFrom l.course.sure l.course.order.now standing l.search l.noted.ends.items l.noted.companies.items l.done)
     × (l.done ≤ l.bounds.states)
 
 abbrev pub decreases-rest : goal.decreases-rest

@@ -1,7 +1,23 @@
+use Rattle.std.proofs.Common.{subst}
+use Rattle.std.specs.Option.{option_map}
+use Rattle.cl_explore.specs.Ends.{findings}
+use Rattle.cl_moves.specs.Standing.{first_node}
+use Rattle.rvmc_explore.specs.InnerRecorded.{RecordsIn}
 use Rattle.rvmc_explore.proofs.ToEnds.{records_end}
+use Rattle.rvmc_explore.proofs.Listed.{within}
 use Rattle.rvmc_explore.proofs.recording.recorded.Goals as goal
+
+pub tell-requires : goal.tell-requires
+tell-requires c =
+    let image = c.args.image.now in
+    within image c.args.asked.now.order.now (first_node image) (findings c.in_ok-found.found) c.parts-parts.ensures.limits
+    c.in_ok-found.ensures.ends
 
 pub returns : goal.returns
 returns c =
-    records_end c.args.image.now c.args.asked.now.order.now c.in_ok-found.found c.args.number _ c.parts-parts.ensures.limits
-    c.in_ok-found.ensures.ends c.in_ok-record_in.ensures
+    records_end c.args.image.now c.args.asked.now.order.now c.args.asked.now.states c.args.asked.now.turns c.in_ok-found.found
+    c.in_ok-told.told.items c.args.number _ c.parts-parts.ensures.limits
+    (record { explored = c.in_ok-found.ensures.ends; bounded = c.in_ok-found.ensures.most })
+    c.in_ok-told.ensures
+    (subst (λ os. RecordsIn c.in_ok-found.found os c.args.number
+    (option_map (λ s. s.items) c.in_ok-record_in.field-0)) c.as_slice.ensures.value c.in_ok-record_in.ensures)

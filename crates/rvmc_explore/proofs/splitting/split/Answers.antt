@@ -2,6 +2,7 @@ use Rattle.std.proofs.Common.{List, ℕ, ◌≡◌, ◌∙◌, ◌++◌, ap, dro
 use Rattle.std.specs.List.{flat_map}
 use Rattle.std.proofs.Math.Seq.{take-append_seam}
 use Rattle.std.proofs.lemmas.List.{length-map}
+use Rattle.cl_explore.specs.Ends.{findings}
 use Rattle.rvmc_starts.specs.declared.starts.Start.{Start}
 use Rattle.rvmc_explore.specs.Splitting.{AreStartsAt, split_sum, start_line, with_split}
 use Rattle.rvmc_explore.specs.declared.splitting.Common.{Common}
@@ -30,9 +31,7 @@ returns c =
     c.as_slice-3.ensures.value
     ∙ (ap (λ n. take n (new ++ drop (length new) before)) many ∙ (take-append_seam new (drop (length new) before) ∙ made)) in
     record {
-      kept = found.nodes.items;
-      ends = found.ends.items;
-      left = found.left;
+      found = findings found;
       explored = explored;
       plain = c.in_ok-found.ensures.ends.1;
       most = c.in_ok-found.ensures.most;

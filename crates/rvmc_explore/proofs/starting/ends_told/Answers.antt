@@ -1,8 +1,8 @@
-use Rattle.rvmc_explore.proofs.EachEnd.{one_told}
+use Rattle.std.proofs.Common.{arith}
+use Rattle.rvmc_explore.proofs.Listed.{each_told, none_told, one_told}
 use Rattle.rvmc_explore.proofs.starting.ends_told.Goals as goal
 
 pub loop-place-preserved : goal.loop-place-preserved
 loop-place-preserved c =
-    one_told c.args.order.now c.args.image.now c.args.found.now.nodes.items c.args.found.now.ends.items c.loop-place.place
-    c.in_ok-end.end c.loop-place.told.items c.push.new.self.items c.in_ok-end.ensures c.in_ok-push.ensures.items
-    c.loop-place.invariant
+    one_told c.args.told.now c.loop-place.place c.in_ok-end.end c.loop-place.ends.items c.push.new.self.items
+    c.in_ok-end.ensures c.in_ok-push.ensures.items c.loop-place.invariant

@@ -1,9 +1,61 @@
-use Rattle.rvmc_explore.proofs.AllEnds.{are_there}
+use Rattle.std.proofs.Common.{List, ℕ, ◌++◌, ◌∙◌, ap, refl, subst, sym}
+use Rattle.cl_explore.specs.Ends.{findings}
+use Rattle.rvmc_starts.specs.Parts.{part_text}
+use Rattle.rvmc_starts.specs.declared.parts.Part.{Part}
+use Rattle.rvmc_explore.specs.Outcomes.{AreTold}
+use Rattle.rvmc_explore.specs.Starting.{AreEndsTold}
+use Rattle.rvmc_explore.specs.Telling.{status_of}
+use Rattle.rvmc_explore.proofs.Listed.{within}
 use Rattle.rvmc_explore.proofs.starting.explored_from.Goals as goal
 
-pub ends_told-requires : goal.ends_told-requires
-ends_told-requires c =
-    let found = c.in_ok-found.found in
+pub tell-requires : goal.tell-requires
+tell-requires c =
     let behind = c.in_ok-found.ensures.ends in
-    are_there c.args.image.now c.args.start.now.harts behind.start found.nodes.items found.ends.items found.left
-    behind.explored
+    within c.args.image.now c.args.start.now.harts behind.start (findings c.in_ok-found.found)
+    c.parts-parts.ensures.limits behind.explored
+
+pub returns-clause-told : goal.returns-clause-told
+returns-clause-told c =
+    let found = c.in_ok-found.found in
+    let start = c.args.start.now in
+    let told = c.in_ok-told.told.items in
+    let part : Part =
+    record {
+      number = start.number;
+      count = start.count;
+      split = start.split;
+      image = start.image;
+      harts = c.from_vec.result;
+      ends = c.from_vec-2.result;
+      states = c.len.result;
+      left = found.left;
+      status = c.search_status-status.result;
+      unending = c.in_ok-unending.unending;
+    } in
+    record {
+      told = told;
+      listed = record {
+        found = findings found;
+        known = c.in_ok-found.ensures.known;
+        behind = c.in_ok-found.ensures.ends;
+        bounded = c.in_ok-found.ensures.most;
+        are = subst (λ order. AreTold order c.args.image.now (findings found) told) c.as_slice-order.ensures
+            c.in_ok-told.ensures;
+      };
+      part = part;
+      of = record {
+        number_is = refl;
+        count_is = refl;
+        split_is = refl;
+        image_is = refl;
+        harts_are = c.from_vec.ensures ∙ (c.in_ok-from_slice.ensures.items ∙ c.as_slice-order.ensures);
+        states_are = c.len.ensures ∙ found.nodes.ok.0;
+        left_are = refl;
+      };
+      ends = subst (AreEndsTold told) (sym c.from_vec-2.ensures)
+          (subst (λ os. AreEndsTold os c.in_ok-ends.ends.items) c.as_slice.ensures.value c.in_ok-ends.ensures);
+      status_is = c.search_status-status.ensures
+          ∙ ap (λ order. status_of order (findings found) c.in_ok-unending.unending) c.as_slice-order.ensures;
+      status_told = refl;
+      spelled = c.in_ok-put_part.ensures ∙ ap (λ (old : List ℕ). old ++ part_text part) c.new-text.ensures.items;
+    }

@@ -1,22 +1,18 @@
-use Rattle.std.proofs.Common.{ℕ, ◌∙◌, refl, subst}
-use Rattle.std.proofs.lemmas.Option.{get_or_from_slice_get, slice_get_read}
-use Rattle.rvmc_explore.specs.Telling.{IsKeptState}
+use Rattle.std.proofs.Common.{ℕ, List, ◌≡◌, ◌∙◌, ◌++◌, ap, refl, subst, sym}
+use Rattle.std.proofs.lemmas.Option.{same_Some}
+use Rattle.cl_explore.proofs.Lists.{read_of}
+use Rattle.rvmc_explore.specs.declared.outcomes.Outcome.{Outcome}
 use Rattle.rvmc_explore.proofs.telling.put_one.Goals as goal
-
-pub state_at-requires : goal.state_at-requires
-state_at-requires c =
-    c.requires.there c.args.place c.index.result.now
-    (slice_get_read c.args.found.now.ends.items _ c.args.place c.index.result.now refl c.requires.within c.index.ensures)
 
 pub returns : goal.returns
 returns c =
-    let found = c.args.found.now in
-    λ node is. record {
-      headed = c.put_head.new.text.items;
-      head = c.in_ok-put_head.ensures;
-      state = c.in_ok-state.state;
-      is = subst (λ (at : ℕ). IsKeptState found.nodes.items at c.in_ok-state.state)
-          (c.index.ensures ∙ get_or_from_slice_get found.ends.items c.args.place node c.index.result.now is)
-          c.in_ok-state.ensures;
-      told = c.in_ok-put_end.ensures;
-    }
+    λ outcome is. (
+      c.put_head.new.text.items,
+      c.in_ok-put_head.ensures,
+      subst (λ (o : Outcome). c.extend_from_slice.new.self.items ≡ c.put_head.new.text.items ++ o.body.items)
+          (same_Some c.index-told-place.result outcome
+          (sym (read_of c.args.told.now c.args.place c.index-told-place.result c.requires c.index-told-place.is) ∙ is))
+          (c.in_ok-extend_from_slice.ensures.items
+          ∙ ap (λ (bytes : List ℕ). c.put_head.new.text.items ++ bytes) c.as_slice.ensures.value
+          ∙ ap (λ (o : Outcome). c.put_head.new.text.items ++ o.body.items) (sym c.index-told-place.is)),
+    )

@@ -7,8 +7,8 @@ pub new-requires : goal.new-requires
 new-requires c =
     let recorded = rw c.in-Ok-Some.field-0-is at c.in-Ok-Some.ensures.steps in
     record {
-      each = ends_behind_fit c.args.image.now c.args.start.now c.args.number c.in-Ok-Some.steps.items c.requires.image
-          recorded;
+      each = ends_behind_fit c.args.image.now c.args.start.now c.args.reach.states c.args.reach.turns c.args.number
+          c.in-Ok-Some.steps.items c.requires.image recorded;
       few = search rules;
     }
 
@@ -17,7 +17,8 @@ returns-in_ok-new-in-Ok-Some-clause-says c =
     let steps = c.in-Ok-Some.steps.items in
     let few : length steps < 2 ^ 64 = search rules in
     let recorded = rw c.in-Ok-Some.field-0-is at c.in-Ok-Some.ensures.steps in
-    let each = ends_behind_fit c.args.image.now c.args.start.now c.args.number steps c.requires.image recorded in (
+    let each = ends_behind_fit c.args.image.now c.args.start.now c.args.reach.states c.args.reach.turns c.args.number steps
+    c.requires.image recorded in (
       record {
         steps = steps;
         recorded = recorded;
@@ -28,4 +29,5 @@ returns-in_ok-new-in-Ok-Some-clause-says c =
     )
 
 pub returns-in-Err-clause-fault : goal.returns-in-Err-clause-fault
-returns-in-Err-clause-fault c = c.fault_of.ensures c.args.image.now (Some c.args.number) c.in-Err.ensures.fault
+returns-in-Err-clause-fault c = c.fault_of.ensures c.args.image.now c.args.reach.states c.args.reach.turns
+    (Some c.args.number) c.in-Err.ensures.fault

@@ -6,8 +6,7 @@ use Rattle.cl_explore.proofs.search.Search.go_each.Given as goal
 abbrev pub invariant-rest : goal.invariant-rest
 invariant-rest l =
     Firsts l.turns.items l.fn.turns.items
-    × GoneFrom l.course.sure l.course.order.now l.fn.self.nodes.items l.node l.fn.live l.fn.turns.items l.turns.items l.self.nodes.items
-    l.live
+    × GoneFrom l.course.sure l.course.order.now l.fn.self l.node l.fn.live l.fn.turns.items l.turns.items l.self l.live
 
 abbrev pub decreases-rest : goal.decreases-rest
 decreases-rest l = length l.turns.items

@@ -10,7 +10,7 @@ use Rattle.cl_explore.proofs.search.Search.go_rank.Goals as goal
 pub returns-then-place-len : goal.returns-then-place-len
 returns-then-place-len c =
     let ranks = c.args.live.now.cluster.ranks in
-    closed_done c.args.course.now.sure c.args.course.now.order.now c.args.self.now.nodes.items c.args.node c.args.live.now c.args.rank
+    closed_done c.args.course.now.sure c.args.course.now.order.now c.args.self.now c.args.node c.args.live.now c.args.rank
     (λ own at.
     let inside = slice_get_within ranks.items c.args.rank own at in
     absurd (omega (arith, inside, c.if-place-len.true, c.from-place.ensures, c.len.ensures, ranks.ok.0)))
@@ -23,17 +23,17 @@ returns-then-is_done c =
     let here = slice_get_read ranks.items c.len.result c.from-place.result own (c.len.ensures ∙ ranks.ok.0)
     c.if-place-len.false c.index-own.ensures in
     let there = subst (λ r. slice_get ranks.items r ≡ Some own) c.from-place.ensures here in
-    closed_done c.args.course.now.sure order c.args.self.now.nodes.items c.args.node c.args.live.now c.args.rank
+    closed_done c.args.course.now.sure order c.args.self.now c.args.node c.args.live.now c.args.rank
     (λ other at. subst (λ (o : RankState). IsDone (in_slot order) (rank_of o)) (same_Some own other (sym there ∙ at))
     (c.is_done.ensures.0 c.if-is_done.true))
 
 pub returns-in_default : goal.returns-in_default
 returns-in_default c =
-    closed_none c.args.course.now.sure c.args.course.now.order.now c.args.self.now.nodes.items c.args.node c.args.live.now c.args.rank
+    closed_none c.args.course.now.sure c.args.course.now.order.now c.args.self.now c.args.node c.args.live.now c.args.rank
     c.in_default.ensures
 
 pub returns : goal.returns
 returns c =
-    closed_by c.args.course.now.sure c.args.course.now.order.now c.args.self.now.nodes.items c.go_each.new.self.nodes.items c.args.node
+    closed_by c.args.course.now.sure c.args.course.now.order.now c.args.self.now c.go_each.new.self c.args.node
     c.args.live.now c.go_each.new.live c.args.rank c.in-Some.hart c.in_ok-turns.turns.items c.in-Some.ensures
     c.in_ok-turns.ensures.all c.in_ok-turns.ensures.own c.in_ok-long.ensures

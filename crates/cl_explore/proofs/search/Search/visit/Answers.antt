@@ -4,10 +4,10 @@ use Rattle.cl_explore.proofs.Tries.{not_kept}
 use Rattle.cl_explore.proofs.search.Search.visit.Goals as goal
 
 pub returns-then-node-len : goal.returns-then-node-len
-returns-then-node-len c = λ image nodes node are there.
+returns-then-node-len c = λ image nodes node found there.
     let kept = c.args.self.now.nodes in
     absurd (not_kept c.args.course.now.order.now kept.items c.args.node
-    (omega (arith, c.if-node-len.true, c.len.ensures, kept.ok.0)) image nodes node are there)
+    (omega (arith, c.if-node-len.true, c.len.ensures, kept.ok.0)) image nodes node found.are there)
 
 pub returns : goal.returns
 returns c =

@@ -4,4 +4,4 @@ use Rattle.cl_explore.proofs.search.Search.visit_from.Given as goal
 -- the ranks before this one are closed
 abbrev pub invariant-loop-rank : goal.invariant-loop-rank
 invariant-loop-rank l =
-    ClosesBelow l.course.sure l.course.order.now l.fn.self.nodes.items l.node l.fn.live l.rank l.self.nodes.items l.live
+    ClosesBelow l.course.sure l.course.order.now l.fn.self l.node l.fn.live l.rank l.self l.live

@@ -1,0 +1,23 @@
+-- What is noted of nodes, one after another.
+use Rattle.std.specs.Prelude.{ℕ, option_map}
+use Rattle.cl_explore.specs.Companies.{NotesStuck}
+use Rattle.cl_explore.specs.Ends.{Findings, Notes}
+use Rattle.cl_explore.specs.declared.exploring.Noted.{Noted}
+use Rattle.cl_explore.specs.declared.exploring.Told.{Told}
+use Rattle.cl_explore.specs.declared.moving.Visit.{Visit}
+use Rattle.cl_explore.specs.declared.search.Search.{Search}
+
+-- an end behind the ends, and a company behind the companies
+pub record NotesVisit (old : Noted) (visit : Visit) (node : ℕ) (new : Noted) : Type 0 where
+  pub ends : Notes old.ends.items visit.end node new.ends.items
+  pub stuck : NotesStuck old.companies.items (option_map (λ ranks. ranks.items) visit.stuck) node new.companies.items
+
+-- what a search found, and what was noted
+abbrev pub findings_of : Search → Told → Findings
+findings_of search told = record {
+  kept = search.nodes.items;
+  ends = told.noted.ends.items;
+  companies = told.noted.companies.items;
+  leads = search.leads.items;
+  left = told.left;
+}
