@@ -1,5 +1,7 @@
 pub mod Ends
 pub mod Searched
+pub mod Marks
+pub mod Endless
 pub mod Outcomes
 pub mod Telling
 pub mod There
