@@ -1,9 +1,11 @@
 -- What the findings of a search say of runs of any length.
 use Rattle.std.proofs.Common.{ℕ, zero, suc, ◌≡◌, ◌+◌, ◌<◌, ◌≤◌, ◌==◌, ◌⊎◌, ◌∙◌, List, [], ◌∷◌, length, map, Bool, true, false, Some, slice_get, inl, inr, refl, sym, subst, ap, arith, get_or}
-use Rattle.std.specs.Prelude.{◌&&◌, ◌||◌, not}
+use Rattle.std.specs.Prelude.{◌%◌, ◌&&◌, ◌||◌, if◌then◌else◌, not}
 use Rattle.std.specs.List.{list_any}
 use Rattle.std.proofs.lemmas.Bool.{and_from, eq-eqb, eqb-true}
+use Rattle.std.proofs.lemmas.List.Elements.{All-get_or}
 use Rattle.std.proofs.lemmas.List.Folds.{list_any_at}
+use Rattle.std.proofs.Math.Nat.{mod-lt}
 use Rattle.std.proofs.lemmas.Option.{get_or_from_slice_get, same_Some, slice_get-get_or, slice_get_within}
 use Rattle.rv_image.specs.Image.{IsImage}
 use Rattle.rv_image.specs.declared.images.ImageParts.{ImageParts}
@@ -23,7 +25,9 @@ use Rattle.cl_outcome_laws.specs.Unending.{IsAfter, MayEnd}
 use Rattle.cl_outcome_laws.proofs.Companies.{company_law}
 use Rattle.cl_outcome_laws.proofs.Unending.{unending_law}
 use Rattle.cl_deadlock.specs.Why.{AreBelow}
-use Rattle.cl_deadlock_laws.proofs.Reached.{comes_reached}
+use Rattle.cl_deadlock_laws.specs.Stuck.{IsReachable}
+use Rattle.cl_deadlock_laws.proofs.Reached.{comes_reached, same_harts}
+use Rattle.cl_record.specs.Plans.{IsOrder, in_slot}
 use Rattle.cl_moves.specs.Posts.{most_posts}
 use Rattle.cl_moves.specs.Standing.{IsWay, by_order, first_node, node_of}
 use Rattle.cl_explore.specs.Covering.{AreJoined, HasLead, HasRoom, IsClosedAt, Reaches}
@@ -32,8 +36,10 @@ use Rattle.cl_explore.specs.declared.companies.Company.{Company}
 use Rattle.cl_explore.specs.declared.leads.Lead.{Lead}
 use Rattle.cl_explore.proofs.Keeping.{node_found}
 use Rattle.cl_explore.proofs.Lists.{at_inside}
-use Rattle.rvmc_explore.specs.Endless.{AllMayEnd, AreComplete, NeverStuck, SaysNoneStuck, SomeNeverEnds}
-use Rattle.rvmc_explore.specs.Searched.{AreSound, GoesIn, GoesTo}
+use Rattle.rvmc_explore.specs.Endless.{AllMayEnd, AreComplete, NeverStuck, SaysNoneStuck, SaysUnending, SaysUnendingOf, SomeNeverEnds}
+use Rattle.rvmc_explore.specs.Searched.{AreSound, GoesIn}
+use Rattle.rvmc_explore.specs.StatusLaw.{StatusLaw}
+use Rattle.rvmc_explore.specs.Telling.{Tells, any_end, is_some_company, is_stuck, trapped_in, waits_in}
 
 -- ---- moves as edges
 
@@ -252,3 +258,90 @@ module _ (image : ImageParts) (order : List ℕ) (start : Node) (found : Finding
 pub says_none_stuck : (image : ImageParts) (order : List ℕ) (start : Node) (found : Findings) → IsImage image
     → ExploredFrom image order start found → SaysNoneStuck image order start found.left found.companies
 says_none_stuck image order start found limits explored all none = never_stuck image order start found explored all limits none
+
+-- an order of harts that are there names only such, wherever a run leads
+have_harts : (image : ImageParts) (order : List ℕ) (cluster : Cluster) → IsReachable image cluster
+    → IsOrder image.harts order → HaveHarts (by_order order) cluster
+have_harts image order cluster reached harts = λ r n rank at.
+    let inside : n % length order < length order = mod-lt n harts.named in
+    let low : in_slot order n < image.harts =
+    All-get_or (λ number. number < image.harts) order (n % length order) 0 inside harts.there in
+    let run = (comes_reached image reached.0 cluster reached.1).alone r rank at in
+    let many = same_harts image r run.0 rank run.1 in
+    omega (arith, low, many)
+
+-- where states are left, nothing is said
+pub says_nothing : (found : Findings) → 0 < found.left → SaysUnendingOf found false
+says_nothing found left = λ image order start reached explored all harts. absurd (omega (arith, left, all))
+
+-- the marks of the nodes that lead to an end say it
+pub says_unending : (found : Findings) (marks : List Bool) (unending : Bool) → found.left ≡ 0
+    → length marks ≡ length found.kept → AreSound found.leads found.ends marks → AreComplete found.leads found.ends marks
+    → (unending ≡ true → (i : ℕ) × (slice_get marks i ≡ Some false))
+    → (unending ≡ false → (i : ℕ) → i < length marks → slice_get marks i ≡ Some true) → SaysUnendingOf found unending
+says_unending found marks true all many sound complete some each = λ image order start reached explored.
+    let one = some refl in some_never_ends image order start found explored all marks many complete one.0 one.1
+says_unending found marks false all many sound complete some each = λ image order start reached explored zero harts.
+    all_may_end image order start found explored all marks many complete sound (each refl)
+    (have_harts image order start.cluster reached harts)
+
+-- ---- the status
+
+neither : (status other : ℕ) → status ≡ other → (other ≡ 0 → ⊥) → (other ≡ 8 → ⊥) → (status ≡ 0) ⊎ (status ≡ 8) → ⊥
+neither status other is no_zero no_eight which = elim which [
+  | inl zero ↦ no_zero (sym is ∙ zero)
+  | inr eight ↦ no_eight (sym is ∙ eight)
+]
+
+-- none left, nobody stuck, and whether some runs go on for ever
+abbrev MeansQuiet : Bool → Bool → Bool → ℕ → Type 0
+MeansQuiet zero stuck unending status =
+    (zero ≡ true) × (stuck ≡ false) × (status ≡ 0 → unending ≡ false) × (status ≡ 8 → unending ≡ true)
+
+by_cases : (zero trapped stuck unending : Bool) (status : ℕ)
+    → status ≡ (if zero then (if trapped then 3 else (if stuck then 7 else (if unending then 8 else 0))) else 4)
+    → (status ≡ 0) ⊎ (status ≡ 8) → MeansQuiet zero stuck unending status
+by_cases false trapped stuck unending status is which =
+    absurd (neither status 4 is (λ e. omega (arith, e)) (λ e. omega (arith, e)) which)
+by_cases true true stuck unending status is which =
+    absurd (neither status 3 is (λ e. omega (arith, e)) (λ e. omega (arith, e)) which)
+by_cases true false true unending status is which =
+    absurd (neither status 7 is (λ e. omega (arith, e)) (λ e. omega (arith, e)) which)
+by_cases true false false true status is which = (refl, refl, λ zero. absurd (omega (arith, is, zero)), λ eight. refl)
+by_cases true false false false status is which = (refl, refl, λ zero. refl, λ eight. absurd (omega (arith, is, eight)))
+
+no_company : (found : Findings) (ends : Bool) → (ends || is_some_company found.companies) ≡ false → length found.companies ≡ 0
+no_company found true none = absurd (cc)
+no_company found false none = of found.companies none
+  where
+    of : (companies : List Company) → is_some_company companies ≡ false → length companies ≡ 0
+    of [] none = refl
+    of (c ∷ cs) none = absurd (cc)
+
+status_at : (image : ImageParts) (order : List ℕ) (states turns : ℕ) (text : List ℕ) (status : ℕ)
+    → (tells : Tells image order states turns text status) → (status ≡ 0) ⊎ (status ≡ 8)
+    → NeverStuck image order (first_node image) × (((tells.listed).found).left ≡ 0)
+    × (status ≡ 0 → tells.unending ≡ false) × (status ≡ 8 → tells.unending ≡ true)
+status_at image order states turns text status tells which =
+    let found = (tells.listed).found in
+    let is = by_cases (found.left == 0) (any_end trapped_in found.kept found.ends) (is_stuck order found) tells.unending status
+    tells.status_is which in
+    let none_left : found.left ≡ 0 = eqb-true found.left 0 is.0 in
+    let none = no_company found (any_end (waits_in order) found.kept found.ends) is.1 in
+    (tells.none_stuck none_left none, none_left, is.2, is.3)
+
+pub status_law : StatusLaw
+status_law = record {
+  zero = λ image order states turns text harts tells.
+      let is = status_at image order states turns text 0 tells (inl refl) in
+      let quiet : SaysUnending image order (first_node image) ((tells.listed).found).left false =
+      subst (SaysUnending image order (first_node image) ((tells.listed).found).left) (is.2 refl) tells.unending_is in
+      record { ends = quiet is.1 harts; never_stuck = is.0 };
+  eight = λ image order states turns text tells.
+      let is = status_at image order states turns text 8 tells (inr refl) in
+      record {
+        endless = subst (SaysUnending image order (first_node image) ((tells.listed).found).left) (is.3 refl)
+            tells.unending_is;
+        never_stuck = is.0;
+      };
+}

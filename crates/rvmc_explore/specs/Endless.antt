@@ -5,9 +5,10 @@ use Rattle.cl_machine.specs.Cluster.{Cluster, IsRun}
 use Rattle.cl_machine.specs.declared.steps.Step.{Step}
 use Rattle.cl_order_laws.specs.Closed.{FollowPlans, Node, had_after}
 use Rattle.cl_outcome_laws.specs.Companies.{IsCompany}
-use Rattle.cl_outcome_laws.specs.Graphs.{HaveHarts}
 use Rattle.cl_outcome_laws.specs.Unending.{MayEnd, NeverEnds}
 use Rattle.cl_deadlock.specs.Why.{AreBelow}
+use Rattle.cl_deadlock_laws.specs.Stuck.{IsReachable}
+use Rattle.cl_record.specs.Plans.{IsOrder}
 use Rattle.cl_moves.specs.Standing.{IsWay, by_order, first_node, node_of}
 use Rattle.cl_explore.specs.Covering.{HasLead}
 use Rattle.cl_explore.specs.Ends.{ExploredFrom, Findings}
@@ -30,12 +31,12 @@ AllMayEnd order start =
     (steps : List Step) (end : Cluster) → IsRun start.cluster steps end → FollowPlans (by_order order) start.had steps
     → MayEnd (by_order order) (node_of end (had_after start.had steps))
 
--- the line `some runs go on for ever` stands only where one does; and where it doesn't stand, no state is left and the
--- order's harts are those of the ranks, each can still end
+-- the line `some runs go on for ever` stands only where one does; and where it doesn't stand and no state is left, each can
+-- still end, by an order of harts that are there
 abbrev pub SaysUnending : ImageParts → List ℕ → Node → ℕ → Bool → Type 0
 SaysUnending image order start left true = SomeNeverEnds image order
 SaysUnending image order start left false =
-    left ≡ 0 → HaveHarts (by_order order) start.cluster → AllMayEnd order start
+    left ≡ 0 → IsOrder image.harts order → AllMayEnd order start
 
 -- ---- ranks that are stuck
 
@@ -57,8 +58,8 @@ pub record AreComplete (leads : List Lead) (targets : List ℕ) (marks : List Bo
   pub at : (k i : ℕ) → slice_get targets k ≡ Some i → IsMarkedIfThere marks i
   pub before : (i j : ℕ) → HasLead leads i j → slice_get marks j ≡ Some true → IsMarkedIfThere marks i
 
--- whatever was searched, from wherever
+-- whatever was searched, from wherever a run leads
 abbrev pub SaysUnendingOf : Findings → Bool → Type 0
 SaysUnendingOf found unending =
-    (image : ImageParts) (order : List ℕ) (start : Node) → ExploredFrom image order start found
-    → SaysUnending image order start found.left unending
+    (image : ImageParts) (order : List ℕ) (start : Node) → IsReachable image start.cluster
+    → ExploredFrom image order start found → SaysUnending image order start found.left unending

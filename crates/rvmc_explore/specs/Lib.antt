@@ -8,5 +8,6 @@ pub mod There
 pub mod Recorded
 pub mod InnerRecorded
 pub mod Splitting
+pub mod StatusLaw
 pub mod Starting
 pub mod SplitLaw
