@@ -43,10 +43,10 @@ use Rattle.rvmc_explore.specs.Telling.{Tells, any_end, is_some_company, is_stuck
 
 -- ---- moves as edges
 
-is_between : ℕ → ℕ → Lead → Bool
+abbrev is_between : ℕ → ℕ → Lead → Bool
 is_between i j lead = (lead.from == i) && (lead.to == j)
 
-edges_of : List Lead → Edges
+abbrev edges_of : List Lead → Edges
 edges_of leads i j = list_any (is_between i j) leads
 
 both : (a b : Bool) → (a && b) ≡ true → (a ≡ true) × (b ≡ true)
@@ -89,12 +89,12 @@ as_posts true cluster room = omega (arith, room)
 as_posts false cluster room = tt
 
 -- whether no mark of the node of this number is left out
-marked : List Bool → ℕ → Bool
+abbrev marked : List Bool → ℕ → Bool
 marked marks i = get_or marks i true
 
 module _ (image : ImageParts) (order : List ℕ) (start : Node) (found : Findings)
     (explored : ExploredFrom image order start found) (all : found.left ≡ 0) where
-  nodes : List Node
+  abbrev nodes : List Node
   nodes = explored.nodes
 
   visited : (i : ℕ) (node : Node) → slice_get nodes i ≡ Some node → IsVisitedNode nodes found.left i node
@@ -104,7 +104,7 @@ module _ (image : ImageParts) (order : List ℕ) (start : Node) (found : Finding
       → (steps : List Step) × IsWay (by_order order) (first_node image) steps node
   reached i node at = node_found image order found.kept nodes explored.are i node at
 
-  edges : Edges
+  abbrev edges : Edges
   edges = edges_of found.leads
 
   after_way : (from there : Node) (steps : List Step) → IsWay (by_order order) from steps there
@@ -148,7 +148,7 @@ module _ (image : ImageParts) (order : List ℕ) (start : Node) (found : Finding
 
   module _ (marks : List Bool) (many : length marks ≡ length found.kept)
       (complete : AreComplete found.leads found.ends marks) where
-    inside : ℕ → Bool
+    abbrev inside : ℕ → Bool
     inside i = not (marked marks i)
 
     is_node : (i : ℕ) (node : Node) → slice_get nodes i ≡ Some node → i < length marks
@@ -281,7 +281,7 @@ pub says_unending : (found : Findings) (marks : List Bool) (unending : Bool) →
     → (unending ≡ false → (i : ℕ) → i < length marks → slice_get marks i ≡ Some true) → SaysUnendingOf found unending
 says_unending found marks true all many sound complete some each = λ image order start reached explored.
     let one = some refl in some_never_ends image order start found explored all marks many complete one.0 one.1
-says_unending found marks false all many sound complete some each = λ image order start reached explored zero harts.
+says_unending found marks false all many sound complete some each = λ image order start reached explored none harts.
     all_may_end image order start found explored all marks many complete sound (each refl)
     (have_harts image order start.cluster reached harts)
 
@@ -289,34 +289,34 @@ says_unending found marks false all many sound complete some each = λ image ord
 
 neither : (status other : ℕ) → status ≡ other → (other ≡ 0 → ⊥) → (other ≡ 8 → ⊥) → (status ≡ 0) ⊎ (status ≡ 8) → ⊥
 neither status other is no_zero no_eight which = elim which [
-  | inl zero ↦ no_zero (sym is ∙ zero)
+  | inl none ↦ no_zero (sym is ∙ none)
   | inr eight ↦ no_eight (sym is ∙ eight)
 ]
 
 -- none left, nobody stuck, and whether some runs go on for ever
 abbrev MeansQuiet : Bool → Bool → Bool → ℕ → Type 0
-MeansQuiet zero stuck unending status =
-    (zero ≡ true) × (stuck ≡ false) × (status ≡ 0 → unending ≡ false) × (status ≡ 8 → unending ≡ true)
+MeansQuiet all stuck unending status =
+    (all ≡ true) × (stuck ≡ false) × (status ≡ 0 → unending ≡ false) × (status ≡ 8 → unending ≡ true)
 
-by_cases : (zero trapped stuck unending : Bool) (status : ℕ)
-    → status ≡ (if zero then (if trapped then 3 else (if stuck then 7 else (if unending then 8 else 0))) else 4)
-    → (status ≡ 0) ⊎ (status ≡ 8) → MeansQuiet zero stuck unending status
+by_cases : (all trapped stuck unending : Bool) (status : ℕ)
+    → status ≡ (if all then (if trapped then 3 else (if stuck then 7 else (if unending then 8 else 0))) else 4)
+    → (status ≡ 0) ⊎ (status ≡ 8) → MeansQuiet all stuck unending status
 by_cases false trapped stuck unending status is which =
     absurd (neither status 4 is (λ e. omega (arith, e)) (λ e. omega (arith, e)) which)
 by_cases true true stuck unending status is which =
     absurd (neither status 3 is (λ e. omega (arith, e)) (λ e. omega (arith, e)) which)
 by_cases true false true unending status is which =
     absurd (neither status 7 is (λ e. omega (arith, e)) (λ e. omega (arith, e)) which)
-by_cases true false false true status is which = (refl, refl, λ zero. absurd (omega (arith, is, zero)), λ eight. refl)
-by_cases true false false false status is which = (refl, refl, λ zero. refl, λ eight. absurd (omega (arith, is, eight)))
+by_cases true false false true status is which = (refl, refl, λ none. absurd (omega (arith, is, none)), λ eight. refl)
+by_cases true false false false status is which = (refl, refl, λ none. refl, λ eight. absurd (omega (arith, is, eight)))
 
 no_company : (found : Findings) (ends : Bool) → (ends || is_some_company found.companies) ≡ false → length found.companies ≡ 0
 no_company found true none = absurd (cc)
-no_company found false none = of found.companies none
+no_company found false none = of (length found.companies == 0) refl none
   where
-    of : (companies : List Company) → is_some_company companies ≡ false → length companies ≡ 0
-    of [] none = refl
-    of (c ∷ cs) none = absurd (cc)
+    of : (b : Bool) → (length found.companies == 0) ≡ b → not b ≡ false → length found.companies ≡ 0
+    of true is none = eqb-true (length found.companies) 0 is
+    of false is none = absurd (cc)
 
 status_at : (image : ImageParts) (order : List ℕ) (states turns : ℕ) (text : List ℕ) (status : ℕ)
     → (tells : Tells image order states turns text status) → (status ≡ 0) ⊎ (status ≡ 8)

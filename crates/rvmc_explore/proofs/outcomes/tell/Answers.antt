@@ -18,7 +18,7 @@ loop-place-preserved c =
     let at = slice_get_read companies.items c.len-place-end.result c.loop-place.place company
     (c.len-place-end.ensures ∙ companies.ok.0) c.loop-place-test.true c.index-company.ensures in
     let sound = subst (λ ends. AreSound found.leads.items ends c.in_ok-marks.marks.items) c.as_slice.ensures.value
-    c.in_ok-marks.ensures in
+    c.in_ok-marks.ensures.sound in
     one_company c.args.order.now c.args.image.now (findings found) c.loop-place.place marks company
     c.loop-place.told.items c.tell_company.new.told.items at
     (subst (AreSound found.leads.items found.ends.items) (sym c.as_slice-in-loop-place.ensures.value) sound)
