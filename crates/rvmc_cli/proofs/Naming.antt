@@ -3,7 +3,7 @@ use Rattle.std.proofs.Common.{◌≡◌, ◌∙◌, ◌++◌, ◌∷◌, List, [
 use Rattle.std.specs.Prelude.{if◌then◌else◌}
 use Rattle.std.proofs.lemmas.Bool.{ne_eqb, true≢false}
 use Rattle.clap.specs.Words.{Text}
-use Rattle.rvmc_cli.specs.Files.{Names, Takes, is_among, is_output_asked, named_in, takes_by_name, unnamed, walked}
+use Rattle.rvmc_cli.specs.Files.{Names, Takes, finished, is_among, is_output_asked, named_in, takes_by_name, unnamed, walked}
 use Rattle.rvmc_cli.specs.Naming.{ArePlain}
 use Rattle.rvmc_cli.specs.declared.files.Asks.{Asks}
 use Rattle.rvmc_cli.specs.declared.files.Asks.TheVariants as asks
@@ -41,7 +41,7 @@ stays : (takes : Option Takes) (command : Text) (words : List Text) → ArePlain
 stays (Some takes) command words plain is =
     rw (is, all_left takes.options asks.Nothing (unnamed (command ∷ [])) words refl plain.2) (by_source takes.source)
   where
-    by_source : (source : Bool) → (if source then unnamed (command ∷ words) else unnamed (command ∷ words)) ≡ unnamed (command ∷ words)
+    by_source : (source : Bool) → finished source (unnamed (command ∷ words)) ≡ unnamed (command ∷ words)
     by_source true = refl
     by_source false = refl
 stays None command words plain is =

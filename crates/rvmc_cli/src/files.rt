@@ -308,10 +308,7 @@ fn behind<'a>(
 }
 
 /// What words name without a command.
-fn without_command<'a>(
-    alloc: Global,
-    words: &[&'a str],
-) -> Result<Option<Named<'a>>, AllocError>
+fn without_command<'a>(alloc: Global, words: &[&'a str]) -> Result<Option<Named<'a>>, AllocError>
     ensures { IfOk result (λ new. option_map names_of new ≡ without_command (map (λ word. word.now) words.now)) }
 {
     match walked(Named::of(Vec::new(alloc)), &[], words)? {
