@@ -166,6 +166,8 @@ class Search:
         self.numbers, self.turns = {}, {}
         # how many states were found, whether these are all, and whether one of them leads to no end
         self.count, self.is_whole, self.is_unending = 0, True, False
+        # what is told of ranks that are stuck in states that lead to no end
+        self.companies = set()
 
     def number(self, key):
         """The number of a key: the same for equal ones."""
@@ -277,10 +279,11 @@ class Search:
         except TooMany:
             self.is_whole = False
             return {}
-        # from which states each was come to, and those that are ends
-        before, ends, stops = {todo[0].key: []}, {}, []
+        # from which states each was come to, all states, and those that are ends
+        before, states, ends, stops = {todo[0].key: []}, {}, {}, []
         while todo:
             state = todo.pop()
+            states[state.key] = state
             if self.is_end(state):
                 ends[what_is_known(state.ranks)] = text_of(state.ranks, self.plan)
                 stops.append(state.key)
@@ -298,8 +301,18 @@ class Search:
                 self.is_whole = False
                 break
         self.count = len(before)
-        self.is_unending = self.is_whole and len(led_to(stops, before)) < len(before)
+        led = led_to(stops, before)
+        self.is_unending = self.is_whole and len(led) < len(before)
+        self.companies = {self.company(state) for key, state in states.items() if key not in led} - {b""}
         return ends
+
+    def company(self, state):
+        """What is told of the most ranks that are stuck together in a state while others run on: nothing where none are."""
+        if not any(hart.mode == WAITING for rank in state.ranks for hart in rank.harts):
+            return b""
+        around = Around(self.image, copy_of_hub(state.hub), copy_of_boxes(state.boxes))
+        around.ranks = [copy_of_rank(rank, around) for rank in state.ranks]
+        return why.told_of_company(around)
 
     def walked(self, random, most):
         """The end that an order at random leads to, in so many turns at most, or None."""
@@ -459,10 +472,12 @@ class Recorded:
         """What is wrong with it as the end of this number, or None."""
         if self.bad is not None:
             return f"no turn by the plan at step {self.bad}"
-        if not self.is_end():
+        company = told.bodies[number - 1] in told.companies
+        if not company and not self.is_end():
             return "no end"
-        if told.bodies[number - 1] + told.whys[number - 1] != self.text():
-            return f"an end at which is told {self.text()}"
+        text = why.told_of_company(self.walk.cluster) if company else self.text()
+        if told.bodies[number - 1] + told.whys[number - 1] != text:
+            return f"an outcome at which is told {text}"
         head = f"end {number}{self.difference(first)}\n".encode()
         return None if told.heads[number - 1] == head else f"an end whose first line is {head}"
 
@@ -485,25 +500,17 @@ def sources_of(reply):
 
 
 class Told:
-    """What `explore` told, taken apart."""
+    """What `explore` told, taken apart: the line of each outcome, what is told of its ranks and, at an end, of what each hart
+    waits for. Of ranks that are stuck while others run on that is one text, and `companies` has these."""
 
     def __init__(self, text, image):
-        self.heads, self.bodies, self.whys = [], [], []
+        self.heads, self.bodies, self.whys, self.companies = [], [], [], set()
         at = 0
         while text[at : at + 4] == b"end ":
             stop = text.index(b"\n", at) + 1
             self.heads.append(text[at:stop])
-            at, start = stop, stop
-            for _ in range(image.ranks):
-                first = text.index(b"\n", at) + 1
-                at = first + int(text[at:first].split()[3]) + 1
-                for _ in range(image.harts + 1):
-                    at = text.index(b"\n", at) + 1
-            self.bodies.append(text[start:at])
-            start = at
-            while re.match(rb"rank |  from |deadlock|no deadlock", text[at:]):
-                at = text.index(b"\n", at) + 1
-            self.whys.append(text[start:at])
+            at = self.take_company(text, stop) if text[stop:].startswith(b"rank ") and b" hart " in line_at(text, stop) else 0
+            at = at or self.take_end(text, stop, image)
         self.is_unending = text[at:].startswith(UNENDING)
         at += len(UNENDING) if self.is_unending else 0
         closing = CLOSING.fullmatch(text[at:])
@@ -515,22 +522,63 @@ class Told:
             if text[at:] != spelled % (len(self.heads), ends, self.count, states, closing[3]):
                 self.is_whole = None
 
-    def wrong(self, found, is_whole):
-        """What is wrong with it by ends that were found, which may be all: None where nothing is."""
-        if self.is_whole and found - set(self.bodies):
-            return f"{self.bodies}, not {found - set(self.bodies)}"
-        if is_whole and set(self.bodies) - found:
-            return f"too many: {set(self.bodies) - found}"
+    def take_company(self, text, start):
+        """Takes what is told of ranks that are stuck. Returns where it ends."""
+        at = start
+        while not text[at:].startswith(b"deadlock: "):
+            at = text.index(b"\n", at) + 1
+        at = text.index(b"\n", at) + 1
+        self.bodies.append(text[start:at])
+        self.whys.append(b"")
+        self.companies.add(text[start:at])
+        return at
+
+    def take_end(self, text, start, image):
+        """Takes what is told of an end. Returns where it ends."""
+        at = start
+        for _ in range(image.ranks):
+            first = text.index(b"\n", at) + 1
+            at = first + int(text[at:first].split()[3]) + 1
+            for _ in range(image.harts + 1):
+                at = text.index(b"\n", at) + 1
+        self.bodies.append(text[start:at])
+        start = at
+        while re.match(rb"rank |  from |deadlock|no deadlock", text[at:]):
+            at = text.index(b"\n", at) + 1
+        self.whys.append(text[start:at])
+        return at
+
+    def ends(self):
+        """What is told of the ranks of each end."""
+        return set(self.bodies) - self.companies
+
+    def wrong(self, found, is_whole, companies):
+        """What is wrong with it by ends and companies that were found, which may be all: None where nothing is."""
+        if len(set(zip(self.bodies, self.whys))) < len(self.bodies):
+            return f"two equal texts: {self.bodies}"
+        if self.is_whole and found - self.ends():
+            return f"{self.bodies}, not {found - self.ends()}"
+        if is_whole and self.ends() - found:
+            return f"too many: {self.ends() - found}"
+        if self.is_whole and is_whole and self.companies != companies:
+            return f"ranks that are stuck: {self.companies}, not {companies}"
         return None
 
     def status(self):
         """The status that goes with it."""
         if not self.is_whole:
             return 4
-        lines = b"".join(self.bodies)
+        lines = b"".join(self.ends())
         if re.search(rb"^rank \d hart \d trapped ", lines, re.MULTILINE):
             return 3
-        return 7 if re.search(rb"^rank \d stop stuck$", lines, re.MULTILINE) else 0
+        if self.companies or re.search(rb"^rank \d stop stuck$", lines, re.MULTILINE):
+            return 7
+        return 8 if self.is_unending else 0
+
+
+def line_at(text, at):
+    """The line that begins here."""
+    return text[at : text.index(b"\n", at)]
 
 
 def body_of(report, image):

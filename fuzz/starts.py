@@ -120,7 +120,7 @@ def joined(parts, count):
     states = sum(part.states for part in used)
     told = (counted(len(seen), b"end"), counted(states, b"state"), counted(count, b"start"), verdict)
     statuses = {part.status for part in used}
-    status = 4 if lacking else 3 if 3 in statuses else 7 if 7 in statuses else 0
+    status = 4 if lacking else next((status for status in (3, 7, 8) if status in statuses), 0)
     return text + b"%s of %s of %s: %s\n" % told, status
 
 

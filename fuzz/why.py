@@ -146,23 +146,46 @@ def is_stuck(rank, waits, among):
     )
 
 
-def verdict(cluster, waits):
-    """The most ranks that are stuck together, where one of their harts waits."""
+def stuck_ranks(cluster, waits):
+    """The most ranks that are stuck together, in order: none where no hart of theirs waits."""
     among = set(range(len(cluster.ranks)))
     while free := {rank for rank in among if not is_stuck(cluster.ranks[rank], waits, among)}:
         among -= free
-    if all(hart.is_stopped() for rank in among for hart in cluster.ranks[rank].harts):
-        return "no deadlock shown\n"
-    return f"deadlock: ranks {' '.join(map(str, sorted(among)))}\n"
+    is_waiting = any(not hart.is_stopped() for rank in among for hart in cluster.ranks[rank].harts)
+    return sorted(among) if is_waiting else []
 
 
-def told(cluster, framed=False):
-    """What is told of a cluster, perhaps with calls."""
-    waits = {
+def named(ranks):
+    """Ranks that are stuck, as they are told."""
+    return f"deadlock: ranks {' '.join(map(str, ranks))}"
+
+
+def verdict(cluster, waits):
+    """Which ranks are stuck together."""
+    ranks = stuck_ranks(cluster, waits)
+    return f"{named(ranks)}\n" if ranks else "no deadlock shown\n"
+
+
+def waits_of(cluster):
+    """What each hart waits for that waits."""
+    return {
         (rank.number, number): Tried(cluster, rank.number, number).waits() if hart.mode == WAITING else []
         for rank in cluster.ranks
         for number, hart in enumerate(rank.harts)
     }
+
+
+def told_of_company(cluster):
+    """What is told of ranks that are stuck while others run on: nothing where none are."""
+    waits = waits_of(cluster)
+    ranks = stuck_ranks(cluster, waits)
+    lines = [hart_line(cluster.image, cluster.ranks[rank], hart, found, False) for (rank, hart), found in waits.items() if rank in ranks]
+    return ("".join(lines) + f"{named(ranks)} while others run on\n").encode() if ranks else b""
+
+
+def told(cluster, framed=False):
+    """What is told of a cluster, perhaps with calls."""
+    waits = waits_of(cluster)
     lines = [hart_line(cluster.image, cluster.ranks[rank], hart, found, framed) for (rank, hart), found in waits.items()]
     lines += [unreceived(cluster.hub, rank.number) for rank in cluster.ranks]
     return ("".join(lines) + verdict(cluster, waits)).encode()

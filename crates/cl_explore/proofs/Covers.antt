@@ -24,7 +24,8 @@ use Rattle.cl_moves.proofs.Surely.{alike_by, sure_ahead, sure_more, went_covers}
 use Rattle.cl_moves.specs.Standing.{IsWay, StandsAt, by_order, node_of}
 use Rattle.cl_moves.specs.declared.standing.Standing.{Standing}
 use Rattle.cl_explore.specs.Kept.{AreSamePlaces, HaveStayedSince, IsBefore, IsKeptAs, IsKeptOf, IsLed, KeptStandsAt}
-use Rattle.cl_explore.specs.Covering.{AreAlikeNodes, AreJoined, AreLeads, AreNodes, Grows, HasLead, IsClosedAt, IsClosedFrom, IsReachedFrom, IsReachedTurn, LeadsGrow, Reaches}
+use Rattle.cl_outcome_laws.specs.Graphs.{AreAlikeNodes}
+use Rattle.cl_explore.specs.Covering.{AreJoined, AreLeads, AreNodes, Grows, HasLead, IsClosedAt, IsClosedFrom, IsReachedFrom, IsReachedTurn, LeadsGrow, Reaches}
 use Rattle.cl_explore.specs.Searching.{Arrives, GoesOn, IsFoundIn}
 use Rattle.cl_explore.specs.declared.kept.KeptNode.{KeptNode}
 use Rattle.cl_explore.specs.declared.leads.Lead.{Lead}

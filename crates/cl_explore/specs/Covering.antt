@@ -6,10 +6,10 @@ use Rattle.cl_state.specs.Rank.{Rank}
 use Rattle.cl_machine.specs.Cluster.{Cluster}
 use Rattle.cl_machine.specs.declared.steps.Step.{Step}
 use Rattle.mp_hub.specs.Hub.{HubView}
-use Rattle.mp_alike_laws.specs.Renaming.{Renaming}
-use Rattle.cl_order_laws.specs.Alike.{AlikeClusters, Leads}
-use Rattle.cl_order_laws.specs.Closed.{IsCovered, IsDone, IsSamePlace, Node, Plans, one_more}
+use Rattle.cl_order_laws.specs.Alike.{Leads}
+use Rattle.cl_order_laws.specs.Closed.{IsCovered, IsDone, Node, one_more}
 use Rattle.cl_order_laws.specs.Sure.{IsSettledBy}
+use Rattle.cl_outcome_laws.specs.Graphs.{AreAlikeNodes}
 use Rattle.cl_moves.specs.Standing.{IsWay, by_order, node_of}
 use Rattle.cl_moves.specs.Posts.{most_posts}
 use Rattle.cl_explore.specs.Kept.{IsLed, KeptStandsAt}
@@ -25,13 +25,6 @@ pub record AreNodes (image : ImageParts) (order : List ℕ) (kept : List KeptNod
   pub many : length nodes ≡ length kept
   pub each : (i : ℕ) (k : KeptNode) → slice_get kept i ≡ Some k
       → (node : Node) × (slice_get nodes i ≡ Some node) × KeptStandsAt image k node × IsLed image order nodes i k node
-
--- their clusters are alike, and in each rank the same harts take turns, unless all are stopped
-pub record AreAlikeNodes (plans : Plans) (one other : Node) : Type 0 where
-  pub names : Renaming
-  pub alike : AlikeClusters names one.cluster other.cluster
-  pub places : (r : ℕ) (rank : Rank) → slice_get one.cluster.ranks r ≡ Some rank
-      → IsSamePlace (plans r) (one.had r) (other.had r) ⊎ IsDone (plans r) rank
 
 -- the node of this number is alike this one
 abbrev pub IsAlikeAt : List ℕ → List Node → ℕ → Node → Type 0

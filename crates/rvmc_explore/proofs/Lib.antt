@@ -1,5 +1,6 @@
 pub mod Listed
 pub mod Marked
+pub mod Endless
 pub mod ToEnds
 pub mod EachStart
 pub mod Apart

@@ -1,10 +1,13 @@
 pub mod Ends
 pub mod Searched
+pub mod Marks
+pub mod Endless
 pub mod Outcomes
 pub mod Telling
 pub mod There
 pub mod Recorded
 pub mod InnerRecorded
 pub mod Splitting
+pub mod StatusLaw
 pub mod Starting
 pub mod SplitLaw

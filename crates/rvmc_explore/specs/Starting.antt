@@ -10,6 +10,7 @@ use Rattle.rvmc_starts.specs.Sums.{sum_of}
 use Rattle.rvmc_starts.specs.declared.parts.EndText.{EndText}
 use Rattle.rvmc_starts.specs.declared.parts.Part.{Part}
 use Rattle.rvmc_starts.specs.declared.starts.Start.{Start}
+use Rattle.rvmc_explore.specs.Endless.{SaysNoneStuck, SaysUnending}
 use Rattle.rvmc_explore.specs.Outcomes.{AreTold, nodes_told}
 use Rattle.rvmc_explore.specs.Recorded.{Leads, numbered}
 use Rattle.rvmc_explore.specs.Telling.{status_of}
@@ -62,6 +63,8 @@ pub record TellsFrom (image : ImageParts) (start : Start) (states turns : ℕ) (
   pub part : Part
   pub of : IsPartOf start (length (listed.found).kept) (listed.found).left part
   pub ends : AreEndsTold told part.ends
+  pub unending_is : SaysUnending image start.harts (listed.behind).start (listed.found).left part.unending
+  pub none_stuck : SaysNoneStuck image start.harts (listed.behind).start (listed.found).left (listed.found).companies
   pub status_is : status ≡ status_of start.harts listed.found part.unending
   pub status_told : part.status ≡ status
   pub spelled : text ≡ part_text part

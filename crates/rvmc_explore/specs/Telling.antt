@@ -3,10 +3,12 @@ use Rattle.std.specs.Prelude.{ℕ, ◌+◌, ◌≡◌, ◌++◌, ◌==◌, ◌||
 use Rattle.std.specs.Fmt.{decimal}
 use Rattle.std.specs.List.{list_any}
 use Rattle.rv_image.specs.declared.images.ImageParts.{ImageParts}
+use Rattle.cl_moves.specs.Standing.{first_node}
 use Rattle.cl_explore.specs.Ends.{Findings}
 use Rattle.cl_explore.specs.declared.companies.Company.{Company}
 use Rattle.cl_explore.specs.declared.kept.KeptNode.{KeptNode}
 use Rattle.rvmc_report.specs.Report.{has_trapped, newline}
+use Rattle.rvmc_explore.specs.Endless.{SaysNoneStuck, SaysUnending}
 use Rattle.rvmc_explore.specs.Ends.{one_waits}
 use Rattle.rvmc_explore.specs.Outcomes.{IsListOf}
 use Rattle.rvmc_explore.specs.declared.outcomes.Outcome.{Outcome}
@@ -98,12 +100,15 @@ status_of order found unending =
 -- ---- the whole
 
 -- each outcome that is told is one to which a run by the order leads, no two have the same text, and they are all where it
--- says so, as it does unless the moves of as many states as are allowed were made, or a rank took more turns by itself
+-- says so, as it does unless the moves of as many states as are allowed were made, or a rank took more turns by itself.
+-- Runs of any length come to what is told of those that never end, and of ranks that are stuck
 pub record Tells (image : ImageParts) (order : List ℕ) (states turns : ℕ) (text : List ℕ) (status : ℕ) : Type 0 where
   pub told : List Outcome
   pub listed : IsListOf image order states turns told
   pub long : Option ℕ
   pub unending : Bool
+  pub unending_is : SaysUnending image order (first_node image) (listed.found).left unending
+  pub none_stuck : SaysNoneStuck image order (first_node image) (listed.found).left (listed.found).companies
   pub body : List ℕ
   pub lines : AddsOutcomes 1 told [] body
   pub spelled : text

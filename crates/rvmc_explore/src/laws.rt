@@ -1,9 +1,16 @@
-//! The law of a split: a function with an empty body, whose contract is the law.
+//! Laws of searches: functions with empty bodies, whose contracts are the laws.
 
 ghost use Rattle.rvmc_explore.specs.SplitLaw.{SplitLaw};
+ghost use Rattle.rvmc_explore.specs.StatusLaw.{StatusLaw};
 
 /// Where each start of a split was told whole, each run that follows the order of harts and ends where nobody goes on ends
 /// in a cluster that is alike an end that was told of one of the starts.
 pub fn split_law()
     ensures { SplitLaw }
+{}
+
+/// Status 0: whatever run follows the order of harts, of any length, it can still come to an end, and no ranks are stuck in it.
+/// Status 8: some run comes to where it can't end any more, and still no ranks are stuck in any.
+pub fn status_law()
+    ensures { StatusLaw }
 {}

@@ -1,15 +1,20 @@
 //! Whether some runs go on for ever.
 
-ghost use Rattle.std.specs.Prelude.{◌≡◌, ◌⊎◌, ◌<◌, ℕ, List, IfOk, IsTrue, Some, length, slice_get, string_bytes, true};
+ghost use Rattle.std.specs.Prelude.{◌≡◌, ◌⊎◌, ◌<◌, ℕ, List, IfOk, IsFalse, IsTrue, Some, false, length, slice_get, string_bytes, true};
+ghost use Rattle.cl_explore.specs.Ends.{findings};
+ghost use Rattle.rvmc_explore.specs.Endless.{AreComplete, SaysUnendingOf};
+ghost use Rattle.rvmc_explore.specs.Marks.{AreMarkedFrom, HaveStayed, IsMarkedBefore, IsMarkedIfThere, unmarked};
 ghost use Rattle.rvmc_explore.specs.Searched.{AreSound};
 ghost use Rattle.rvmc_explore.specs.Telling.{unending_line};
 
 use cl_explore::{Exploration, Lead};
 use std::alloc::{AllocError, Global};
 
-/// Marks the node of this number, if it is there.
+/// Marks the node of this number, if there is a mark for it.
 fn mark(marks: &mut [bool], node: usize)
-    ensures { (i : ℕ) → slice_get marks.new i ≡ Some true → (slice_get marks.old i ≡ Some true) ⊎ (node ≡ i) }
+    ensures only { (i : ℕ) → slice_get marks.new i ≡ Some true → (slice_get marks.old i ≡ Some true) ⊎ (node ≡ i) }
+    ensures now { IsMarkedIfThere marks.new node }
+    ensures stay { HaveStayed marks.old marks.new }
 {
     if node < marks.len() {
         marks[node] = true;
@@ -18,8 +23,10 @@ fn mark(marks: &mut [bool], node: usize)
 
 /// A mark for each of so many nodes, set at these.
 fn marked_at(alloc: Global, count: usize, nodes: &[usize]) -> Result<Vec<bool>, AllocError>
-    ensures { IfOk result (λ marks. (i : ℕ) → slice_get marks.items i ≡ Some true
+    ensures many { IfOk result (λ marks. length marks.items ≡ count) }
+    ensures only { IfOk result (λ marks. (i : ℕ) → slice_get marks.items i ≡ Some true
         → (k : ℕ) × (slice_get nodes.now k ≡ Some i)) }
+    ensures all { IfOk result (λ marks. (k i : ℕ) → slice_get nodes.now k ≡ Some i → IsMarkedIfThere marks.items i) }
 {
     let mut marks = vec![in alloc; false; count]?;
     for place in 0..nodes.len() {
@@ -30,7 +37,8 @@ fn marked_at(alloc: Global, count: usize, nodes: &[usize]) -> Result<Vec<bool>, 
 
 /// Whether the node of this number is marked.
 fn is_marked(marks: &[bool], node: usize) -> bool
-    ensures { IsTrue result → slice_get marks.now node ≡ Some true }
+    ensures yes { IsTrue result → slice_get marks.now node ≡ Some true }
+    ensures no { IsFalse result → slice_get marks.now node ≡ Some true → ⊥ }
 {
     if node >= marks.len() {
         return false;
@@ -41,7 +49,10 @@ fn is_marked(marks: &[bool], node: usize) -> bool
 /// Marks the node from which the move at this place led, if the one is marked to which it led. Answers whether it wasn't marked before.
 fn mark_before(marks: &mut [bool], leads: &[Lead], place: usize) -> bool
     requires { place < length leads.now }
-    ensures { (targets : List ℕ) → AreSound leads.now targets marks.old → AreSound leads.now targets marks.new }
+    ensures sound { (targets : List ℕ) → AreSound leads.now targets marks.old → AreSound leads.now targets marks.new }
+    ensures stay { HaveStayed marks.old marks.new }
+    ensures more { IsTrue result → unmarked marks.new < unmarked marks.old }
+    ensures done { IsFalse result → (marks.new ≡ marks.old) × IsMarkedBefore leads.now place marks.new }
 {
     let lead = &leads[place];
     if lead.from >= marks.len() || !is_marked(marks, lead.to) || is_marked(marks, lead.from) {
@@ -53,7 +64,10 @@ fn mark_before(marks: &mut [bool], leads: &[Lead], place: usize) -> bool
 
 /// The same of each move, the last one first: most moves lead to later nodes. Answers whether one was marked.
 fn mark_all(marks: &mut [bool], leads: &[Lead]) -> bool
-    ensures { (targets : List ℕ) → AreSound leads.now targets marks.old → AreSound leads.now targets marks.new }
+    ensures sound { (targets : List ℕ) → AreSound leads.now targets marks.old → AreSound leads.now targets marks.new }
+    ensures stay { HaveStayed marks.old marks.new }
+    ensures more { IsTrue result → unmarked marks.new < unmarked marks.old }
+    ensures done { IsFalse result → AreMarkedFrom leads.now 0 marks.new }
 {
     let mut more = false;
     for place in 0..leads.len() {
@@ -64,31 +78,47 @@ fn mark_all(marks: &mut [bool], leads: &[Lead]) -> bool
     more
 }
 
-/// A mark for each node that leads to one of these.
+/// A mark for each node that leads to one of these, and for no other.
 pub(crate) fn leading_to(
     alloc: Global,
     found: &Exploration,
     nodes: &[usize],
 ) -> Result<Vec<bool>, AllocError>
-    ensures { IfOk result (λ marks. AreSound found.now.leads.items nodes.now marks.items) }
+    ensures many { IfOk result (λ marks. length marks.items ≡ length found.now.nodes.items) }
+    ensures sound { IfOk result (λ marks. AreSound found.now.leads.items nodes.now marks.items) }
+    ensures complete { IfOk result (λ marks. AreComplete found.now.leads.items nodes.now marks.items) }
 {
     let mut marks = marked_at(alloc, found.nodes.len(), nodes)?;
-    for _round in 0..found.nodes.len() {
+    'rest: loop {
         if !mark_all(marks.as_mut_slice(), found.leads.as_slice()) {
             return Ok(marks);
         }
     }
-    Ok(marks)
+}
+
+/// Whether one isn't marked.
+fn has_unmarked(marks: &[bool]) -> bool
+    ensures some { IsTrue result → (i : ℕ) × (slice_get marks.now i ≡ Some false) }
+    ensures none { IsFalse result → (i : ℕ) → i < length marks.now → slice_get marks.now i ≡ Some true }
+{
+    for place in 0..marks.len() {
+        if !marks[place] {
+            return true;
+        }
+    }
+    false
 }
 
 /// Whether some node leads to no end: from there a run goes on for ever, however it goes. False where not all moves were
 /// made, since then it isn't known. The only error is want of memory.
-pub(crate) fn is_unending(alloc: Global, found: &Exploration) -> Result<bool, AllocError> {
+pub(crate) fn is_unending(alloc: Global, found: &Exploration) -> Result<bool, AllocError>
+    ensures { IfOk result (SaysUnendingOf (findings found.now)) }
+{
     if found.left > 0 {
         return Ok(false);
     }
     let marks = leading_to(alloc, found, found.ends.as_slice())?;
-    Ok(marks.iter().any(|mark| !*mark))
+    Ok(has_unmarked(marks.as_slice()))
 }
 
 /// The line that says so.

@@ -5,6 +5,7 @@ use Rattle.rvmc_starts.specs.declared.parts.Part.{Part}
 use Rattle.rvmc_explore.specs.Outcomes.{AreTold}
 use Rattle.rvmc_explore.specs.Starting.{AreEndsTold}
 use Rattle.rvmc_explore.specs.Telling.{status_of}
+use Rattle.rvmc_explore.proofs.Endless.{says_none_stuck}
 use Rattle.rvmc_explore.proofs.Listed.{within}
 use Rattle.rvmc_explore.proofs.starting.explored_from.Goals as goal
 
@@ -18,6 +19,7 @@ pub returns-clause-told : goal.returns-clause-told
 returns-clause-told c =
     let found = c.in_ok-found.found in
     let start = c.args.start.now in
+    let behind = c.in_ok-found.ensures.ends in
     let told = c.in_ok-told.told.items in
     let part : Part =
     record {
@@ -54,6 +56,10 @@ returns-clause-told c =
       };
       ends = subst (AreEndsTold told) (sym c.from_vec-2.ensures)
           (subst (λ os. AreEndsTold os c.in_ok-ends.ends.items) c.as_slice.ensures.value c.in_ok-ends.ensures);
+      unending_is = c.in_ok-unending.ensures c.args.image.now start.harts behind.start
+          (behind.steps, ((behind.ordered).way).run) behind.explored;
+      none_stuck = says_none_stuck c.args.image.now start.harts behind.start (findings found)
+          c.parts-parts.ensures.limits behind.explored;
       status_is = c.search_status-status.ensures
           ∙ ap (λ order. status_of order (findings found) c.in_ok-unending.unending) c.as_slice-order.ensures;
       status_told = refl;

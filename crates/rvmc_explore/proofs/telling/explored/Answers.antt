@@ -1,8 +1,9 @@
-use Rattle.std.proofs.Common.{List, ℕ, ◌≡◌, ◌∙◌, ◌++◌, ap, length, rules, subst}
+use Rattle.std.proofs.Common.{List, [], ℕ, refl, ◌≡◌, ◌∙◌, ◌++◌, ap, length, rules, subst}
 use Rattle.std.proofs.lemmas.List.{append_assoc}
 use Rattle.cl_explore.specs.Ends.{findings}
 use Rattle.cl_moves.specs.Standing.{first_node}
 use Rattle.rvmc_explore.specs.Telling.{AddsOutcomes, last_line, unending_line}
+use Rattle.rvmc_explore.proofs.Endless.{says_none_stuck}
 use Rattle.rvmc_explore.proofs.Listed.{within}
 use Rattle.rvmc_explore.proofs.telling.explored.Goals as goal
 
@@ -14,6 +15,8 @@ tell-requires c =
 
 pub returns : goal.returns
 returns c =
+    let image = c.args.image.now in
+    let order = c.args.asked.now.order.now in
     let found = c.in_ok-found.found in
     let told = c.in_ok-told.told.items in
     let body = c.put_told.new.text.items in
@@ -30,6 +33,9 @@ returns c =
       };
       long = found.long;
       unending = c.in_ok-unending.unending;
+      unending_is = c.in_ok-unending.ensures image order (first_node image) ([], refl) c.in_ok-found.ensures.ends;
+      none_stuck = says_none_stuck image order (first_node image) (findings found) c.parts-parts.ensures.limits
+          c.in_ok-found.ensures.ends;
       body = body;
       lines = subst (λ (old : List ℕ). AddsOutcomes 1 told old body) c.new-text.ensures.items
           (subst (λ os. AddsOutcomes 1 os c.new-text.result.items body) c.as_slice.ensures.value c.in_ok-put_told.ensures);

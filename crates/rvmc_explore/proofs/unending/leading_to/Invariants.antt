@@ -1,5 +1,13 @@
+use Rattle.std.proofs.Common.{ℕ, ◌≡◌, Some, length, slice_get}
+use Rattle.rvmc_explore.specs.Marks.{IsMarkedIfThere, unmarked}
 use Rattle.rvmc_explore.specs.Searched.{AreSound}
 use Rattle.rvmc_explore.proofs.unending.leading_to.Given as goal
 
-abbrev pub invariant-loop-round : goal.invariant-loop-round
-invariant-loop-round l = AreSound l.found.leads.items l.nodes l.marks.items
+abbrev pub invariant-rest : goal.invariant-rest
+invariant-rest l =
+    (length l.marks.items ≡ length l.found.nodes.items)
+    × AreSound l.found.leads.items l.nodes l.marks.items
+    × ((k i : ℕ) → slice_get l.nodes k ≡ Some i → IsMarkedIfThere l.marks.items i)
+
+abbrev pub decreases-rest : goal.decreases-rest
+decreases-rest l = unmarked l.marks.items

@@ -1,0 +1,347 @@
+-- What the findings of a search say of runs of any length.
+use Rattle.std.proofs.Common.{ℕ, zero, suc, ◌≡◌, ◌+◌, ◌<◌, ◌≤◌, ◌==◌, ◌⊎◌, ◌∙◌, List, [], ◌∷◌, length, map, Bool, true, false, Some, slice_get, inl, inr, refl, sym, subst, ap, arith, get_or}
+use Rattle.std.specs.Prelude.{◌%◌, ◌&&◌, ◌||◌, if◌then◌else◌, not}
+use Rattle.std.specs.List.{list_any}
+use Rattle.std.proofs.lemmas.Bool.{and_from, eq-eqb, eqb-true}
+use Rattle.std.proofs.lemmas.List.Elements.{All-get_or}
+use Rattle.std.proofs.lemmas.List.Folds.{list_any_at}
+use Rattle.std.proofs.Math.Nat.{mod-lt}
+use Rattle.std.proofs.lemmas.Option.{get_or_from_slice_get, same_Some, slice_get-get_or, slice_get_within}
+use Rattle.rv_image.specs.Image.{IsImage}
+use Rattle.rv_image.specs.declared.images.ImageParts.{ImageParts}
+use Rattle.cl_state.specs.Rank.{Rank}
+use Rattle.cl_machine.specs.Cluster.{Cluster, IsRun, loaded_cluster}
+use Rattle.cl_machine.specs.declared.steps.Step.{Step}
+use Rattle.mp_alike_laws.specs.Renaming.{no_renaming}
+use Rattle.cl_order_laws.specs.Alike.{Leads, hub_of}
+use Rattle.cl_order_laws.specs.Closed.{FollowPlans, IsEnd, Node, Turns, had_after, one_more}
+use Rattle.cl_order_laws.specs.Sure.{GoesOn}
+use Rattle.cl_order_laws.proofs.Likeness.{itself}
+use Rattle.cl_order_laws.proofs.Walks.{walk_of}
+use Rattle.cl_outcome_laws.specs.Companies.{IsCompany}
+use Rattle.cl_outcome_laws.specs.Graphs.{Edges, HasPosts, HaveHarts, IsGraph, IsTrap, HasRoom as HasRoomIn, Reaches as ReachesIn}
+use Rattle.cl_outcome_laws.specs.Laws.{HasCompany}
+use Rattle.cl_outcome_laws.specs.Unending.{IsAfter, MayEnd}
+use Rattle.cl_outcome_laws.proofs.Companies.{company_law}
+use Rattle.cl_outcome_laws.proofs.Unending.{unending_law}
+use Rattle.cl_deadlock.specs.Why.{AreBelow}
+use Rattle.cl_deadlock_laws.specs.Stuck.{IsReachable}
+use Rattle.cl_deadlock_laws.proofs.Reached.{comes_reached, same_harts}
+use Rattle.cl_record.specs.Plans.{IsOrder, in_slot}
+use Rattle.cl_moves.specs.Posts.{most_posts}
+use Rattle.cl_moves.specs.Standing.{IsWay, by_order, first_node, node_of}
+use Rattle.cl_explore.specs.Covering.{AreJoined, HasLead, HasRoom, IsClosedAt, Reaches}
+use Rattle.cl_explore.specs.Ends.{ExploredFrom, Findings, IsVisitedNode}
+use Rattle.cl_explore.specs.declared.companies.Company.{Company}
+use Rattle.cl_explore.specs.declared.leads.Lead.{Lead}
+use Rattle.cl_explore.proofs.Keeping.{node_found}
+use Rattle.cl_explore.proofs.Lists.{at_inside}
+use Rattle.rvmc_explore.specs.Endless.{AllMayEnd, AreComplete, NeverStuck, SaysNoneStuck, SaysUnending, SaysUnendingOf, SomeNeverEnds}
+use Rattle.rvmc_explore.specs.Searched.{AreSound, GoesIn}
+use Rattle.rvmc_explore.specs.StatusLaw.{StatusLaw}
+use Rattle.rvmc_explore.specs.Telling.{Tells, any_end, is_some_company, is_stuck, trapped_in, waits_in}
+
+-- ---- moves as edges
+
+is_between : ℕ → ℕ → Lead → Bool
+is_between i j lead = (lead.from == i) && (lead.to == j)
+
+edges_of : List Lead → Edges
+edges_of leads i j = list_any (is_between i j) leads
+
+both : (a b : Bool) → (a && b) ≡ true → (a ≡ true) × (b ≡ true)
+both true b is = (refl, is)
+both false b is = absurd (cc)
+
+edge_lead : (leads : List Lead) (i j : ℕ) → edges_of leads i j ≡ true → HasLead leads i j
+edge_lead [] i j is = absurd (cc)
+edge_lead (lead ∷ leads) i j is = of (λ rest. edge_lead leads i j rest) (is_between i j lead) refl
+  where
+    of : (edges_of leads i j ≡ true → HasLead leads i j) → (b : Bool) → is_between i j lead ≡ b
+        → HasLead (lead ∷ leads) i j
+    of among true here =
+        let v = both (lead.from == i) (lead.to == j) here in
+        (0, lead, refl, eqb-true lead.from i v.0, eqb-true lead.to j v.1)
+    of among false other =
+        let rest = among (sym (ap (λ b. b || edges_of leads i j) other) ∙ is) in
+        (suc rest.0, rest.1, rest.2, rest.3, rest.4)
+
+lead_edge : (leads : List Lead) (i j : ℕ) → HasLead leads i j → edges_of leads i j ≡ true
+lead_edge leads i j led =
+    let lead = led.1 in
+    list_any_at (is_between i j) leads led.0 lead (slice_get_within leads led.0 lead led.2)
+    (ap (is_between i j) (get_or_from_slice_get leads led.0 lead lead led.2)
+    ∙ and_from (lead.from == i) (lead.to == j) (eq-eqb lead.from i led.3) (eq-eqb lead.to j led.4))
+
+-- ---- what was found, as a graph
+
+as_reaches : (sure : Bool) (order : List ℕ) (nodes : List Node) (here : Node) → Reaches sure order nodes here
+    → ReachesIn sure (by_order order) most_posts nodes here
+as_reaches true order nodes here reaches = reaches
+as_reaches false order nodes here reaches = reaches
+
+as_room : (sure : Bool) (cluster : Cluster) → HasRoom sure (hub_of cluster.journal) → HasRoomIn sure most_posts cluster
+as_room true cluster room = room
+as_room false cluster room = tt
+
+as_posts : (sure : Bool) (cluster : Cluster) → HasRoom sure (hub_of cluster.journal) → HasPosts sure most_posts cluster
+as_posts true cluster room = omega (arith, room)
+as_posts false cluster room = tt
+
+-- whether no mark of the node of this number is left out
+marked : List Bool → ℕ → Bool
+marked marks i = get_or marks i true
+
+module _ (image : ImageParts) (order : List ℕ) (start : Node) (found : Findings)
+    (explored : ExploredFrom image order start found) (all : found.left ≡ 0) where
+  nodes : List Node
+  nodes = explored.nodes
+
+  visited : (i : ℕ) (node : Node) → slice_get nodes i ≡ Some node → IsVisitedNode nodes found.left i node
+  visited i node at = (let inside = slice_get_within nodes i node at in omega (arith, inside, all), at)
+
+  reached : (i : ℕ) (node : Node) → slice_get nodes i ≡ Some node
+      → (steps : List Step) × IsWay (by_order order) (first_node image) steps node
+  reached i node at = node_found image order found.kept nodes explored.are i node at
+
+  edges : Edges
+  edges = edges_of found.leads
+
+  after_way : (from there : Node) (steps : List Step) → IsWay (by_order order) from steps there
+      → IsAfter (by_order order) from there
+  after_way from there steps way = (
+    map (λ (e : Step). e.rank) steps,
+    subst (λ (had : Turns). GoesOn (by_order order) (map (λ (e : Step). e.rank) steps) from (node_of there.cluster had))
+        (sym way.had)
+        (walk_of (by_order order) steps from.cluster there.cluster from.had way.run way.follow),
+  )
+
+  graph : IsGraph explored.sure (by_order order) most_posts nodes edges
+  graph = record {
+    closed = λ i r node rank at has. elim (explored.follows i r node (visited i node at) rank has) [
+      | inl done ↦ inl done
+      | inr moves ↦ inr (λ e new is hart leads.
+          let f = moves e new is hart leads in
+          record {
+            j = f.number;
+            to = f.next;
+            edge = lead_edge found.leads i f.number f.led;
+            there = f.there;
+            reaches = as_reaches explored.sure order (f.next ∷ []) (node_of new (one_more node.had r)) f.reaches;
+          })
+    ];
+    room = λ i node at. as_room explored.sure node.cluster (explored.few i node (visited i node at));
+    leads = λ i j from to edge here there.
+        let led = edge_lead found.leads i j edge in
+        let v = explored.leads led.0 led.1 led.2 in
+        let first : v.0 ≡ from =
+        same_Some v.0 from (sym v.2 ∙ (ap (slice_get nodes) led.3 ∙ here)) in
+        let second : v.1 ≡ to =
+        same_Some v.1 to (sym v.3 ∙ (ap (slice_get nodes) led.4 ∙ there)) in
+        let joined = subst (λ n. AreJoined order n to) first (subst (λ n. AreJoined order v.0 n) second v.4) in
+        (joined.there, after_way from joined.there joined.steps joined.way, joined.alike);
+    itself = λ i node at.
+        let way = reached i node at in (no_renaming, itself node.cluster (image, way.0, (way.1).run));
+  }
+
+  -- ---- nodes that aren't marked lead to no end
+
+  module _ (marks : List Bool) (many : length marks ≡ length found.kept)
+      (complete : AreComplete found.leads found.ends marks) where
+    inside : ℕ → Bool
+    inside i = not (marked marks i)
+
+    is_node : (i : ℕ) (node : Node) → slice_get nodes i ≡ Some node → i < length marks
+    is_node i node at =
+        let low = slice_get_within nodes i node at in omega (arith, low, many, explored.are.many)
+
+    -- a mark that is there is set, or stands for an inner node
+    not_inside : (i : ℕ) → slice_get marks i ≡ Some true → inside i ≡ true → ⊥
+    not_inside i at is =
+        let set : marked marks i ≡ true = get_or_from_slice_get marks i true true at in
+        let no : not true ≡ true = sym (ap not set) ∙ is in absurd (cc)
+
+    within_or_marked : (i : ℕ) → i < length marks → (b : Bool) → marked marks i ≡ b
+        → (inside i ≡ true) ⊎ (slice_get marks i ≡ Some true)
+    within_or_marked i low true set = inr (slice_get-get_or marks i true low ∙ ap Some set)
+    within_or_marked i low false unset = inl (ap not unset)
+
+    trap : IsTrap (by_order order) nodes edges inside
+    trap = record {
+      stays = λ i j is edge.
+          let led = edge_lead found.leads i j edge in
+          let v = explored.leads led.0 led.1 led.2 in
+          let low : i < length marks =
+          is_node i v.0 (ap (slice_get nodes) (sym led.3) ∙ v.2) in
+          let other : j < length marks =
+          is_node j v.1 (ap (slice_get nodes) (sym led.4) ∙ v.3) in
+          elim (within_or_marked j other (marked marks j) refl) [
+            | inl inner ↦ inner
+            | inr set ↦ absurd (not_inside i (complete.before i j led set low) is)
+          ];
+      no_end = λ i node is at end.
+          let k = explored.told i node (visited i node at) end in
+          not_inside i (complete.at k.0 i k.1 (is_node i node at)) is;
+    }
+
+    pub some_never_ends : (i : ℕ) → slice_get marks i ≡ Some false → SomeNeverEnds image order
+    some_never_ends i at =
+        let low = slice_get_within marks i false at in
+        let node = at_inside nodes i (omega (arith, low, many, explored.are.many)) in
+        let way = reached i node.0 node.1 in
+        let is : inside i ≡ true = ap not (get_or_from_slice_get marks i false true at) in
+        record {
+          steps = way.0;
+          there = node.0;
+          way = way.1;
+          never = unending_law.never explored.sure (by_order order) most_posts nodes edges inside graph trap i node.0 is node.1;
+        }
+
+    -- ---- where each is marked
+
+    end_may : (i : ℕ) (node : Node) (n : ℕ) → slice_get nodes i ≡ Some node → GoesIn found.leads found.ends n i
+        → MayEnd (by_order order) node
+    end_may i node zero at goes =
+        let e = explored.sound goes.0 i goes.1 in
+        let same : e.0 ≡ node = same_Some e.0 node (sym e.1 ∙ at) in
+        (node, ([], refl), subst (λ (x : Node). IsEnd (by_order order) x.cluster) same e.2)
+    end_may i node (suc n) at goes =
+        let led = goes.1 in
+        let v = explored.leads led.0 led.1 led.2 in
+        let there : slice_get nodes goes.0 ≡ Some v.1 = ap (slice_get nodes) (sym led.4) ∙ v.3 in
+        unending_law.path explored.sure (by_order order) most_posts nodes edges graph i goes.0 node v.1
+        (lead_edge found.leads i goes.0 led) at there (end_may goes.0 v.1 n there goes.2)
+
+    pub all_may_end : AreSound found.leads found.ends marks
+        → ((i : ℕ) → i < length marks → slice_get marks i ≡ Some true) → HaveHarts (by_order order) start.cluster
+        → AllMayEnd order start
+    all_may_end sound each harts = λ steps end run follow.
+        unending_law.may explored.sure (by_order order) most_posts nodes edges start graph
+        (as_reaches explored.sure order nodes start explored.start_is)
+        (as_posts explored.sure start.cluster explored.room) harts
+        (λ i node at. let goes = sound i (each i (is_node i node at)) in end_may i node goes.0 at goes.1)
+        steps end run follow
+
+  -- ---- ranks that are stuck
+
+  company_at : (sure : Bool) → Reaches sure order nodes start → HasRoom sure (hub_of start.cluster.journal)
+      → ((i r : ℕ) (node : Node) → IsVisitedNode nodes found.left i node → IsClosedAt sure order nodes node r)
+      → ((i : ℕ) (node : Node) → IsVisitedNode nodes found.left i node → HasRoom sure (hub_of node.cluster.journal))
+      → (steps : List Step) (end : Cluster) → IsRun start.cluster steps end
+      → FollowPlans (by_order order) start.had steps → (ranks : List ℕ) → IsCompany ranks end → HasCompany ranks nodes
+  company_at true reaches room closed few = λ steps end run follow ranks company.
+      company_law.at_once (by_order order) most_posts nodes start reaches (omega (arith, room))
+      (record {
+        each = λ i r node rank at has. closed i r node (visited i node at) rank has;
+        few = λ i node at. few i node (visited i node at);
+      }) steps end run follow ranks company
+  company_at false reaches room closed few = λ steps end run follow ranks company.
+      company_law.covered (by_order order) nodes start reaches
+      (record { each = λ i r node rank at has. closed i r node (visited i node at) rank has }) steps end run follow ranks
+      company
+
+  pub never_stuck : IsImage image → length found.companies ≡ 0 → NeverStuck image order start
+  never_stuck limits none = λ steps end run follow ranks below company.
+      let at = company_at explored.sure explored.start_is explored.room explored.closed explored.few steps end run follow
+      ranks company in
+      let way = reached at.0 at.1 at.2 in
+      let count = (comes_reached image way.0 at.1.cluster (way.1).run).count in
+      elim (explored.judged limits at.0 at.1 (visited at.0 at.1 at.2)) [
+        | inl found_none ↦
+            found_none ranks (subst (AreBelow ranks) (sym count) below) at.3.stuck at.3.waits
+        | inr noted ↦
+            let low = slice_get_within found.companies noted.0 noted.1 noted.2 in absurd (omega (arith, low, none))
+      ]
+
+-- ---- as it is said
+
+pub says_none_stuck : (image : ImageParts) (order : List ℕ) (start : Node) (found : Findings) → IsImage image
+    → ExploredFrom image order start found → SaysNoneStuck image order start found.left found.companies
+says_none_stuck image order start found limits explored all none = never_stuck image order start found explored all limits none
+
+-- an order of harts that are there names only such, wherever a run leads
+have_harts : (image : ImageParts) (order : List ℕ) (cluster : Cluster) → IsReachable image cluster
+    → IsOrder image.harts order → HaveHarts (by_order order) cluster
+have_harts image order cluster reached harts = λ r n rank at.
+    let inside : n % length order < length order = mod-lt n harts.named in
+    let low : in_slot order n < image.harts =
+    All-get_or (λ number. number < image.harts) order (n % length order) 0 inside harts.there in
+    let run = (comes_reached image reached.0 cluster reached.1).alone r rank at in
+    let many = same_harts image r run.0 rank run.1 in
+    omega (arith, low, many)
+
+-- where states are left, nothing is said
+pub says_nothing : (found : Findings) → 0 < found.left → SaysUnendingOf found false
+says_nothing found left = λ image order start reached explored all harts. absurd (omega (arith, left, all))
+
+-- the marks of the nodes that lead to an end say it
+pub says_unending : (found : Findings) (marks : List Bool) (unending : Bool) → found.left ≡ 0
+    → length marks ≡ length found.kept → AreSound found.leads found.ends marks → AreComplete found.leads found.ends marks
+    → (unending ≡ true → (i : ℕ) × (slice_get marks i ≡ Some false))
+    → (unending ≡ false → (i : ℕ) → i < length marks → slice_get marks i ≡ Some true) → SaysUnendingOf found unending
+says_unending found marks true all many sound complete some each = λ image order start reached explored.
+    let one = some refl in some_never_ends image order start found explored all marks many complete one.0 one.1
+says_unending found marks false all many sound complete some each = λ image order start reached explored zero harts.
+    all_may_end image order start found explored all marks many complete sound (each refl)
+    (have_harts image order start.cluster reached harts)
+
+-- ---- the status
+
+neither : (status other : ℕ) → status ≡ other → (other ≡ 0 → ⊥) → (other ≡ 8 → ⊥) → (status ≡ 0) ⊎ (status ≡ 8) → ⊥
+neither status other is no_zero no_eight which = elim which [
+  | inl zero ↦ no_zero (sym is ∙ zero)
+  | inr eight ↦ no_eight (sym is ∙ eight)
+]
+
+-- none left, nobody stuck, and whether some runs go on for ever
+abbrev MeansQuiet : Bool → Bool → Bool → ℕ → Type 0
+MeansQuiet zero stuck unending status =
+    (zero ≡ true) × (stuck ≡ false) × (status ≡ 0 → unending ≡ false) × (status ≡ 8 → unending ≡ true)
+
+by_cases : (zero trapped stuck unending : Bool) (status : ℕ)
+    → status ≡ (if zero then (if trapped then 3 else (if stuck then 7 else (if unending then 8 else 0))) else 4)
+    → (status ≡ 0) ⊎ (status ≡ 8) → MeansQuiet zero stuck unending status
+by_cases false trapped stuck unending status is which =
+    absurd (neither status 4 is (λ e. omega (arith, e)) (λ e. omega (arith, e)) which)
+by_cases true true stuck unending status is which =
+    absurd (neither status 3 is (λ e. omega (arith, e)) (λ e. omega (arith, e)) which)
+by_cases true false true unending status is which =
+    absurd (neither status 7 is (λ e. omega (arith, e)) (λ e. omega (arith, e)) which)
+by_cases true false false true status is which = (refl, refl, λ zero. absurd (omega (arith, is, zero)), λ eight. refl)
+by_cases true false false false status is which = (refl, refl, λ zero. refl, λ eight. absurd (omega (arith, is, eight)))
+
+no_company : (found : Findings) (ends : Bool) → (ends || is_some_company found.companies) ≡ false → length found.companies ≡ 0
+no_company found true none = absurd (cc)
+no_company found false none = of found.companies none
+  where
+    of : (companies : List Company) → is_some_company companies ≡ false → length companies ≡ 0
+    of [] none = refl
+    of (c ∷ cs) none = absurd (cc)
+
+status_at : (image : ImageParts) (order : List ℕ) (states turns : ℕ) (text : List ℕ) (status : ℕ)
+    → (tells : Tells image order states turns text status) → (status ≡ 0) ⊎ (status ≡ 8)
+    → NeverStuck image order (first_node image) × (((tells.listed).found).left ≡ 0)
+    × (status ≡ 0 → tells.unending ≡ false) × (status ≡ 8 → tells.unending ≡ true)
+status_at image order states turns text status tells which =
+    let found = (tells.listed).found in
+    let is = by_cases (found.left == 0) (any_end trapped_in found.kept found.ends) (is_stuck order found) tells.unending status
+    tells.status_is which in
+    let none_left : found.left ≡ 0 = eqb-true found.left 0 is.0 in
+    let none = no_company found (any_end (waits_in order) found.kept found.ends) is.1 in
+    (tells.none_stuck none_left none, none_left, is.2, is.3)
+
+pub status_law : StatusLaw
+status_law = record {
+  zero = λ image order states turns text harts tells.
+      let is = status_at image order states turns text 0 tells (inl refl) in
+      let quiet : SaysUnending image order (first_node image) ((tells.listed).found).left false =
+      subst (SaysUnending image order (first_node image) ((tells.listed).found).left) (is.2 refl) tells.unending_is in
+      record { ends = quiet is.1 harts; never_stuck = is.0 };
+  eight = λ image order states turns text tells.
+      let is = status_at image order states turns text 8 tells (inr refl) in
+      record {
+        endless = subst (SaysUnending image order (first_node image) ((tells.listed).found).left) (is.3 refl)
+            tells.unending_is;
+        never_stuck = is.0;
+      };
+}

@@ -1,0 +1,5 @@
+use Rattle.rvmc_explore.proofs.Endless.{status_law}
+use Rattle.rvmc_explore.proofs.laws.status_law.Goals as goal
+
+pub returns : goal.returns
+returns c = status_law

@@ -1,0 +1,169 @@
+#!/usr/bin/env python3
+"""How many more outcomes there are if messages take their time: a model of the machine in which each message is on its way
+until it arrives (docs/OVERTAKING.md), over the searches of orders.py. Nothing of rvmc has it.
+
+usage: fuzz/overtaking.py [--seed N] [--cases N] [SOURCE]
+
+It takes random guests as fuzz/run draws them for `explore`, finds all ends of each with messages that arrive at once and with
+messages on their way, and says of how many guests there are more. With SOURCE, an assembler source, it prints the ends that
+only messages on their way lead to.
+"""
+
+import argparse
+import sys
+
+import assembler
+import guests
+import hub
+import orders
+import races
+
+# states of a guest at most: beyond them it isn't counted
+MOST = 6_000
+
+
+class Mail(hub.Hub):
+    """A hub whose messages are on their way until they arrive. Those of one sender to one rank in one communicator arrive
+    in the order in which they were sent."""
+
+    def __init__(self, links):
+        super().__init__(links)
+        # the numbers of sends in the order in which they arrived
+        self.arrived = []
+
+    def add(self, post):
+        """Adds a post. A send finds its partner when it arrives; what takes a message takes the first that arrived."""
+        self.posts.append(post)
+        if post.kind != "send":
+            self.join(post, self.found(post))
+        return len(self.posts)
+
+    @staticmethod
+    def join(post, other):
+        """Makes two posts partners, if there are two."""
+        if other:
+            post.partner, other.partner = other, post
+
+    def found(self, new):
+        """The message that a new receive or claim would be given."""
+        sends = (self.posts[number - 1] for number in self.arrived)
+        return next((send for send in sends if send.partner is None and new.accepts(send)), None)
+
+    def on_their_way(self):
+        """The numbers of the sends that may arrive next: of each sender, rank and communicator the first."""
+        first = {}
+        for number, post in enumerate(self.posts, 1):
+            if post.kind == "send" and number not in self.arrived:
+                first.setdefault((post.rank, post.dest, post.envelope[0]), number)
+        return list(first.values())
+
+    def arrive(self, number):
+        """A message arrives: the first receive that accepts it gets it."""
+        send = self.posts[number - 1]
+        self.arrived.append(number)
+        waiting = (post for post in self.posts if post.kind == "receive" and post.partner is None)
+        self.join(send, next((post for post in waiting if post.accepts(send)), None))
+
+
+def copy_of_mail(old):
+    """A copy of such a hub."""
+    return orders.copied(orders.copy_of_hub(old), arrived=list(old.arrived))
+
+
+def key_of_mail(mail):
+    """What counts of it: all posts, which have arrived, and in which order those did that nobody took."""
+    order = tuple(number for number in mail.arrived if mail.posts[number - 1].partner is None)
+    return orders.key_of_hub(mail), frozenset(mail.arrived), order
+
+
+class Search(orders.Search):
+    """All states that some order of turns and arrivals leads to."""
+
+    def __init__(self, image, plan, most):
+        super().__init__(image, plan, False, most)
+
+    def state(self, ranks, mail, boxes):
+        """A state, known by all that counts."""
+        keys = [*map(self.key, ranks), self.number(key_of_mail(mail)), self.number(orders.key_of_boxes(boxes))]
+        return orders.State(ranks, mail, boxes, tuple(keys))
+
+    def first(self):
+        """The state that the image begins as."""
+        first = super().first()
+        return self.state(first.ranks, Mail(self.image.links), first.boxes)
+
+    def turn(self, state, number, hart, must_miss=False):
+        """A rank behind a turn of a hart, the cluster around it, and the step."""
+        around = orders.Around(self.image, copy_of_mail(state.hub), orders.copy_of_boxes(state.boxes))
+        rank = orders.copy_of_rank(state.ranks[number], around)
+        rank.must_miss = must_miss
+        step = rank.turn(hart)
+        return rank, around, step
+
+    def behind(self, state, number, must_miss=False):
+        """The state behind a rank's next turn, and the turn's kind."""
+        rank, around, step = self.turn(state, number, self.next_hart(state.ranks[number]), must_miss)
+        ranks = list(state.ranks)
+        ranks[number] = self.settled(rank)
+        return self.state(ranks, around.hub, around.boxes), step.kind
+
+    def moves(self, state):
+        """The states that one turn, or one arrival, leads to."""
+        yield from super().moves(state)
+        for number in state.hub.on_their_way():
+            mail = copy_of_mail(state.hub)
+            mail.arrive(number)
+            yield self.state(state.ranks, mail, state.boxes)
+
+    def is_end(self, state):
+        """Whether nobody goes on, and nothing is on its way."""
+        return not state.hub.on_their_way() and super().is_end(state)
+
+
+def both(image, plan):
+    """The texts of the ends of both machines, or None where one of the searches was given up."""
+    plan = plan or list(range(image.harts))
+    searches = orders.Search(image, plan, False, MOST), Search(image, plan, MOST)
+    found = [set(search.ends().values()) for search in searches]
+    return found if all(search.is_whole for search in searches) else None
+
+
+def count(seed, cases):
+    """Says of how many guests there are more ends."""
+    searched = more = ends = new = lost = 0
+    for case in range(cases):
+        image, plan = races.Races(guests.Guests(f"{seed} {case}")).drawn()
+        found = both(image, plan)
+        if found is None:
+            continue
+        here, there = found
+        searched += 1
+        more += bool(there - here)
+        lost += bool(here - there)
+        ends, new = ends + len(here), new + len(there - here)
+    print(f"overtaking: {searched} of {cases} guests searched: {ends} ends if messages arrive at once; {new} more, of {more}")
+    print(f"guests, if they take their time; {lost} guests lose one")
+
+
+def main():
+    parser = argparse.ArgumentParser(description=__doc__.split("\n", maxsplit=1)[0])
+    parser.add_argument("--seed", type=int, default=1)
+    parser.add_argument("--cases", type=int, default=200)
+    parser.add_argument("source", nargs="?")
+    given = parser.parse_args()
+    if not given.source:
+        count(given.seed, given.cases)
+        return 0
+    with open(given.source, "rb") as file:
+        image = assembler.assembled(file.read())
+    found = both(image, None)
+    if found is None:
+        sys.exit(f"overtaking: more than {MOST} states")
+    for text in sorted(found[1] - found[0]):
+        print(text.decode(), end="")
+    print(f"{len(found[0])} ends if messages arrive at once, {len(found[1])} if they take their time")
+    return 0
+
+
+if __name__ == "__main__":
+    sys.exit(main())
