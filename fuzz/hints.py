@@ -82,7 +82,11 @@ def of_content(wanted, given):
     if given.startswith(b"RVMC"):
         return "this is an image: rvmc one reads it" if wanted in ("source", "record", "told") else ""
     if given.startswith(b"RVMR"):
-        return "" if wanted == "record" else "this is a record: rvmc check reads it"
+        return "" if wanted == "record" else "this is a record: rvmc report, list and check read it"
+    if given.startswith(b"\x7fELF"):
+        return "this is an ELF file: rvmc runs images, which rvmc-cc makes from C"
+    if re.search(rb"(?m)^#include", given) and not is_source(given):
+        return "this is C: rvmc-mpi run -n 4 FILE compiles it and runs it"
     if wanted in ("source", "told") or any(byte not in b"\t\n\r" and not 32 <= byte <= 126 for byte in given):
         return ""
     if is_source(given):
@@ -130,12 +134,25 @@ def of_symbols(words, given):
     return ""
 
 
+def of_budget(words, out):
+    """Returns how a run that was cut short by its budget goes further, or "" where it can't, or isn't one."""
+    command = words[0] if words else "one"
+    is_cut = out.startswith(b"rank 0 output ") and b" stop budget turns " in out
+    if command not in ("one", "run") or not is_cut or b" trapped " in out or b"\ndeadlock: " in out:
+        return ""
+    budget = (option(words, "--budget") or [1_000_000])[0]
+    return f"rvmc {command} --budget {min(16 * budget, 16_777_216)} goes further"
+
+
 def of_report(words, out):
     """Returns what is told beside the report of a run that was cut short while a hart waited."""
     waits = out.startswith(b"rank 0 output ") and b" waiting at 0x" in out and b" stop budget turns " in out
     # with --why, and where --until-stuck ended the run, it stands behind the report what each hart waits for
     alone = not words or words[0] in ("one", "run") and "--why" not in words and b" waits at 0x" not in out
-    return "a hart waits; --why says for what" if alone and waits else ""
+    larger = of_budget(words, out)
+    if alone and waits:
+        return "a hart waits; --why says for what" + (f", and {larger}" if larger else "")
+    return f"a rank used up its budget; {larger}" if larger else ""
 
 
 def meant(words, given, first, out):
@@ -153,6 +170,9 @@ def meant(words, given, first, out):
     if first.startswith((b"rvmc: image: ", b"rvmc: record: ", b"rvmc: line ")):
         content = of_content(wanted_by(words), given)
         return content or (None if first.startswith(b"rvmc: line ") else of_record(given, first))
+    # whether a budget cut short the run of a record doesn't stand in it
+    if not first and out.startswith(b"RVMR"):
+        return None
     return "" if first else of_report(words, out)
 
 

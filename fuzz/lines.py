@@ -53,6 +53,53 @@ LISTS += ["0x0", "+1", "all", "18446744073709551616", "0,1,2,3,0,1,2,3"]
 WORDS = ["fly", "--fly", "", "one", "asm", "x", "--budge", "--sourc", "--source=yes", "--record=", "--from=1", "0"]
 
 
+# names of files, and words that are none
+NAMES = ["a.image", "a.s", "./b", "room/a.s", "c.record", ".s", "a.s.image"]
+NO_NAMES = ["a=1.s", "-a.s", "ab", "-", "=", "--a/b"]
+
+
+class Named:
+    """Words, the words that are left of them, and the files that they name."""
+
+    def __init__(self, words, left, file=None, output=None):
+        self.words, self.left, self.file, self.output = words, left, file, output
+
+
+def is_file(word):
+    """Whether a word names a file."""
+    return ("." in word or "/" in word) and "=" not in word and not word.startswith("-")
+
+
+def named(words):
+    """What words name: all that is asked of a line stands in docs/DECISIONS.md."""
+    rest, left, file, output = list(words), [], None, None
+    command = words[0] if words and words[0] in COMMANDS else None
+    valued = [name for name, _ in COMMANDS[command][1]] if command else []
+    left += [rest.pop(0)] if command else []
+    while rest:
+        word = rest.pop(0)
+        if word == "-o":
+            if output is not None or not rest:
+                return Named(words, words)
+            output = rest.pop(0)
+        elif word in valued:
+            left += [word, *rest[:1]]
+            del rest[:1]
+        elif is_file(word):
+            if file is not None:
+                return Named(words, words)
+            file = word
+        else:
+            left.append(word)
+    if not command and left:
+        return Named(words, words)
+    if not command and file:
+        left = ["one"]
+    if file and file.endswith(".s") and left[0] in ("one", "run") and "--source" not in left:
+        left.append("--source")
+    return Named(words, left, file, output)
+
+
 class Meaning:
     """What words say: a command, its flags, and the values of its options."""
 
@@ -116,6 +163,16 @@ class Lines:
             extra = self.random.choice([extra, [self.random.choice(WORDS)]])
             at = 1 + self.random.randrange(len(words))
             words[at:at] = extra
+        return self.with_names(words)
+
+    def with_names(self, words):
+        """The words, and some that name files, or nearly do."""
+        if self.random.randrange(12) == 0:
+            words = []
+        while self.random.randrange(3) == 0:
+            at = self.random.randrange(1 + len(words)) if self.random.randrange(8) == 0 else len(words)
+            word = self.random.choice(NAMES if self.random.randrange(6) else NO_NAMES)
+            words[at:at] = [word] if self.random.randrange(3) else ["-o", self.random.choice(["out", "out.report", "--why"])]
         return words
 
     def option(self, name):

@@ -4,4 +4,7 @@ pub mod Commands
 pub mod Built
 pub mod Meaning
 pub mod Parsing
+pub mod Files
 pub mod Worked
+pub mod WorkedFiles
+pub mod Naming

@@ -7,7 +7,7 @@ ghost use Rattle.rvmc_cli.specs.Built.{StandsFor};
 ghost use Rattle.rvmc_cli.specs.Commands.{app_of, asm_row};
 ghost use Rattle.rvmc_cli.specs.Parsing.{Finds};
 
-use crate::parts::{Part, command as new_command};
+use crate::parts::{Help, Part, command as new_command};
 use crate::values;
 use crate::wrong::Wrong;
 use clap::{ArgMatches, Command};
@@ -23,15 +23,16 @@ image; `rvmc dis` and the other commands show it.
 With --from the input is an image of version 1 or 2 instead. It is written out
 in version 2, with the symbols it has, and is otherwise unchanged.
 
-At most 67,108,864 bytes are read.
+At most 67,108,864 bytes are read, from FILE or else from standard input. With -o
+the output goes to a file, which is in its place once it is whole.
 
 Status:
   0 done, 1 error in the source or the image, 2 error in the command line,
   5 out of memory, 6 a read or write failed, or the input is too long
 
 Examples:
-  rvmc asm <hi.s >hi.image
-  rvmc asm --from <old.image >new.image";
+  rvmc asm hi.s -o hi.image
+  rvmc asm --from old.image -o new.image";
 
 /// Its parts, in the order in which help lists them.
 static PARTS: &[Part] = &[Part::Flag(
@@ -46,8 +47,11 @@ pub fn command<'a>(alloc: Global) -> Result<Command<'a>, AllocError>
     new_command(
         alloc,
         "asm",
-        "Assemble a source to an image",
-        EXAMPLES,
+        Help {
+            usage: "rvmc asm [OPTIONS] [-o OUTPUT] [FILE]",
+            about: "Assemble a source to an image",
+            examples: EXAMPLES,
+        },
         PARTS,
     )
 }

@@ -7,7 +7,7 @@ ghost use Rattle.rvmc_cli.specs.Built.{StandsFor};
 ghost use Rattle.rvmc_cli.specs.Commands.{app_of, check_row};
 ghost use Rattle.rvmc_cli.specs.Parsing.{Finds};
 
-use crate::parts::command as new_command;
+use crate::parts::{Help, command as new_command};
 use crate::wrong::Wrong;
 use clap::{ArgMatches, Command};
 use rvmc_line::{CommandLine, RecordCommand};
@@ -33,8 +33,8 @@ Status:
   5 out of memory, 6 a read or write failed, or the input is too long
 
 Examples:
-  rvmc run --record <farm.image >farm.record
-  rvmc check <farm.record";
+  rvmc run --record farm.image -o farm.record
+  rvmc check farm.record";
 
 /// The command as clap builds it.
 pub fn command<'a>(alloc: Global) -> Result<Command<'a>, AllocError>
@@ -43,8 +43,11 @@ pub fn command<'a>(alloc: Global) -> Result<Command<'a>, AllocError>
     new_command(
         alloc,
         "check",
-        "Check that a record is a run of its image",
-        EXAMPLES,
+        Help {
+            usage: "rvmc check [-o OUTPUT] [FILE]",
+            about: "Check that a record is a run of its image",
+            examples: EXAMPLES,
+        },
         &[],
     )
 }

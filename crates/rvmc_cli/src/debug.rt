@@ -8,7 +8,7 @@ ghost use Rattle.rvmc_cli.specs.Commands.{app_of, debug_row};
 ghost use Rattle.rvmc_cli.specs.Parsing.{Finds};
 ghost use Rattle.rvmc_words.specs.Debug.{debug_words_in};
 
-use crate::parts::{Part, command as new_command};
+use crate::parts::{Help, Part, command as new_command};
 use crate::values;
 use crate::wrong::Wrong;
 use clap::{ArgMatches, Command};
@@ -42,18 +42,19 @@ The words are read before the record is. A place, rank, hart, range or symbol
 that doesn't exist is an error, as `rvmc: debug: PastEnd 10`; what the words
 before it print has been written by then.
 
-At most 67,108,864 bytes are read.
+At most 67,108,864 bytes are read, from FILE or else from standard input. With -o
+the output goes to a file, which is in its place once it is whole.
 
 Status:
   0 done, 1 error in the record or of a word, 2 error in the command line,
   5 out of memory, 6 a read or write failed, or the input is too long
 
 Examples:
-  rvmc one --record <hi.image >hi.record
-  rvmc debug go=2 regs=0,0 <hi.record
-  rvmc debug break=0,0,farm.c.12 run frames=0,0 <farm.record
-  rvmc debug break=0,0,0x18 run run <hi.record
-  rvmc debug go=3 bytes=0,0xfff8,4 back bytes=0,0xfff8,4 <hi.record";
+  rvmc one --record hi.image -o hi.record
+  rvmc debug hi.record go=2 regs=0,0
+  rvmc debug farm.record break=0,0,farm.c.12 run frames=0,0
+  rvmc debug hi.record break=0,0,0x18 run run
+  rvmc debug hi.record go=3 bytes=0,0xfff8,4 back bytes=0,0xfff8,4";
 
 /// The word of each text, up to the first that is none.
 fn words<'a>(alloc: Global, texts: &[&'a str]) -> Result<DebugWords, Wrong<'a>>
@@ -79,8 +80,11 @@ pub fn command<'a>(alloc: Global) -> Result<Command<'a>, AllocError>
     new_command(
         alloc,
         "debug",
-        "Step through a record, forwards and backwards",
-        EXAMPLES,
+        Help {
+            usage: "rvmc debug [-o OUTPUT] [FILE] <CMD>...",
+            about: "Step through a record, forwards and backwards",
+            examples: EXAMPLES,
+        },
         PARTS,
     )
 }

@@ -7,7 +7,7 @@ ghost use Rattle.rvmc_cli.specs.Built.{StandsFor};
 ghost use Rattle.rvmc_cli.specs.Commands.{app_of, dis_row};
 ghost use Rattle.rvmc_cli.specs.Parsing.{Finds};
 
-use crate::parts::command as new_command;
+use crate::parts::{Help, command as new_command};
 use crate::wrong::Wrong;
 use clap::{ArgMatches, Command};
 use rvmc_line::{CommandLine, ImageCommand};
@@ -20,15 +20,16 @@ an instruction is shown as `.word`. The symbols at an address are printed before
 it, one a line, as `main:`. In an image of a C program the source lines are
 symbols too, as `farm.c.12:`.
 
-At most 67,108,864 bytes are read.
+At most 67,108,864 bytes are read, from FILE or else from standard input. With -o
+the output goes to a file, which is in its place once it is whole.
 
 Status:
   0 done, 1 error in the image, 2 error in the command line,
   5 out of memory, 6 a read or write failed, or the input is too long
 
 Examples:
-  rvmc dis <hi.image
-  rvmc asm <hi.s | rvmc dis";
+  rvmc dis hi.image
+  rvmc asm hi.s | rvmc dis";
 
 /// The command as clap builds it.
 pub fn command<'a>(alloc: Global) -> Result<Command<'a>, AllocError>
@@ -37,8 +38,11 @@ pub fn command<'a>(alloc: Global) -> Result<Command<'a>, AllocError>
     new_command(
         alloc,
         "dis",
-        "List the instructions of an image",
-        EXAMPLES,
+        Help {
+            usage: "rvmc dis [-o OUTPUT] [FILE]",
+            about: "List the instructions of an image",
+            examples: EXAMPLES,
+        },
         &[],
     )
 }

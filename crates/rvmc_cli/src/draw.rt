@@ -31,7 +31,8 @@ A picture has at most 5,000 marks; more are an error, as
 place that doesn't exist, as `rvmc: draw: PastEnd 10`, and steps that aren't a
 run of the image, as `rvmc: draw: NotARun 3`.
 
-At most 67,108,864 bytes are read.
+At most 67,108,864 bytes are read, from FILE or else from standard input. With -o
+the output goes to a file, which is in its place once it is whole.
 
 Status:
   0 done, 1 error in the record, no such place, or too many marks,
@@ -39,10 +40,10 @@ Status:
   5 out of memory, 6 a read or write failed, or the input is too long
 
 Examples:
-  rvmc run --record <farm.image >farm.record
-  rvmc draw <farm.record >farm.svg
-  rvmc draw --from 100 --to 200 <farm.record >part.svg
-  rvmc run --until-stuck --record <dead.image | rvmc draw >dead.svg
+  rvmc run --record farm.image -o farm.record
+  rvmc draw farm.record -o farm.svg
+  rvmc draw --from 100 --to 200 farm.record -o part.svg
+  rvmc run --until-stuck --record dead.image | rvmc draw -o dead.svg
                                        a deadlock";
 
 /// The command as clap builds it.
@@ -53,6 +54,7 @@ pub fn command<'a>(alloc: Global) -> Result<Command<'a>, AllocError>
         alloc,
         "draw",
         Help {
+            usage: "rvmc draw [OPTIONS] [-o OUTPUT] [FILE]",
             about: "Draw a record as a picture (SVG)",
             examples: EXAMPLES,
         },

@@ -8,7 +8,7 @@ ghost use Rattle.rvmc_cli.specs.Commands.{app_of, beginning_in, count_in, end_in
 ghost use Rattle.rvmc_cli.specs.Commands.{search_in, states_in, turns_alone_in};
 ghost use Rattle.rvmc_cli.specs.Parsing.{Finds, Reads};
 
-use crate::parts::{Part, command as new_command};
+use crate::parts::{Help, Part, command as new_command};
 use crate::values::{self, apart, list, number, optional_number};
 use crate::wrong::Wrong;
 use clap::{ArgMatches, Command};
@@ -56,15 +56,16 @@ starts, one a line: at least N, if the schedules differ that often. --from lists
 the ends behind one start of the same image, on any machine. --join reads these
 texts, lists each end once, and says whether the list is complete:
 
-  rvmc explore --split 64 <farm.image >starts
-  parallel 'rvmc explore --from {} <farm.image >part.{#}' <starts
+  rvmc explore --split 64 farm.image -o starts
+  parallel 'rvmc explore --from {} farm.image -o part.{#}' <starts
   cat part.* | rvmc explore --join
 
 A start contains the image's checksum and the plan. Another image is an error,
 as `rvmc: explore: OtherImage`, and so is a text that --from didn't write, as
 `rvmc: explore: NotAText 3`.
 
-At most 67,108,864 bytes are read.
+At most 67,108,864 bytes are read, from FILE or else from standard input. With -o
+the output goes to a file, which is in its place once it is whole.
 
 Status:
   0 the list is complete, and every hart ended at each end
@@ -77,14 +78,14 @@ Status:
   7 the list is complete, and some end is a deadlock
 
 Examples:
-  rvmc explore <farm.image
-  rvmc explore --states 10000 <farm.image
-  rvmc explore --record 2 <farm.image >two.record
-  rvmc explore --record 2 <farm.image | rvmc why
+  rvmc explore farm.image
+  rvmc explore --states 10000 farm.image
+  rvmc explore --record 2 farm.image -o two.record
+  rvmc explore --record 2 farm.image | rvmc why
                                        what each hart waits for at end 2
-  rvmc explore --plan 0,0,1 <farm.image
+  rvmc explore --plan 0,0,1 farm.image
                                        hart 0 takes two turns, then hart 1 one
-  rvmc explore --source <hi.s";
+  rvmc explore hi.s";
 
 /// Its parts, in the order in which help lists them.
 static PARTS: &[Part] = &[
@@ -132,8 +133,11 @@ pub fn command<'a>(alloc: Global) -> Result<Command<'a>, AllocError>
     new_command(
         alloc,
         "explore",
-        "List every outcome that any schedule can reach",
-        EXAMPLES,
+        Help {
+            usage: "rvmc explore [OPTIONS] [-o OUTPUT] [FILE]",
+            about: "List every outcome that any schedule can reach",
+            examples: EXAMPLES,
+        },
         PARTS,
     )
 }

@@ -7,7 +7,7 @@ ghost use Rattle.rvmc_cli.specs.Built.{StandsFor};
 ghost use Rattle.rvmc_cli.specs.Commands.{app_of, gdb_row};
 ghost use Rattle.rvmc_cli.specs.Parsing.{Finds};
 
-use crate::parts::{Part, command as new_command};
+use crate::parts::{Help, Part, command as new_command};
 use crate::values::number;
 use crate::wrong::Wrong;
 use clap::{ArgMatches, Command};
@@ -20,7 +20,7 @@ gdb debugs one rank of the record, forwards and backwards, with its harts as
 threads; the other ranks move with it. gdb starts rvmc by itself:
 
   $ gdb-multiarch farm.elf
-  (gdb) target remote | cat farm.record - | rvmc gdb --rank 1
+  (gdb) target remote | rvmc gdb --rank 1 farm.record
 
 `rvmc-mpi gdb -n 4 farm.c` does all of this.
 
@@ -30,12 +30,13 @@ the bytes change, whether a hart of the rank or an arriving message changes them
 A record can't be changed, so registers and memory can't be set. `monitor` takes
 the words place, go N, why, rank R, regs R H, bytes R A N and help.
 
-On standard input come first the record and then the packets of gdb's remote
-protocol; the answers go to standard output. If the input isn't a record, its
+The packets of gdb's remote protocol come from standard input, behind the record
+if no FILE is named; the answers go to standard output. If the input isn't a record, its
 steps aren't a run of the image (`rvmc: debug: NotARun 3`) or there is no such
 rank (`rvmc: debug: NoRank`), that is an error, and nothing is written.
 
-At most 67,108,864 bytes are read, the record's among them.
+At most 67,108,864 bytes are read, the record's among them. With -o the answers
+go to a file.
 
 Status:
   0 gdb left, or the input ended, 1 error in the record, or no such rank,
@@ -43,9 +44,9 @@ Status:
   5 out of memory, 6 a read or write failed, or the input is too long
 
 Examples:
-  rvmc run --record <farm.image >farm.record
-  gdb-multiarch -ex 'target remote | cat farm.record - | rvmc gdb' farm.elf
-  gdb-multiarch -ex 'target remote | cat hi.record - | rvmc gdb --rank 1'";
+  rvmc run --record farm.image -o farm.record
+  gdb-multiarch -ex 'target remote | rvmc gdb farm.record' farm.elf
+  gdb-multiarch -ex 'target remote | rvmc gdb --rank 1 hi.record'";
 
 /// Its parts, in the order in which help lists them.
 static PARTS: &[Part] = &[Part::Option("rank", "R", "Debug this rank [default: 0]")];
@@ -57,8 +58,11 @@ pub fn command<'a>(alloc: Global) -> Result<Command<'a>, AllocError>
     new_command(
         alloc,
         "gdb",
-        "Let gdb debug a record, forwards and backwards",
-        EXAMPLES,
+        Help {
+            usage: "rvmc gdb [OPTIONS] [-o OUTPUT] [FILE]",
+            about: "Let gdb debug a record, forwards and backwards",
+            examples: EXAMPLES,
+        },
         PARTS,
     )
 }

@@ -10,7 +10,9 @@ mod debug;
 mod dis;
 mod draw;
 mod explore;
+mod files;
 mod gdb;
+pub mod laws;
 mod list;
 mod one;
 mod page;
@@ -25,4 +27,5 @@ mod values;
 mod why;
 mod wrong;
 
+pub use files::{Named, named_in};
 pub use parsing::parse;

@@ -35,7 +35,8 @@ A rank or place that doesn't exist is an error, as `rvmc: list: NoRank` or
 `rvmc: list: PastEnd 10`, and so are steps that aren't a run of the image, as
 `rvmc: list: NotARun 3`.
 
-At most 67,108,864 bytes are read.
+At most 67,108,864 bytes are read, from FILE or else from standard input. With -o
+the output goes to a file, which is in its place once it is whole.
 
 Status:
   0 done, 1 error in the record, or no such rank or place,
@@ -43,10 +44,10 @@ Status:
   5 out of memory, 6 a read or write failed, or the input is too long
 
 Examples:
-  rvmc run --record <farm.image >farm.record
-  rvmc list --calls --rank 0 <farm.record
-  rvmc list --from 2 --to 7 <farm.record
-  rvmc list --stats <farm.record       count what was done";
+  rvmc run --record farm.image -o farm.record
+  rvmc list --calls --rank 0 farm.record
+  rvmc list --from 2 --to 7 farm.record
+  rvmc list --stats farm.record        count what was done";
 
 /// Its parts, in the order in which help lists them.
 static PARTS: &[Part] = &[
@@ -66,6 +67,7 @@ pub fn command<'a>(alloc: Global) -> Result<Command<'a>, AllocError>
         alloc,
         "list",
         Help {
+            usage: "rvmc list [OPTIONS] [-o OUTPUT] [FILE]",
             about: "Print a record in words, one line a step",
             examples: EXAMPLES,
         },

@@ -37,7 +37,8 @@ round. RANKS and HARTS are numbers from 0 to 255 with a comma between them. Each
 rank has to be listed, and may be listed several times; a hart may be listed
 several times, or not at all.
 
-At most 67,108,864 bytes are read.
+At most 67,108,864 bytes are read, from FILE or else from standard input. With -o
+the output goes to a file, which is in its place once it is whole.
 
 Status:
   0 every hart ended, with whatever exit code
@@ -50,13 +51,13 @@ Status:
   6 a read or write failed, or the input is too long
 
 Examples:
-  rvmc one <farm.image
-  rvmc one --until-stuck <farm.image   print who waits for whom at a deadlock
-  rvmc one --order 1,0 <hi.image       rank 1 takes the first turn
-  rvmc one --plan 0,0,1 <hi.image      hart 0 takes two turns, then hart 1 one
-  rvmc one --record <farm.image >farm.record
-  rvmc one --budget 100 --why <farm.image
-  rvmc one --source <hi.s";
+  rvmc one farm.image
+  rvmc one --until-stuck farm.image    print who waits for whom at a deadlock
+  rvmc one --order 1,0 hi.image        rank 1 takes the first turn
+  rvmc one --plan 0,0,1 hi.image       hart 0 takes two turns, then hart 1 one
+  rvmc one --record farm.image -o farm.record
+  rvmc one --budget 100 --why farm.image
+  rvmc one hi.s";
 
 /// Its parts, in the order in which help lists them.
 static PARTS: &[Part] = &[
@@ -79,6 +80,7 @@ pub fn command<'a>(alloc: Global) -> Result<Command<'a>, AllocError>
         alloc,
         "one",
         Help {
+            usage: "rvmc one [OPTIONS] [-o OUTPUT] [FILE]",
             about: "Run an image on a single thread in a fixed order, and print a report",
             examples: EXAMPLES,
         },

@@ -32,7 +32,8 @@ errors are a place that doesn't exist, as `rvmc: page: PastEnd 10`, and steps
 that aren't a run of the image, as `rvmc: page: NotARun 3`. If there are too many
 marks for a picture, the page has none.
 
-At most 67,108,864 bytes are read.
+At most 67,108,864 bytes are read, from FILE or else from standard input. With -o
+the output goes to a file, which is in its place once it is whole.
 
 Status:
   0 done, 1 error in the record, no such place, or too many steps,
@@ -40,9 +41,9 @@ Status:
   5 out of memory, 6 a read or write failed, or the input is too long
 
 Examples:
-  rvmc run --record <farm.image >farm.record
-  rvmc page <farm.record >farm.html
-  rvmc page --from 100 --to 200 <farm.record >part.html";
+  rvmc run --record farm.image -o farm.record
+  rvmc page farm.record -o farm.html
+  rvmc page --from 100 --to 200 farm.record -o part.html";
 
 /// The command as clap builds it.
 pub fn command<'a>(alloc: Global) -> Result<Command<'a>, AllocError>
@@ -52,6 +53,7 @@ pub fn command<'a>(alloc: Global) -> Result<Command<'a>, AllocError>
         alloc,
         "page",
         Help {
+            usage: "rvmc page [OPTIONS] [-o OUTPUT] [FILE]",
             about: "Make a web page to step through a record",
             examples: EXAMPLES,
         },

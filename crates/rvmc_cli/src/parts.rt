@@ -90,29 +90,32 @@ pub fn with_parts<'a>(
     Ok(command)
 }
 
-/// A command without parts, and what help says of it: a line, and what stands below its options.
-pub fn bare<'a>(alloc: Global, name: &'a str, about: &'a str, examples: &'a str) -> Command<'a>
-    ensures { StandsFor (new_app name.entry.now) result }
-{
-    Command::new(alloc, name).about(about).after_help(examples)
-}
-
-/// What help says of a command: a line, and what stands below its options.
+/// What help says of a command: how it is used, a line, and what stands below its options.
 #[derive(Clone, Copy, Drop)]
 pub struct Help<'a> {
+    pub usage: &'a str,
     pub about: &'a str,
     pub examples: &'a str,
+}
+
+/// A command without parts, and what help says of it.
+pub fn bare<'a>(alloc: Global, name: &'a str, help: Help<'a>) -> Command<'a>
+    ensures { StandsFor (new_app name.entry.now) result }
+{
+    Command::new(alloc, name)
+        .override_usage(help.usage)
+        .about(help.about)
+        .after_help(help.examples)
 }
 
 /// A command of these parts, and what help says of it.
 pub fn command<'a>(
     alloc: Global,
     name: &'a str,
-    about: &'a str,
-    examples: &'a str,
+    help: Help<'a>,
     parts: &[Part],
 ) -> Result<Command<'a>, AllocError>
     ensures { IfOk result (StandsFor (with_rules (new_app name.entry.now) (map rule_of_part parts.now))) }
 {
-    with_parts(alloc, bare(alloc, name, about, examples), parts)
+    with_parts(alloc, bare(alloc, name, help), parts)
 }

@@ -42,7 +42,7 @@ pub fn placed<'a>(
     ensures { IfOk result (StandsFor (with_rules (new_app name.entry.now)
         (place_rules ++ map rule_of_part parts.now))) }
 {
-    let command = new_command(alloc, name, help.about, help.examples, PARTS)?;
+    let command = new_command(alloc, name, help, PARTS)?;
     with_parts(alloc, command, parts)
 }
 

@@ -7,7 +7,7 @@ ghost use Rattle.rvmc_cli.specs.Built.{StandsFor};
 ghost use Rattle.rvmc_cli.specs.Commands.{app_of, report_row};
 ghost use Rattle.rvmc_cli.specs.Parsing.{Finds};
 
-use crate::parts::command as new_command;
+use crate::parts::{Help, command as new_command};
 use crate::wrong::Wrong;
 use clap::{ArgMatches, Command};
 use rvmc_line::{CommandLine, RecordCommand};
@@ -25,7 +25,8 @@ for one word: a record doesn't say why a rank stopped.
 If the steps aren't a run of the image, that is an error, as
 `rvmc: report: NotARun 3`.
 
-At most 67,108,864 bytes are read.
+At most 67,108,864 bytes are read, from FILE or else from standard input. With -o
+the output goes to a file, which is in its place once it is whole.
 
 Status:
   0 done, 1 error in the record, 2 error in the command line, 3 a hart trapped,
@@ -33,8 +34,8 @@ Status:
   5 out of memory, 6 a read or write failed, or the input is too long
 
 Examples:
-  rvmc run --record <farm.image >farm.record
-  rvmc report <farm.record";
+  rvmc run --record farm.image -o farm.record
+  rvmc report farm.record";
 
 /// The command as clap builds it.
 pub fn command<'a>(alloc: Global) -> Result<Command<'a>, AllocError>
@@ -43,8 +44,11 @@ pub fn command<'a>(alloc: Global) -> Result<Command<'a>, AllocError>
     new_command(
         alloc,
         "report",
-        "Print the report of a recorded run",
-        EXAMPLES,
+        Help {
+            usage: "rvmc report [-o OUTPUT] [FILE]",
+            about: "Print the report of a recorded run",
+            examples: EXAMPLES,
+        },
         &[],
     )
 }

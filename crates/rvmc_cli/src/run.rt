@@ -36,7 +36,8 @@ The turns of a rank go to its harts in the order that --plan lists, round and
 round. HARTS are numbers from 0 to 255 with a comma between them; a hart may be
 listed several times, or not at all.
 
-At most 67,108,864 bytes are read.
+At most 67,108,864 bytes are read, from FILE or else from standard input. With -o
+the output goes to a file, which is in its place once it is whole.
 
 Status:
   0 every hart ended, with whatever exit code
@@ -49,14 +50,14 @@ Status:
   6 a read or write failed, or the input is too long
 
 Examples:
-  rvmc run <farm.image
-  rvmc run --until-stuck <farm.image   print who waits for whom at a deadlock
-  rvmc run --why <farm.image           the same, once the budget is used up
-  rvmc run --record <farm.image >farm.record
-  rvmc run --budget 100 <farm.image
-  rvmc run --lead 1 <farm.image        keep the ranks close together
-  rvmc run --plan 0,0,1 <farm.image    hart 0 takes two turns, then hart 1 one
-  rvmc run --source <hi.s";
+  rvmc run farm.image
+  rvmc run --until-stuck farm.image    print who waits for whom at a deadlock
+  rvmc run --why farm.image            the same, once the budget is used up
+  rvmc run --record farm.image -o farm.record
+  rvmc run --budget 100 farm.image
+  rvmc run --lead 1 farm.image         keep the ranks close together
+  rvmc run --plan 0,0,1 farm.image     hart 0 takes two turns, then hart 1 one
+  rvmc run hi.s";
 
 /// Its parts, in the order in which help lists them.
 static PARTS: &[Part] = &[
@@ -79,6 +80,7 @@ pub fn command<'a>(alloc: Global) -> Result<Command<'a>, AllocError>
         alloc,
         "run",
         Help {
+            usage: "rvmc run [OPTIONS] [-o OUTPUT] [FILE]",
             about: "Run an image with one thread per rank, and print a report",
             examples: EXAMPLES,
         },

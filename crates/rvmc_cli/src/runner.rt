@@ -45,7 +45,7 @@ pub fn runner<'a>(
     ensures { IfOk result (StandsFor (with_rules (new_app name.entry.now)
         (runner_rules ++ map rule_of_part others.now))) }
 {
-    let command = new_command(alloc, name, help.about, help.examples, PARTS)?;
+    let command = new_command(alloc, name, help, PARTS)?;
     with_parts(alloc, command, others)
 }
 

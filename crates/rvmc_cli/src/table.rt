@@ -10,7 +10,7 @@ ghost use Rattle.rvmc_cli.specs.Built.{StandsFor, app_below, app_below_from_seco
 ghost use Rattle.rvmc_cli.specs.Commands.{from_second, from_third, line_among, line_in, rvmc_app};
 ghost use Rattle.rvmc_cli.specs.Parsing.{Finds};
 
-use crate::parts::bare;
+use crate::parts::{Help, bare};
 use crate::wrong::Wrong;
 use crate::{asm, check, debug, dis, draw, explore, gdb, list, one, page, report, run, why};
 use clap::{ArgMatches, Command};
@@ -80,9 +80,9 @@ macro_rules! of_command {
 static NAMES: &[Name] = commands!(names());
 
 const EXAMPLES: &str = "\
-rvmc reads an image, a source or a record from standard input and writes to
-standard output. To run a C program with MPI calls, start with rvmc-mpi, which
-compiles it and then calls rvmc:
+rvmc reads an image, a source or a record from FILE, or else from standard
+input, and writes to standard output. To run a C program with MPI calls, start
+with rvmc-mpi, which compiles it and then calls rvmc:
 
   rvmc-mpi run -n 4 farm.c      compile it, and run it on four ranks
   rvmc-mpi verify -n 4 farm.c   list every outcome of every schedule
@@ -97,30 +97,34 @@ cluster, as in MPI; a hart is one of its up to four hardware threads. In a turn
 one hart does one instruction, or tries a call once. A record has every step of
 a run, so that you can go through it forwards and backwards.
 
-Without a command rvmc does what `rvmc one --source` does.
+FILE stands behind the command, and has a `.` or a `/` in its name. A file whose
+name ends in .s is an assembler source. -o OUTPUT writes to a file instead; if
+that is a regular file, it is replaced once the output is whole, and is left as
+it was if there is an error. Without a command rvmc does what `rvmc one` does, and
+reads a source from standard input if no FILE is named.
 
 Examples:
-  rvmc <hi.s                  assemble a source and run it
+  rvmc hi.s                   assemble a source and run it
   rvmc-cc -n 4 -o farm.image farm.c
                               compile C to an image
-  rvmc run <farm.image        run it, with one thread per rank
-  rvmc run --until-stuck <farm.image
+  rvmc run farm.image         run it, with one thread per rank
+  rvmc run --until-stuck farm.image
                               stop at a deadlock, and print who waits for whom
-  rvmc run --record <farm.image >farm.record
+  rvmc run --record farm.image -o farm.record
                               keep every step
-  rvmc check <farm.record     check each of these steps
-  rvmc report <farm.record    print the report of the recorded run
-  rvmc list --calls <farm.record
+  rvmc check farm.record      check each of these steps
+  rvmc report farm.record     print the report of the recorded run
+  rvmc list --calls farm.record
                               print its calls, one a line
-  rvmc draw <farm.record >farm.svg
+  rvmc draw farm.record -o farm.svg
                               draw its messages
-  rvmc page <farm.record >farm.html
+  rvmc page farm.record -o farm.html
                               make a web page to step through it
-  rvmc debug go=2 regs=0,0 <farm.record
+  rvmc debug farm.record go=2 regs=0,0
                               print the registers after two steps
-  rvmc explore <farm.image    list every outcome that any schedule can reach
-  rvmc asm <hi.s >hi.image    assemble a source to an image
-  rvmc dis <hi.image          list the instructions of an image
+  rvmc explore farm.image     list every outcome that any schedule can reach
+  rvmc asm hi.s -o hi.image   assemble a source to an image
+  rvmc dis hi.image           list the instructions of an image
 
 Status:
   0 done
@@ -139,14 +143,24 @@ fn top<'a>(alloc: Global) -> Result<Command<'a>, AllocError>
     bare(
         alloc,
         "rvmc",
-        "Run MPI programs on a small emulated cluster of RISC-V machines (RV64IM)",
-        EXAMPLES,
+        Help {
+            usage: "rvmc [COMMAND] [OPTIONS] [-o OUTPUT] [FILE]",
+            about: "Run MPI programs on a small emulated cluster of RISC-V machines (RV64IM)",
+            examples: EXAMPLES,
+        },
     )
     .version("0.2.0")
     .no_binary_name(true)
     .subcommand_required(true)
     .bin_name("rvmc")
 }
+
+/// What there is to say of a command that isn't one.
+const NO_HELP: Help<'static> = Help {
+    usage: "",
+    about: "",
+    examples: "",
+};
 
 /// The command of this name below the whole command line. Any other name is of one without options.
 fn below<'a>(alloc: Global, name: &'a str) -> Result<Command<'a>, AllocError>
@@ -166,7 +180,7 @@ fn below_from_second<'a>(alloc: Global, name: &'a str) -> Result<Command<'a>, Al
 fn below_from_third<'a>(alloc: Global, name: &'a str) -> Result<Command<'a>, AllocError>
     ensures { IfOk result (StandsFor (app_below_from_third name.entry.now)) }
 {
-    commands!(third(of_command(name, command, (alloc), Ok(bare(alloc, name, "", "")))))
+    commands!(third(of_command(name, command, (alloc), Ok(bare(alloc, name, NO_HELP)))))
 }
 
 /// The command with another below it, where there was memory to build that one.

@@ -7,7 +7,7 @@ ghost use Rattle.rvmc_cli.specs.Built.{StandsFor};
 ghost use Rattle.rvmc_cli.specs.Commands.{app_of, why_row};
 ghost use Rattle.rvmc_cli.specs.Parsing.{Finds};
 
-use crate::parts::{Part, command as new_command};
+use crate::parts::{Help, Part, command as new_command};
 use crate::values::{self, optional_number};
 use crate::wrong::Wrong;
 use clap::{ArgMatches, Command};
@@ -41,7 +41,8 @@ If the record has fewer than N steps, that is an error, as
 `rvmc: why: NotARun 3`. `run` and `one` print the same text about the end of
 their run, with --why.
 
-At most 67,108,864 bytes are read.
+At most 67,108,864 bytes are read, from FILE or else from standard input. With -o
+the output goes to a file, which is in its place once it is whole.
 
 Status:
   0 done, whatever the verdict, 1 error in the record, or no such place,
@@ -49,10 +50,10 @@ Status:
   5 out of memory, 6 a read or write failed, or the input is too long
 
 Examples:
-  rvmc run --until-stuck --record <farm.image >farm.record
-  rvmc why <farm.record
-  rvmc why --frames <farm.record       and which calls led there
-  rvmc why --at 6 <hi.record           what each hart waits for after six steps";
+  rvmc run --until-stuck --record farm.image -o farm.record
+  rvmc why farm.record
+  rvmc why --frames farm.record        and which calls led there
+  rvmc why --at 6 hi.record            what each hart waits for after six steps";
 
 /// Its parts, in the order in which help lists them.
 static PARTS: &[Part] = &[
@@ -67,8 +68,11 @@ pub fn command<'a>(alloc: Global) -> Result<Command<'a>, AllocError>
     new_command(
         alloc,
         "why",
-        "Print what each hart is waiting for",
-        EXAMPLES,
+        Help {
+            usage: "rvmc why [OPTIONS] [-o OUTPUT] [FILE]",
+            about: "Print what each hart is waiting for",
+            examples: EXAMPLES,
+        },
         PARTS,
     )
 }

@@ -1,5 +1,5 @@
 -- Lines of hints, and their beginnings.
-use Rattle.std.proofs.Common.{◌≡◌, ◌∙◌, ◌<◌, ◌^◌, ◌∷◌, min, ℕ, List, [], ◌+◌, ◌-◌, subst, Option, Some, None, ap, append-nil, arith, codes, length, refl, sym, take, drop}
+use Rattle.std.proofs.Common.{◌≡◌, ◌∙◌, ◌<◌, ◌^◌, ◌∷◌, min, ℕ, List, [], ◌+◌, ◌++◌, ◌-◌, subst, Option, Some, None, ap, append-nil, arith, codes, length, refl, sym, take, drop}
 use Rattle.std.specs.Prelude.{◌==◌}
 use Rattle.std.specs.Fmt.{decimal}
 use Rattle.std.specs.Io.{StartsWith}
@@ -13,8 +13,7 @@ use Rattle.std.proofs.lemmas.List.{length-take, take_min, take_rest}
 use Rattle.std.proofs.lemmas.List.Folds.{list_any-append}
 use Rattle.std.proofs.lemmas.Str.Parse.{digit_from_value}
 use Rattle.rvmc_hints.specs.HintLines.{AppendsHint, IsOneLine, hint_line}
-use Rattle.rvmc_hints.specs.Runs.{AppendsBeginning, run_hint_text}
-use Rattle.rvmc_hints.specs.declared.runs.RunHint.TheVariants.{LongRecord}
+use Rattle.rvmc_hints.specs.Runs.{AppendsBeginning}
 
 digits_are_one_line : (ds : List ℕ) → AllDigits 10 ds → IsOneLine ds
 digits_are_one_line [] d = refl
@@ -26,9 +25,10 @@ digits_are_one_line (c ∷ cs) d =
 decimal_is_one_line : (n : ℕ) → n < 2 ^ 64 → IsOneLine (decimal n)
 decimal_is_one_line n small = digits_are_one_line (decimal n) (decimal_is_IsNumeral n small).0.1
 
-pub long_record_is_one_line : (n : ℕ) → n < 2 ^ 64 → IsOneLine (run_hint_text (LongRecord n))
-long_record_is_one_line n small =
-    rw (list_any-append (λ (byte : ℕ). byte == 10) (decimal n) (codes " bytes; rvmc check reads at most 67108864"), decimal_is_one_line n small) refl
+pub number_is_one_line : (head tail : List ℕ) (n : ℕ) → IsOneLine head → IsOneLine tail → n < 2 ^ 64
+    → IsOneLine (head ++ (decimal n ++ tail))
+number_is_one_line head tail n first last small =
+    rw (list_any-append (λ (byte : ℕ). byte == 10) head (decimal n ++ tail), list_any-append (λ (byte : ℕ). byte == 10) (decimal n) tail, first, decimal_is_one_line n small, last) refl
 
 -- the beginning of a line
 pub hint_from_beginning : (text line : List ℕ) (old new : Option (List ℕ)) → IsOneLine text → line ≡ hint_line text

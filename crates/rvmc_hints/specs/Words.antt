@@ -1,8 +1,10 @@
 -- Words of a command line that are refused.
 use Rattle.std.specs.Prelude.{ℕ, ◌==◌, ◌||◌, ◌&&◌, nat_le, not, Bool, false, List, [], ◌∷◌, Option}
-use Rattle.std.specs.Prelude.{codes}
+use Rattle.std.specs.Prelude.{codes, find}
 use Rattle.std.specs.List.{list_all, list_any}
+use Rattle.std.specs.Str.{bytes_eq}
 use Rattle.rv_asm_statements.specs.Walk.{beside, first_given}
+use Rattle.rvmc_hints.specs.Near.{is_near}
 
 abbrev pub between : ℕ → ℕ → ℕ → Bool
 between low high byte = nat_le low byte && nat_le byte high
@@ -43,3 +45,18 @@ forms =
 
 abbrev pub form_of : List ℕ → Option (List ℕ)
 form_of head = first_given (beside head) forms
+
+-- the commands, in the order of help
+abbrev pub command_names : List (List ℕ)
+command_names =
+    codes "asm" ∷ codes "dis" ∷ codes "run" ∷ codes "one" ∷ codes "check" ∷ codes "report" ∷ codes "list" ∷ codes "draw"
+    ∷ codes "page" ∷ codes "debug" ∷ codes "gdb" ∷ codes "why" ∷ codes "explore" ∷ []
+
+-- the first of them that is this word but for one slip
+abbrev pub command_near : List ℕ → Option (List ℕ)
+command_near word = find (λ name. is_near name word) command_names
+
+-- how mpiexec and its like are told how many ranks there are to be
+abbrev pub is_rank_option : List ℕ → Bool
+is_rank_option word =
+    bytes_eq word (codes "-n") || (bytes_eq word (codes "-np") || bytes_eq word (codes "--ranks"))

@@ -1,11 +1,12 @@
 -- Hints, by rows: what stands in an input, plans, names and words.
-use Rattle.std.specs.Prelude.{◌≡◌, true, false, [], ◌∷◌, None, Some, codes, refl}
+use Rattle.std.specs.Prelude.{◌≡◌, ◌++◌, true, false, [], ◌∷◌, None, Some, codes, refl}
 use Rattle.rvmc_hints.specs.Calls.{call_number}
 use Rattle.rvmc_hints.specs.Content.{content_in}
 use Rattle.rvmc_hints.specs.Near.{is_near}
 use Rattle.rvmc_hints.specs.Plans.{plans_in}
 use Rattle.rvmc_hints.specs.Seen.{seen_in}
-use Rattle.rvmc_hints.specs.Words.{is_file_name}
+use Rattle.rvmc_hints.specs.Words.{command_near, is_file_name, is_rank_option}
+use Rattle.rvmc_hints.specs.Runs.{next_bound}
 use Rattle.rvmc_hints.specs.declared.hint.Hint.TheVariants as hint
 use Rattle.rvmc_hints.specs.declared.hint.Wanted.TheVariants as wanted
 
@@ -37,6 +38,21 @@ texts_for_join = refl
 
 pub nothing_for_check : content_in wanted.Record false (seen_in []) ≡ Some (hint.Nothing wanted.Record)
 nothing_for_check = refl
+
+-- `run < farm.c` and `rvmc < farm.c`, whatever stands before the line that tells
+pub c_for_run : content_in wanted.Image false (seen_in (codes "// a farm" ++ 10 ∷ codes "#include <mpi.h>")) ≡ Some hint.C
+c_for_run = refl
+
+pub c_for_rvmc : content_in wanted.Source false (seen_in (codes "#include <mpi.h>")) ≡ Some hint.C
+c_for_rvmc = refl
+
+-- a source of the assembler, to which that is a comment
+pub no_c : content_in wanted.Image true (seen_in (codes "#include it" ++ 10 ∷ codes "nop")) ≡ Some (hint.Source wanted.Image)
+no_c = refl
+
+-- `run < farm.elf`
+pub an_elf_file : content_in wanted.Image false (seen_in (127 ∷ codes "ELF" ++ 2 ∷ 1 ∷ [])) ≡ Some hint.Elf
+an_elf_file = refl
 
 -- a byte that is no text
 pub other_for_one : content_in wanted.Image false (seen_in (104 ∷ 128 ∷ [])) ≡ None
@@ -80,3 +96,22 @@ a_file = refl
 
 pub an_option_is_no_file : is_file_name (codes "--a.b") ≡ false
 an_option_is_no_file = refl
+
+pub rnu_is_run : command_near (codes "rnu") ≡ Some (codes "run")
+rnu_is_run = refl
+
+pub fly_is_none : command_near (codes "fly") ≡ None
+fly_is_none = refl
+
+pub ranks_of_mpiexec : is_rank_option (codes "-n") ≡ true
+ranks_of_mpiexec = refl
+
+-- bounds grow sixteenfold, up to the largest
+pub next_budget : next_bound 1000000 ≡ Some 16000000
+next_budget = refl
+
+pub largest_budget : next_bound 16000000 ≡ Some 16777216
+largest_budget = refl
+
+pub no_larger_budget : next_bound 16777216 ≡ None
+no_larger_budget = refl

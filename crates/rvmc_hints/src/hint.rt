@@ -19,6 +19,15 @@ pub enum Wanted {
     Told,
 }
 
+/// What is waited for on standard input.
+#[derive(Clone, Copy, Drop)]
+pub enum Awaited {
+    /// What a command takes.
+    Whole(Wanted),
+    /// Packets of gdb, behind a record in a file.
+    Packets,
+}
+
 /// What a person can be told behind a fault's line. It prints as the text behind `hint: `.
 #[derive(Clone, Copy, Drop)]
 pub enum Hint<'a> {
@@ -28,6 +37,10 @@ pub enum Hint<'a> {
     Image,
     /// A record stands there.
     Record,
+    /// An ELF file stands there.
+    Elf,
+    /// A source in C stands there.
+    C,
     /// A source stands there, of which the assembler makes an image.
     Source(Wanted),
     /// All bytes are printable.
@@ -38,12 +51,14 @@ pub enum Hint<'a> {
     Ranks(u8),
     /// The image has so many harts a rank, and the plan names another.
     Harts(u8),
-    /// A file is named behind these words.
-    File {
-        words: &'a [&'a str],
-        file: &'a str,
+    /// No command has this name, and one has a name that differs by one slip.
+    Command {
+        word: &'a str,
+        near: &'static str,
     },
-    /// The right form of a word of `debug`.
+    /// What stands on standard input is read, and so it is waited for.
+    Awaited(Awaited),
+    /// The right form of what a word or an option is to be.
     Form(&'static str),
     /// A name that begins no statement. `kind` is what there is a list of, `near` a name that differs by one slip.
     Unknown {
@@ -227,13 +242,16 @@ fn put_harts<W: fmt::Write>(f: &mut fmt::Formatter<W>, harts: u8) -> fmt::Result
     }
 }
 
-/// The command line that reads a file.
-fn put_file<W: fmt::Write>(f: &mut fmt::Formatter<W>, words: &[&str], file: &str) -> fmt::Result {
-    write!(f, "rvmc reads standard input: rvmc")?;
-    for word in words {
-        write!(f, " {word}")?;
+/// What is waited for on standard input.
+fn put_awaited<W: fmt::Write>(f: &mut fmt::Formatter<W>, awaited: Awaited) -> fmt::Result {
+    match awaited {
+        Awaited::Whole(wanted) => write!(
+            f,
+            "waiting for {wanted} on standard input (Ctrl-D ends it); a file can be named instead, \
+             and rvmc --help says more"
+        ),
+        Awaited::Packets => f.write_str("waiting for gdb's packets on standard input (Ctrl-D ends it)"),
     }
-    write!(f, " < {file}")
 }
 
 /// A name that begins no statement.
@@ -313,13 +331,23 @@ impl fmt::Display for Hint<'_> {
         match *self {
             Hint::Nothing(wanted) => write!(f, "the input is empty: {wanted} is wanted"),
             Hint::Image => f.write_str("this is an image: rvmc one reads it"),
-            Hint::Record => f.write_str("this is a record: rvmc check reads it"),
+            Hint::Record => f.write_str("this is a record: rvmc report, list and check read it"),
+            Hint::Elf => f.write_str(
+                "this is an ELF file: rvmc runs images, which rvmc-cc makes from C",
+            ),
+            Hint::C => f.write_str("this is C: rvmc-mpi run -n 4 FILE compiles it and runs it"),
             Hint::Source(wanted) => write!(f, "this is an assembler source: {}", remedy(wanted)),
             Hint::Text(wanted) => write!(f, "this looks like text: {}", advice(wanted)),
             Hint::Input => f.write_str("a file or a pipe is read, of at most 67108864 bytes"),
             Hint::Ranks(ranks) => put_ranks(f, ranks),
             Hint::Harts(harts) => put_harts(f, harts),
-            Hint::File { words, file } => put_file(f, words, file),
+            Hint::Command { word, near } => put_missing(
+                f,
+                "rvmc has no command",
+                word.as_bytes(),
+                Some(near.as_bytes()),
+            ),
+            Hint::Awaited(awaited) => put_awaited(f, awaited),
             Hint::Form(form) => f.write_str(form),
             Hint::Unknown { word, kind, near } => put_unknown(f, word, kind, near),
             Hint::Foreign { word, here } => put_foreign(f, word, here),

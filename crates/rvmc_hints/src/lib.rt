@@ -19,11 +19,11 @@ mod tokens;
 mod words;
 
 pub use content::content_hint;
-pub use hint::{Hint, Wanted};
+pub use hint::{Awaited, Hint, Wanted};
 pub use near::is_near;
 pub use plans::plans_hint;
 pub use records::{magic_hint, short_hint};
-pub use runs::{INPUT_MOST, RunHint, put_run_hint};
+pub use runs::{INPUT_MOST, RunHint, Runner, next_bound, put_run_hint};
 pub use seen::{Seen, seen_in};
 pub use sources::source_hint;
-pub use words::{form_of, is_file_name};
+pub use words::{command_near, form_of, is_file_name, is_rank_option};

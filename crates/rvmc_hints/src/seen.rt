@@ -2,7 +2,7 @@
 
 ghost use Rattle.std.specs.Prelude.{◌≡◌};
 ghost use Rattle.std.specs.List.{list_all};
-ghost use Rattle.rvmc_hints.specs.Seen.{is_printable, seen_in};
+ghost use Rattle.rvmc_hints.specs.Seen.{includes, is_c, is_printable, read_in, seen_in};
 
 /// What stands in an input.
 #[derive(Clone, Copy, Drop)]
@@ -13,6 +13,10 @@ pub enum Seen {
     Image,
     /// The first bytes of a record.
     Record,
+    /// The first bytes of an ELF file.
+    Elf,
+    /// A source in C: a line that begins with `#include`.
+    C,
     /// Printable ASCII, blanks, tabs and ends of lines alone.
     Text,
     /// Something else.
@@ -40,7 +44,41 @@ pub fn are_printable(bytes: &[u8]) -> bool
     true
 }
 
-/// What stands in an input, by its first bytes; that it is text only where all of its bytes are printable.
+/// Whether a line of these bytes but the first begins with `#include`.
+fn includes(bytes: &[u8]) -> bool
+    ensures { result ≡ includes bytes.now }
+{
+    let mut rest = bytes;
+    while let Some((byte, after)) = rest.split_first() {
+        if *byte == 10 && after.starts_with(b"#include") {
+            return true;
+        }
+        rest = after;
+    }
+    false
+}
+
+/// Whether a line begins with `#include`.
+fn is_c(bytes: &[u8]) -> bool
+    ensures { result ≡ is_c bytes.now }
+{
+    bytes.starts_with(b"#include") || includes(bytes)
+}
+
+/// What a text is, or what isn't one: a source in C by one of its lines, and else a text only where all bytes are printable.
+fn read_in(bytes: &[u8]) -> Seen
+    ensures { result ≡ read_in bytes.now }
+{
+    if is_c(bytes) {
+        Seen::C
+    } else if are_printable(bytes) {
+        Seen::Text
+    } else {
+        Seen::Other
+    }
+}
+
+/// What stands in an input, by its first bytes, or else as a text.
 pub fn seen_in(bytes: &[u8]) -> Seen
     ensures { result ≡ seen_in bytes.now }
 {
@@ -50,9 +88,9 @@ pub fn seen_in(bytes: &[u8]) -> Seen
         Seen::Image
     } else if bytes.starts_with(b"RVMR") {
         Seen::Record
-    } else if are_printable(bytes) {
-        Seen::Text
+    } else if bytes.starts_with(b"\x7fELF") {
+        Seen::Elf
     } else {
-        Seen::Other
+        read_in(bytes)
     }
 }

@@ -1,10 +1,13 @@
 //! Words of a command line that are refused.
 
-ghost use Rattle.std.specs.Prelude.{◌≡◌, map, option_map};
+ghost use Rattle.std.specs.Prelude.{◌≡◌, find, map, option_map};
 ghost use Rattle.std.specs.List.{list_all, list_any};
 ghost use Rattle.rv_asm_statements.specs.Walk.{beside, first_given};
+ghost use Rattle.rvmc_hints.specs.Near.{is_near};
 ghost use Rattle.rvmc_hints.specs.Rows.{form_view};
-ghost use Rattle.rvmc_hints.specs.Words.{form_of, is_file_byte, is_file_name, is_mark};
+ghost use Rattle.rvmc_hints.specs.Words.{command_near, form_of, is_file_byte, is_file_name, is_mark, is_rank_option};
+
+use crate::near::is_near;
 
 /// Whether a byte may stand in the name of a file that a shell takes as it is.
 fn is_file_byte(byte: u8) -> bool
@@ -82,4 +85,34 @@ pub fn form_of(head: &[u8]) -> Option<&'static str>
     ensures { option_map (λ form. form.now) result ≡ form_of head.now }
 {
     form_in(&FORMS, head)
+}
+
+static COMMANDS: [&str; 13] = [
+    "asm", "dis", "run", "one", "check", "report", "list", "draw", "page", "debug", "gdb", "why", "explore",
+];
+
+fn near_in(names: &[&'static str], word: &str) -> Option<&'static str>
+    ensures { option_map (λ name. name.now) result
+        ≡ find (λ name. is_near name word.now) (map (λ name. name.now) names.now) }
+{
+    for name in names {
+        if is_near(name.as_bytes(), word.as_bytes()) {
+            return Some(name);
+        }
+    }
+    None
+}
+
+/// The first command, in the order of help, whose name is this word but for one slip.
+pub fn command_near(word: &str) -> Option<&'static str>
+    ensures { option_map (λ name. name.now) result ≡ command_near word.now }
+{
+    near_in(&COMMANDS, word)
+}
+
+/// Whether a word is the option by which other programs are told how many ranks there are to be.
+pub fn is_rank_option(word: &str) -> bool
+    ensures { result ≡ is_rank_option word.now }
+{
+    word == "-n" || word == "-np" || word == "--ranks"
 }

@@ -21,11 +21,15 @@ abbrev pub is_budget : Stop → Bool
 is_budget Budget = true
 is_budget other = false
 
--- a rank was stopped by its budget, and a hart waits, of that rank or of another
-abbrev pub waits_at_budget : Record → Bool
-waits_at_budget left = list_any is_budget left.stops.items && list_any has_waiting left.ranks.items
+-- a rank was stopped by its budget
+abbrev pub is_spent : Record → Bool
+is_spent left = list_any is_budget left.stops.items
 
--- what is written of it is its report alone
+-- a hart waits, of that rank or of another
+abbrev pub any_waits : Record → Bool
+any_waits left = list_any has_waiting left.ranks.items
+
+-- what is written of it is its report alone, and both is so
 abbrev pub is_told_waiting : Written → Record → Bool
-is_told_waiting Report left = waits_at_budget left
+is_told_waiting Report left = is_spent left && any_waits left
 is_told_waiting other left = false

@@ -1,22 +1,18 @@
-//! What is told behind a fault's line, or beside an output.
+//! What is told behind a fault's line.
 
 ghost use Rattle.std.specs.Prelude.{◌≡◌};
-ghost use Rattle.rvmc_hints.specs.HintLines.{AppendsHint};
 ghost use Rattle.rvmc_tool.specs.Hints.{wanted_by};
 
 use crate::images::image_in;
-use crate::outputs::Output;
 use cl_debug::DebugFault;
 use cl_text::RecordFault;
 use rv_image::{Image, Symbol, read_image};
-use rvmc_cli::parse;
 use rvmc_hints::{
-    Hint, INPUT_MOST, RunHint, Wanted, content_hint, form_of, is_file_name, is_near, magic_hint,
-    plans_hint, put_run_hint, short_hint, source_hint,
+    Hint, Wanted, content_hint, is_near, magic_hint, plans_hint, short_hint, source_hint,
 };
 use rvmc_line::{CommandLine, ImageCommand, RecordCommand};
 use rvmc_report::faults::{DrawRefusal, ExploreRefusal, Fault};
-use rvmc_words::{DebugWord, DebugWords, Numbers, Spot, debug_word_in};
+use rvmc_words::{DebugWord, DebugWords, Numbers, Spot};
 use std::alloc::Global;
 use std::io::Write;
 
@@ -29,7 +25,7 @@ pub(crate) fn put_hint<E: Write>(err: &mut E, hint: Hint<'_>) {
 }
 
 /// What a command takes from its input.
-fn wanted_by(line: &CommandLine) -> Wanted
+pub(crate) fn wanted_by(line: &CommandLine) -> Wanted
     ensures { result ≡ wanted_by line.now }
 {
     match line {
@@ -61,7 +57,7 @@ fn is_source(alloc: Global, bytes: &[u8]) -> bool {
 fn content<'a>(alloc: Global, line: &CommandLine, bytes: &[u8]) -> Option<Hint<'a>> {
     let wanted = wanted_by(line);
     match content_hint(wanted, false, bytes) {
-        Some(Hint::Text(_)) => content_hint(wanted, is_source(alloc, bytes), bytes),
+        Some(Hint::Text(_) | Hint::C) => content_hint(wanted, is_source(alloc, bytes), bytes),
         other => other,
     }
 }
@@ -224,100 +220,5 @@ pub(crate) fn tell_hint<E: Write>(
     }
     if let Some(hint) = hint_of(alloc, line, bytes, fault) {
         put_hint(err, hint);
-    }
-}
-
-/// The right form of a text that is no word of `debug`, by what stands before its `=`.
-fn form(alloc: Global, text: &str) -> Option<&'static str> {
-    match debug_word_in(alloc, text) {
-        Ok(None) => {
-            let head = match text.split_once('=') {
-                Some((head, _)) => head,
-                None => text,
-            };
-            form_of(head.as_bytes())
-        }
-        _ => None,
-    }
-}
-
-/// The right form of the first text that is no word of `debug`.
-fn debug_form(alloc: Global, texts: &[&str]) -> Option<&'static str> {
-    for text in texts {
-        if let Some(form) = form(alloc, text) {
-            return Some(form);
-        }
-    }
-    None
-}
-
-/// Whether the words are a command line.
-fn is_command_line(alloc: Global, words: &[&str]) -> bool {
-    parse(alloc, words).is_ok()
-}
-
-/// That the last of the words is a file, where those before it are a command line.
-fn file_hint<'a>(alloc: Global, words: &'a [&'a str]) -> Option<Hint<'a>> {
-    let (file, before) = words.split_last()?;
-    if is_file_name(*file) && is_command_line(alloc, before) {
-        Some(Hint::File {
-            words: before,
-            file: *file,
-        })
-    } else {
-        None
-    }
-}
-
-/// The form of a word of `debug`, where one of its words is none.
-fn form_hint<'a>(alloc: Global, words: &[&str]) -> Option<Hint<'a>> {
-    let (command, texts) = words.split_first()?;
-    if *command == "debug" {
-        Some(Hint::Form(debug_form(alloc, texts)?))
-    } else {
-        None
-    }
-}
-
-/// What can be told of words that are refused.
-fn hint_of_words<'a>(alloc: Global, words: &'a [&'a str]) -> Option<Hint<'a>> {
-    match file_hint(alloc, words) {
-        Some(hint) => Some(hint),
-        None => form_hint(alloc, words),
-    }
-}
-
-/// Writes what can be told of words that are refused, if there is anything.
-pub(crate) fn hint_words<E: Write>(alloc: Global, words: &[&str], err: &mut E) {
-    if let Some(hint) = hint_of_words(alloc, words) {
-        put_hint(err, hint);
-    }
-}
-
-/// What can be told of a record of so many bytes: that no command reads it, where that is so.
-fn length_hint(bytes: u64) -> Option<RunHint> {
-    if bytes > INPUT_MOST {
-        Some(RunHint::LongRecord(bytes))
-    } else {
-        None
-    }
-}
-
-/// What can be told beside an output.
-fn run_hint(output: &Output) -> Option<RunHint> {
-    match output {
-        Output::Text(_) => None,
-        Output::Waiting(_) => Some(RunHint::Waits),
-        Output::Record(text) => length_hint(text.len()?),
-    }
-}
-
-/// Writes what can be told beside an output, if there is anything.
-#[tactic(auto, using(crate::proofs::Quiet::unhinted, crate::proofs::Quiet::kept))]
-pub(crate) fn tell_run_hint<E: Write>(alloc: Global, output: &Output, err: &mut E)
-    ensures { AppendsHint (E.contents err.old) (E.contents err.new) }
-{
-    if let Some(hint) = run_hint(output) {
-        put_run_hint(alloc, err, hint);
     }
 }

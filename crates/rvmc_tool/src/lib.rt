@@ -2,6 +2,7 @@
 #![tactic(auto)]
 
 pub mod answers;
+mod beside;
 mod checks;
 mod debugging;
 mod drawing;
@@ -10,6 +11,7 @@ mod exploring;
 mod hints;
 mod images;
 mod listing;
+mod mistyped;
 pub mod outputs;
 mod paging;
 pub mod plans;
@@ -22,4 +24,5 @@ mod starting;
 mod stuck;
 mod waiting;
 
+pub use beside::tell_wait;
 pub use program::{tool, tool_plain};

@@ -1,7 +1,7 @@
 //! What stands on standard output.
 
-ghost use Rattle.std.specs.Prelude.{◌≡◌};
-ghost use Rattle.rvmc_tool.specs.Outputs.{hides_a_wait, output_bytes};
+ghost use Rattle.std.specs.Prelude.{◌≡◌, ◌&&◌, false};
+ghost use Rattle.rvmc_tool.specs.Outputs.{ends_by_budget, hides_a_wait, output_bytes};
 
 use cl_text::RecordText;
 
@@ -12,17 +12,48 @@ pub enum Output {
     Text(Vec<u8>),
     /// A report that says that a hart waits where a budget cut the run short, and not for what.
     Waiting(Vec<u8>),
+    /// What else is told of a run that a budget cut short.
+    Spent(Vec<u8>),
     Record(RecordText),
+    /// The record of such a run.
+    SpentRecord(RecordText),
 }
 
-/// A report alone, of a run that was cut short while a hart waited, or of another.
-pub(crate) fn reported(text: Vec<u8>, waits: bool) -> Output
+/// A report alone, of a run that a budget cut short or of another, at whose end a hart waits or none does.
+pub(crate) fn reported(text: Vec<u8>, spent: bool, waits: bool) -> Output
     ensures text { output_bytes result ≡ text.items }
-    ensures waits { hides_a_wait result ≡ waits }
+    ensures waits { hides_a_wait result ≡ (spent && waits) }
+    ensures budget { ends_by_budget result ≡ spent }
 {
-    if waits {
-        Output::Waiting(text)
+    match (spent, waits) {
+        (true, true) => Output::Waiting(text),
+        (true, false) => Output::Spent(text),
+        (false, _) => Output::Text(text),
+    }
+}
+
+/// A report that says for what each hart waits.
+pub(crate) fn explained(text: Vec<u8>, spent: bool) -> Output
+    ensures text { output_bytes result ≡ text.items }
+    ensures waits { hides_a_wait result ≡ false }
+    ensures budget { ends_by_budget result ≡ spent }
+{
+    if spent {
+        Output::Spent(text)
     } else {
         Output::Text(text)
+    }
+}
+
+/// A record.
+pub(crate) fn recorded(text: RecordText, spent: bool) -> Output
+    ensures text { output_bytes result ≡ text }
+    ensures waits { hides_a_wait result ≡ false }
+    ensures budget { ends_by_budget result ≡ spent }
+{
+    if spent {
+        Output::SpentRecord(text)
+    } else {
+        Output::Record(text)
     }
 }

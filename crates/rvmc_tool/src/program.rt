@@ -15,8 +15,10 @@ ghost use Rattle.rvmc_report.specs.Faults.{fault_status};
 ghost use Rattle.rvmc_report.specs.Input.{TakesAtMost};
 
 use crate::answers::{Answer, End, answer_to, answer_with_threads, needs_threads};
-use crate::hints::{hint_words, put_hint, tell_hint, tell_run_hint};
+use crate::beside::tell_run_hint;
+use crate::hints::{put_hint, tell_hint};
 use crate::listing::listed;
+use crate::mistyped::hint_words;
 use crate::outputs::Output;
 use crate::sessions::served;
 use rvmc_cli::parse;
@@ -101,8 +103,8 @@ fn put_output<W: Write>(out: &mut W, output: &Output) -> bool
     ensures { result ≡ true → Appends (W.contents out.old) (W.contents out.new) (output_bytes output.now) }
 {
     match output {
-        Output::Text(text) | Output::Waiting(text) => put(out, text),
-        Output::Record(text) => text.put(out).is_ok() && out.flush().is_ok(),
+        Output::Text(text) | Output::Waiting(text) | Output::Spent(text) => put(out, text),
+        Output::Record(text) | Output::SpentRecord(text) => text.put(out).is_ok() && out.flush().is_ok(),
     }
 }
 
@@ -110,6 +112,7 @@ fn put_output<W: Write>(out: &mut W, output: &Output) -> bool
 /// failed. A hint changes no status.
 fn ended_with_hint<E: Write>(
     alloc: Global,
+    line: &CommandLine,
     output: &Output,
     err: &mut E,
     taken: bool,
@@ -120,7 +123,7 @@ fn ended_with_hint<E: Write>(
     ensures quiet { is_quiet result ≡ true → AppendsHint (E.contents err.old) (E.contents err.new) }
 {
     if taken {
-        tell_run_hint(alloc, output, err);
+        tell_run_hint(alloc, line, output, status, err);
         status
     } else {
         fail(err, Fault::Write)
@@ -161,7 +164,9 @@ fn tell_answer<O: Write, E: Write>(
 {
     let taken = put_output(out, &answer.output);
     match answer.end {
-        End::Status(status) => ended_with_hint(alloc, &answer.output, err, taken, status),
+        End::Status(status) => {
+            ended_with_hint(alloc, line, &answer.output, err, taken, status)
+        }
         End::Cut(fault) => {
             if taken {
                 fail_with_hint(alloc, line, bytes, fault, err)
@@ -300,7 +305,7 @@ fn refuse<E: Write>(alloc: Global, words: &[&str], text: &str, err: &mut E) -> u
     if !put(err, text.as_bytes()) {
         return Fault::Write.status();
     }
-    hint_words(alloc, words, err);
+    hint_words(alloc, words, text, err);
     2
 }
 

@@ -8,17 +8,17 @@ ghost use Rattle.rvmc_tool.specs.Making.{IsLeft};
 ghost use Rattle.rvmc_tool.specs.Answers.{IsRunBy, IsTextOf};
 ghost use Rattle.rvmc_tool.specs.Ends.{end_status};
 ghost use Rattle.rvmc_tool.specs.Making.{IsAnyOne, IsAnyRun, IsRunFault, IsWhole};
-ghost use Rattle.rvmc_tool.specs.Outputs.{hides_a_wait, output_bytes};
+ghost use Rattle.rvmc_tool.specs.Outputs.{ends_by_budget, hides_a_wait, output_bytes};
 ghost use Rattle.rvmc_tool.specs.Plans.{listed};
-ghost use Rattle.rvmc_tool.specs.Waiting.{is_told_waiting};
+ghost use Rattle.rvmc_tool.specs.Waiting.{is_spent, is_told_waiting};
 ghost use Rattle.rvmc_report.specs.Report.{rank_ends, status_of};
 
 use crate::answers::{Answer, End};
 use crate::explaining::report_with_why;
-use crate::outputs::{Output, reported};
+use crate::outputs::{Output, explained, recorded, reported};
 use crate::plans::{listed, plans_of};
 use crate::stuck::{one_until_stuck, run_until_stuck};
-use crate::waiting::waits_at_budget;
+use crate::waiting::{any_waits, is_spent};
 use cl_merge::merge;
 use cl_record::{Plan, Record};
 use cl_run::run_one;
@@ -58,11 +58,16 @@ fn output_of(
     requires { IsLeft image.now left }
     ensures text { IfOk result (λ output. IsTextOf written image.now left (output_bytes output)) }
     ensures waits { IfOk result (λ output. hides_a_wait output ≡ is_told_waiting written left) }
+    ensures budget { IfOk result (λ output. ends_by_budget output ≡ is_spent left) }
 {
+    let spent = is_spent(&left);
     match written {
-        Written::Report => Ok(reported(report(alloc, &left)?, waits_at_budget(&left))),
-        Written::Record => Ok(Output::Record(record_of(alloc, image, left)?)),
-        Written::Why => Ok(Output::Text(report_with_why(alloc, image, left)?)),
+        Written::Report => {
+            let waits = any_waits(&left);
+            Ok(reported(report(alloc, &left)?, spent, waits))
+        }
+        Written::Record => Ok(recorded(record_of(alloc, image, left)?, spent)),
+        Written::Why => Ok(explained(report_with_why(alloc, image, left)?, spent)),
     }
 }
 

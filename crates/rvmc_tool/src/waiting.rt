@@ -1,8 +1,7 @@
-//! Runs that were cut short while a hart waited.
+//! Runs that a budget cut short, and harts that wait.
 
 ghost use Rattle.std.specs.Prelude.{◌≡◌};
-ghost use Rattle.std.specs.List.{list_any};
-ghost use Rattle.rvmc_tool.specs.Waiting.{has_waiting, is_budget, is_waiting, waits_at_budget};
+ghost use Rattle.rvmc_tool.specs.Waiting.{any_waits, has_waiting, is_budget, is_spent, is_waiting};
 
 use cl_rank::{RankState, Stop};
 use cl_record::Record;
@@ -20,27 +19,24 @@ fn has_waiting(state: &RankState) -> bool
     state.harts.iter().any(|hart| is_waiting(hart))
 }
 
-fn any_has_waiting(states: &[RankState]) -> bool
-    ensures { result ≡ list_any has_waiting states.now }
-{
-    states.iter().any(|state| has_waiting(state))
-}
-
 fn is_budget(stop: Stop) -> bool
     ensures { result ≡ is_budget stop }
 {
     matches!(stop, Stop::Budget)
 }
 
-fn any_is_budget(stops: &[Stop]) -> bool
-    ensures { result ≡ list_any is_budget stops.now }
+/// Whether a rank was stopped by its budget.
+pub(crate) fn is_spent(left: &Record) -> bool
+    ensures { result ≡ is_spent left.now }
 {
+    let stops = left.stops.as_slice();
     stops.iter().any(|stop| is_budget(*stop))
 }
 
-/// Whether a rank was stopped by its budget, and a hart waits, of that rank or of another.
-pub(crate) fn waits_at_budget(left: &Record) -> bool
-    ensures { result ≡ waits_at_budget left.now }
+/// Whether a hart waits.
+pub(crate) fn any_waits(left: &Record) -> bool
+    ensures { result ≡ any_waits left.now }
 {
-    any_is_budget(left.stops.as_slice()) && any_has_waiting(left.ranks.as_slice())
+    let states = left.ranks.as_slice();
+    states.iter().any(|state| has_waiting(state))
 }

@@ -44,10 +44,10 @@ fn bytes_of(alloc: Global, output: &Output) -> Option<Vec<u8>>
 {
     let mut bytes = Vec::new(alloc);
     match output {
-        Output::Text(text) | Output::Waiting(text) => bytes
+        Output::Text(text) | Output::Waiting(text) | Output::Spent(text) => bytes
             .extend_from_slice(text.as_slice())
             .ok()?,
-        Output::Record(text) => text.put(&mut bytes).ok()?,
+        Output::Record(text) | Output::SpentRecord(text) => text.put(&mut bytes).ok()?,
     }
     Some(bytes)
 }
