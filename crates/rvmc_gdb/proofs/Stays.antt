@@ -24,7 +24,7 @@ use Rattle.rvmc_gdb.specs.Laws.{RecordStaysLaw}
 use Rattle.rvmc_gdb.specs.declared.session.Who.{Who}
 use Rattle.rvmc_gdb.specs.Moving.{Backwards, Forwards, Selects, SelectsMoved, SelectsMovedWho, SelectsWho, Steps, StepsThread}
 use Rattle.rvmc_gdb.specs.Points.{Sets}
-use Rattle.rvmc_gdb.specs.Serving.{Serving, rank_or, who_of, with_who}
+use Rattle.rvmc_gdb.specs.Serving.{Serving, who_of, with_who}
 use Rattle.rvmc_gdb.specs.Talks.{Connection, HearsUnless, MeetsTold, MeetsUnless, Replies, Serves, Talk, read, repeats}
 use Rattle.rvmc_gdb.specs.Typing.{Debugs, Prints, with_rank}
 
@@ -57,13 +57,14 @@ kept_at old new n rank moved =
     }
 
 -- whichever rank is meant, it is there
-rank_there : (old : Serving) (rank : ℕ) (there : Bool) → nat_lt rank old.debugging.image.ranks ≡ there
-    → old.rank < old.debugging.image.ranks → (if there then rank else old.rank) < old.debugging.image.ranks
-rank_there old rank true low own = ltb-true rank old.debugging.image.ranks low
-rank_there old rank false low own = own
+rank_there : (ranks rank own : ℕ) (there : Bool) → nat_lt rank ranks ≡ there → own < ranks
+    → (if there then rank else own) < ranks
+rank_there ranks rank own true low inside = ltb-true rank ranks low
+rank_there ranks rank own false low inside = inside
 
-kept_or : (old new : Serving) (n rank : ℕ) → new.rank ≡ rank_or old rank → new.debugging ≡ at_place old.debugging n
-    → IsKept old new
+kept_or : (old new : Serving) (n rank : ℕ)
+    → new.rank ≡ (if nat_lt rank new.debugging.image.ranks then rank else old.rank)
+    → new.debugging ≡ at_place old.debugging n → IsKept old new
 kept_or old new n rank is moved =
     let image = ap (λ (d : Debugging). d.image) moved in
     record {
@@ -71,8 +72,8 @@ kept_or old new n rank is moved =
       steps = ap (λ (d : Debugging). d.steps) moved;
       rank = λ there.
           subst (λ r. r < new.debugging.image.ranks) (sym is)
-          (subst (λ (i : ImageParts). rank_or old rank < i.ranks) (sym image)
-          (rank_there old rank (nat_lt rank old.debugging.image.ranks) refl there));
+          (rank_there new.debugging.image.ranks rank old.rank (nat_lt rank new.debugging.image.ranks) refl
+          (subst (λ (i : ImageParts). old.rank < i.ranks) (sym image) there));
     }
 
 -- ---- motions
@@ -98,7 +99,11 @@ kept_who : (old new : Serving) (who : Option Who) (text : List ℕ) → SelectsW
 kept_who old new None text a = kept_as old old new a.0 (kept_same old)
 kept_who old new (Some who) text a =
     kept_as old (with_who old who) new a.0
-    (record { image = refl; steps = refl; rank = rank_there old who.rank (nat_lt who.rank old.debugging.image.ranks) refl })
+    (record {
+      image = refl;
+      steps = refl;
+      rank = rank_there old.debugging.image.ranks who.rank old.rank (nat_lt who.rank old.debugging.image.ranks) refl;
+    })
 
 kept_moved : (old new : Serving) (who : Option Who) (text : List ℕ) → SelectsMovedWho old who new text → IsKept old new
 kept_moved old new None text a = kept_as old old new a.0 (kept_same old)

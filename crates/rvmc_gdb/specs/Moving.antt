@@ -14,7 +14,7 @@ use Rattle.rvmc_requests.specs.declared.threads.Move.TheVariants.{Go, Step, Stop
 use Rattle.rvmc_requests.specs.declared.threads.Thread.{Thread}
 use Rattle.rvmc_requests.specs.declared.threads.Thread.TheVariants.{All, Any, One}
 use Rattle.rvmc_gdb.specs.declared.session.Who.{Who}
-use Rattle.rvmc_gdb.specs.Serving.{Serving, done, own_thread, rank_or, ranks_of, refused, who_of, with_who}
+use Rattle.rvmc_gdb.specs.Serving.{Serving, done, own_thread, ranks_of, refused, who_of, with_who}
 
 -- ---- the thread that is meant
 
@@ -56,9 +56,11 @@ abbrev pub moved_who : Serving → Who
 moved_who serving = unwrap_or serving.moved (own_who serving)
 
 -- where a motion ended: its hart is meant from then on
+abbrev pub halt_who : Halt → Who
+halt_who halt = record { rank = halt.rank; hart = halt.hart }
+
 abbrev pub halted : Serving → Halt → Debugging → Serving
-halted old halt debugging =
-    record old { debugging = debugging; rank = rank_or old halt.rank; hart = halt.hart }
+halted old halt debugging = with_who (record old { debugging = debugging }) (halt_who halt)
 
 -- and that is told
 abbrev pub halt_text : Serving → Halt → List ℕ

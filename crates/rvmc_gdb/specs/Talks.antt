@@ -36,21 +36,21 @@ talk_begun serving = record { serving = serving; wanted = true; last = []; unrea
 abbrev pub written : Request → List ℕ → List ℕ
 written request reply = if kills request then [] else packet_of reply
 
-abbrev pub talk_after : Talk → List ℕ → Serving → List ℕ → Talk
-talk_after old payload serving reply = record {
+abbrev pub talk_after : Talk → List ℕ → Request → Serving → List ℕ → Talk
+talk_after old payload request serving reply = record {
   serving = serving;
-  wanted = old.wanted && not (quiets (request_in payload));
-  last = written (request_in payload) reply;
+  wanted = old.wanted && not (quiets request);
+  last = written request reply;
   unread = Some payload;
-  ended = leaves (request_in payload);
+  ended = leaves request;
 }
 
 -- the request of a payload is answered
-pub record Hears (old : Talk) (payload : List ℕ) (new : Talk) (text : List ℕ) : Type 0 where
+pub record Hears (old : Talk) (payload : List ℕ) (request : Request) (new : Talk) (text : List ℕ) : Type 0 where
   pub reply : List ℕ
-  pub answers : Answers old.serving (request_in payload) new.serving reply
-  pub stands : new ≡ talk_after old payload new.serving reply
-  pub is : text ≡ written (request_in payload) reply
+  pub answers : Answers old.serving request new.serving reply
+  pub stands : new ≡ talk_after old payload request new.serving reply
+  pub is : text ≡ written request reply
 
 -- a packet that repeats the one before it, where the client doesn't say that the answer has arrived: the client waited for
 -- the acknowledgement, and sent the packet once more. Where packets aren't acknowledged none is such
@@ -64,7 +64,7 @@ repeats talk payload = talk.wanted && is_unread talk.unread payload
 -- and such a packet isn't answered twice
 abbrev pub HearsUnless : Bool → Talk → List ℕ → Talk → List ℕ → Type 0
 HearsUnless true old payload new text = (new ≡ old) × (text ≡ [])
-HearsUnless false old payload new text = Hears old payload new text
+HearsUnless false old payload new text = Hears old payload (request_in payload) new text
 
 -- the client has the last packet
 abbrev pub read : Talk → Talk

@@ -94,19 +94,23 @@ impl Server {
     }
 
     /// Adds the answer to the request of a payload.
-    fn hear(&mut self, out: &mut Vec<u8>, payload: Payload) -> Result<(), AllocError>
+    fn hear(
+        &mut self,
+        out: &mut Vec<u8>,
+        payload: Payload,
+        request: &Request,
+    ) -> Result<(), AllocError>
         ensures place { OnOk result (self.new.place ≡ self.old.place) }
-        ensures hears { OnOk result ((text : List ℕ) × Hears self.old.talk payload self.new.talk text
+        ensures hears { OnOk result ((text : List ℕ) × Hears self.old.talk payload request.now self.new.talk text
             × (out.new.items ≡ out.old.items ++ text)) }
     {
-        let request = request_in(self.alloc, payload.as_slice())?;
-        let reply = self.session.answer(&request)?;
-        let packet = self.written(&request, reply.as_slice())?;
+        let reply = self.session.answer(request)?;
+        let packet = self.written(request, reply.as_slice())?;
         out.extend_from_slice(packet.as_slice())?;
         self.last = packet;
-        self.wanted = self.wanted && !quiets(&request);
-        self.ended = leaves(&request);
         self.unread = Some(payload);
+        self.wanted = self.wanted && !quiets(request);
+        self.ended = leaves(request);
         Ok(())
     }
 
@@ -125,10 +129,10 @@ impl Server {
             × (out.new.items ≡ out.old.items ++ text)) }
     {
         if self.repeats(payload.as_slice()) {
-            Ok(())
-        } else {
-            self.hear(out, payload)
+            return Ok(());
         }
+        let request = request_in(self.alloc, payload.as_slice())?;
+        self.hear(out, payload, &request)
     }
 
     /// Adds what is answered to a message behind its acknowledgement.

@@ -75,11 +75,7 @@ impl Session {
 
     /// A session with this rank at the debugger's place, or with all ranks, of which the first is meant; with no points.
     /// NoRank where the rank isn't there.
-    pub fn open(
-        alloc: Global,
-        debugger: Debugger,
-        rank: Option<u8>,
-    ) -> Result<Session, DebugFault>
+    pub fn open(alloc: Global, debugger: Debugger, rank: Option<u8>) -> Result<Session, DebugFault>
         ensures opened { IfOk result (λ session. session ≡ opened debugger rank) }
         ensures no_rank { (result ≡ Err NoRank) ↔ (debugger.image.ranks ≤ unwrap_or rank 0) }
         ensures fault { IfErr result (λ fault. fault ≡ NoRank) }

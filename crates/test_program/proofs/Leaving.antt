@@ -5,10 +5,10 @@ use Rattle.std.proofs.lemmas.List.{append-nil}
 use Rattle.cl_machine.specs.declared.steps.Step.{Step}
 use Rattle.cl_text.specs.Reading.{reading_record}
 use Rattle.rv_image.specs.declared.images.ImageParts.{ImageParts}
-use Rattle.rvmc_gdb.specs.Answers.{Answers, leaves, most}
+use Rattle.rvmc_gdb.specs.Answers.{most}
 use Rattle.rvmc_gdb.specs.Laws.{HeardLaw}
 use Rattle.rvmc_gdb.specs.Serving.{Serving}
-use Rattle.rvmc_gdb.specs.Talks.{Connection, Converses, Hears, Serves, Talk, connected, talk_begun, written}
+use Rattle.rvmc_gdb.specs.Talks.{Connection, Converses, Hears, Serves, Talk, connected, talk_begun}
 use Rattle.rvmc_packets.specs.Frames.{Holds, message_of, nothing, packet, packet_of}
 use Rattle.rvmc_packets.specs.Texts.{payload_in}
 use Rattle.rvmc_packets.specs.declared.reader.Message.{Message}
@@ -39,17 +39,15 @@ left : (serving : Serving) (talk : Talk) (text : List ℕ)
     → Converses (talk_begun serving) (Packet (68 ∷ []) ∷ []) talk text → Left talk text
 left serving talk text talks =
     let met = talks.3 in
-    let heard : Hears (talk_begun serving) (68 ∷ []) talks.0 met.reply = met.replies in
-    let answers : Answers serving Detach talks.0.serving heard.reply
-    = subst (λ request. Answers serving request talks.0.serving heard.reply) is_detach heard.answers in
+    let heard : Hears (talk_begun serving) (68 ∷ []) Detach talks.0 met.reply
+    = subst (λ request. Hears (talk_begun serving) (68 ∷ []) request talks.0 met.reply) is_detach met.replies in
     record {
-      ended = ap (λ (t : Talk). t.ended) (talks.4.0 ∙ heard.stands) ∙ ap leaves is_detach;
+      ended = ap (λ (t : Talk). t.ended) (talks.4.0 ∙ heard.stands);
       told = talks.5
           ∙ ap (λ l. talks.1 ++ l) talks.4.1
           ∙ append-nil talks.1
           ∙ met.is
-          ∙ ap (λ l. 43 ∷ l)
-          (heard.is ∙ ap (λ request. written request heard.reply) is_detach ∙ ap packet_of answers.1);
+          ∙ ap (λ l. 43 ∷ l) (heard.is ∙ ap packet_of heard.answers.1);
     }
 
 pub ends : HeardLaw → (serving : Serving) (new : Connection) (text : List ℕ)
