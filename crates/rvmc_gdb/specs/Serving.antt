@@ -1,7 +1,7 @@
 -- What contracts see of a session: a record and the place in it, and what a client chose and set.
 use Rattle.std.specs.Prelude.{ℕ, ◌+◌, ◌-◌, ◌*◌, ◌/◌, ◌%◌, ◌==◌, ◌||◌, nat_lt, min, Bool, true, false, List, [], codes}
-use Rattle.std.specs.Prelude.{Option, Some, None, is_some, not, if◌then◌else◌}
-use Rattle.std.specs.Option.{unwrap_or}
+use Rattle.std.specs.Prelude.{Option, Some, None, if◌then◌else◌}
+use Rattle.std.specs.Option.{is_none, unwrap_or}
 use Rattle.cl_debug.specs.Debugging.{Debugging}
 use Rattle.rvmc_motions.specs.declared.marks.Mark.{Mark}
 use Rattle.rvmc_motions.specs.declared.marks.Ranks.{Ranks}
@@ -22,7 +22,7 @@ pub record Serving : Type 0 where
 abbrev pub opened : Debugging → Option ℕ → Serving
 opened debugging rank = record {
   debugging = debugging;
-  all = not (is_some rank);
+  all = is_none rank;
   rank = unwrap_or rank 0;
   hart = 0;
   moved = None;

@@ -1,11 +1,12 @@
 -- The history of a record: it is there, and what a state shows is its place in it.
-use Rattle.std.specs.Prelude.{ℕ, zero, suc, ◌≡◌, ◌≤◌, List, [], ◌∷◌, length, take, slice_get, option_map}
+use Rattle.std.specs.Prelude.{ℕ, zero, suc, ◌≡◌, ◌≤◌, List, [], ◌∷◌, length, take, slice_get, Some, None, option_map}
 use Rattle.std.proofs.Common.{refl, sym, subst, ap, ◌∙◌}
 use Rattle.std.proofs.Math.Seq.{take-length}
 use Rattle.std.proofs.lemmas.Option.{slice_get-map}
 use Rattle.rv_image.specs.declared.images.ImageParts.{ImageParts}
 use Rattle.cl_state.specs.Rank.{Rank}
 use Rattle.cl_state.specs.Room.{rank_of}
+use Rattle.cl_state.specs.declared.state.RankState.{RankState}
 use Rattle.cl_machine.specs.Cluster.{Cluster, IsRun, loaded_cluster}
 use Rattle.cl_machine.specs.declared.steps.Step.{Step}
 use Rattle.cl_machine.proofs.Tables.{one_end}
@@ -47,9 +48,22 @@ history_law = record {
 }
 
 -- the rank of a state at a place
-pub own_rank : (image : ImageParts) (steps : List Step) (n : ℕ) (state : ClusterState) (rank : ℕ) (history : ℕ → Cluster)
+own_rank : (image : ImageParts) (steps : List Step) (n : ℕ) (state : ClusterState) (rank : ℕ) (history : ℕ → Cluster)
     → IsReached image steps n state → n ≤ length steps → IsHistory image steps history
     → slice_get (history n).ranks rank ≡ option_map rank_of (slice_get state.ranks.items rank)
 own_rank image steps n state rank history reached within is =
     ap (λ (c : Cluster). slice_get c.ranks rank) (sym (is n reached.cluster (within, reached.run)))
     ∙ ap (λ (xs : List Rank). slice_get xs rank) (reached.stands).ranks_are ∙ slice_get-map rank_of state.ranks.items rank
+
+pub own_some : (image : ImageParts) (steps : List Step) (n : ℕ) (state : ClusterState) (rank : ℕ) (history : ℕ → Cluster)
+    (own : RankState) → IsReached image steps n state → n ≤ length steps → IsHistory image steps history
+    → slice_get state.ranks.items rank ≡ Some own → slice_get (history n).ranks rank ≡ Some (rank_of own)
+own_some image steps n state rank history own reached within is there =
+    own_rank image steps n state rank history reached within is ∙ ap (option_map rank_of) there
+
+-- or none, where the state has none
+pub own_none : (image : ImageParts) (steps : List Step) (n : ℕ) (state : ClusterState) (rank : ℕ) (history : ℕ → Cluster)
+    → IsReached image steps n state → n ≤ length steps → IsHistory image steps history
+    → slice_get state.ranks.items rank ≡ None → slice_get (history n).ranks rank ≡ None
+own_none image steps n state rank history reached within is none =
+    own_rank image steps n state rank history reached within is ∙ ap (option_map rank_of) none

@@ -12,19 +12,64 @@ use Rattle.rvmc_motions.specs.declared.marks.Mover.{Mover}
 use Rattle.rvmc_replies.specs.declared.stops.Stop.TheVariants as ends
 use Rattle.rvmc_motions.specs.Motions.{IsFirstBehind, IsLastBefore, halt_at}
 use Rattle.rvmc_motions.specs.declared.turns.Whose.{Whose}
-use Rattle.rvmc_motions.specs.Turns.{backward_stop, forward_stop, next_at, own_turn, stop_between, turn_at, turn_stop}
+use Rattle.rvmc_motions.specs.declared.marks.Motion.{Motion}
+use Rattle.rvmc_motions.specs.declared.marks.Motion.TheVariants as motions
+use Rattle.rvmc_motions.specs.Turns.{backward_stop, break_at, forward_stop, is_live, next_at, own_turn, place_stop, stop_behind}
+use Rattle.rvmc_motions.specs.Turns.{stop_between, turn_at, turn_stop}
+use Rattle.rvmc_motions.specs.Watching.{seen_all}
 use Rattle.rvmc_motions.specs.Walking.{IsLastIn, later}
 
 module _ (mover : Mover) (marks : List Mark) (steps : List Step) (history : ℕ → Cluster) (place : ℕ) where
   -- a turn of one of the ranks
-  pub own_told : (turn : Whose) (before behind : Option Rank) (told : Option Halt)
-      → own_turn mover.ranks (slice_get steps place) ≡ Some turn → slice_get (history place).ranks turn.rank ≡ before
-      → slice_get (history (place + 1)).ranks turn.rank ≡ behind → told ≡ stop_between mover marks turn before behind
+  pub own_told : (turn : Whose) (before behind : Rank) (told : Option Halt)
+      → own_turn mover.ranks (slice_get steps place) ≡ Some turn
+      → slice_get (history place).ranks turn.rank ≡ Some before
+      → slice_get (history (place + 1)).ranks turn.rank ≡ Some behind
+      → told ≡ stop_behind mover turn (is_live (slice_get before.harts turn.hart)) (seen_all before turn.rank turn.hart marks) behind
       → told ≡ turn_at mover marks steps history place
   own_told turn before behind told own b c is =
-      is ∙ ap (λ o. stop_between mover marks turn o behind) (sym b)
+      is ∙ ap (λ o. stop_between mover marks turn o (Some behind)) (sym b)
       ∙ ap (stop_between mover marks turn (slice_get (history place).ranks turn.rank)) (sym c)
       ∙ ap (λ o. turn_stop mover marks o (history place) (history (place + 1))) (sym own)
+
+  -- of a rank that isn't there, before it or behind it
+  pub none_before_told : (turn : Whose) → own_turn mover.ranks (slice_get steps place) ≡ Some turn
+      → slice_get (history place).ranks turn.rank ≡ None → None ≡ turn_at mover marks steps history place
+  none_before_told turn own none =
+      ap (λ o. stop_between mover marks turn o (slice_get (history (place + 1)).ranks turn.rank)) (sym none)
+      ∙ ap (λ o. turn_stop mover marks o (history place) (history (place + 1))) (sym own)
+
+  no_rank : (turn : Whose) (before : Option Rank) → None ≡ stop_between mover marks turn before None
+  no_rank turn None = refl
+  no_rank turn (Some before) = refl
+
+  pub none_behind_told : (turn : Whose) → own_turn mover.ranks (slice_get steps place) ≡ Some turn
+      → slice_get (history (place + 1)).ranks turn.rank ≡ None → None ≡ turn_at mover marks steps history place
+  none_behind_told turn own none =
+      no_rank turn (slice_get (history place).ranks turn.rank)
+      ∙ ap (stop_between mover marks turn (slice_get (history place).ranks turn.rank)) (sym none)
+      ∙ ap (λ o. turn_stop mover marks o (history place) (history (place + 1))) (sym own)
+
+  -- what comes next: for a step nothing, and for a run what the turn's rank has there
+  pub next_step : mover.motion ≡ motions.Step → None ≡ next_at mover marks steps history place
+  next_step step =
+      ap (λ m. place_stop m marks (own_turn mover.ranks (slice_get steps place)) (history place)) (sym step)
+
+  no_turn : (motion : Motion) → None ≡ place_stop motion marks None (history place)
+  no_turn motions.Step = refl
+  no_turn motions.Run = refl
+
+  pub next_other : own_turn mover.ranks (slice_get steps place) ≡ None → None ≡ next_at mover marks steps history place
+  next_other other =
+      no_turn mover.motion ∙ ap (λ o. place_stop mover.motion marks o (history place)) (sym other)
+
+  pub next_told : (turn : Whose) (owner : Option Rank) (told : Option Halt) → mover.motion ≡ motions.Run
+      → own_turn mover.ranks (slice_get steps place) ≡ Some turn → slice_get (history place).ranks turn.rank ≡ owner
+      → told ≡ break_at marks turn owner → told ≡ next_at mover marks steps history place
+  next_told turn owner told run own there is =
+      is ∙ ap (break_at marks turn) (sym there)
+      ∙ ap (λ o. place_stop motions.Run marks o (history place)) (sym own)
+      ∙ ap (λ m. place_stop m marks (own_turn mover.ranks (slice_get steps place)) (history place)) (sym run)
 
   -- and of any other
   pub other_told : own_turn mover.ranks (slice_get steps place) ≡ None → None ≡ turn_at mover marks steps history place
