@@ -1,11 +1,6 @@
 -- The idle turn of a stopped hart ends no motion.
-use Rattle.std.specs.Prelude.{ℕ, ◌≡◌, ◌&&◌, Bool, true, false, not, List, Option, None}
+use Rattle.std.specs.Prelude.{◌≡◌, ◌&&◌, Bool, true, false}
 use Rattle.std.proofs.Common.{refl}
-use Rattle.rv_hart.specs.State.{State}
-use Rattle.cl_state.specs.Rank.{Rank}
-use Rattle.rvmc_motions.specs.declared.marks.Mark.{Mark}
-use Rattle.rvmc_motions.specs.declared.marks.Mover.{Mover}
-use Rattle.rvmc_motions.specs.declared.turns.Whose.{Whose}
 use Rattle.rvmc_motions.specs.Laws.{IdleLaw}
 use Rattle.rvmc_motions.specs.Turns.{is_meant}
 

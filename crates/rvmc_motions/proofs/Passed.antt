@@ -1,14 +1,11 @@
 -- The places that a motion passes.
-use Rattle.std.specs.Prelude.{ℕ, ◌≡◌, ◌<◌, ◌≤◌, ◌⊎◌, List, length, Option, Some, None}
+use Rattle.std.specs.Prelude.{ℕ, ◌<◌, length, Option}
 use Rattle.std.proofs.Common.{arith, inl, inr}
-use Rattle.cl_machine.specs.Cluster.{Cluster}
-use Rattle.cl_debug.specs.Debugging.{Debugging}
 use Rattle.rvmc_motions.specs.declared.marks.Halt.{Halt}
-use Rattle.rvmc_motions.specs.declared.marks.Mark.{Mark}
 use Rattle.rvmc_motions.specs.declared.marks.Mover.{Mover}
 use Rattle.rvmc_motions.specs.Laws.{PassesNoneLaw}
-use Rattle.rvmc_motions.specs.Motions.{GoesBackwards, GoesForwards, IsFirstBehind, IsLastBefore, NoneBetween}
-use Rattle.rvmc_motions.specs.Turns.{IsHistory, backward_stop, forward_stop}
+use Rattle.rvmc_motions.specs.Motions.{IsFirstBehind, IsLastBefore, NoneBetween}
+use Rattle.rvmc_motions.specs.Turns.{backward_stop, forward_stop}
 
 module _ (stops : ℕ → Option Halt) (from to : ℕ) (mover : Mover) (halt : Halt) where
   passed : (length : ℕ) → IsFirstBehind stops from length mover to halt → NoneBetween stops from to
