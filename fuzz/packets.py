@@ -40,13 +40,16 @@ def payload_of(text):
     return bytes(found)
 
 
-def messages(stream):
-    """What a stream holds, in order: `again`, `wrong`, or a packet's payload. A `$` within a packet begins another."""
+def messages(stream, arrivals=False):
+    """What a stream holds, in order: `again`, `wrong`, or a packet's payload, and with `arrivals` also `arrived`. A `$` within
+    a packet begins another."""
     at, found = 0, []
     while at < len(stream):
         if stream[at] != ord("$"):
             if stream[at] == ord("-"):
                 found.append("again")
+            if stream[at] == ord("+") and arrivals:
+                found.append("arrived")
             at += 1
             continue
         end = re.compile(rb"[$#]").search(stream, at + 1)
@@ -69,9 +72,13 @@ def messages(stream):
 
 def wrong(stream, answers):
     """What is wrong with the answers to a stream, or None: each packet is acknowledged and answered by one packet with a right
-    sum, in order, what is no packet by nothing, and nothing stands behind the answer to `D` or in place of one to `k`."""
-    at, acknowledged, last = 0, True, b""
-    for message in messages(stream):
+    sum, in order, what is no packet by nothing, and nothing stands behind the answer to `D` or in place of one to `k`. While
+    packets are acknowledged, one that repeats the one before it, with no `+` between them, isn't answered once more."""
+    at, acknowledged, last, unread = 0, True, b"", None
+    for message in messages(stream, arrivals=True):
+        if message == "arrived":
+            unread = None
+            continue
         if message == "again":
             if not answers.startswith(last, at):
                 return f"at {at}: not the last packet again"
@@ -82,8 +89,9 @@ def wrong(stream, answers):
             if not answers.startswith(sign, at):
                 return f"at {at}: {answers[at : at + 20]!r} in place of {sign!r} for {message[:40]!r}"
             at += 1
-        if message == "wrong":
+        if message == "wrong" or (acknowledged and message == unread):
             continue
+        unread = message
         if message == b"k":
             break
         found = re.compile(rb"\$([^$#]*)#([0-9a-f]{2})").match(answers, at)

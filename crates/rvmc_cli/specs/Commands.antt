@@ -1,7 +1,7 @@
 -- The commands, one row each: its name, what clap reads for it, and what it asks for.
 use Rattle.std.specs.Prelude.{ℕ, ⊤, Bool, false, true, List, [], ◌∷◌, ◌++◌, Option, Some, None, if◌then◌else◌, codes, map, not, option_map}
 use Rattle.std.specs.Prelude.{option_and_then}
-use Rattle.std.specs.Option.{option_map_or}
+use Rattle.std.specs.Option.{option_map_or, unwrap_or}
 use Rattle.std.specs.Str.{bytes_eq}
 use Rattle.clap.specs.Words.{App, Row, Rule, Text, all_of, first_of, new_app}
 use Rattle.rvmc_cli.specs.App.{flag, option, texts, top_app, with_commands, with_rules}
@@ -259,13 +259,21 @@ debug_row =
           (all_of (codes "words") rows);
     }
 
--- `gdb [--rank R]`, R from 0 to 255
+-- one rank, or the first where none is named; with `--all` all of them, and then none is named
+abbrev pub session_of : Bool → Option ℕ → Option CommandLine
+session_of true None = Some (Session None)
+session_of true (Some rank) = None
+session_of false rank = Some (Session (Some (unwrap_or rank 0)))
+
+-- `gdb [--rank R | --all]`, R from 0 to 255
 abbrev pub gdb_row : CommandRow
 gdb_row =
     record {
       name = codes "gdb";
-      rules = option (codes "rank") ∷ [];
-      meaning = λ rows. option_map (λ rank. Session rank) (number_option (codes "rank") 0 255 0 rows);
+      rules = option (codes "rank") ∷ flag (codes "all") ∷ [];
+      meaning = λ rows.
+          option_and_then (λ rank. session_of (flag_in (codes "all") rows) rank)
+          (optional_number (codes "rank") 0 255 rows);
     }
 
 -- `why [--at N] [--frames]`, N below 2^64

@@ -1,14 +1,14 @@
-//! `gdb [--rank R]`.
+//! `gdb [--rank R | --all]`.
 
-ghost use Rattle.std.specs.Prelude.{IfOk};
+ghost use Rattle.std.specs.Prelude.{IfOk, Some};
 ghost use Rattle.clap.specs.Walk.{rows_of};
 ghost use Rattle.clap.specs.Words.{found_of};
 ghost use Rattle.rvmc_cli.specs.Built.{StandsFor};
-ghost use Rattle.rvmc_cli.specs.Commands.{app_of, gdb_row};
-ghost use Rattle.rvmc_cli.specs.Parsing.{Finds};
+ghost use Rattle.rvmc_cli.specs.Commands.{app_of, gdb_row, session_of};
+ghost use Rattle.rvmc_cli.specs.Parsing.{Finds, Reads};
 
 use crate::parts::{Help, Part, command as new_command};
-use crate::values::number;
+use crate::values::{self, optional_number};
 use crate::wrong::Wrong;
 use clap::{ArgMatches, Command};
 use rvmc_line::CommandLine;
@@ -17,7 +17,8 @@ use std::alloc::{AllocError, Global};
 /// What help says below its options.
 const EXAMPLES: &str = "\
 gdb debugs one rank of the record, forwards and backwards, with its harts as
-threads; the other ranks move with it. gdb starts rvmc by itself:
+threads; the other ranks move with it. With --all every hart of every rank is a
+thread of one session. gdb starts rvmc by itself:
 
   $ gdb-multiarch farm.elf
   (gdb) target remote | rvmc gdb --rank 1 farm.record
@@ -46,10 +47,13 @@ Status:
 Examples:
   rvmc run --record farm.image -o farm.record
   gdb-multiarch -ex 'target remote | rvmc gdb farm.record' farm.elf
-  gdb-multiarch -ex 'target remote | rvmc gdb --rank 1 hi.record'";
+  gdb-multiarch -ex 'target remote | rvmc gdb --all farm.record' farm.elf";
 
 /// Its parts, in the order in which help lists them.
-static PARTS: &[Part] = &[Part::Option("rank", "R", "Debug this rank [default: 0]")];
+static PARTS: &[Part] = &[
+    Part::Option("rank", "R", "Debug this rank [default: 0]"),
+    Part::Flag("all", "Debug all ranks in one session"),
+];
 
 /// The command as clap builds it.
 pub fn command<'a>(alloc: Global) -> Result<Command<'a>, AllocError>
@@ -67,10 +71,25 @@ pub fn command<'a>(alloc: Global) -> Result<Command<'a>, AllocError>
     )
 }
 
+/// The session of one rank, or of all.
+fn session<'a>(all: bool, rank: Option<u64>) -> Result<CommandLine, Wrong<'a>>
+    ensures { Reads (session_of all rank) result }
+{
+    match (all, rank) {
+        (true, None) => Ok(CommandLine::Session { rank: None }),
+        (true, Some(_)) => Err(Wrong::Both {
+            flag: "all",
+            other: "rank",
+        }),
+        (false, None) => Ok(CommandLine::Session { rank: Some(0) }),
+        (false, Some(rank)) => Ok(CommandLine::Session { rank: Some(rank) }),
+    }
+}
+
 /// What it asks for, of what clap found.
 pub fn line<'a>(_alloc: Global, matches: &ArgMatches<'a>) -> Result<CommandLine, Wrong<'a>>
     ensures { Finds (gdb_row.meaning (rows_of (found_of matches.now))) result }
 {
-    let rank = number(matches, "rank", 0, 255, 0)?;
-    Ok(CommandLine::Session { rank })
+    let rank = optional_number(matches, "rank", 0, 255)?;
+    session(values::flag(matches, "all"), rank)
 }

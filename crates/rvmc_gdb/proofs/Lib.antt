@@ -2,5 +2,6 @@ pub mod Agree
 pub mod Heard
 pub mod Methods
 pub mod Stays
+pub mod Threads
 pub mod Told
 pub mod Walks

@@ -15,6 +15,7 @@ use Rattle.rvmc_words.specs.declared.debug.DebugWord.TheVariants as word
 use Rattle.rvmc_inspect.specs.Words.{Does, Refuses}
 use Rattle.rvmc_inspect.specs.Why.{IsWhy}
 use Rattle.rvmc_motions.specs.declared.marks.Mark.{Mark}
+use Rattle.rvmc_gdb.specs.declared.session.Who.{Who}
 use Rattle.rvmc_gdb.specs.Points.{Inserts, IsOwner, Sets, can_add, has_mark, marks_with, with_marks}
 use Rattle.rvmc_gdb.specs.Serving.{Serving, done, refused}
 use Rattle.rvmc_gdb.specs.Shown.{IsLine, line_at}
@@ -80,12 +81,12 @@ why_printed old seen image state text is reached same why =
     subst (λ (s : Serving). PrintsWhy s text) is
     (state, reached, subst (λ (i : ImageParts). IsWhy false i state text) same why)
 
-pub line_found : (old seen : Serving) (hart : ℕ) (symbols : List Symbol) (state : ClusterState) (line : Option (List ℕ))
+pub line_found : (old seen : Serving) (who : Who) (symbols : List Symbol) (state : ClusterState) (line : Option (List ℕ))
     → seen ≡ old → IsReached seen.debugging.image seen.debugging.steps seen.debugging.place state
-    → symbols ≡ seen.debugging.image.symbols → line ≡ line_at symbols state seen.rank hart → IsLine old hart line
-line_found old seen hart symbols state line is reached same found =
-    subst (λ (s : Serving). IsLine s hart line) is
-    (state, reached, found ∙ ap (λ names. line_at names state seen.rank hart) same)
+    → symbols ≡ seen.debugging.image.symbols → line ≡ line_at symbols state who.rank who.hart → IsLine old who line
+line_found old seen who symbols state line is reached same found =
+    subst (λ (s : Serving). IsLine s who line) is
+    (state, reached, found ∙ ap (λ names. line_at names state who.rank who.hart) same)
 
 -- ---- points
 

@@ -11,7 +11,7 @@ use Rattle.rvmc_motions.specs.declared.marks.Mark.{Mark}
 use Rattle.rvmc_motions.specs.declared.marks.Mover.{Mover}
 use Rattle.rvmc_packets.specs.Reading.{told}
 use Rattle.rvmc_packets.specs.declared.reader.Message.{Message}
-use Rattle.rvmc_packets.specs.declared.reader.Message.TheVariants.{Again, Packet, Wrong}
+use Rattle.rvmc_packets.specs.declared.reader.Message.TheVariants.{Again, Arrived, Packet, Wrong}
 use Rattle.rvmc_requests.specs.Requests.{request_in}
 use Rattle.rvmc_requests.specs.declared.requests.Request.{Request}
 use Rattle.rvmc_requests.specs.declared.requests.Request.TheVariants as request
@@ -21,10 +21,11 @@ use Rattle.rvmc_requests.specs.declared.threads.Thread.TheVariants as thread
 use Rattle.rvmc_words.specs.declared.debug.DebugWord.TheVariants as word
 use Rattle.rvmc_gdb.specs.Answers.{Answers}
 use Rattle.rvmc_gdb.specs.Laws.{RecordStaysLaw}
-use Rattle.rvmc_gdb.specs.Moving.{Backwards, Forwards, Selects, SelectsHart, SelectsMoved, SelectsMovedHart, Steps, StepsThread}
+use Rattle.rvmc_gdb.specs.declared.session.Who.{Who}
+use Rattle.rvmc_gdb.specs.Moving.{Backwards, Forwards, Selects, SelectsMoved, SelectsMovedWho, SelectsWho, Steps, StepsThread}
 use Rattle.rvmc_gdb.specs.Points.{Sets}
-use Rattle.rvmc_gdb.specs.Serving.{Serving, hart_of}
-use Rattle.rvmc_gdb.specs.Talks.{Connection, MeetsTold, MeetsUnless, Replies, Serves, Talk}
+use Rattle.rvmc_gdb.specs.Serving.{Serving, who_of, with_who}
+use Rattle.rvmc_gdb.specs.Talks.{Connection, HearsUnless, MeetsTold, MeetsUnless, Replies, Serves, Talk, read, repeats}
 use Rattle.rvmc_gdb.specs.Typing.{Debugs, Prints, with_rank}
 
 -- the same image and the same steps, and a rank that is there
@@ -55,40 +56,68 @@ kept_at old new n rank moved =
           (subst (λ (i : ImageParts). old.rank < i.ranks) (sym image) there);
     }
 
+-- whichever rank is meant, it is there
+rank_there : (ranks rank own : ℕ) (there : Bool) → nat_lt rank ranks ≡ there → own < ranks
+    → (if there then rank else own) < ranks
+rank_there ranks rank own true low inside = ltb-true rank ranks low
+rank_there ranks rank own false low inside = inside
+
+kept_or : (old new : Serving) (n rank : ℕ)
+    → new.rank ≡ (if nat_lt rank new.debugging.image.ranks then rank else old.rank)
+    → new.debugging ≡ at_place old.debugging n → IsKept old new
+kept_or old new n rank is moved =
+    let image = ap (λ (d : Debugging). d.image) moved in
+    record {
+      image = image;
+      steps = ap (λ (d : Debugging). d.steps) moved;
+      rank = λ there.
+          subst (λ r. r < new.debugging.image.ranks) (sym is)
+          (rank_there new.debugging.image.ranks rank old.rank (nat_lt rank new.debugging.image.ranks) refl
+          (subst (λ (i : ImageParts). old.rank < i.ranks) (sym image) there));
+    }
+
 -- ---- motions
 
 kept_on : (old new : Serving) (mover : Mover) (text : List ℕ) → Forwards old mover new text → IsKept old new
-kept_on old new mover text a = kept_at old new new.debugging.place (ap (λ (s : Serving). s.rank) a.stands) a.goes.moved
+kept_on old new mover text a =
+    kept_or old new new.debugging.place a.halt.rank (ap (λ (s : Serving). s.rank) a.stands) a.goes.moved
 
 kept_back : (old new : Serving) (mover : Mover) (text : List ℕ) → Backwards old mover new text → IsKept old new
-kept_back old new mover text a = kept_at old new new.debugging.place (ap (λ (s : Serving). s.rank) a.stands) a.goes.moved
+kept_back old new mover text a =
+    kept_or old new new.debugging.place a.halt.rank (ap (λ (s : Serving). s.rank) a.stands) a.goes.moved
 
-kept_steps : (old new : Serving) (hart : Option ℕ) (text : List ℕ) → Steps old hart new text → IsKept old new
+kept_steps : (old new : Serving) (who : Option Who) (text : List ℕ) → Steps old who new text → IsKept old new
 kept_steps old new None text a = kept_as old old new a.0 (kept_same old)
-kept_steps old new (Some hart) text a = kept_on old new _ text a
+kept_steps old new (Some who) text a = kept_on old new _ text a
 
 kept_thread : (old new : Serving) (which : Thread) (text : List ℕ) → StepsThread old which new text → IsKept old new
 kept_thread old new thread.All text a = kept_on old new _ text a
 kept_thread old new thread.Any text a = kept_on old new _ text a
-kept_thread old new (thread.One number) text a = kept_steps old new (hart_of old.debugging.image.harts number) text a
+kept_thread old new (thread.One number) text a = kept_steps old new (who_of old number) text a
 
-kept_hart : (old new : Serving) (hart : Option ℕ) (text : List ℕ) → SelectsHart old hart new text → IsKept old new
-kept_hart old new None text a = kept_as old old new a.0 (kept_same old)
-kept_hart old new (Some hart) text a = kept_as old _ new a.0 (record { image = refl; steps = refl; rank = λ there. there })
+kept_who : (old new : Serving) (who : Option Who) (text : List ℕ) → SelectsWho old who new text → IsKept old new
+kept_who old new None text a = kept_as old old new a.0 (kept_same old)
+kept_who old new (Some who) text a =
+    kept_as old (with_who old who) new a.0
+    (record {
+      image = refl;
+      steps = refl;
+      rank = rank_there old.debugging.image.ranks who.rank old.rank (nat_lt who.rank old.debugging.image.ranks) refl;
+    })
 
-kept_moved : (old new : Serving) (hart : Option ℕ) (text : List ℕ) → SelectsMovedHart old hart new text → IsKept old new
+kept_moved : (old new : Serving) (who : Option Who) (text : List ℕ) → SelectsMovedWho old who new text → IsKept old new
 kept_moved old new None text a = kept_as old old new a.0 (kept_same old)
-kept_moved old new (Some hart) text a = kept_as old _ new a.0 (record { image = refl; steps = refl; rank = λ there. there })
+kept_moved old new (Some who) text a = kept_as old _ new a.0 (record { image = refl; steps = refl; rank = λ there. there })
 
 kept_select : (old new : Serving) (which : Thread) (text : List ℕ) → Selects old which new text → IsKept old new
 kept_select old new thread.All text a = kept_as old old new a.0 (kept_same old)
 kept_select old new thread.Any text a = kept_as old old new a.0 (kept_same old)
-kept_select old new (thread.One number) text a = kept_hart old new (hart_of old.debugging.image.harts number) text a
+kept_select old new (thread.One number) text a = kept_who old new (who_of old number) text a
 
 kept_select_moved : (old new : Serving) (which : Thread) (text : List ℕ) → SelectsMoved old which new text → IsKept old new
 kept_select_moved old new thread.All text a = kept_as old _ new a.0 (record { image = refl; steps = refl; rank = λ there. there })
 kept_select_moved old new thread.Any text a = kept_as old _ new a.0 (record { image = refl; steps = refl; rank = λ there. there })
-kept_select_moved old new (thread.One number) text a = kept_moved old new (hart_of old.debugging.image.harts number) text a
+kept_select_moved old new (thread.One number) text a = kept_moved old new (who_of old number) text a
 
 kept_sets : (old new : Serving) (marks : Option (List Mark)) (text : List ℕ) → Sets old marks new text → IsKept old new
 kept_sets old new None text a = kept_as old old new a.0 (kept_same old)
@@ -139,6 +168,9 @@ kept_prints old new typed.Unknown text a = kept_as old old new a.0 (kept_same ol
 kept : (old new : Serving) (asked : Request) (text : List ℕ) → Answers old asked new text → IsKept old new
 kept old new request.Supported text a = kept_as old old new a.0 (kept_same old)
 kept old new (request.Description from count) text a = kept_as old old new a.0 (kept_same old)
+kept old new (request.ThreadList from count) text a = kept_as old old new a.0 (kept_same old)
+kept old new request.HostInfo text a = kept_as old old new a.0 (kept_same old)
+kept old new request.ProcessInfo text a = kept_as old old new a.0 (kept_same old)
 kept old new request.Why text a = kept_as old old new a.0 (kept_same old)
 kept old new (request.Select which) text a = kept_select old new which text a
 kept old new (request.SelectMoved which) text a = kept_select_moved old new which text a
@@ -169,10 +201,20 @@ kept old new request.Unknown text a = kept_as old old new a.0 (kept_same old)
 
 -- ---- messages and bytes
 
+kept_talk : (old new one : Talk) → new ≡ one → one.serving ≡ old.serving → IsKept old.serving new.serving
+kept_talk old new one is same =
+    kept_as old.serving old.serving new.serving (ap (λ (t : Talk). t.serving) is ∙ same) (kept_same old.serving)
+
+kept_heard : (again : Bool) (old new : Talk) (payload text : List ℕ) → HearsUnless again old payload new text
+    → IsKept old.serving new.serving
+kept_heard true old new payload text a = kept_talk old new old a.0 refl
+kept_heard false old new payload text a = kept old.serving new.serving (request_in payload) a.reply a.answers
+
 kept_reply : (old new : Talk) (message : Message) (text : List ℕ) → Replies old message new text → IsKept old.serving new.serving
-kept_reply old new (Packet payload) text a = kept old.serving new.serving (request_in payload) a.reply a.answers
+kept_reply old new (Packet payload) text a = kept_heard (repeats old payload) old new payload text a
 kept_reply old new Wrong text a = kept_as old.serving old.serving new.serving (ap (λ (t : Talk). t.serving) a.0) (kept_same old.serving)
 kept_reply old new Again text a = kept_as old.serving old.serving new.serving (ap (λ (t : Talk). t.serving) a.0) (kept_same old.serving)
+kept_reply old new Arrived text a = kept_talk old new (read old) a.0 refl
 
 kept_unless : (ended : Bool) (old new : Talk) (message : Message) (text : List ℕ) → MeetsUnless ended old message new text
     → IsKept old.serving new.serving

@@ -2,17 +2,18 @@
 use Rattle.std.specs.Prelude.{ℕ, ◌≡◌, Bool, true, false, List, [], codes}
 use Rattle.rvmc_replies.specs.Features.{description_text}
 use Rattle.rvmc_replies.specs.Parts.{part_of}
-use Rattle.rvmc_replies.specs.Threads.{current_text, supported_text, threads_text}
+use Rattle.rvmc_replies.specs.Threads.{current_text, host_text, process_text, supported_text, threads_text}
 use Rattle.hex.specs.Hex.{encode_lower}
 use Rattle.rvmc_requests.specs.declared.requests.Request.{Request}
-use Rattle.rvmc_requests.specs.declared.requests.Request.TheVariants.{Supported, Description, Why, Select, SelectMoved, Alive}
+use Rattle.rvmc_requests.specs.declared.requests.Request.TheVariants.{Supported, Description, ThreadList, HostInfo, ProcessInfo}
+use Rattle.rvmc_requests.specs.declared.requests.Request.TheVariants.{Why, Select, SelectMoved, Alive}
 use Rattle.rvmc_requests.specs.declared.requests.Request.TheVariants.{Current, FirstThreads, MoreThreads, ThreadText, Registers}
 use Rattle.rvmc_requests.specs.declared.requests.Request.TheVariants.{Register, Bytes, RawBytes, Moves, Move, StepBack, GoBack}
 use Rattle.rvmc_requests.specs.declared.requests.Request.TheVariants.{Insert, Remove, Detach, Kill, Monitor, NoAcknowledgements}
 use Rattle.rvmc_requests.specs.declared.requests.Request.TheVariants.{Change, Unknown}
 use Rattle.rvmc_gdb.specs.Moving.{Moves as MovesAs, RunsBack, Selects, SelectsMoved, StepsBack, standing_text}
 use Rattle.rvmc_gdb.specs.Points.{Inserts, Removes, mark_of}
-use Rattle.rvmc_gdb.specs.Serving.{Serving, done, hart_of, refused}
+use Rattle.rvmc_gdb.specs.Serving.{Serving, done, own_thread, refused, thread_count, who_of}
 use Rattle.rvmc_gdb.specs.Shown.{TellsBytes, TellsRegister, TellsRegisters, TellsThread, alive_text, raw_text}
 use Rattle.rvmc_gdb.specs.Typing.{Monitors}
 
@@ -26,14 +27,17 @@ Says old new reply text = (new ≡ old) × (reply ≡ text)
 
 -- A record can't be changed: what would change it is refused. What is no request is answered by nothing.
 abbrev pub Answers : Serving → Request → Serving → List ℕ → Type 0
-Answers old Supported new reply = Says old new reply (supported_text most)
+Answers old Supported new reply = Says old new reply (supported_text most false)
 Answers old (Description from count) new reply = Says old new reply (part_of description_text from count)
+Answers old (ThreadList from count) new reply = Says old new reply []
+Answers old HostInfo new reply = Says old new reply host_text
+Answers old ProcessInfo new reply = Says old new reply process_text
 Answers old Why new reply = Says old new reply (standing_text old)
 Answers old (Select thread) new reply = Selects old thread new reply
 Answers old (SelectMoved thread) new reply = SelectsMoved old thread new reply
-Answers old (Alive thread) new reply = Says old new reply (alive_text (hart_of old.debugging.image.harts thread))
-Answers old Current new reply = Says old new reply (current_text old.hart)
-Answers old FirstThreads new reply = Says old new reply (threads_text old.debugging.image.harts)
+Answers old (Alive thread) new reply = Says old new reply (alive_text (who_of old thread))
+Answers old Current new reply = Says old new reply (current_text (own_thread old))
+Answers old FirstThreads new reply = Says old new reply (threads_text (thread_count old))
 Answers old MoreThreads new reply = Says old new reply (codes "l")
 Answers old (ThreadText thread) new reply = (new ≡ old) × TellsThread old thread reply
 Answers old Registers new reply = (new ≡ old) × TellsRegisters old reply

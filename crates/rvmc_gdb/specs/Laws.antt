@@ -1,7 +1,7 @@
 -- The laws of sessions.
 use Rattle.std.specs.Prelude.{ℕ, ◌≡◌, ◌<◌, ◌*◌, ◌↔◌, true, List, [], ◌++◌, drop, take, Some}
 use Rattle.rv_hart.specs.State.{State}
-use Rattle.cl_state.specs.Rank.{Rank}
+use Rattle.cl_machine.specs.Cluster.{Cluster}
 use Rattle.rvmc_motions.specs.declared.marks.Mover.{Mover}
 use Rattle.rvmc_motions.specs.Turns.{IsHistory}
 use Rattle.rvmc_packets.specs.Frames.{Holds}
@@ -49,16 +49,16 @@ AgreeLaw =
 
 -- a motion's answer is told at one place, and is one text: of a session that stands somewhere no other answer is right
 pub record OneAnswerLaw : Type 0 where
-  pub on : (old one other : Serving) (mover : Mover) (s t : List ℕ) (history : ℕ → Rank)
-      → IsHistory old.debugging.image old.debugging.steps mover.rank history
+  pub on : (old one other : Serving) (mover : Mover) (s t : List ℕ) (history : ℕ → Cluster)
+      → IsHistory old.debugging.image old.debugging.steps history
       → Forwards old mover one s → Forwards old mover other t → (one ≡ other) × (s ≡ t)
-  pub back : (old one other : Serving) (mover : Mover) (s t : List ℕ) (history : ℕ → Rank)
-      → IsHistory old.debugging.image old.debugging.steps mover.rank history
+  pub back : (old one other : Serving) (mover : Mover) (s t : List ℕ) (history : ℕ → Cluster)
+      → IsHistory old.debugging.image old.debugging.steps history
       → Backwards old mover one s → Backwards old mover other t → (one ≡ other) × (s ≡ t)
 
 -- ---- the record
 
--- nothing that is asked changes the record, and a rank that is there is shown from then on
+-- nothing that is asked changes the record, and a rank that is there is meant from then on
 pub record RecordStaysLaw : Type 0 where
   pub image : (old new : Connection) (bytes text : List ℕ) → Serves old bytes new text
       → new.talk.serving.debugging.image ≡ old.talk.serving.debugging.image

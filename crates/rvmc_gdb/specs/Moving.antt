@@ -13,86 +13,94 @@ use Rattle.rvmc_requests.specs.declared.threads.Move.{Move}
 use Rattle.rvmc_requests.specs.declared.threads.Move.TheVariants.{Go, Step, Stop}
 use Rattle.rvmc_requests.specs.declared.threads.Thread.{Thread}
 use Rattle.rvmc_requests.specs.declared.threads.Thread.TheVariants.{All, Any, One}
-use Rattle.rvmc_gdb.specs.Serving.{Serving, done, hart_of, refused}
+use Rattle.rvmc_gdb.specs.declared.session.Who.{Who}
+use Rattle.rvmc_gdb.specs.Serving.{Serving, done, own_thread, ranks_of, refused, who_of, with_who}
 
 -- ---- the thread that is meant
 
--- at another hart
-abbrev pub with_hart : Serving → ℕ → Serving
-with_hart serving hart = record serving { hart = hart }
-
-abbrev pub with_moved : Serving → Option ℕ → Serving
-with_moved serving moved = record serving { moved = moved }
-
--- the hart of this number is meant, if there is one
-abbrev pub SelectsHart : Serving → Option ℕ → Serving → List ℕ → Type 0
-SelectsHart old None new text = (new ≡ old) × (text ≡ refused)
-SelectsHart old (Some hart) new text = (new ≡ with_hart old hart) × (text ≡ done)
+-- the hart of this thread is meant, if there is one
+abbrev pub SelectsWho : Serving → Option Who → Serving → List ℕ → Type 0
+SelectsWho old None new text = (new ≡ old) × (text ≡ refused)
+SelectsWho old (Some who) new text = (new ≡ with_who old who) × (text ≡ done)
 
 abbrev pub Selects : Serving → Thread → Serving → List ℕ → Type 0
 Selects old All new text = (new ≡ old) × (text ≡ done)
 Selects old Any new text = (new ≡ old) × (text ≡ done)
-Selects old (One thread) new text = SelectsHart old (hart_of old.debugging.image.harts thread) new text
+Selects old (One thread) new text = SelectsWho old (who_of old thread) new text
 
 -- ---- the thread that a step moves
 
-abbrev pub SelectsMovedHart : Serving → Option ℕ → Serving → List ℕ → Type 0
-SelectsMovedHart old None new text = (new ≡ old) × (text ≡ refused)
-SelectsMovedHart old (Some hart) new text = (new ≡ with_moved old (Some hart)) × (text ≡ done)
+abbrev pub with_moved : Serving → Option Who → Serving
+with_moved serving moved = record serving { moved = moved }
+
+abbrev pub SelectsMovedWho : Serving → Option Who → Serving → List ℕ → Type 0
+SelectsMovedWho old None new text = (new ≡ old) × (text ≡ refused)
+SelectsMovedWho old (Some who) new text = (new ≡ with_moved old (Some who)) × (text ≡ done)
 
 abbrev pub SelectsMoved : Serving → Thread → Serving → List ℕ → Type 0
 SelectsMoved old All new text = (new ≡ with_moved old None) × (text ≡ done)
 SelectsMoved old Any new text = (new ≡ with_moved old None) × (text ≡ done)
-SelectsMoved old (One thread) new text = SelectsMovedHart old (hart_of old.debugging.image.harts thread) new text
+SelectsMoved old (One thread) new text = SelectsMovedWho old (who_of old thread) new text
 
 -- ---- motions
 
-abbrev pub mover_of : Serving → ℕ → Motion → Mover
-mover_of serving hart motion = record { rank = serving.rank; hart = hart; motion = motion }
+abbrev pub mover_of : Serving → Who → Motion → Mover
+mover_of serving who motion = record { ranks = ranks_of serving; rank = who.rank; hart = who.hart; motion = motion }
 
--- the hart that a step moves where no thread is named
-abbrev pub moved_hart : Serving → ℕ
-moved_hart serving = unwrap_or serving.moved serving.hart
+-- the hart that is meant
+abbrev pub own_who : Serving → Who
+own_who serving = record { rank = serving.rank; hart = serving.hart }
+
+-- the one that a step moves where no thread is named
+abbrev pub moved_who : Serving → Who
+moved_who serving = unwrap_or serving.moved (own_who serving)
 
 -- where a motion ended: its hart is meant from then on
+abbrev pub halt_who : Halt → Who
+halt_who halt = record { rank = halt.rank; hart = halt.hart }
+
 abbrev pub halted : Serving → Halt → Debugging → Serving
-halted old halt debugging = record old { debugging = debugging; hart = halt.hart }
+halted old halt debugging = with_who (record old { debugging = debugging }) (halt_who halt)
+
+-- and that is told
+abbrev pub halt_text : Serving → Halt → List ℕ
+halt_text serving halt = stop_text halt.stop (own_thread serving)
 
 -- the session went forwards to where this motion ends, and tells why it ends there
 pub record Forwards (old : Serving) (mover : Mover) (new : Serving) (text : List ℕ) : Type 0 where
   pub halt : Halt
   pub goes : GoesForwards old.debugging old.marks mover halt new.debugging
   pub stands : new ≡ halted old halt new.debugging
-  pub told : text ≡ stop_text halt.stop halt.hart
+  pub told : text ≡ halt_text new halt
 
 -- and backwards
 pub record Backwards (old : Serving) (mover : Mover) (new : Serving) (text : List ℕ) : Type 0 where
   pub halt : Halt
   pub goes : GoesBackwards old.debugging old.marks mover halt new.debugging
   pub stands : new ≡ halted old halt new.debugging
-  pub told : text ≡ stop_text halt.stop halt.hart
+  pub told : text ≡ halt_text new halt
 
--- a step of a hart, if there is one of this number
-abbrev pub Steps : Serving → Option ℕ → Serving → List ℕ → Type 0
+-- a step of a thread's hart, if there is one
+abbrev pub Steps : Serving → Option Who → Serving → List ℕ → Type 0
 Steps old None new text = (new ≡ old) × (text ≡ refused)
-Steps old (Some hart) new text = Forwards old (mover_of old hart motions.Step) new text
+Steps old (Some who) new text = Forwards old (mover_of old who motions.Step) new text
 
 abbrev pub StepsThread : Serving → Thread → Serving → List ℕ → Type 0
-StepsThread old All new text = Forwards old (mover_of old (moved_hart old) motions.Step) new text
-StepsThread old Any new text = Forwards old (mover_of old (moved_hart old) motions.Step) new text
-StepsThread old (One thread) new text = Steps old (hart_of old.debugging.image.harts thread) new text
+StepsThread old All new text = Forwards old (mover_of old (moved_who old) motions.Step) new text
+StepsThread old Any new text = Forwards old (mover_of old (moved_who old) motions.Step) new text
+StepsThread old (One thread) new text = Steps old (who_of old thread) new text
 
 -- that the threads stand, for no cause
 abbrev pub standing_text : Serving → List ℕ
-standing_text serving = stop_text stops.Step serving.hart
+standing_text serving = stop_text stops.Step (own_thread serving)
 
 abbrev pub Moves : Serving → Move → Serving → List ℕ → Type 0
-Moves old Go new text = Forwards old (mover_of old old.hart motions.Run) new text
+Moves old Go new text = Forwards old (mover_of old (own_who old) motions.Run) new text
 Moves old (Step thread) new text = StepsThread old thread new text
 Moves old Stop new text = (new ≡ old) × (text ≡ standing_text old)
 
 abbrev pub StepsBack : Serving → Serving → List ℕ → Type 0
-StepsBack old new text = Backwards old (mover_of old (moved_hart old) motions.Step) new text
+StepsBack old new text = Backwards old (mover_of old (moved_who old) motions.Step) new text
 
 abbrev pub RunsBack : Serving → Serving → List ℕ → Type 0
-RunsBack old new text = Backwards old (mover_of old old.hart motions.Run) new text
+RunsBack old new text = Backwards old (mover_of old (own_who old) motions.Run) new text

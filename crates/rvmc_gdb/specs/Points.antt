@@ -1,5 +1,5 @@
 -- Points that are set and taken away.
-use Rattle.std.specs.Prelude.{ℕ, ◌≡◌, ◌≤◌, ◌==◌, ◌&&◌, ◌||◌, Bool, false, not, List, [], ◌∷◌, ◌++◌, length, if◌then◌else◌}
+use Rattle.std.specs.Prelude.{ℕ, ◌≡◌, ◌≤◌, ◌==◌, ◌&&◌, ◌||◌, Bool, true, false, not, List, [], ◌∷◌, ◌++◌, length, if◌then◌else◌}
 use Rattle.std.specs.Prelude.{nat_lt, Option, Some, None}
 use Rattle.std.specs.List.{filter, list_any}
 use Rattle.rv_memory.specs.Access.{is_readable}
@@ -8,22 +8,31 @@ use Rattle.cl_debug.specs.Shown.{ShowsRank}
 use Rattle.rvmc_requests.specs.Laws.{point_number}
 use Rattle.rvmc_requests.specs.declared.points.Point.{Point}
 use Rattle.rvmc_motions.specs.declared.marks.Mark.{Mark}
-use Rattle.rvmc_motions.specs.Marks.{is_watch_of}
-use Rattle.rvmc_gdb.specs.Serving.{Serving, done, refused}
+use Rattle.rvmc_motions.specs.declared.marks.Ranks.{Ranks}
+use Rattle.rvmc_motions.specs.declared.marks.Ranks.TheVariants as ranks
+use Rattle.rvmc_motions.specs.Marks.{is_watch}
+use Rattle.rvmc_gdb.specs.Serving.{Serving, done, ranks_of, refused}
 
 abbrev pub mark_of : Serving → Point → ℕ → ℕ → Mark
-mark_of serving point address size = record { rank = serving.rank; point = point; address = address; size = size }
+mark_of serving point address size =
+    record { ranks = ranks_of serving; point = point; address = address; size = size }
 
--- two marks are one: of one rank, one kind, one address and one size
+abbrev pub same_ranks : Ranks → Ranks → Bool
+same_ranks ranks.All ranks.All = true
+same_ranks ranks.All (ranks.One other) = false
+same_ranks (ranks.One rank) ranks.All = false
+same_ranks (ranks.One rank) (ranks.One other) = rank == other
+
+-- two marks are one: of the same ranks, one kind, one address and one size
 abbrev pub is_same : Mark → Mark → Bool
 is_same mark other =
-    other.rank == mark.rank
+    same_ranks other.ranks mark.ranks
     && (point_number other.point == point_number mark.point && (other.address == mark.address && other.size == mark.size))
 
 abbrev pub has_mark : List Mark → Mark → Bool
 has_mark marks mark = list_any (is_same mark) marks
 
--- the rank that is shown, as it is at the place, if the image has it
+-- the rank that is meant, as it is at the place, if the image has it
 abbrev pub IsOwner : Serving → Option Rank → Type 0
 IsOwner serving None = serving.debugging.image.ranks ≤ serving.rank
 IsOwner serving (Some owner) = ShowsRank serving.debugging serving.rank owner
@@ -35,7 +44,7 @@ can_watch (Some owner) mark = nat_lt 0 mark.size && is_readable owner.memory mar
 
 -- a breakpoint can be set anywhere
 abbrev pub can_stand : Option Rank → Mark → Bool
-can_stand owner mark = not (is_watch_of mark.rank mark) || can_watch owner mark
+can_stand owner mark = not (is_watch mark.point true) || can_watch owner mark
 
 -- how many points there are at most
 abbrev pub most_marks : ℕ

@@ -13,7 +13,8 @@ use Rattle.cl_replay.specs.declared.states.ClusterState.{ClusterState}
 use Rattle.cl_debug.specs.Shown.{IsOutside, ShowsBytes, ShowsHart}
 use Rattle.rvmc_inspect.specs.Texts.{hart_waits_text}
 use Rattle.rvmc_replies.specs.Digits.{register_text}
-use Rattle.rvmc_gdb.specs.Serving.{Serving, done, hart_of, refused}
+use Rattle.rvmc_gdb.specs.declared.session.Who.{Who}
+use Rattle.rvmc_gdb.specs.Serving.{Serving, done, refused, who_of}
 
 -- ---- registers
 
@@ -65,9 +66,9 @@ raw_text bytes = 98 ∷ bytes
 
 -- ---- threads
 
-abbrev pub alive_text : Option ℕ → List ℕ
+abbrev pub alive_text : Option Who → List ℕ
 alive_text None = refused
-alive_text (Some hart) = done
+alive_text (Some who) = done
 
 -- the lines that `why` has of the harts of a rank, cut at their ends
 abbrev pub wait_lines : List Symbol → ClusterState → ℕ → RankState → List (List ℕ)
@@ -80,16 +81,16 @@ line_at symbols state rank hart =
     option_and_then (λ owner. option_map encode_lower (slice_get (wait_lines symbols state rank owner) hart))
     (slice_get state.ranks.items rank)
 
--- of the rank that is shown, at the place
-abbrev pub IsLine : Serving → ℕ → Option (List ℕ) → Type 0
-IsLine serving hart line =
+-- at the place
+abbrev pub IsLine : Serving → Who → Option (List ℕ) → Type 0
+IsLine serving who line =
     (state : ClusterState) × IsReached serving.debugging.image serving.debugging.steps serving.debugging.place state
-    × (line ≡ line_at serving.debugging.image.symbols state serving.rank hart)
+    × (line ≡ line_at serving.debugging.image.symbols state who.rank who.hart)
 
-abbrev pub TellsHart : Serving → Option ℕ → List ℕ → Type 0
+abbrev pub TellsHart : Serving → Option Who → List ℕ → Type 0
 TellsHart serving None text = text ≡ refused
-TellsHart serving (Some hart) text =
-    (line : Option (List ℕ)) × IsLine serving hart line × (text ≡ unwrap_or line refused)
+TellsHart serving (Some who) text =
+    (line : Option (List ℕ)) × IsLine serving who line × (text ≡ unwrap_or line refused)
 
 abbrev pub TellsThread : Serving → ℕ → List ℕ → Type 0
-TellsThread serving thread text = TellsHart serving (hart_of serving.debugging.image.harts thread) text
+TellsThread serving thread text = TellsHart serving (who_of serving thread) text

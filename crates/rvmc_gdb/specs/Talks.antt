@@ -1,9 +1,10 @@
 -- A session over a stream of bytes: what is written is the answers to the packets that the stream holds, in order.
 use Rattle.std.specs.Prelude.{ℕ, ◌≡◌, Bool, true, false, not, ◌&&◌, List, [], ◌++◌, Option, Some, None, if◌then◌else◌}
+use Rattle.std.specs.Str.{bytes_eq}
 use Rattle.rvmc_packets.specs.Frames.{acknowledgement, packet_of}
 use Rattle.rvmc_packets.specs.Reading.{Place, next_place, outside_of, told}
 use Rattle.rvmc_packets.specs.declared.reader.Message.{Message}
-use Rattle.rvmc_packets.specs.declared.reader.Message.TheVariants.{Again, Packet, Wrong}
+use Rattle.rvmc_packets.specs.declared.reader.Message.TheVariants.{Again, Arrived, Packet, Wrong}
 use Rattle.rvmc_requests.specs.Requests.{request_in}
 use Rattle.rvmc_requests.specs.declared.requests.Request.{Request}
 use Rattle.rvmc_gdb.specs.Answers.{Answers, kills, leaves, most, quiets}
@@ -12,11 +13,13 @@ use Rattle.rvmc_gdb.specs.Serving.{Serving}
 use Rattle.rvmc_gdb.specs.declared.server.Flow.{Flow}
 use Rattle.rvmc_gdb.specs.declared.server.Flow.TheVariants.{Ended, On}
 
--- how a session stands; whether packets are acknowledged; the packet that was written last; and whether the client left
+-- how a session stands; whether packets are acknowledged; the packet that was written last; the payload that it answers, as
+-- long as the client doesn't say that it has arrived; and whether the client left
 pub record Talk : Type 0 where
   pub serving : Serving
   pub wanted : Bool
   pub last : List ℕ
+  pub unread : Option (List ℕ)
   pub ended : Bool
 
 -- whether it goes on
@@ -25,7 +28,7 @@ flow_of true = Ended
 flow_of false = On
 
 abbrev pub talk_begun : Serving → Talk
-talk_begun serving = record { serving = serving; wanted = true; last = []; ended = false }
+talk_begun serving = record { serving = serving; wanted = true; last = []; unread = None; ended = false }
 
 -- ---- one message
 
@@ -33,27 +36,47 @@ talk_begun serving = record { serving = serving; wanted = true; last = []; ended
 abbrev pub written : Request → List ℕ → List ℕ
 written request reply = if kills request then [] else packet_of reply
 
-abbrev pub talk_after : Talk → Request → Serving → List ℕ → Talk
-talk_after old request serving reply = record {
+abbrev pub talk_after : Talk → List ℕ → Request → Serving → List ℕ → Talk
+talk_after old payload request serving reply = record {
   serving = serving;
   wanted = old.wanted && not (quiets request);
   last = written request reply;
+  unread = Some payload;
   ended = leaves request;
 }
 
--- a request is answered
-pub record Hears (old : Talk) (request : Request) (new : Talk) (text : List ℕ) : Type 0 where
+-- the request of a payload is answered
+pub record Hears (old : Talk) (payload : List ℕ) (request : Request) (new : Talk) (text : List ℕ) : Type 0 where
   pub reply : List ℕ
   pub answers : Answers old.serving request new.serving reply
-  pub stands : new ≡ talk_after old request new.serving reply
+  pub stands : new ≡ talk_after old payload request new.serving reply
   pub is : text ≡ written request reply
+
+-- a packet that repeats the one before it, where the client doesn't say that the answer has arrived: the client waited for
+-- the acknowledgement, and sent the packet once more. Where packets aren't acknowledged none is such
+abbrev pub is_unread : Option (List ℕ) → List ℕ → Bool
+is_unread None payload = false
+is_unread (Some before) payload = bytes_eq before payload
+
+abbrev pub repeats : Talk → List ℕ → Bool
+repeats talk payload = talk.wanted && is_unread talk.unread payload
+
+-- and such a packet isn't answered twice
+abbrev pub HearsUnless : Bool → Talk → List ℕ → Talk → List ℕ → Type 0
+HearsUnless true old payload new text = (new ≡ old) × (text ≡ [])
+HearsUnless false old payload new text = Hears old payload (request_in payload) new text
+
+-- the client has the last packet
+abbrev pub read : Talk → Talk
+read talk = record talk { unread = None }
 
 -- behind its acknowledgement a packet is answered; one with a wrong sum isn't, and the last packet is written again where
 -- it is asked for
 abbrev pub Replies : Talk → Message → Talk → List ℕ → Type 0
-Replies old (Packet payload) new text = Hears old (request_in payload) new text
+Replies old (Packet payload) new text = HearsUnless (repeats old payload) old payload new text
 Replies old Wrong new text = (new ≡ old) × (text ≡ [])
 Replies old Again new text = (new ≡ old) × (text ≡ old.last)
+Replies old Arrived new text = (new ≡ read old) × (text ≡ [])
 
 pub record Meets (old : Talk) (message : Message) (new : Talk) (text : List ℕ) : Type 0 where
   pub reply : List ℕ

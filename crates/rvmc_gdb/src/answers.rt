@@ -1,12 +1,12 @@
 //! The answer to each request.
 
-ghost use Rattle.std.specs.Prelude.{◌≡◌, IfOk};
-ghost use Rattle.rvmc_replies.specs.Threads.{current_text, supported_text, threads_text};
+ghost use Rattle.std.specs.Prelude.{◌≡◌, IfOk, false};
+ghost use Rattle.rvmc_replies.specs.Threads.{current_text, host_text, process_text, supported_text, threads_text};
 ghost use Rattle.rvmc_gdb.specs.Answers.{kills, leaves, most, quiets};
 
 use crate::session::{Session, text_of};
 use rvmc_motions::Mark;
-use rvmc_replies::{put_current, put_supported, put_threads};
+use rvmc_replies::{put_current, put_host, put_process, put_supported, put_threads};
 use rvmc_requests::{Point, Request};
 use std::alloc::AllocError;
 
@@ -37,15 +37,37 @@ pub(crate) fn kills(request: &Request) -> bool
 impl Session {
     ghost use Rattle.rvmc_gdb.specs.Answers.{Answers};
     ghost use Rattle.rvmc_gdb.specs.Points.{mark_of};
-    ghost use Rattle.rvmc_gdb.specs.Serving.{hart_of};
+    ghost use Rattle.rvmc_gdb.specs.Serving.{own_thread, thread_count, who_of};
     ghost use Rattle.rvmc_gdb.specs.Shown.{alive_text};
 
     /// What the server can do.
     fn supported(&self) -> Result<Vec<u8>, AllocError>
-        ensures { IfOk result (λ text. text.items ≡ supported_text most) }
+        ensures { IfOk result (λ text. text.items ≡ supported_text most false) }
     {
         let mut text = Vec::new(self.alloc);
-        match put_supported(&mut text, MOST as u64) {
+        match put_supported(&mut text, MOST as u64, false) {
+            Ok(()) => Ok(text),
+            Err(_) => Err(AllocError),
+        }
+    }
+
+    /// What the threads run on.
+    fn host(&self) -> Result<Vec<u8>, AllocError>
+        ensures { IfOk result (λ text. text.items ≡ host_text) }
+    {
+        let mut text = Vec::new(self.alloc);
+        match put_host(&mut text) {
+            Ok(()) => Ok(text),
+            Err(_) => Err(AllocError),
+        }
+    }
+
+    /// The process, and what it runs on.
+    fn process(&self) -> Result<Vec<u8>, AllocError>
+        ensures { IfOk result (λ text. text.items ≡ process_text) }
+    {
+        let mut text = Vec::new(self.alloc);
+        match put_process(&mut text) {
             Ok(()) => Ok(text),
             Err(_) => Err(AllocError),
         }
@@ -53,21 +75,21 @@ impl Session {
 
     /// The thread that is meant.
     fn current(&self) -> Result<Vec<u8>, AllocError>
-        ensures { IfOk result (λ text. text.items ≡ current_text self.now.hart) }
+        ensures { IfOk result (λ text. text.items ≡ current_text (own_thread self.now)) }
     {
         let mut text = Vec::new(self.alloc);
-        match put_current(&mut text, self.hart) {
+        match put_current(&mut text, self.own_thread()) {
             Ok(()) => Ok(text),
             Err(_) => Err(AllocError),
         }
     }
 
-    /// The threads of the rank.
+    /// The threads.
     fn threads(&self) -> Result<Vec<u8>, AllocError>
-        ensures { IfOk result (λ text. text.items ≡ threads_text self.now.debugging.image.harts) }
+        ensures { IfOk result (λ text. text.items ≡ threads_text (thread_count self.now)) }
     {
         let mut text = Vec::new(self.alloc);
-        match put_threads(&mut text, self.debugger.image().parts().harts) {
+        match put_threads(&mut text, self.thread_count()) {
             Ok(()) => Ok(text),
             Err(_) => Err(AllocError),
         }
@@ -75,20 +97,20 @@ impl Session {
 
     /// Whether a thread is there.
     fn is_alive(&self, thread: u64) -> Result<Vec<u8>, AllocError>
-        ensures { IfOk result (λ text. text.items ≡ alive_text (hart_of self.now.debugging.image.harts thread)) }
+        ensures { IfOk result (λ text. text.items ≡ alive_text (who_of self.now thread)) }
     {
-        match self.hart_of(thread) {
+        match self.who_of(thread) {
             Some(_) => self.done(),
             None => self.refused(),
         }
     }
 
-    /// A point of the rank that is shown.
+    /// A point of the ranks that are served.
     fn mark_of(&self, point: Point, address: u64, size: u64) -> Mark
         ensures { result ≡ mark_of self.now point address size }
     {
         Mark {
-            rank: self.rank,
+            ranks: self.ranks(),
             point,
             address,
             size,
@@ -102,6 +124,8 @@ impl Session {
         match request {
             Request::Supported => self.supported(),
             Request::Description { from, count } => self.description(*from, *count),
+            Request::HostInfo => self.host(),
+            Request::ProcessInfo => self.process(),
             Request::Why => self.standing(),
             Request::Select(thread) => self.select(*thread),
             Request::SelectMoved(thread) => self.select_moved(*thread),
@@ -129,7 +153,9 @@ impl Session {
                 size,
             } => self.remove(self.mark_of(*point, *address, *size)),
             Request::Detach | Request::NoAcknowledgements => self.done(),
-            Request::Kill | Request::Unknown => Ok(Vec::new(self.alloc)),
+            Request::Kill | Request::ThreadList { .. } | Request::Unknown => {
+                Ok(Vec::new(self.alloc))
+            }
             Request::Monitor(typed) => self.monitor(typed.as_slice()),
             Request::Change => self.refused(),
         }

@@ -3,18 +3,18 @@
 ghost use Rattle.std.specs.Prelude.{◌≡◌, IfOk};
 ghost use Rattle.rvmc_replies.specs.Stops.{stop_text};
 
-use crate::session::Session;
-use rvmc_motions::{Motion, Mover, backwards, forwards};
+use crate::session::{Session, Who};
+use rvmc_motions::{Halt, Motion, Mover, backwards, forwards};
 use rvmc_replies::{Stop, put_stop};
 use rvmc_requests::{Move, Thread};
 use std::alloc::{AllocError, Global};
 
 /// The text of a stop.
-fn stop_text(alloc: Global, stop: Stop, hart: u8) -> Result<Vec<u8>, AllocError>
-    ensures { IfOk result (λ text. text.items ≡ stop_text stop hart) }
+fn stop_text(alloc: Global, stop: Stop, thread: u64) -> Result<Vec<u8>, AllocError>
+    ensures { IfOk result (λ text. text.items ≡ stop_text stop thread) }
 {
     let mut text = Vec::new(alloc);
-    match put_stop(&mut text, stop, hart) {
+    match put_stop(&mut text, stop, thread) {
         Ok(()) => Ok(text),
         Err(_) => Err(AllocError),
     }
@@ -22,13 +22,13 @@ fn stop_text(alloc: Global, stop: Stop, hart: u8) -> Result<Vec<u8>, AllocError>
 
 impl Session {
     ghost use Rattle.rvmc_gdb.specs.Moving.{Backwards, Forwards, Moves, RunsBack, Selects, SelectsMoved, StepsBack, StepsThread};
-    ghost use Rattle.rvmc_gdb.specs.Moving.{Steps, moved_hart, mover_of, standing_text};
+    ghost use Rattle.rvmc_gdb.specs.Moving.{Steps, halt_text, mover_of, moved_who, own_who, standing_text};
 
     /// That the threads stand, for no cause.
     pub(crate) fn standing(&self) -> Result<Vec<u8>, AllocError>
         ensures { IfOk result (λ text. text.items ≡ standing_text self.now) }
     {
-        stop_text(self.alloc, Stop::Step, self.hart)
+        stop_text(self.alloc, Stop::Step, self.own_thread())
     }
 
     /// The thread whose registers are meant from now on.
@@ -38,10 +38,10 @@ impl Session {
         match thread {
             Thread::All | Thread::Any => self.done(),
             Thread::One(number) => {
-                let Some(hart) = self.hart_of(number) else {
+                let Some(who) = self.who_of(number) else {
                     return self.refused();
                 };
-                self.hart = hart;
+                self.mean(who);
                 self.done()
             }
         }
@@ -57,34 +57,52 @@ impl Session {
                 self.done()
             }
             Thread::One(number) => {
-                let Some(hart) = self.hart_of(number) else {
+                let Some(who) = self.who_of(number) else {
                     return self.refused();
                 };
-                self.moved = Some(hart);
+                self.moved = Some(who);
                 self.done()
             }
         }
     }
 
+    /// The hart that is meant.
+    fn own_who(&self) -> Who
+        ensures { result ≡ own_who self.now }
+    {
+        Who {
+            rank: self.rank,
+            hart: self.hart,
+        }
+    }
+
     /// The hart that a step moves where no thread is named.
-    fn moved_hart(&self) -> u8
-        ensures { result ≡ moved_hart self.now }
+    fn moved_who(&self) -> Who
+        ensures { result ≡ moved_who self.now }
     {
         match self.moved {
-            Some(hart) => hart,
-            None => self.hart,
+            Some(who) => who,
+            None => self.own_who(),
         }
     }
 
     /// Whose motion it is, of this hart.
-    fn mover_of(&self, hart: u8, motion: Motion) -> Mover
-        ensures { result ≡ mover_of self.now hart motion }
+    fn mover_of(&self, who: Who, motion: Motion) -> Mover
+        ensures { result ≡ mover_of self.now who motion }
     {
         Mover {
-            rank: self.rank,
-            hart,
+            ranks: self.ranks(),
+            rank: who.rank,
+            hart: who.hart,
             motion,
         }
+    }
+
+    /// The text of a motion's end, whose hart is meant.
+    fn halt_text(&self, halt: Halt) -> Result<Vec<u8>, AllocError>
+        ensures { IfOk result (λ text. text.items ≡ halt_text self.now halt) }
+    {
+        stop_text(self.alloc, halt.stop, self.own_thread())
     }
 
     /// Goes forwards, and tells where it ends and why.
@@ -93,8 +111,11 @@ impl Session {
     {
         match forwards(self.alloc, &mut self.debugger, self.marks.as_slice(), mover) {
             Ok(halt) => {
-                self.hart = halt.hart;
-                stop_text(self.alloc, halt.stop, halt.hart)
+                self.mean(Who {
+                    rank: halt.rank,
+                    hart: halt.hart,
+                });
+                self.halt_text(halt)
             }
             Err(_) => Err(AllocError),
         }
@@ -106,8 +127,11 @@ impl Session {
     {
         match backwards(self.alloc, &mut self.debugger, self.marks.as_slice(), mover) {
             Ok(halt) => {
-                self.hart = halt.hart;
-                stop_text(self.alloc, halt.stop, halt.hart)
+                self.mean(Who {
+                    rank: halt.rank,
+                    hart: halt.hart,
+                });
+                self.halt_text(halt)
             }
             Err(_) => Err(AllocError),
         }
@@ -119,14 +143,14 @@ impl Session {
     {
         match thread {
             Thread::All | Thread::Any => {
-                let mover = self.mover_of(self.moved_hart(), Motion::Step);
+                let mover = self.mover_of(self.moved_who(), Motion::Step);
                 self.forwards(mover)
             }
             Thread::One(number) => {
-                let Some(hart) = self.hart_of(number) else {
+                let Some(who) = self.who_of(number) else {
                     return self.refused();
                 };
-                let mover = self.mover_of(hart, Motion::Step);
+                let mover = self.mover_of(who, Motion::Step);
                 self.forwards(mover)
             }
         }
@@ -139,7 +163,7 @@ impl Session {
         match asked {
             Move::Stop => self.standing(),
             Move::Go => {
-                let mover = self.mover_of(self.hart, Motion::Run);
+                let mover = self.mover_of(self.own_who(), Motion::Run);
                 self.forwards(mover)
             }
             Move::Step(thread) => self.step(thread),
@@ -150,7 +174,7 @@ impl Session {
     pub(crate) fn step_back(&mut self) -> Result<Vec<u8>, AllocError>
         ensures { IfOk result (λ text. StepsBack self.old self.new text.items) }
     {
-        let mover = self.mover_of(self.moved_hart(), Motion::Step);
+        let mover = self.mover_of(self.moved_who(), Motion::Step);
         self.backwards(mover)
     }
 
@@ -158,7 +182,7 @@ impl Session {
     pub(crate) fn go_back(&mut self) -> Result<Vec<u8>, AllocError>
         ensures { IfOk result (λ text. RunsBack self.old self.new text.items) }
     {
-        let mover = self.mover_of(self.hart, Motion::Run);
+        let mover = self.mover_of(self.own_who(), Motion::Run);
         self.backwards(mover)
     }
 }

@@ -1,15 +1,15 @@
 //! Points that are set and taken away.
 
-ghost use Rattle.std.specs.Prelude.{◌≡◌, IfOk, not, option_map};
+ghost use Rattle.std.specs.Prelude.{◌≡◌, IfOk, not, option_map, true};
 ghost use Rattle.std.specs.List.{filter};
 ghost use Rattle.cl_state.specs.Room.{rank_of};
 ghost use Rattle.rvmc_requests.specs.Laws.{point_number};
-ghost use Rattle.rvmc_motions.specs.Marks.{is_watch_of};
-ghost use Rattle.rvmc_gdb.specs.Points.{can_add, can_stand, has_mark, is_same, marks_without};
+ghost use Rattle.rvmc_motions.specs.Marks.{is_watch};
+ghost use Rattle.rvmc_gdb.specs.Points.{can_add, can_stand, has_mark, is_same, marks_without, same_ranks};
 
 use crate::session::Session;
 use cl_state::RankState;
-use rvmc_motions::Mark;
+use rvmc_motions::{Mark, Ranks};
 use rvmc_requests::Point;
 use std::alloc::{AllocError, Global};
 
@@ -29,11 +29,22 @@ fn point_number(point: Point) -> u8
     }
 }
 
+/// Whether points of these ranks are points of the others.
+fn same_ranks(ranks: Ranks, others: Ranks) -> bool
+    ensures { result ≡ same_ranks ranks others }
+{
+    match (ranks, others) {
+        (Ranks::All, Ranks::All) => true,
+        (Ranks::One(rank), Ranks::One(other)) => rank == other,
+        (Ranks::All, Ranks::One(_)) | (Ranks::One(_), Ranks::All) => false,
+    }
+}
+
 /// Whether two marks are one.
 fn is_same(mark: &Mark, other: &Mark) -> bool
     ensures { result ≡ is_same mark.now other.now }
 {
-    other.rank == mark.rank
+    same_ranks(other.ranks, mark.ranks)
         && point_number(other.point) == point_number(mark.point)
         && other.address == mark.address
         && other.size == mark.size
@@ -66,7 +77,7 @@ fn marks_without(alloc: Global, marks: &[Mark], mark: &Mark) -> Result<Vec<Mark>
 
 /// Whether a point is a watchpoint, at which motions stop for its bytes.
 fn is_watch(mark: &Mark) -> bool
-    ensures { result ≡ is_watch_of mark.now.rank mark.now }
+    ensures { result ≡ is_watch mark.now.point true }
 {
     match mark.point {
         Point::Before | Point::HardwareBefore => false,
@@ -97,7 +108,7 @@ fn can_add(marks: &[Mark], owner: Option<&RankState>, mark: &Mark) -> bool
 impl Session {
     ghost use Rattle.rvmc_gdb.specs.Points.{Inserts, IsOwner, Removes};
 
-    /// The rank that is shown, if the image has it.
+    /// The rank that is meant, if the image has it.
     fn owner(&self) -> Option<&RankState>
         ensures { IsOwner self.now (option_map (λ owner. rank_of owner.now) result) }
     {

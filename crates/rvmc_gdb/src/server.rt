@@ -2,10 +2,11 @@
 
 ghost use Rattle.std.specs.Prelude.{◌≡◌, ◌++◌, IfOk, List, OnOk, ℕ};
 ghost use Rattle.rvmc_packets.specs.Frames.{packet_of};
+ghost use Rattle.rvmc_gdb.specs.Talks.{is_unread};
 
 use crate::answers::{MOST, kills, leaves, quiets};
 use crate::session::Session;
-use rvmc_packets::{Message, Reader, acknowledgement, put_packet};
+use rvmc_packets::{Message, Payload, Reader, acknowledgement, put_packet};
 use rvmc_requests::{Request, request_in};
 use std::alloc::{AllocError, Global};
 use std::marker::Model;
@@ -19,6 +20,16 @@ pub enum Flow {
     Ended,
 }
 
+/// Whether this is the payload whose answer the client doesn't say that it has.
+fn is_unread(unread: &Option<Payload>, payload: &[u8]) -> bool
+    ensures { result ≡ is_unread unread.now payload.now }
+{
+    match unread {
+        Some(before) => before.as_slice() == payload,
+        None => false,
+    }
+}
+
 /// A session, and what was read of the stream of its packets. Contracts see how both stand, whether packets are
 /// acknowledged, which one was written last, and whether the client has left.
 #[derive(Drop)]
@@ -30,6 +41,8 @@ pub struct Server {
     wanted: bool,
     /// The last packet that was written.
     last: Vec<u8>,
+    /// The payload that it answers, as long as the client doesn't say that it has arrived.
+    unread: Option<Payload>,
     ended: bool,
 }
 
@@ -40,12 +53,12 @@ impl Model for Server {
 
     ghost view = { λ s. record {
       place = s.reader;
-      talk = record { serving = s.session; wanted = s.wanted; last = s.last.items; ended = s.ended };
+      talk = record { serving = s.session; wanted = s.wanted; last = s.last.items; unread = s.unread; ended = s.ended };
     } };
 }
 
 impl Server {
-    ghost use Rattle.rvmc_gdb.specs.Talks.{Hears, MeetsUnless, Meets, Replies, Serves, Takes, connected, flow_of, written};
+    ghost use Rattle.rvmc_gdb.specs.Talks.{Hears, HearsUnless, MeetsUnless, Meets, Replies, Serves, Takes, connected, flow_of, repeats, written};
 
     /// A session of whose stream nothing is read yet.
     pub fn new(alloc: Global, session: Session) -> Server
@@ -57,6 +70,7 @@ impl Server {
             reader: Reader::new(alloc, MOST),
             wanted: true,
             last: Vec::new(alloc),
+            unread: None,
             ended: false,
         }
     }
@@ -79,51 +93,79 @@ impl Server {
         Ok(packet)
     }
 
-    /// Adds the answer to a request.
-    fn hear(&mut self, out: &mut Vec<u8>, request: &Request) -> Result<(), AllocError>
+    /// Adds the answer to the request of a payload.
+    fn hear(
+        &mut self,
+        out: &mut Vec<u8>,
+        payload: Payload,
+        request: &Request,
+    ) -> Result<(), AllocError>
         ensures place { OnOk result (self.new.place ≡ self.old.place) }
-        ensures hears { OnOk result ((text : List ℕ) × Hears self.old.talk request.now self.new.talk text
+        ensures hears { OnOk result ((text : List ℕ) × Hears self.old.talk payload request.now self.new.talk text
             × (out.new.items ≡ out.old.items ++ text)) }
     {
         let reply = self.session.answer(request)?;
         let packet = self.written(request, reply.as_slice())?;
         out.extend_from_slice(packet.as_slice())?;
         self.last = packet;
+        self.unread = Some(payload);
         self.wanted = self.wanted && !quiets(request);
         self.ended = leaves(request);
         Ok(())
     }
 
-    /// Adds what is answered to a message behind its acknowledgement.
-    fn reply(&mut self, out: &mut Vec<u8>, message: &Message) -> Result<(), AllocError>
+    /// Whether a packet was answered, and comes once more before the client said that the answer has arrived.
+    fn repeats(&self, payload: &[u8]) -> bool
+        ensures { result ≡ repeats self.now.talk payload.now }
+    {
+        self.wanted && is_unread(&self.unread, payload)
+    }
+
+    /// Adds the answer to the request of a payload, but not twice.
+    fn hear_once(&mut self, out: &mut Vec<u8>, payload: Payload) -> Result<(), AllocError>
         ensures place { OnOk result (self.new.place ≡ self.old.place) }
-        ensures replies { OnOk result ((text : List ℕ) × Replies self.old.talk message.now self.new.talk text
+        ensures hears { OnOk result ((text : List ℕ)
+            × HearsUnless (repeats self.old.talk payload) self.old.talk payload self.new.talk text
+            × (out.new.items ≡ out.old.items ++ text)) }
+    {
+        if self.repeats(payload.as_slice()) {
+            return Ok(());
+        }
+        let request = request_in(self.alloc, payload.as_slice())?;
+        self.hear(out, payload, &request)
+    }
+
+    /// Adds what is answered to a message behind its acknowledgement.
+    fn reply(&mut self, out: &mut Vec<u8>, message: Message) -> Result<(), AllocError>
+        ensures place { OnOk result (self.new.place ≡ self.old.place) }
+        ensures replies { OnOk result ((text : List ℕ) × Replies self.old.talk message self.new.talk text
             × (out.new.items ≡ out.old.items ++ text)) }
     {
         match message {
-            Message::Packet(payload) => {
-                let request = request_in(self.alloc, payload.as_slice())?;
-                self.hear(out, &request)
-            }
+            Message::Packet(payload) => self.hear_once(out, payload),
             Message::Wrong => Ok(()),
             Message::Again => {
                 out.extend_from_slice(self.last.as_slice())?;
+                Ok(())
+            }
+            Message::Arrived => {
+                self.unread = None;
                 Ok(())
             }
         }
     }
 
     /// Adds what is answered to a message, unless the client has left.
-    fn meet(&mut self, out: &mut Vec<u8>, message: &Message) -> Result<(), AllocError>
+    fn meet(&mut self, out: &mut Vec<u8>, message: Message) -> Result<(), AllocError>
         ensures place { OnOk result (self.new.place ≡ self.old.place) }
         ensures meets { OnOk result ((text : List ℕ)
-            × MeetsUnless self.old.talk.ended self.old.talk message.now self.new.talk text
+            × MeetsUnless self.old.talk.ended self.old.talk message self.new.talk text
             × (out.new.items ≡ out.old.items ++ text)) }
     {
         if self.ended {
             return Ok(());
         }
-        out.extend_from_slice(acknowledgement(self.wanted, message))?;
+        out.extend_from_slice(acknowledgement(self.wanted, &message))?;
         self.reply(out, message)
     }
 
@@ -133,7 +175,7 @@ impl Server {
             × (out.new.items ≡ out.old.items ++ text)) }
     {
         match self.reader.take(self.alloc, byte)? {
-            Some(message) => self.meet(out, &message),
+            Some(message) => self.meet(out, message),
             None => Ok(()),
         }
     }

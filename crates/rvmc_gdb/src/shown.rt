@@ -10,7 +10,7 @@ ghost use Rattle.rvmc_replies.specs.Parts.{part_of};
 ghost use Rattle.rvmc_gdb.specs.Serving.{refused};
 ghost use Rattle.rvmc_gdb.specs.Shown.{line_at, wait_lines, register_value, registers_of, registers_text};
 
-use crate::session::{Session, text_of};
+use crate::session::{Session, Who, text_of};
 use cl_debug::DebugFault;
 use cl_replay::ClusterState;
 use cl_state::RankState;
@@ -216,23 +216,23 @@ impl Session {
         }
     }
 
-    /// What `why` tells of a hart of the rank, in digits, if it tells something.
-    fn hart_digits(&self, hart: u8) -> Result<Option<Vec<u8>>, AllocError>
-        ensures { IfOk result (λ found. IsLine self.now hart (option_map (λ text. text.items) found)) }
+    /// What `why` tells of a hart, in digits, if it tells something.
+    fn hart_digits(&self, who: Who) -> Result<Option<Vec<u8>>, AllocError>
+        ensures { IfOk result (λ found. IsLine self.now who (option_map (λ text. text.items) found)) }
     {
         let symbols = self.debugger.image().parts().symbols.as_slice();
         let state = self.debugger.state();
-        Ok(rank_line(self.alloc, symbols, state, self.rank, hart)?)
+        Ok(rank_line(self.alloc, symbols, state, who.rank, who.hart)?)
     }
 
     /// What `why` tells of a thread, in digits.
     pub(crate) fn thread_text(&self, thread: u64) -> Result<Vec<u8>, AllocError>
         ensures { IfOk result (λ text. TellsThread self.now thread text.items) }
     {
-        let Some(hart) = self.hart_of(thread) else {
+        let Some(who) = self.who_of(thread) else {
             return self.refused();
         };
-        let found = self.hart_digits(hart)?;
+        let found = self.hart_digits(who)?;
         Ok(text_or_refused(self.alloc, found)?)
     }
 

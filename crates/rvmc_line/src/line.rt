@@ -26,8 +26,8 @@ pub enum CommandLine {
     /// A record is read, and the command is done with its image and its steps.
     OfRecord(RecordCommand),
     /// A record is read, and behind it the packets of gdb, each of which is answered as it comes: of this rank of the record
-    /// (0 to 255). Whether there is such a rank is not known here.
-    Session { rank: u64 },
+    /// (0 to 255), or of all its ranks. Whether there is such a rank is not known here.
+    Session { rank: Option<u64> },
     /// Texts are read that were told of the starts of a split, and it is told whether these are all ends. Whether they were
     /// told of one split, and of each of its starts, is not known here.
     Join,

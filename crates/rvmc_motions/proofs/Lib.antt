@@ -1,4 +1,6 @@
 pub mod Histories
+pub mod Idle
+pub mod Loads
 pub mod Passed
 pub mod Places
 pub mod Steps

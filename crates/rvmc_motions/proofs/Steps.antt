@@ -1,42 +1,80 @@
 -- What is told of one step of a motion, and of the places on the way.
 use Rattle.std.specs.Prelude.{ℕ, ◌≡◌, ◌<◌, ◌≤◌, ◌⊎◌, ◌+◌, ◌-◌, List, slice_get, Option, Some, None}
 use Rattle.std.specs.Option.{option_or}
-use Rattle.std.proofs.Common.{refl, sym, subst, ap, ◌∙◌, arith, inl, inr}
+use Rattle.std.proofs.Common.{refl, sym, ap, ◌∙◌, arith, inl, inr}
 use Rattle.std.proofs.lemmas.Bool.{cases_order}
 use Rattle.cl_state.specs.Rank.{Rank}
+use Rattle.cl_machine.specs.Cluster.{Cluster}
 use Rattle.cl_machine.specs.declared.steps.Step.{Step}
 use Rattle.rvmc_motions.specs.declared.marks.Halt.{Halt}
 use Rattle.rvmc_motions.specs.declared.marks.Mark.{Mark}
 use Rattle.rvmc_motions.specs.declared.marks.Mover.{Mover}
 use Rattle.rvmc_replies.specs.declared.stops.Stop.TheVariants as ends
 use Rattle.rvmc_motions.specs.Motions.{IsFirstBehind, IsLastBefore, halt_at}
-use Rattle.rvmc_motions.specs.Turns.{at_hart, backward_stop, forward_stop, next_at, own_hart, place_stop, seen_at, step_stop}
-use Rattle.rvmc_motions.specs.Turns.{turn_at, turn_stop}
+use Rattle.rvmc_motions.specs.declared.turns.Whose.{Whose}
+use Rattle.rvmc_motions.specs.declared.marks.Motion.{Motion}
+use Rattle.rvmc_motions.specs.declared.marks.Motion.TheVariants as motions
+use Rattle.rvmc_motions.specs.Turns.{backward_stop, break_at, forward_stop, is_live, next_at, own_turn, place_stop, stop_behind}
+use Rattle.rvmc_motions.specs.Turns.{stop_between, turn_at, turn_stop}
+use Rattle.rvmc_motions.specs.Watching.{seen_all}
 use Rattle.rvmc_motions.specs.Walking.{IsLastIn, later}
-use Rattle.rvmc_motions.specs.Watching.{watched}
 
-module _ (mover : Mover) (marks : List Mark) (steps : List Step) (history : ℕ → Rank) (place : ℕ) where
-  -- a step of the rank
-  pub own_told : (hart : ℕ) (before behind : Rank) (told : Option Halt)
-      → own_hart mover.rank (slice_get steps place) ≡ Some hart → before ≡ history place → behind ≡ history (place + 1)
-      → told ≡ option_or (at_hart hart (watched behind.memory (seen_at mover.rank marks (slice_get before.harts hart) before.memory)))
-      (step_stop mover.motion mover hart behind)
+module _ (mover : Mover) (marks : List Mark) (steps : List Step) (history : ℕ → Cluster) (place : ℕ) where
+  -- a turn of one of the ranks
+  pub own_told : (turn : Whose) (before behind : Rank) (told : Option Halt)
+      → own_turn mover.ranks (slice_get steps place) ≡ Some turn
+      → slice_get (history place).ranks turn.rank ≡ Some before
+      → slice_get (history (place + 1)).ranks turn.rank ≡ Some behind
+      → told ≡ stop_behind mover turn (is_live (slice_get before.harts turn.hart)) (seen_all before turn.rank turn.hart marks) behind
       → told ≡ turn_at mover marks steps history place
-  own_told hart before behind told own b c is =
-      subst (λ o. told ≡ turn_stop mover marks o (history place) (history (place + 1))) (sym own)
-      (subst (λ x. told ≡ turn_stop mover marks (Some hart) x (history (place + 1))) b
-      (subst (λ y. told ≡ turn_stop mover marks (Some hart) before y) c is))
+  own_told turn before behind told own b c is =
+      is ∙ ap (λ o. stop_between mover marks turn o (Some behind)) (sym b)
+      ∙ ap (stop_between mover marks turn (slice_get (history place).ranks turn.rank)) (sym c)
+      ∙ ap (λ o. turn_stop mover marks o (history place) (history (place + 1))) (sym own)
+
+  -- of a rank that isn't there, before it or behind it
+  pub none_before_told : (turn : Whose) → own_turn mover.ranks (slice_get steps place) ≡ Some turn
+      → slice_get (history place).ranks turn.rank ≡ None → None ≡ turn_at mover marks steps history place
+  none_before_told turn own none =
+      ap (λ o. stop_between mover marks turn o (slice_get (history (place + 1)).ranks turn.rank)) (sym none)
+      ∙ ap (λ o. turn_stop mover marks o (history place) (history (place + 1))) (sym own)
+
+  no_rank : (turn : Whose) (before : Option Rank) → None ≡ stop_between mover marks turn before None
+  no_rank turn None = refl
+  no_rank turn (Some before) = refl
+
+  pub none_behind_told : (turn : Whose) → own_turn mover.ranks (slice_get steps place) ≡ Some turn
+      → slice_get (history (place + 1)).ranks turn.rank ≡ None → None ≡ turn_at mover marks steps history place
+  none_behind_told turn own none =
+      no_rank turn (slice_get (history place).ranks turn.rank)
+      ∙ ap (stop_between mover marks turn (slice_get (history place).ranks turn.rank)) (sym none)
+      ∙ ap (λ o. turn_stop mover marks o (history place) (history (place + 1))) (sym own)
+
+  -- what comes next: for a step nothing, and for a run what the turn's rank has there
+  pub next_step : mover.motion ≡ motions.Step → None ≡ next_at mover marks steps history place
+  next_step step =
+      ap (λ m. place_stop m marks (own_turn mover.ranks (slice_get steps place)) (history place)) (sym step)
+
+  no_turn : (motion : Motion) → None ≡ place_stop motion marks None (history place)
+  no_turn motions.Step = refl
+  no_turn motions.Run = refl
+
+  pub next_other : own_turn mover.ranks (slice_get steps place) ≡ None → None ≡ next_at mover marks steps history place
+  next_other other =
+      no_turn mover.motion ∙ ap (λ o. place_stop mover.motion marks o (history place)) (sym other)
+
+  pub next_told : (turn : Whose) (owner : Option Rank) (told : Option Halt) → mover.motion ≡ motions.Run
+      → own_turn mover.ranks (slice_get steps place) ≡ Some turn → slice_get (history place).ranks turn.rank ≡ owner
+      → told ≡ break_at marks turn owner → told ≡ next_at mover marks steps history place
+  next_told turn owner told run own there is =
+      is ∙ ap (break_at marks turn) (sym there)
+      ∙ ap (λ o. place_stop motions.Run marks o (history place)) (sym own)
+      ∙ ap (λ m. place_stop m marks (own_turn mover.ranks (slice_get steps place)) (history place)) (sym run)
 
   -- and of any other
-  pub other_told : own_hart mover.rank (slice_get steps place) ≡ None → None ≡ turn_at mover marks steps history place
+  pub other_told : own_turn mover.ranks (slice_get steps place) ≡ None → None ≡ turn_at mover marks steps history place
   other_told other =
       sym (ap (λ o. turn_stop mover marks o (history place) (history (place + 1))) other)
-
-  pub next_told : (owner : Rank) (hart : Option ℕ) → hart ≡ own_hart mover.rank (slice_get steps place) → owner ≡ history place
-      → place_stop mover.motion mover marks hart owner ≡ next_at mover marks steps history place
-  next_told owner hart own here =
-      ap (λ o. place_stop mover.motion mover marks o owner) own
-      ∙ ap (λ x. place_stop mover.motion mover marks (own_hart mover.rank (slice_get steps place)) x) here
 
   -- behind the step
   pub forward_is : (turn next : Option Halt) → turn ≡ turn_at mover marks steps history place
@@ -65,15 +103,15 @@ module _ (stops : ℕ → Option Halt) where
       decided (inr (inl low)) = before m above (omega (arith, low))
       decided (inr (inr high)) = absurd (omega (arith, high, below))
 
-  pub first_here : (from length hart n : ℕ) (halt : Halt) → from ≤ n → n < length
+  pub first_here : (from length n : ℕ) (mover : Mover) (halt : Halt) → from ≤ n → n < length
       → ((m : ℕ) → from < m → m ≤ n → stops m ≡ None) → stops (n + 1) ≡ Some halt
-      → IsFirstBehind stops from length hart (n + 1) halt
-  first_here from length hart n halt above below none here =
+      → IsFirstBehind stops from length mover (n + 1) halt
+  first_here from length n mover halt above below none here =
       inl (omega (arith, above), omega (arith, below), here, λ m over under. none m over (omega (arith, under)))
 
-  pub first_end : (from length hart : ℕ) → ((m : ℕ) → from < m → m ≤ length → stops m ≡ None)
-      → IsFirstBehind stops from length hart length (halt_at ends.End hart)
-  first_end from length hart none = inr (refl, refl, none)
+  pub first_end : (from length : ℕ) (mover : Mover) → ((m : ℕ) → from < m → m ≤ length → stops m ≡ None)
+      → IsFirstBehind stops from length mover length (halt_at ends.End mover)
+  first_end from length mover none = inr (refl, refl, none)
 
   -- one place more on the way back
   pub later_in : (low n : ℕ) (found : Option (ℕ × Halt)) (here : Option Halt) → low ≤ n → IsLastIn stops low n found
@@ -99,10 +137,10 @@ module _ (stops : ℕ → Option Halt) where
   none_in low = λ m over under. absurd (omega (arith, over, under))
 
   -- what was found last before a place is the last one of all, if none is from there on
-  pub last_here : (from hart low to : ℕ) (place : ℕ) (halt : Halt) → to ≤ from
+  pub last_here : (from low to : ℕ) (mover : Mover) (place : ℕ) (halt : Halt) → to ≤ from
       → IsLastIn stops low to (Some (place, halt)) → ((m : ℕ) → to ≤ m → m < from → stops m ≡ None)
-      → IsLastBefore stops from hart place halt
-  last_here from hart low to place halt within found none =
+      → IsLastBefore stops from mover place halt
+  last_here from low to mover place halt within found none =
       let below = found.1 in
       inl (omega (arith, below, within), found.2, λ m over under. decided m over under (cases_order m to))
     where

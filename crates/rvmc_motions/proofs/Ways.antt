@@ -3,7 +3,7 @@ use Rattle.std.specs.Prelude.{ℕ, ◌≡◌, ◌<◌, ◌≤◌, ◌+◌, ◌-�
 use Rattle.std.specs.Option.{option_or}
 use Rattle.std.proofs.Common.{refl, sym, subst, ap, ◌∙◌, arith, inr}
 use Rattle.std.proofs.Math.Nat.{div-mul-le_self}
-use Rattle.cl_state.specs.Rank.{Rank}
+use Rattle.cl_machine.specs.Cluster.{Cluster}
 use Rattle.cl_machine.specs.declared.steps.Step.{Step}
 use Rattle.cl_debug.specs.Debugging.{Debugging, at_place}
 use Rattle.cl_debug.specs.Faults.{GoFaultHolds}
@@ -42,7 +42,7 @@ backward_told now marks mover turned told turn ahead = λ history of.
 pub record OnTheWay (old : Debugging) (marks : List Mark) (mover : Mover) (n : ℕ) (now : Debugging) : Type 0 where
   pub here : now ≡ at_place old n
   pub above : old.place ≤ n
-  pub none : (history : ℕ → Rank) → IsHistory old.image old.steps mover.rank history → (m : ℕ) → old.place < m → m ≤ n
+  pub none : (history : ℕ → Cluster) → IsHistory old.image old.steps history → (m : ℕ) → old.place < m → m ≤ n
       → forward_stop mover marks old.steps history m ≡ None
 
 pub begun : (old : Debugging) (marks : List Mark) (mover : Mover) (n : ℕ) → n ≡ old.place → OnTheWay old marks mover n old
@@ -77,23 +77,23 @@ module _ (old : Debugging) (marks : List Mark) (mover : Mover) (n : ℕ) (now ne
     moved = at_same old next (n + 1) next_is;
     there = λ history of.
         subst
-        (λ p. IsFirstBehind (forward_stop mover marks old.steps history) old.place (length old.steps) mover.hart p halt)
+        (λ p. IsFirstBehind (forward_stop mover marks old.steps history) old.place (length old.steps) mover p halt)
         (sym (ap (λ (d : Debugging). d.place) next_is))
-        (first_here (forward_stop mover marks old.steps history) old.place (length old.steps) mover.hart n halt way.above
+        (first_here (forward_stop mover marks old.steps history) old.place (length old.steps) n mover halt way.above
         inside (way.none history of) (sym (told_here (Some halt) tells history of)));
   }
 
 pub way_end : (old : Debugging) (marks : List Mark) (mover : Mover) (n : ℕ) (now : Debugging)
     → OnTheWay old marks mover n now → n ≡ length old.steps
-    → GoesForwards old marks mover (halt_at ends.End mover.hart) now
+    → GoesForwards old marks mover (halt_at ends.End mover) now
 way_end old marks mover n now way end = record {
   moved = at_same old now n way.here;
   there = λ history of.
       subst
-      (λ p. IsFirstBehind (forward_stop mover marks old.steps history) old.place (length old.steps) mover.hart p
-      (halt_at ends.End mover.hart))
+      (λ p. IsFirstBehind (forward_stop mover marks old.steps history) old.place (length old.steps) mover p
+      (halt_at ends.End mover))
       (sym (ap (λ (d : Debugging). d.place) way.here ∙ end))
-      (first_end (forward_stop mover marks old.steps history) old.place (length old.steps) mover.hart
+      (first_end (forward_stop mover marks old.steps history) old.place (length old.steps) mover
       (λ m over under. way.none history of m over (omega (arith, under, end))));
 }
 
@@ -104,7 +104,7 @@ pub record InBetween (old : Debugging) (marks : List Mark) (mover : Mover) (from
   pub here : now ≡ at_place old n
   pub above : from ≤ n
   pub below : IsBelow n found
-  pub last : (history : ℕ → Rank) → IsHistory old.image old.steps mover.rank history
+  pub last : (history : ℕ → Cluster) → IsHistory old.image old.steps history
       → IsLastIn (backward_stop mover marks old.steps history) from n found
 
 still_below : (n : ℕ) (found : Option (ℕ × Halt)) (told : Option Halt) → IsBelow n found
@@ -141,7 +141,7 @@ between_more old marks mover from n found now next told way on tells =
 pub record OnTheWayBack (old : Debugging) (marks : List Mark) (mover : Mover) (to : ℕ) (now : Debugging) : Type 0 where
   pub here : now ≡ at_place old now.place
   pub within : to ≤ old.place
-  pub none : (history : ℕ → Rank) → IsHistory old.image old.steps mover.rank history → (m : ℕ) → to ≤ m → m < old.place
+  pub none : (history : ℕ → Cluster) → IsHistory old.image old.steps history → (m : ℕ) → to ≤ m → m < old.place
       → backward_stop mover marks old.steps history m ≡ None
 
 pub back_begun : (old : Debugging) (marks : List Mark) (mover : Mover) (to : ℕ) → to ≡ old.place
@@ -157,17 +157,17 @@ module _ (old : Debugging) (marks : List Mark) (mover : Mover) (from to : ℕ) (
   pub stays_of : next ≡ at_place old next.place
   stays_of = moved ∙ ap (λ (d : Debugging). at_place d next.place) way.here
 
-  last_in : (found : Option (ℕ × Halt)) → ((history : ℕ → Rank) → IsHistory now.image now.steps mover.rank history
+  last_in : (found : Option (ℕ × Halt)) → ((history : ℕ → Cluster) → IsHistory now.image now.steps history
       → IsLastIn (backward_stop mover marks now.steps history) from to found)
-      → (history : ℕ → Rank) → IsHistory old.image old.steps mover.rank history
+      → (history : ℕ → Cluster) → IsHistory old.image old.steps history
       → IsLastIn (backward_stop mover marks old.steps history) from to found
   last_in found last =
       subst
-      (λ (d : Debugging). (history : ℕ → Rank) → IsHistory d.image d.steps mover.rank history
+      (λ (d : Debugging). (history : ℕ → Cluster) → IsHistory d.image d.steps history
       → IsLastIn (backward_stop mover marks d.steps history) from to found)
       way.here last
 
-  pub back_more : ((history : ℕ → Rank) → IsHistory now.image now.steps mover.rank history
+  pub back_more : ((history : ℕ → Cluster) → IsHistory now.image now.steps history
       → IsLastIn (backward_stop mover marks now.steps history) from to None) → OnTheWayBack old marks mover from next
   back_more last =
       let within = way.within in
@@ -180,7 +180,7 @@ module _ (old : Debugging) (marks : List Mark) (mover : Mover) (from to : ℕ) (
       }
 
   pub back_found : (place : ℕ) (halt : Halt) (there : Debugging) → there ≡ at_place next place
-      → ((history : ℕ → Rank) → IsHistory now.image now.steps mover.rank history
+      → ((history : ℕ → Cluster) → IsHistory now.image now.steps history
       → IsLastIn (backward_stop mover marks now.steps history) from to (Some (place, halt)))
       → GoesBackwards old marks mover halt there
   back_found place halt there at last =
@@ -188,23 +188,23 @@ module _ (old : Debugging) (marks : List Mark) (mover : Mover) (from to : ℕ) (
       record {
         moved = at_same old there place is;
         there = λ history of.
-            subst (λ p. IsLastBefore (backward_stop mover marks old.steps history) old.place mover.hart p halt)
+            subst (λ p. IsLastBefore (backward_stop mover marks old.steps history) old.place mover p halt)
             (sym (ap (λ (d : Debugging). d.place) is))
-            (last_here (backward_stop mover marks old.steps history) old.place mover.hart from to place halt way.within
+            (last_here (backward_stop mover marks old.steps history) old.place from to mover place halt way.within
             (last_in (Some (place, halt)) last history of) (way.none history of));
       }
 
 pub back_end : (old : Debugging) (marks : List Mark) (mover : Mover) (to : ℕ) (now there : Debugging)
     → OnTheWayBack old marks mover to now → to ≡ 0 → there ≡ at_place now 0
-    → GoesBackwards old marks mover (halt_at ends.Begin mover.hart) there
+    → GoesBackwards old marks mover (halt_at ends.Begin mover) there
 back_end old marks mover to now there way start at =
     let is : there ≡ at_place old 0 = at ∙ ap (λ (d : Debugging). at_place d 0) way.here in
     record {
       moved = at_same old there 0 is;
       there = λ history of.
           subst
-          (λ p. IsLastBefore (backward_stop mover marks old.steps history) old.place mover.hart p
-          (halt_at ends.Begin mover.hart))
+          (λ p. IsLastBefore (backward_stop mover marks old.steps history) old.place mover p
+          (halt_at ends.Begin mover))
           (sym (ap (λ (d : Debugging). d.place) is))
           (inr (refl, refl, λ m under. way.none history of m (omega (arith, start)) under));
     }

@@ -1,6 +1,6 @@
 -- One step of a motion, and what is found on the way.
 use Rattle.std.specs.Prelude.{ℕ, ◌≡◌, ◌<◌, ◌≤◌, ◌+◌, List, Option, Some, None}
-use Rattle.cl_state.specs.Rank.{Rank}
+use Rattle.cl_machine.specs.Cluster.{Cluster}
 use Rattle.cl_debug.specs.Debugging.{Debugging, at_place}
 use Rattle.rvmc_motions.specs.declared.marks.Halt.{Halt}
 use Rattle.rvmc_motions.specs.declared.marks.Mark.{Mark}
@@ -9,27 +9,27 @@ use Rattle.rvmc_motions.specs.Turns.{IsHistory, backward_stop, forward_stop, nex
 use Rattle.rvmc_motions.specs.Motions.{NoneBetween}
 
 -- what is told at the debugger's place, whatever history the record has, is this function of it
-abbrev pub Tells : Debugging → Mover → ((ℕ → Rank) → Option Halt) → Option Halt → Type 0
-Tells debugging mover stop told =
-    (history : ℕ → Rank) → IsHistory debugging.image debugging.steps mover.rank history → told ≡ stop history
+abbrev pub Tells : Debugging → ((ℕ → Cluster) → Option Halt) → Option Halt → Type 0
+Tells debugging stop told =
+    (history : ℕ → Cluster) → IsHistory debugging.image debugging.steps history → told ≡ stop history
 
 -- why a motion ends for the step at the place, or for the one that comes next there
 abbrev pub TellsTurn : Debugging → List Mark → Mover → Option Halt → Type 0
 TellsTurn debugging marks mover told =
-    Tells debugging mover (λ history. turn_at mover marks debugging.steps history debugging.place) told
+    Tells debugging (λ history. turn_at mover marks debugging.steps history debugging.place) told
 
 abbrev pub TellsNext : Debugging → List Mark → Mover → Option Halt → Type 0
 TellsNext debugging marks mover told =
-    Tells debugging mover (λ history. next_at mover marks debugging.steps history debugging.place) told
+    Tells debugging (λ history. next_at mover marks debugging.steps history debugging.place) told
 
 -- why a motion ends behind the step at the place, or before it
 abbrev pub TellsForward : Debugging → List Mark → Mover → Option Halt → Type 0
 TellsForward debugging marks mover told =
-    Tells debugging mover (λ history. forward_stop mover marks debugging.steps history (debugging.place + 1)) told
+    Tells debugging (λ history. forward_stop mover marks debugging.steps history (debugging.place + 1)) told
 
 abbrev pub TellsBackward : Debugging → List Mark → Mover → Option Halt → Type 0
 TellsBackward debugging marks mover told =
-    Tells debugging mover (λ history. backward_stop mover marks debugging.steps history debugging.place) told
+    Tells debugging (λ history. backward_stop mover marks debugging.steps history debugging.place) told
 
 -- one place on
 abbrev pub one_on : Debugging → Debugging

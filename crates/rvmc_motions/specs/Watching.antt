@@ -1,38 +1,56 @@
--- Watched bytes, before a step and behind it.
-use Rattle.std.specs.Prelude.{ℕ, Bool, not, List, map, Option}
+-- Watched bytes, before a turn and behind it.
+use Rattle.std.specs.Prelude.{ℕ, Bool, false, not, List, [], map, Option}
 use Rattle.std.specs.List.{filter}
 use Rattle.std.specs.Str.{bytes_eq}
-use Rattle.rv_hart.specs.State.{State}
 use Rattle.rv_memory.specs.Memory.{Memory, bytes_at}
+use Rattle.cl_state.specs.Rank.{Rank}
 use Rattle.rvmc_replies.specs.declared.stops.Stop.{Stop}
+use Rattle.rvmc_requests.specs.declared.points.Point.{Point}
+use Rattle.rvmc_requests.specs.declared.points.Point.TheVariants.{Before, HardwareBefore, Written, Read, Touched}
 use Rattle.rvmc_motions.specs.declared.marks.Mark.{Mark}
 use Rattle.rvmc_motions.specs.Marks.{first_some, is_watch_of, watch_stop}
-use Rattle.rvmc_motions.specs.Reads.{reads}
+use Rattle.rvmc_motions.specs.Reads.{meets, read_by}
 
--- what a watchpoint shows before a step: whether the step reads one of its bytes, and the bytes
-pub record Before : Type 0 where
+-- what a watchpoint shows before a turn: whether the turn reads one of its bytes, and the bytes
+pub record Watched : Type 0 where
   pub mark : Mark
   pub read : Bool
   pub bytes : List ℕ
 
-abbrev pub seen_of : Memory → State → Mark → Before
-seen_of memory hart mark = record {
+-- one that stops for reads alone needs none
+abbrev pub bytes_for : Point → Memory → ℕ → ℕ → List ℕ
+bytes_for Before memory address size = bytes_at memory address size
+bytes_for HardwareBefore memory address size = bytes_at memory address size
+bytes_for Written memory address size = bytes_at memory address size
+bytes_for Read memory address size = []
+bytes_for Touched memory address size = bytes_at memory address size
+
+-- whether the next turn of a hart reads one of these bytes, where that matters
+abbrev pub reads_for : Point → Rank → ℕ → ℕ → ℕ → Bool
+reads_for Before owner hart address size = false
+reads_for HardwareBefore owner hart address size = false
+reads_for Written owner hart address size = false
+reads_for Read owner hart address size = meets address size (read_by owner hart)
+reads_for Touched owner hart address size = meets address size (read_by owner hart)
+
+abbrev pub seen_of : Rank → ℕ → Mark → Watched
+seen_of owner hart mark = record {
   mark = mark;
-  read = reads hart memory mark.address mark.size;
-  bytes = bytes_at memory mark.address mark.size;
+  read = reads_for mark.point owner hart mark.address mark.size;
+  bytes = bytes_for mark.point owner.memory mark.address mark.size;
 }
 
--- of all watchpoints of the rank
-abbrev pub seen_all : Memory → State → ℕ → List Mark → List Before
-seen_all memory hart rank marks = map (seen_of memory hart) (filter (is_watch_of rank) marks)
+-- of all watchpoints of the hart's rank
+abbrev pub seen_all : Rank → ℕ → ℕ → List Mark → List Watched
+seen_all owner rank hart marks = map (seen_of owner hart) (filter (is_watch_of rank) marks)
 
--- behind the step its bytes are others
-abbrev pub has_changed : Memory → Before → Bool
+-- behind the turn its bytes are others
+abbrev pub has_changed : Memory → Watched → Bool
 has_changed memory seen = not (bytes_eq (bytes_at memory seen.mark.address seen.mark.size) seen.bytes)
 
-abbrev pub watch_of : Memory → Before → Option Stop
+abbrev pub watch_of : Memory → Watched → Option Stop
 watch_of memory seen = watch_stop seen.mark.point seen.mark.address (has_changed memory seen) seen.read
 
 -- the first watchpoint of which something is told
-abbrev pub watched : Memory → List Before → Option Stop
+abbrev pub watched : Memory → List Watched → Option Stop
 watched memory all = first_some (watch_of memory) all

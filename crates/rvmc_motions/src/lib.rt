@@ -9,5 +9,5 @@ mod reads;
 mod turns;
 mod watching;
 
-pub use marks::{Halt, Mark, Motion, Mover};
+pub use marks::{Halt, Mark, Motion, Mover, Ranks};
 pub use motions::{backwards, forwards};

@@ -1,24 +1,34 @@
 //! Where motions stop: breakpoints and watchpoints.
 
 ghost use Rattle.std.specs.Prelude.{◌≡◌};
-ghost use Rattle.rvmc_motions.specs.Marks.{break_of, broken, is_watch_of, point_stop, watch_stop};
+ghost use Rattle.rvmc_motions.specs.Marks.{break_of, broken, covers, is_watch_of, point_stop, watch_stop};
 
 use rvmc_replies::Stop;
 use rvmc_requests::Point;
 
-/// A point that was set for a rank: an instruction of its harts, or so many bytes of its memory.
+/// Ranks of a cluster.
+#[derive(Clone, Copy)]
+pub enum Ranks {
+    /// Every one.
+    All,
+    /// The one of this number.
+    One(u8),
+}
+
+/// A point that was set for some ranks: an instruction of their harts, or so many bytes of their memories.
 #[derive(Clone, Copy)]
 pub struct Mark {
-    pub rank: u8,
+    pub ranks: Ranks,
     pub point: Point,
     pub address: u64,
     pub size: u64,
 }
 
-/// Why a motion ended, and the hart that is meant from then on.
+/// Why a motion ended, and whose hart is meant from then on.
 #[derive(Clone, Copy)]
 pub struct Halt {
     pub stop: Stop,
+    pub rank: u8,
     pub hart: u8,
 }
 
@@ -27,16 +37,28 @@ pub struct Halt {
 pub enum Motion {
     /// To a step of the hart.
     Step,
-    /// To a breakpoint of any hart of the rank.
+    /// To a breakpoint of any hart of the ranks.
     Run,
 }
 
-/// Whose motion it is: a rank's, all harts of which move, and the hart that is meant where it ends at an end of the record.
+/// Whose motion it is: that of some ranks, all harts of which move, and the hart that is meant where it ends at an end of
+/// the record.
 #[derive(Clone, Copy)]
 pub struct Mover {
+    pub ranks: Ranks,
     pub rank: u8,
     pub hart: u8,
     pub motion: Motion,
+}
+
+/// Whether a rank is one of these.
+pub(crate) fn covers(ranks: Ranks, rank: u8) -> bool
+    ensures { result ≡ covers ranks rank }
+{
+    match ranks {
+        Ranks::All => true,
+        Ranks::One(own) => own == rank,
+    }
 }
 
 /// How a stop before an instruction is told; a watchpoint makes none.
@@ -50,11 +72,11 @@ fn point_stop(point: Point) -> Option<Stop>
     }
 }
 
-/// Whether a mark is a breakpoint at this pc of the rank's harts.
+/// Whether a mark is a breakpoint at this pc of a rank's harts.
 fn break_of(rank: u8, pc: u64, mark: &Mark) -> Option<Stop>
     ensures { result ≡ break_of rank pc mark.now }
 {
-    if mark.rank == rank && mark.address == pc {
+    if covers(mark.ranks, rank) && mark.address == pc {
         point_stop(mark.point)
     } else {
         None
@@ -79,7 +101,7 @@ pub(crate) fn is_watch_of(rank: u8, mark: &Mark) -> bool
 {
     match mark.point {
         Point::Before | Point::HardwareBefore => false,
-        Point::Written | Point::Read | Point::Touched => mark.rank == rank,
+        Point::Written | Point::Read | Point::Touched => covers(mark.ranks, rank),
     }
 }
 

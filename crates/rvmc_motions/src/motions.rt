@@ -3,7 +3,7 @@
 ghost use Rattle.std.specs.Prelude.{◌≡◌, ◌≤◌, IfErr, IfOk, OnOk, length, ℕ};
 ghost use Rattle.cl_debug.specs.Debugging.{at_place};
 ghost use Rattle.cl_debug.specs.declared.faults.DebugFault.TheVariants as faults;
-ghost use Rattle.cl_state.specs.Rank.{Rank};
+ghost use Rattle.cl_machine.specs.Cluster.{Cluster};
 ghost use Rattle.rvmc_motions.specs.Motions.{GoesBackwards, GoesForwards};
 ghost use Rattle.rvmc_motions.specs.Turns.{IsHistory, backward_stop};
 ghost use Rattle.rvmc_motions.specs.Walking.{IsBelow, IsLastIn, later};
@@ -16,10 +16,11 @@ use std::alloc::Global;
 
 /// Goes forwards to the first place at which the motion ends, and tells why it ends there.
 ///
-/// A run ends before an instruction of a hart of the rank with a breakpoint, and a step behind the next turn of its hart
-/// after which the hart doesn't wait; both also behind a step of the rank that changed or read the bytes of a watchpoint;
-/// or else at the end of the record. It is never the place where the debugger is, unless that is the end. All other
-/// ranks move with the record. The only error is want of memory, and then the debugger is at some place of the record.
+/// A run ends before an instruction of a hart of the mover's ranks with a breakpoint, and a step behind the next turn of its
+/// hart that isn't idle, and after which the hart doesn't wait; both also behind a turn of the ranks that changed or read
+/// the bytes of a watchpoint; or else at the end of the record. A stopped hart's idle turns meet no breakpoint. It is never
+/// the place where the debugger is, unless that is the end. All other ranks move with the record. The only error is want of
+/// memory, and then the debugger is at some place of the record.
 pub fn forwards(
     alloc: Global,
     debugger: &mut Debugger,
@@ -39,6 +40,7 @@ pub fn forwards(
     }
     Ok(Halt {
         stop: Stop::End,
+        rank: mover.rank,
         hart: mover.hart,
     })
 }
@@ -67,8 +69,8 @@ fn last_between(
     requires inside { to ≤ length debugger.old.steps }
     ensures moved { OnOk result (debugger.new ≡ at_place debugger.old debugger.new.place) }
     ensures below { IfOk result (IsBelow to) }
-    ensures found { IfOk result (λ found. (history : ℕ → Rank)
-        → IsHistory debugger.old.image debugger.old.steps mover.rank history
+    ensures found { IfOk result (λ found. (history : ℕ → Cluster)
+        → IsHistory debugger.old.image debugger.old.steps history
         → IsLastIn (backward_stop mover marks.now debugger.old.steps history) from to found) }
     ensures fault { IfErr result (λ fault. fault ≡ faults.Memory) }
 {
@@ -84,9 +86,9 @@ fn last_between(
 
 /// Goes backwards to the last place before this one at which the motion ends, and tells why it ends there.
 ///
-/// A run ends before an instruction of a hart of the rank with a breakpoint, and a step before the turn of its hart after
-/// which the hart doesn't wait; both also before a step of the rank that changed or read the bytes of a watchpoint; or
-/// else at the start of the record. Each step on the way is done once, from the places where states are kept, and those
+/// A run ends before an instruction of a hart of the mover's ranks with a breakpoint, and a step before the last turn of its
+/// hart that isn't idle, and after which the hart doesn't wait; both also before a turn of the ranks that changed or read
+/// the bytes of a watchpoint; or else at the start of the record. Each step on the way is done once, from the places where states are kept, and those
 /// behind the last such place once more. The only error is want of memory, and then the debugger is at some place of the
 /// record.
 pub fn backwards(
@@ -111,6 +113,7 @@ pub fn backwards(
     debugger.go(0)?;
     Ok(Halt {
         stop: Stop::Begin,
+        rank: mover.rank,
         hart: mover.hart,
     })
 }

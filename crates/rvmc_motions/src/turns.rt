@@ -1,14 +1,13 @@
 //! Why a motion ends at the place of a debugger.
 
 ghost use Rattle.std.specs.Prelude.{◌≡◌, ◌<◌, IfErr, IfOk, OnOk, Some, length, option_map, slice_get};
-ghost use Rattle.std.specs.Option.{option_or};
 ghost use Rattle.cl_debug.specs.declared.faults.DebugFault.TheVariants as faults;
 ghost use Rattle.cl_state.specs.Room.{rank_of};
-ghost use Rattle.rvmc_motions.specs.Turns.{at_hart, break_at, goes_on, is_waiting, own_hart, place_stop, step_stop, seen_at, stepped};
-ghost use Rattle.rvmc_motions.specs.Watching.{watched};
+ghost use Rattle.rvmc_motions.specs.Turns.{at_turn, break_at, goes_on, is_live, is_meant, is_stopped, is_waiting, own_turn};
+ghost use Rattle.rvmc_motions.specs.Turns.{step_stop, stepped, stop_behind};
 ghost use Rattle.rvmc_motions.specs.Walking.{TellsNext, TellsTurn, one_on};
 
-use crate::marks::{Halt, Mark, Motion, Mover, broken};
+use crate::marks::{Halt, Mark, Motion, Mover, Ranks, broken, covers};
 use crate::watching::{Seen, seen_all, watched};
 use cl_debug::{DebugFault, Debugger};
 use cl_replay::Step;
@@ -17,59 +16,69 @@ use rv_hart::{Hart, Mode};
 use rvmc_replies::Stop;
 use std::alloc::{AllocError, Global};
 
-/// The hart of a step, if it is one of this rank.
-fn own_hart(rank: u8, step: Option<&Step>) -> Option<u8>
-    ensures { result ≡ own_hart rank (option_map (λ step. step.now) step.entry) }
+/// Whose turn a step is.
+#[derive(Clone, Copy)]
+pub(crate) struct Whose {
+    pub(crate) rank: u8,
+    pub(crate) hart: u8,
+}
+
+/// Whose turn a step is, if its rank is one of these.
+fn own_turn(ranks: Ranks, step: Option<&Step>) -> Option<Whose>
+    ensures { result ≡ own_turn ranks (option_map (λ step. step.now) step.entry) }
 {
     let step = step?;
-    if step.rank() == rank {
-        Some(step.hart())
+    if covers(ranks, step.rank()) {
+        Some(Whose {
+            rank: step.rank(),
+            hart: step.hart(),
+        })
     } else {
         None
     }
 }
 
-/// A stop for this hart, if there is one.
-fn at_hart(hart: u8, stop: Option<Stop>) -> Option<Halt>
-    ensures { result ≡ at_hart hart stop }
+/// A stop for this turn, if there is one.
+fn at_turn(turn: Whose, stop: Option<Stop>) -> Option<Halt>
+    ensures { result ≡ at_turn turn stop }
 {
     let stop = stop?;
-    Some(Halt { stop, hart })
+    Some(Halt {
+        stop,
+        rank: turn.rank,
+        hart: turn.hart,
+    })
 }
 
-/// The first breakpoint before the instruction of the hart that steps next.
-fn break_at(rank: u8, marks: &[Mark], hart: Option<u8>, owner: &RankState) -> Option<Halt>
-    ensures { result ≡ break_at rank marks.now hart (rank_of owner.now) }
+/// Whether the hart idles in its turns.
+fn is_stopped(mode: Mode) -> bool
+    ensures { result ≡ is_stopped mode }
 {
-    let number = hart?;
-    let hart = owner.harts.get(usize::from(number))?;
-    at_hart(number, broken(rank, hart.pc(), marks))
-}
-
-fn place_stop(mover: Mover, marks: &[Mark], hart: Option<u8>, owner: &RankState) -> Option<Halt>
-    ensures { result ≡ place_stop mover.motion mover marks.now hart (rank_of owner.now) }
-{
-    match mover.motion {
-        Motion::Step => None,
-        Motion::Run => break_at(mover.rank, marks, hart, owner),
+    match mode {
+        Mode::Ended(_) | Mode::Trapped(_, _) => true,
+        Mode::Running | Mode::Waiting(_) => false,
     }
 }
 
-/// What the rank's watchpoints show before a step of its hart.
-fn seen_at(
-    alloc: Global,
-    rank: u8,
-    marks: &[Mark],
-    hart: u8,
-    owner: &RankState,
-) -> Result<Vec<Seen>, AllocError>
-    ensures { IfOk result (λ seen.
-        seen.items ≡ seen_at rank marks.now (slice_get owner.now.harts.items hart) owner.now.memory) }
+/// Whether the hart is there, and isn't stopped.
+fn is_live(hart: Option<&Hart>) -> bool
+    ensures { result ≡ is_live (option_map (λ hart. hart.now) hart.entry) }
 {
-    match owner.harts.get(usize::from(hart)) {
-        Some(own) => seen_all(alloc, &owner.memory, own, rank, marks),
-        None => Ok(Vec::new(alloc)),
+    match hart {
+        Some(hart) => !is_stopped(hart.mode()),
+        None => false,
     }
+}
+
+/// The first breakpoint before the instruction of the hart whose turn comes next; a stopped hart meets none.
+fn break_at(marks: &[Mark], turn: Whose, owner: &RankState) -> Option<Halt>
+    ensures { result ≡ break_at marks.now turn (Some (rank_of owner.now)) }
+{
+    let hart = owner.harts.get(usize::from(turn.hart))?;
+    if is_stopped(hart.mode()) {
+        return None;
+    }
+    at_turn(turn, broken(turn.rank, hart.pc(), marks))
 }
 
 /// Whether the hart waits for something.
@@ -92,81 +101,95 @@ fn goes_on(hart: Option<&Hart>) -> bool
     }
 }
 
-/// A step of the hart that is meant, behind which it doesn't wait.
-fn stepped(mover: Mover, hart: u8, behind: &RankState) -> Option<Halt>
-    ensures { result ≡ stepped mover hart (rank_of behind.now) }
+/// Whether the turn is one of the hart that is meant.
+fn is_meant(mover: Mover, turn: Whose) -> bool
+    ensures { result ≡ is_meant mover turn }
 {
-    if hart == mover.hart && goes_on(behind.harts.get(usize::from(hart))) {
+    turn.rank == mover.rank && turn.hart == mover.hart
+}
+
+/// A step of the hart that is meant: a turn that isn't idle, and behind which it doesn't wait.
+fn stepped(mover: Mover, turn: Whose, live: bool, behind: &RankState) -> Option<Halt>
+    ensures { result ≡ stepped mover turn live (rank_of behind.now) }
+{
+    if is_meant(mover, turn) && (live && goes_on(behind.harts.get(usize::from(turn.hart)))) {
         Some(Halt {
             stop: Stop::Step,
-            hart,
+            rank: turn.rank,
+            hart: turn.hart,
         })
     } else {
         None
     }
 }
 
-fn step_stop(mover: Mover, hart: u8, behind: &RankState) -> Option<Halt>
-    ensures { result ≡ step_stop mover.motion mover hart (rank_of behind.now) }
+fn step_stop(mover: Mover, turn: Whose, live: bool, behind: &RankState) -> Option<Halt>
+    ensures { result ≡ step_stop mover.motion mover turn live (rank_of behind.now) }
 {
     match mover.motion {
-        Motion::Step => stepped(mover, hart, behind),
+        Motion::Step => stepped(mover, turn, live, behind),
         Motion::Run => None,
     }
 }
 
-/// Why a motion ends for a step, of which this was seen before.
-fn turn_stop(
+/// Why a motion ends for a turn, of which this was seen before.
+fn stop_behind(
     alloc: Global,
     mover: Mover,
-    hart: u8,
+    turn: Whose,
+    live: bool,
     seen: &[Seen],
     behind: &RankState,
 ) -> Result<Option<Halt>, AllocError>
-    ensures { IfOk result (λ told. told
-        ≡ option_or (at_hart hart (watched behind.now.memory seen.now)) (step_stop mover.motion mover hart (rank_of behind.now))) }
+    ensures { IfOk result (λ told. told ≡ stop_behind mover turn live seen.now (rank_of behind.now)) }
 {
     let stop = watched(alloc, &behind.memory, seen)?;
-    match at_hart(hart, stop) {
+    match at_turn(turn, stop) {
         Some(halt) => Ok(Some(halt)),
-        None => Ok(step_stop(mover, hart, behind)),
+        None => Ok(step_stop(mover, turn, live, behind)),
     }
 }
 
-/// Why a motion ends before the step that comes next at the debugger's place.
+/// Why a motion ends before the turn that comes next at the debugger's place.
 pub(crate) fn next_stop(debugger: &Debugger, marks: &[Mark], mover: Mover) -> Option<Halt>
     ensures { TellsNext debugger.now marks.now mover result }
 {
-    let (place, _) = debugger.place();
-    let hart = own_hart(mover.rank, debugger.steps().get(place as usize));
-    let owner = debugger.state().ranks.get(usize::from(mover.rank))?;
-    place_stop(mover, marks, hart, owner)
+    match mover.motion {
+        Motion::Step => None,
+        Motion::Run => {
+            let (place, _) = debugger.place();
+            let turn = own_turn(mover.ranks, debugger.steps().get(place as usize))?;
+            let owner = debugger.state().ranks.get(usize::from(turn.rank))?;
+            break_at(marks, turn, owner)
+        }
+    }
 }
 
-/// Does the step of this hart of the rank, and tells why a motion ends for it.
-fn own_turn(
+/// Does the turn that comes next, and tells why a motion ends for it.
+fn own_turn_done(
     alloc: Global,
     debugger: &mut Debugger,
     marks: &[Mark],
     mover: Mover,
-    hart: u8,
+    turn: Whose,
 ) -> Result<Option<Halt>, DebugFault>
     requires inside { debugger.old.place < length debugger.old.steps }
-    requires own { own_hart mover.rank (slice_get debugger.old.steps debugger.old.place) ≡ Some hart }
+    requires own { own_turn mover.ranks (slice_get debugger.old.steps debugger.old.place) ≡ Some turn }
     ensures there { OnOk result (debugger.new ≡ one_on debugger.old) }
     ensures told { IfOk result (TellsTurn debugger.old marks.now mover) }
     ensures fault { IfErr result (λ fault. fault ≡ faults.Memory) }
 {
-    let Some(before) = debugger.state().ranks.get(usize::from(mover.rank)) else {
+    let Some(before) = debugger.state().ranks.get(usize::from(turn.rank)) else {
         debugger.step()?;
         return Ok(None);
     };
-    let seen = seen_at(alloc, mover.rank, marks, hart, before)?;
+    let live = is_live(before.harts.get(usize::from(turn.hart)));
+    let seen = seen_all(alloc, before, turn.rank, turn.hart, marks)?;
     debugger.step()?;
-    let Some(behind) = debugger.state().ranks.get(usize::from(mover.rank)) else {
+    let Some(behind) = debugger.state().ranks.get(usize::from(turn.rank)) else {
         return Ok(None);
     };
-    Ok(turn_stop(alloc, mover, hart, seen.as_slice(), behind)?)
+    Ok(stop_behind(alloc, mover, turn, live, seen.as_slice(), behind)?)
 }
 
 /// Does the step at the debugger's place, and tells why a motion ends for it.
@@ -182,8 +205,8 @@ pub(crate) fn turn(
     ensures fault { IfErr result (λ fault. fault ≡ faults.Memory) }
 {
     let (place, _) = debugger.place();
-    match own_hart(mover.rank, debugger.steps().get(place as usize)) {
-        Some(hart) => own_turn(alloc, debugger, marks, mover, hart),
+    match own_turn(mover.ranks, debugger.steps().get(place as usize)) {
+        Some(turn) => own_turn_done(alloc, debugger, marks, mover, turn),
         None => {
             debugger.step()?;
             Ok(None)

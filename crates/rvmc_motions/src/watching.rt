@@ -1,20 +1,22 @@
-//! Watched bytes, before a step and behind it.
+//! Watched bytes, before a turn and behind it.
 
 ghost use Rattle.std.specs.Prelude.{◌≡◌, IfOk, map};
 ghost use Rattle.std.specs.List.{filter};
 ghost use Rattle.rv_memory.specs.Memory.{bytes_at};
 ghost use Rattle.rvmc_motions.specs.Marks.{is_watch_of};
-ghost use Rattle.rvmc_motions.specs.Watching.{has_changed, seen_all, seen_of, watch_of, watched};
+ghost use Rattle.cl_state.specs.Room.{rank_of};
+ghost use Rattle.rvmc_motions.specs.Watching.{bytes_for, has_changed, reads_for, seen_all, seen_of, watch_of, watched};
 
 use crate::marks::{Mark, is_watch_of, watch_stop};
-use crate::reads::reads;
-use rv_hart::Hart;
+use crate::reads::{meets, read_by};
+use cl_state::RankState;
 use rv_memory::RankMemory;
 use rvmc_replies::Stop;
+use rvmc_requests::Point;
 use std::alloc::{AllocError, Global};
 use std::marker::Model;
 
-/// What a watchpoint shows before a step. Contracts see the bytes.
+/// What a watchpoint shows before a turn. Contracts see the bytes.
 #[derive(Drop)]
 pub(crate) struct Seen {
     mark: Mark,
@@ -23,9 +25,9 @@ pub(crate) struct Seen {
 }
 
 impl Model for Seen {
-    ghost use Rattle.rvmc_motions.specs.Watching.{Before};
+    ghost use Rattle.rvmc_motions.specs.Watching.{Watched};
 
-    ghost Value = { Before };
+    ghost Value = { Watched };
 
     ghost view = { λ seen. record { mark = seen.mark; read = seen.read; bytes = seen.bytes.items } };
 }
@@ -46,32 +48,55 @@ fn bytes_at(
     Ok(bytes)
 }
 
-/// What a watchpoint shows before the step of this hart.
-fn seen_of(alloc: Global, memory: &RankMemory, hart: &Hart, mark: &Mark) -> Result<Seen, AllocError>
-    ensures { IfOk result (λ seen. seen ≡ seen_of memory.now hart.now mark.now) }
+/// The bytes of a watchpoint; one that stops for reads alone needs none.
+fn bytes_for(alloc: Global, memory: &RankMemory, mark: &Mark) -> Result<Vec<u8>, AllocError>
+    ensures { IfOk result
+        (λ bytes. bytes.items ≡ bytes_for mark.now.point memory.now mark.now.address mark.now.size) }
 {
-    let bytes = bytes_at(alloc, memory, mark.address, mark.size)?;
+    match mark.point {
+        Point::Read => Ok(Vec::new(alloc)),
+        Point::Before | Point::HardwareBefore | Point::Written | Point::Touched => {
+            bytes_at(alloc, memory, mark.address, mark.size)
+        }
+    }
+}
+
+/// Whether the next turn of a hart reads a byte of the watchpoint, where that matters.
+fn reads_for(owner: &RankState, hart: u8, mark: &Mark) -> bool
+    ensures { result ≡ reads_for mark.now.point (rank_of owner.now) hart mark.now.address mark.now.size }
+{
+    match mark.point {
+        Point::Before | Point::HardwareBefore | Point::Written => false,
+        Point::Read | Point::Touched => meets(mark.address, mark.size, read_by(owner, hart)),
+    }
+}
+
+/// What a watchpoint shows before the turn of a hart.
+fn seen_of(alloc: Global, owner: &RankState, hart: u8, mark: &Mark) -> Result<Seen, AllocError>
+    ensures { IfOk result (λ seen. seen ≡ seen_of (rank_of owner.now) hart mark.now) }
+{
+    let bytes = bytes_for(alloc, &owner.memory, mark)?;
     Ok(Seen {
         mark: *mark,
-        read: reads(hart, memory, mark.address, mark.size),
+        read: reads_for(owner, hart, mark),
         bytes,
     })
 }
 
-/// What the rank's watchpoints show before the step of this hart.
+/// What the watchpoints of a rank show before the turn of its hart.
 pub(crate) fn seen_all(
     alloc: Global,
-    memory: &RankMemory,
-    hart: &Hart,
+    owner: &RankState,
     rank: u8,
+    hart: u8,
     marks: &[Mark],
 ) -> Result<Vec<Seen>, AllocError>
-    ensures { IfOk result (λ seen. seen.items ≡ seen_all memory.now hart.now rank marks.now) }
+    ensures { IfOk result (λ seen. seen.items ≡ seen_all (rank_of owner.now) rank hart marks.now) }
 {
     let mut all = Vec::new(alloc);
     for mark in marks {
         if is_watch_of(rank, mark) {
-            let seen = seen_of(alloc, memory, hart, mark)?;
+            let seen = seen_of(alloc, owner, hart, mark)?;
             all.push(seen)?;
         }
     }
@@ -86,12 +111,17 @@ fn has_changed(alloc: Global, memory: &RankMemory, seen: &Seen) -> Result<bool, 
     Ok(bytes.as_slice() != seen.bytes.as_slice())
 }
 
-/// What a watchpoint tells behind the step.
+/// What a watchpoint tells behind the turn.
 fn watch_of(alloc: Global, memory: &RankMemory, seen: &Seen) -> Result<Option<Stop>, AllocError>
     ensures { IfOk result (λ stop. stop ≡ watch_of memory.now seen.now) }
 {
-    let changed = has_changed(alloc, memory, seen)?;
-    Ok(watch_stop(&seen.mark, changed, seen.read))
+    match seen.mark.point {
+        Point::Read => Ok(watch_stop(&seen.mark, false, seen.read)),
+        Point::Before | Point::HardwareBefore | Point::Written | Point::Touched => {
+            let changed = has_changed(alloc, memory, seen)?;
+            Ok(watch_stop(&seen.mark, changed, seen.read))
+        }
+    }
 }
 
 /// What the first watchpoint tells of which something is told.

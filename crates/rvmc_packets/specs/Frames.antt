@@ -4,7 +4,7 @@ use Rattle.std.specs.List.{list_all}
 use Rattle.std.specs.Option.{option_to_list}
 use Rattle.rvmc_packets.specs.Texts.{digits_of, is_sum, payload_in, sum_of, text_of}
 use Rattle.rvmc_packets.specs.declared.reader.Message.{Message}
-use Rattle.rvmc_packets.specs.declared.reader.Message.TheVariants.{Again, Packet, Wrong}
+use Rattle.rvmc_packets.specs.declared.reader.Message.TheVariants.{Again, Arrived, Packet, Wrong}
 
 -- the packet of a payload, as it is written
 unfoldable pub packet_of : List ℕ → List ℕ
@@ -24,9 +24,10 @@ payload_message None = Wrong
 unfoldable pub message_of : List ℕ → ℕ → ℕ → Message
 message_of text high low = if is_sum text high low then payload_message (payload_in text) else Wrong
 
--- a byte outside a packet asks for the last one again, if it is `-`; every other means nothing
+-- a byte outside a packet asks for the last one again, if it is `-`, or says that it has arrived, if it is `+`; every other
+-- means nothing
 abbrev pub asked : ℕ → Option Message
-asked byte = if byte == 45 then Some Again else None
+asked byte = if byte == 45 then Some Again else if byte == 43 then Some Arrived else None
 
 -- What a stream holds, in order, of which a packet's text is at most `most` bytes long.
 pub data Holds (most : ℕ) : List ℕ → List Message → Type 0 where
@@ -59,6 +60,7 @@ abbrev pub acknowledgement_of : Message → List ℕ
 acknowledgement_of (Packet payload) = 43 ∷ []
 acknowledgement_of Wrong = 45 ∷ []
 acknowledgement_of Again = []
+acknowledgement_of Arrived = []
 
 abbrev pub acknowledgement : Bool → Message → List ℕ
 acknowledgement wanted message = if wanted then acknowledgement_of message else []

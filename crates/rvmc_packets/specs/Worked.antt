@@ -2,7 +2,7 @@
 -- streams that hold more than packets.
 use Rattle.std.specs.Prelude.{◌≡◌, ℕ, List, [], ◌∷◌, None, Some, codes, refl}
 use Rattle.rvmc_packets.specs.declared.reader.Message.{Message}
-use Rattle.rvmc_packets.specs.declared.reader.Message.TheVariants.{Again, Packet, Wrong}
+use Rattle.rvmc_packets.specs.declared.reader.Message.TheVariants.{Again, Arrived, Packet, Wrong}
 use Rattle.rvmc_packets.specs.Frames.{message_of, packet_of}
 use Rattle.rvmc_packets.specs.Reading.{all_told, outside_of}
 use Rattle.rvmc_packets.specs.Texts.{escaped, payload_in}
@@ -63,7 +63,7 @@ an_escape_of_nothing = refl
 abbrev Tells : List ℕ → List Message → Type 0
 Tells bytes messages = all_told (outside_of 4) bytes ≡ messages
 
-pub two_packets : Tells (codes "+$g#67+$?#3f") (Packet (codes "g") ∷ Packet (codes "?") ∷ [])
+pub two_packets : Tells (codes "+$g#67+$?#3f") (Arrived ∷ Packet (codes "g") ∷ Arrived ∷ Packet (codes "?") ∷ [])
 unfolding message_of payload_in
 two_packets = refl
 
@@ -82,8 +82,11 @@ no_digits = refl
 pub once_more : Tells (codes "-") (Again ∷ [])
 once_more = refl
 
--- what stands outside means nothing: an interrupt too
-pub between_packets : Tells (3 ∷ codes "g#67+$g#67") (Packet (codes "g") ∷ [])
+pub arrived : Tells (codes "+-") (Arrived ∷ Again ∷ [])
+arrived = refl
+
+-- what else stands outside means nothing: an interrupt too
+pub between_packets : Tells (3 ∷ codes "g#67+$g#67") (Arrived ∷ Packet (codes "g") ∷ [])
 unfolding message_of payload_in
 between_packets = refl
 

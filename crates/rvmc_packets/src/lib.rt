@@ -2,7 +2,7 @@
 //!
 //! A packet is `$`, a text, `#` and two digits of the text's sum. The text carries a payload: `$`, `#`, `}` and `*` stand
 //! in it behind `}`, and runs of one byte may be written short. Bytes outside a packet mean nothing, but for `-`, which
-//! asks for the last packet again.
+//! asks for the last packet again, and `+`, which says that it has arrived.
 #![tactic(auto)]
 
 pub mod laws;

@@ -18,6 +18,8 @@ pub enum Message {
     Wrong,
     /// The last packet is wanted again.
     Again,
+    /// The last packet has arrived.
+    Arrived,
 }
 
 /// Where a stream stands.
@@ -176,14 +178,14 @@ impl Reader {
     }
 }
 
-/// What a byte outside a packet asks for.
+/// What a byte outside a packet says.
 fn asked(byte: u8) -> Option<Message>
     ensures { result ≡ asked byte }
 {
-    if byte == b'-' {
-        Some(Message::Again)
-    } else {
-        None
+    match byte {
+        b'-' => Some(Message::Again),
+        b'+' => Some(Message::Arrived),
+        _ => None,
     }
 }
 
@@ -212,6 +214,6 @@ pub fn acknowledgement(wanted: bool, message: &Message) -> &'static [u8]
     match message {
         Message::Packet(_) => b"+",
         Message::Wrong => b"-",
-        Message::Again => b"",
+        Message::Again | Message::Arrived => b"",
     }
 }

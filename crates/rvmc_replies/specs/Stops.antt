@@ -16,4 +16,4 @@ cause_text Begin = codes "replaylog:begin;"
 cause_text End = codes "replaylog:end;"
 
 abbrev pub stop_text : Stop → ℕ → List ℕ
-stop_text stop hart = codes "T05" ++ cause_text stop ++ codes "thread:" ++ thread_number hart ++ codes ";"
+stop_text stop thread = codes "T05" ++ cause_text stop ++ codes "thread:" ++ thread_number thread ++ codes ";"

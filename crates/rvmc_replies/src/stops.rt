@@ -9,7 +9,7 @@ use crate::threads::put_thread;
 use std::io;
 use std::io::Write;
 
-/// Why the threads of a rank stand.
+/// Why the threads stand.
 #[derive(Clone, Copy)]
 pub enum Stop {
     /// A step is done, or nothing moved.
@@ -31,7 +31,7 @@ pub enum Stop {
 }
 
 /// Adds a word.
-fn put_word(text: &mut Vec<u8>, word: &[u8]) -> io::Result<()>
+pub(crate) fn put_word(text: &mut Vec<u8>, word: &[u8]) -> io::Result<()>
     ensures { OnOk result (text.new.items ≡ text.old.items ++ word.now) }
 {
     text.extend_from_slice(word)?;
@@ -64,21 +64,21 @@ fn put_cause(text: &mut Vec<u8>, stop: Stop) -> io::Result<()>
 }
 
 /// Adds which thread is meant.
-fn put_meant(text: &mut Vec<u8>, hart: u8) -> io::Result<()>
+fn put_meant(text: &mut Vec<u8>, thread: u64) -> io::Result<()>
     ensures { OnOk result (text.new.items
-        ≡ text.old.items ++ (codes "thread:" ++ thread_number hart ++ codes ";")) }
+        ≡ text.old.items ++ (codes "thread:" ++ thread_number thread ++ codes ";")) }
 {
     text.extend_from_slice(b"thread:")?;
-    put_thread(text, hart)?;
+    put_thread(text, thread)?;
     text.extend_from_slice(b";")?;
     Ok(())
 }
 
 /// Adds that the threads stand, why, and which of them is meant from now on.
-pub fn put_stop(text: &mut Vec<u8>, stop: Stop, hart: u8) -> io::Result<()>
-    ensures { OnOk result (text.new.items ≡ text.old.items ++ stop_text stop hart) }
+pub fn put_stop(text: &mut Vec<u8>, stop: Stop, thread: u64) -> io::Result<()>
+    ensures { OnOk result (text.new.items ≡ text.old.items ++ stop_text stop thread) }
 {
     text.extend_from_slice(b"T05")?;
     put_cause(text, stop)?;
-    put_meant(text, hart)
+    put_meant(text, thread)
 }

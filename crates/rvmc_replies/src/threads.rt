@@ -1,14 +1,16 @@
 //! Threads, and what the server can do.
 
-ghost use Rattle.std.specs.Prelude.{◌≡◌, ◌++◌, OnOk};
-ghost use Rattle.rvmc_replies.specs.Threads.{current_text, supported_text, thread_number, threads_text};
+ghost use Rattle.std.specs.Prelude.{◌≡◌, ◌++◌, OnOk, codes};
+ghost use Rattle.rvmc_replies.specs.Threads.{current_text, host_text, most_text, names_text, process_text, supported_text};
+ghost use Rattle.rvmc_replies.specs.Threads.{thread_number, threads_text};
 
+use crate::stops::put_word;
 use std::io;
 use std::io::Write;
 
-/// Adds what the server can do, and how long the text of a packet may be.
-pub fn put_supported(text: &mut Vec<u8>, most: u64) -> io::Result<()>
-    ensures { OnOk result (text.new.items ≡ text.old.items ++ supported_text most) }
+/// Adds what any server of a record can do, and how long the text of a packet may be.
+fn put_most(text: &mut Vec<u8>, most: u64) -> io::Result<()>
+    ensures { OnOk result (text.new.items ≡ text.old.items ++ most_text most) }
 {
     write!(
         text,
@@ -16,30 +18,65 @@ pub fn put_supported(text: &mut Vec<u8>, most: u64) -> io::Result<()>
     )
 }
 
-/// Adds the number of a hart's thread, which is one more than the hart's.
-pub(crate) fn put_thread(text: &mut Vec<u8>, hart: u8) -> io::Result<()>
-    ensures { OnOk result (text.new.items ≡ text.old.items ++ thread_number hart) }
+/// Adds that threads are listed by names, if they are.
+fn put_names(text: &mut Vec<u8>, named: bool) -> io::Result<()>
+    ensures { OnOk result (text.new.items ≡ text.old.items ++ names_text named) }
 {
-    let thread = u64::from(hart) + 1;
+    match named {
+        true => put_word(text, b";qXfer:threads:read+"),
+        false => Ok(()),
+    }
+}
+
+/// Adds what the server can do, how long the text of a packet may be, and with `named` that it lists threads by names.
+pub fn put_supported(text: &mut Vec<u8>, most: u64, named: bool) -> io::Result<()>
+    ensures { OnOk result (text.new.items ≡ text.old.items ++ supported_text most named) }
+{
+    put_most(text, most)?;
+    put_names(text, named)
+}
+
+/// Adds what the threads run on, as LLDB asks for it.
+pub fn put_host(text: &mut Vec<u8>) -> io::Result<()>
+    ensures { OnOk result (text.new.items ≡ text.old.items ++ host_text) }
+{
+    put_word(
+        text,
+        b"triple:726973637636342d756e6b6e6f776e2d656c66;endian:little;ptrsize:8;",
+    )
+}
+
+/// Adds the process, and what it runs on, as LLDB asks for it.
+pub fn put_process(text: &mut Vec<u8>) -> io::Result<()>
+    ensures { OnOk result (text.new.items ≡ text.old.items ++ process_text) }
+{
+    put_word(text, b"pid:1;")?;
+    put_host(text)
+}
+
+/// Adds the number of a thread.
+pub(crate) fn put_thread(text: &mut Vec<u8>, thread: u64) -> io::Result<()>
+    ensures { OnOk result (text.new.items ≡ text.old.items ++ thread_number thread) }
+{
     write!(text, "{thread:x}")
 }
 
 /// Adds the thread that is meant.
-pub fn put_current(text: &mut Vec<u8>, hart: u8) -> io::Result<()>
-    ensures { OnOk result (text.new.items ≡ text.old.items ++ current_text hart) }
+pub fn put_current(text: &mut Vec<u8>, thread: u64) -> io::Result<()>
+    ensures { OnOk result (text.new.items ≡ text.old.items ++ current_text thread) }
 {
     text.extend_from_slice(b"QC")?;
-    put_thread(text, hart)
+    put_thread(text, thread)
 }
 
-/// Adds the threads of so many harts.
-pub fn put_threads(text: &mut Vec<u8>, harts: u8) -> io::Result<()>
-    ensures { OnOk result (text.new.items ≡ text.old.items ++ threads_text harts) }
+/// Adds so many threads, from 1 on.
+pub fn put_threads(text: &mut Vec<u8>, count: u64) -> io::Result<()>
+    ensures { OnOk result (text.new.items ≡ text.old.items ++ threads_text count) }
 {
     text.extend_from_slice(b"m1")?;
-    for further in 0..harts.saturating_sub(1) {
+    for further in 0..count.saturating_sub(1) {
         text.extend_from_slice(b",")?;
-        put_thread(text, further + 1)?;
+        put_thread(text, further + 2)?;
     }
     Ok(())
 }

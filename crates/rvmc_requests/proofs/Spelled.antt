@@ -11,7 +11,7 @@ use Rattle.rvmc_requests.specs.Points.{point_of, spot_in}
 use Rattle.rvmc_requests.specs.Requests.{alive_in, asked_in, bytes_in, change_in, description_in, insert_in, lone_question}
 use Rattle.rvmc_requests.specs.Requests.{lone_word, monitor_in, moved_in, plain_in, point_in, raw_bytes_in, read_in}
 use Rattle.rvmc_requests.specs.Requests.{register_in, remove_in, request_in, select_in, select_moved_in, selected_in}
-use Rattle.rvmc_requests.specs.Requests.{supported_in, thread_text_in}
+use Rattle.rvmc_requests.specs.Requests.{supported_in, thread_list_in, thread_text_in}
 use Rattle.rvmc_requests.specs.declared.points.Point.{Point}
 use Rattle.rvmc_requests.specs.declared.points.Point.TheVariants.{Before, HardwareBefore, Written, Read, Touched}
 use Rattle.rvmc_requests.proofs.Numbers.{again}
@@ -72,9 +72,10 @@ spot_again point address size fits small =
 -- ---- requests
 
 pub spelled_law : SpelledLaw
-unfolding request_in plain_in asked_in selected_in read_in point_in lone_question lone_word supported_in description_in thread_text_in alive_in select_in select_moved_in register_in bytes_in raw_bytes_in insert_in remove_in change_in moved_in monitor_in
+unfolding request_in plain_in asked_in selected_in read_in point_in lone_question lone_word supported_in description_in thread_list_in thread_text_in alive_in select_in select_moved_in register_in bytes_in raw_bytes_in insert_in remove_in change_in moved_in monitor_in
 spelled_law = record {
   description = λ from count fits small. rw (pair_again from count fits small) refl;
+  thread_list = λ from count fits small. rw (pair_again from count fits small) refl;
   thread_text = λ thread fits. rw (again thread fits) refl;
   alive = λ thread fits. rw (again thread fits) refl;
   register = λ number fits. rw (again number fits) refl;

@@ -5,7 +5,7 @@ use Rattle.rvmc_requests.specs.Pieces.{number_in}
 use Rattle.rvmc_requests.specs.Requests.{request_in}
 use Rattle.rvmc_requests.specs.declared.points.Point.{Point}
 use Rattle.rvmc_requests.specs.declared.points.Point.TheVariants.{Before, HardwareBefore, Written, Read, Touched}
-use Rattle.rvmc_requests.specs.declared.requests.Request.TheVariants.{Description, Alive, ThreadText}
+use Rattle.rvmc_requests.specs.declared.requests.Request.TheVariants.{Description, ThreadList, Alive, ThreadText}
 use Rattle.rvmc_requests.specs.declared.requests.Request.TheVariants.{Register, Bytes, RawBytes, Insert, Remove}
 
 -- the digits that are written of a number, with no zeros before them
@@ -36,6 +36,8 @@ point_number Touched = 4
 pub record SpelledLaw : Type 0 where
   pub description : (from count : ℕ) → IsWord from → IsWord count
       → request_in (codes "qXfer:features:read:target.xml:" ++ pair from count) ≡ Description from count
+  pub thread_list : (from count : ℕ) → IsWord from → IsWord count
+      → request_in (codes "qXfer:threads:read::" ++ pair from count) ≡ ThreadList from count
   pub thread_text : (thread : ℕ) → IsWord thread → request_in (codes "qThreadExtraInfo," ++ hex thread) ≡ ThreadText thread
   pub alive : (thread : ℕ) → IsWord thread → request_in (codes "T" ++ hex thread) ≡ Alive thread
   pub register : (number : ℕ) → IsWord number → request_in (codes "p" ++ hex number) ≡ Register number

@@ -8,7 +8,8 @@ use Rattle.rvmc_requests.specs.Points.{spot_in}
 use Rattle.rvmc_requests.specs.Texts.{text_in}
 use Rattle.rvmc_requests.specs.Threads.{moved, thread_in}
 use Rattle.rvmc_requests.specs.declared.requests.Request.{Request}
-use Rattle.rvmc_requests.specs.declared.requests.Request.TheVariants.{Supported, Description, Why, Select, SelectMoved, Alive}
+use Rattle.rvmc_requests.specs.declared.requests.Request.TheVariants.{Supported, Description, ThreadList, HostInfo, ProcessInfo}
+use Rattle.rvmc_requests.specs.declared.requests.Request.TheVariants.{Why, Select, SelectMoved, Alive}
 use Rattle.rvmc_requests.specs.declared.requests.Request.TheVariants.{Current, FirstThreads, MoreThreads, ThreadText, Registers}
 use Rattle.rvmc_requests.specs.declared.requests.Request.TheVariants.{Register, Bytes, RawBytes, Moves, Move, StepBack, GoBack}
 use Rattle.rvmc_requests.specs.declared.requests.Request.TheVariants.{Insert, Remove, Detach, Kill, Monitor, NoAcknowledgements}
@@ -24,6 +25,8 @@ lone_question text =
     else if bytes_eq text (codes "qC") then Some Current
     else if bytes_eq text (codes "qfThreadInfo") then Some FirstThreads
     else if bytes_eq text (codes "qsThreadInfo") then Some MoreThreads
+    else if bytes_eq text (codes "qHostInfo") then Some HostInfo
+    else if bytes_eq text (codes "qProcessInfo") then Some ProcessInfo
     else if bytes_eq text (codes "vCont?") then Some Moves
     else if bytes_eq text (codes "QStartNoAckMode") then Some NoAcknowledgements
     else None
@@ -49,6 +52,11 @@ unfoldable pub description_in : List ℕ → Option Request
 description_in text =
     option_and_then (λ rest. option_map (λ numbers. Description numbers.0 numbers.1) (numbers_in rest))
     (behind text (codes "qXfer:features:read:target.xml:"))
+
+unfoldable pub thread_list_in : List ℕ → Option Request
+thread_list_in text =
+    option_and_then (λ rest. option_map (λ numbers. ThreadList numbers.0 numbers.1) (numbers_in rest))
+    (behind text (codes "qXfer:threads:read::"))
 
 unfoldable pub thread_text_in : List ℕ → Option Request
 thread_text_in text =
@@ -105,7 +113,9 @@ monitor_in text =
 -- ---- all of them
 
 unfoldable pub asked_in : List ℕ → Option Request
-asked_in text = option_or (supported_in text) (option_or (description_in text) (option_or (thread_text_in text) (alive_in text)))
+asked_in text =
+    option_or (supported_in text) (option_or (description_in text) (option_or (thread_list_in text)
+    (option_or (thread_text_in text) (alive_in text))))
 
 unfoldable pub selected_in : List ℕ → Option Request
 selected_in text = option_or (select_in text) (select_moved_in text)

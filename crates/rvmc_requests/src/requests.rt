@@ -4,7 +4,7 @@ ghost use Rattle.std.specs.Prelude.{◌≡◌, IfOk};
 ghost use Rattle.rvmc_requests.specs.Requests.{alive_in, asked_in, bytes_in, change_in, description_in, insert_in};
 ghost use Rattle.rvmc_requests.specs.Requests.{lone_word, monitor_in, moved_in, plain_in, point_in, raw_bytes_in};
 ghost use Rattle.rvmc_requests.specs.Requests.{read_in, register_in, remove_in, request_in, select_in, select_moved_in};
-ghost use Rattle.rvmc_requests.specs.Requests.{selected_in, lone_question, supported_in, thread_text_in};
+ghost use Rattle.rvmc_requests.specs.Requests.{selected_in, lone_question, supported_in, thread_list_in, thread_text_in};
 
 use crate::pieces::{behind, is_word, number_in, numbers_in, parts};
 use crate::points::{Point, spot_in};
@@ -22,6 +22,15 @@ pub enum Request {
         from: u64,
         count: u64,
     },
+    /// `qXfer:threads:read::FROM,COUNT`: a part of the list of threads, each with its name.
+    ThreadList {
+        from: u64,
+        count: u64,
+    },
+    /// `qHostInfo`: what the threads run on.
+    HostInfo,
+    /// `qProcessInfo`: which process it is, and what it runs on.
+    ProcessInfo,
     /// `?`: why the threads stand.
     Why,
     /// `HgTHREAD`: the thread whose registers are meant from now on.
@@ -103,6 +112,12 @@ fn lone_question(text: &[u8]) -> Option<Request>
     if is_word(text, b"qsThreadInfo") {
         return Some(Request::MoreThreads);
     }
+    if is_word(text, b"qHostInfo") {
+        return Some(Request::HostInfo);
+    }
+    if is_word(text, b"qProcessInfo") {
+        return Some(Request::ProcessInfo);
+    }
     if is_word(text, b"vCont?") {
         return Some(Request::Moves);
     }
@@ -160,6 +175,15 @@ fn description_in(text: &[u8]) -> Option<Request>
     let rest = behind(text, b"qXfer:features:read:target.xml:")?;
     let (from, count) = numbers_in(rest)?;
     Some(Request::Description { from, count })
+}
+
+#[tactic(auto, unfolding(crate::specs::Requests::thread_list_in))]
+fn thread_list_in(text: &[u8]) -> Option<Request>
+    ensures { result ≡ thread_list_in text.now }
+{
+    let rest = behind(text, b"qXfer:threads:read::")?;
+    let (from, count) = numbers_in(rest)?;
+    Some(Request::ThreadList { from, count })
 }
 
 #[tactic(auto, unfolding(crate::specs::Requests::thread_text_in))]
@@ -274,6 +298,9 @@ fn asked_in(text: &[u8]) -> Option<Request>
         return Some(request);
     }
     if let Some(request) = description_in(text) {
+        return Some(request);
+    }
+    if let Some(request) = thread_list_in(text) {
         return Some(request);
     }
     if let Some(request) = thread_text_in(text) {

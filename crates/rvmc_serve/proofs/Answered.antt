@@ -66,7 +66,7 @@ front_of spelled packets front behind image steps read stream =
     front_is spelled packets front behind ends stream.all
 
 -- of which this session is
-session_of : (rank : ℕ) (spelled packets text : List ℕ) (image : ImageParts) (steps : List Step)
+session_of : (rank : Option ℕ) (spelled packets text : List ℕ) (image : ImageParts) (steps : List Step)
     → reading_record spelled ≡ Ok (image, steps) → IsSession rank (spelled ++ packets) text None
     → (new : Connection)
     × Serves (connected (opened (record { image = image; steps = steps; place = 0; breaks = [] }) rank)) packets new text

@@ -60,7 +60,7 @@ stream_read law a b bytes front behind rest known left all (inr there) =
 -- ---- how a session ends
 
 -- before there is a front
-pub cut_before : EndLaw → (rank : ℕ) (bytes : List ℕ) (fault : Fault) → (fault ≡ faults.Memory) ⊎ (fault ≡ faults.Read)
+pub cut_before : EndLaw → (rank : Option ℕ) (bytes : List ℕ) (fault : Fault) → (fault ≡ faults.Memory) ⊎ (fault ≡ faults.Read)
     → IsSession rank bytes [] (Some fault)
 cut_before law rank bytes fault which =
     let parts = stream_of law bytes in
@@ -74,7 +74,7 @@ cut_before law rank bytes fault which =
         subst (λ (f : Fault). Writes rank (reading_record front) behind [] (Some f)) (sym is) (inl refl)
 
 -- for a fault of the record
-pub refused_writes : (rank : ℕ) (read : Reading) (behind : List ℕ) (fault : Fault) → IsFaultOf rank read fault
+pub refused_writes : (rank : Option ℕ) (read : Reading) (behind : List ℕ) (fault : Fault) → IsFaultOf rank read fault
     → fault ≢ faults.Write → Writes rank read behind [] (Some fault)
 refused_writes rank read behind faults.Memory is loud = inl refl
 refused_writes rank read behind faults.Read is loud = inl refl
@@ -82,7 +82,7 @@ refused_writes rank read behind faults.Write is loud = absurd (loud refl)
 refused_writes rank read behind fault is loud = (is, refl)
 
 -- behind a record that was opened
-pub cut_writes : (rank : ℕ) (read : Reading) (server : Connection) (behind text : List ℕ) (fault : Fault)
+pub cut_writes : (rank : Option ℕ) (read : Reading) (server : Connection) (behind text : List ℕ) (fault : Fault)
     → IsOpenedAs rank read server → (w v : Option (List ℕ))
     → CutsShort fault ((text : List ℕ) × HearsSome server behind text × Appends w v text) → fault ≢ faults.Write
     → (text : List ℕ) × Writes rank read behind text (Some fault) × Appends w v text
@@ -93,13 +93,13 @@ cut_writes rank read server behind text faults.Read (serving, opens, is) w v (sa
 cut_writes rank read server behind text faults.Write opened w v cut loud = absurd (loud refl)
 cut_writes rank read server behind text other opened w v cut loud = absurd cut
 
-pub whole_writes : (rank : ℕ) (read : Reading) (server : Connection) (behind : List ℕ) (w v : Option (List ℕ))
+pub whole_writes : (rank : Option ℕ) (read : Reading) (server : Connection) (behind : List ℕ) (w v : Option (List ℕ))
     → IsOpenedAs rank read server → (text : List ℕ) × HearsAll server behind text × Appends w v text
     → (text : List ℕ) × Writes rank read behind text None × Appends w v text
 whole_writes rank read server behind w v (serving, opens, is) (said, all, writes) =
     (said, (serving, opens, subst (λ (c : Connection). HearsAll c behind said) is all), writes)
 
-pub of_cut : (rank : ℕ) (read : Reading) (fault : Fault) → CutsShort fault (Unit {0}) → IsFaultOf rank read fault
+pub of_cut : (rank : Option ℕ) (read : Reading) (fault : Fault) → CutsShort fault (Unit {0}) → IsFaultOf rank read fault
 of_cut rank read faults.Memory cut = tt
 of_cut rank read faults.Read cut = tt
 of_cut rank read faults.Write cut = tt
@@ -120,11 +120,11 @@ pub cut_if : {A E : Type 0} (r : Result A E) (Known : List ℕ → Type 0) (Hear
 cut_if (Ok x) Known Heard Cut makes heard = tt
 cut_if (Err e) Known Heard Cut makes heard = makes e heard
 
-pub no_front : (rank : ℕ) (bytes : List ℕ) (fault : Fault) (w : Option (List ℕ)) → IsOfFront fault
+pub no_front : (rank : Option ℕ) (bytes : List ℕ) (fault : Fault) (w : Option (List ℕ)) → IsOfFront fault
     → (text : List ℕ) × IsSession rank bytes text (Some fault) × Appends w w text
 no_front rank bytes fault w is = ([], cut_before end_law rank bytes fault is, appended_none w w (kept w))
 
-pub not_opened : (rank : ℕ) (a b : Option (List ℕ)) (bytes front behind : List ℕ) (fault : Fault) (w : Option (List ℕ))
+pub not_opened : (rank : Option ℕ) (a b : Option (List ℕ)) (bytes front behind : List ℕ) (fault : Fault) (w : Option (List ℕ))
     → a ≡ Some bytes → Consumes a b (front ++ behind) → IsFront front behind b
     → IsFaultOf rank (reading_record front) fault → fault ≢ faults.Write
     → (text : List ℕ) × IsSession rank bytes text (Some fault) × Appends w w text
@@ -140,7 +140,7 @@ not_opened rank a b bytes front behind fault w known takes is refuses loud =
       appended_none w w (kept w),
     )
 
-pub served : (rank : ℕ) (a b : Option (List ℕ)) (bytes front behind first : List ℕ) (server : Connection)
+pub served : (rank : Option ℕ) (a b : Option (List ℕ)) (bytes front behind first : List ℕ) (server : Connection)
     (w v : Option (List ℕ)) → a ≡ Some bytes → Consumes a b (front ++ behind) → IsFront front behind b → first ≡ behind
     → IsOpenedAs rank (reading_record front) server
     → ((rest : List ℕ) → b ≡ Some rest → (text : List ℕ) × HearsAll server (first ++ rest) text × Appends w v text)
@@ -160,7 +160,7 @@ served rank a b bytes front behind first server w v known takes is same opened w
       said.2,
     )
 
-pub cut_off : (rank : ℕ) (a b : Option (List ℕ)) (bytes front behind first : List ℕ) (server : Connection)
+pub cut_off : (rank : Option ℕ) (a b : Option (List ℕ)) (bytes front behind first : List ℕ) (server : Connection)
     (w v : Option (List ℕ)) (fault : Fault) → a ≡ Some bytes → Consumes a b (front ++ behind) → IsFront front behind b
     → first ≡ behind → IsOpenedAs rank (reading_record front) server
     → ((rest : List ℕ) → b ≡ Some rest

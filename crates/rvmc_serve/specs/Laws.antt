@@ -1,5 +1,5 @@
 -- The laws of a session over a stream.
-use Rattle.std.specs.Prelude.{◌≡◌, ℕ, List, [], ◌++◌, None, Ok}
+use Rattle.std.specs.Prelude.{◌≡◌, ℕ, List, [], ◌++◌, None, Ok, Option}
 use Rattle.cl_machine.specs.declared.steps.Step.{Step}
 use Rattle.cl_text.specs.Reading.{reading_record}
 use Rattle.rv_image.specs.declared.images.ImageParts.{ImageParts}
@@ -14,7 +14,7 @@ use Rattle.rvmc_serve.specs.Sessions.{IsSession}
 -- record's rank, from its first step on, answers to them, in order
 abbrev pub AnswersLaw : Type 0
 AnswersLaw =
-    (rank : ℕ) (spelled packets text : List ℕ) (image : ImageParts) (steps : List Step) (messages : List Message)
+    (rank : Option ℕ) (spelled packets text : List ℕ) (image : ImageParts) (steps : List Step) (messages : List Message)
     → reading_record spelled ≡ Ok (image, steps) → Holds most packets messages
     → IsSession rank (spelled ++ packets) text None
     → (talk : Talk)
@@ -23,5 +23,5 @@ AnswersLaw =
 -- a record behind which nothing stands is answered by nothing
 abbrev pub QuietLaw : Type 0
 QuietLaw =
-    (rank : ℕ) (spelled text : List ℕ) (image : ImageParts) (steps : List Step)
+    (rank : Option ℕ) (spelled text : List ℕ) (image : ImageParts) (steps : List Step)
     → reading_record spelled ≡ Ok (image, steps) → IsSession rank spelled text None → text ≡ []

@@ -1,5 +1,5 @@
 -- What the code says of a session, step by step.
-use Rattle.std.specs.Prelude.{◌≡◌, ◌⊎◌, ⊤, ℕ}
+use Rattle.std.specs.Prelude.{◌≡◌, ◌⊎◌, ⊤, Option, ℕ}
 use Rattle.cl_front.specs.declared.input.FrontFault.{FrontFault}
 use Rattle.cl_front.specs.declared.input.FrontFault.TheVariants as front
 use Rattle.rvmc_gdb.specs.Serving.{Serving}
@@ -18,11 +18,11 @@ abbrev pub IsOfFront : Fault → Type 0
 IsOfFront fault = (fault ≡ faults.Memory) ⊎ (fault ≡ faults.Read)
 
 -- a session was opened, of which nothing is heard yet
-abbrev pub IsOpenedAs : ℕ → Reading → Connection → Type 0
+abbrev pub IsOpenedAs : Option ℕ → Reading → Connection → Type 0
 IsOpenedAs rank read connection = (serving : Serving) × IsOpened rank read serving × (connection ≡ connected serving)
 
 -- a fault is that of what was read as a record, unless memory was refused, or a read or a write failed
-abbrev pub IsFaultOf : ℕ → Reading → Fault → Type 0
+abbrev pub IsFaultOf : Option ℕ → Reading → Fault → Type 0
 IsFaultOf rank read faults.Memory = ⊤
 IsFaultOf rank read faults.Read = ⊤
 IsFaultOf rank read faults.Write = ⊤

@@ -1,6 +1,7 @@
 //! The session of a stream.
 
-ghost use Rattle.std.specs.Prelude.{◌≡◌, ◌≢◌, ◌<◌, ◌≤◌, ◌+◌, ◌++◌, IfErr, IfOk, List, None, OnOk, Some, length, ⊤, ℕ};
+ghost use Rattle.std.specs.Prelude.{◌≡◌, ◌≢◌, ◌<◌, ◌≤◌, ◌+◌, ◌++◌, IfErr, IfOk, List, None, OnOk, Option, Some, length, ⊤, ℕ};
+ghost use Rattle.std.specs.Option.{unwrap_or};
 ghost use Rattle.std.specs.Io.KnownBytes.{Appends, Consumes, Keeps};
 ghost use Rattle.cl_front.specs.Input.{IsFront};
 ghost use Rattle.cl_debug.specs.declared.faults.DebugFault.TheVariants.{NoRank};
@@ -41,23 +42,28 @@ fn front_fault(fault: FrontFault) -> Fault
     }
 }
 
-/// The session of a rank at the debugger's place, or NoRank where there is no such rank.
-fn shown(alloc: Global, debugger: Debugger, rank: u64) -> Result<Session, DebugFault>
-    ensures there { IfOk result (λ _. rank < debugger.image.ranks) }
+/// The session of a rank at the debugger's place, or of all ranks; or NoRank where there is no such rank.
+fn shown(alloc: Global, debugger: Debugger, rank: Option<u64>) -> Result<Session, DebugFault>
+    ensures there { IfOk result (λ _. unwrap_or rank 0 < debugger.image.ranks) }
     ensures shown { IfOk result (λ session. session ≡ opened_at debugger rank) }
     ensures fault { IfErr result (λ fault. fault ≡ NoRank) }
-    ensures no_rank { IfErr result (λ _. debugger.image.ranks ≤ rank) }
+    ensures no_rank { IfErr result (λ _. debugger.image.ranks ≤ unwrap_or rank 0) }
 {
-    if rank >= u64::from(debugger.image().parts().ranks) {
-        return Err(DebugFault::NoRank);
+    match rank {
+        None => Session::open(alloc, debugger, None),
+        Some(rank) => {
+            if rank >= u64::from(debugger.image().parts().ranks) {
+                return Err(DebugFault::NoRank);
+            }
+            Session::open(alloc, debugger, Some(rank as u8))
+        }
     }
-    Session::open(alloc, debugger, rank as u8)
 }
 
-/// A session of this rank over the record that bytes spell, of whose packets nothing is read. The fault is that of the
+/// A session of this rank, or of all ranks, over the record that bytes spell, of whose packets nothing is read. The fault is that of the
 /// record, `NotARun` where its steps are no run of its image, `NoRank` where the image hasn't the rank, or `Memory`.
 #[tactic(auto, using(crate::proofs::Opening::is_opened, crate::proofs::Opening::no_rank, crate::proofs::Opening::no_run, crate::proofs::Opening::unread))]
-fn opened(alloc: Global, rank: u64, bytes: &[u8]) -> Result<Server, Fault>
+fn opened(alloc: Global, rank: Option<u64>, bytes: &[u8]) -> Result<Server, Fault>
     ensures opened { IfOk result (IsOpenedAs rank (reading_record bytes.now)) }
     ensures fault { IfErr result (IsFaultOf rank (reading_record bytes.now)) }
 {
@@ -68,7 +74,7 @@ fn opened(alloc: Global, rank: u64, bytes: &[u8]) -> Result<Server, Fault>
 }
 
 /// The same, with the bytes beside the fault. Behind a record that was opened they are needed no more.
-fn opened_or_kept(alloc: Global, rank: u64, bytes: Vec<u8>) -> Result<Server, Refused>
+fn opened_or_kept(alloc: Global, rank: Option<u64>, bytes: Vec<u8>) -> Result<Server, Refused>
     ensures opened { IfOk result (IsOpenedAs rank (reading_record bytes.items)) }
     ensures fault { IfErr result (λ refused. IsFaultOf rank (reading_record bytes.items) refused.fault) }
     ensures kept { IfErr result (λ refused. refused.bytes.items ≡ bytes.items) }
@@ -208,7 +214,7 @@ fn front_of<I: Read>(alloc: Global, input: &mut I) -> Result<Front, Refused>
         IsFront front.record.items front.behind.items (I.remaining input.new)) }
     ensures short { IfOk result (λ front. length (front.record.items ++ front.behind.items) ≤ 67108864) }
     ensures fault { IfErr result (λ refused. IsOfFront refused.fault) }
-    ensures hint { (rank : ℕ) → IfErr result (λ refused. IsFaultOf rank (reading_record refused.bytes.items) refused.fault) }
+    ensures hint { (rank : Option ℕ) → IfErr result (λ refused. IsFaultOf rank (reading_record refused.bytes.items) refused.fault) }
     ensures most { TakesAtMost 67112960 (I.remaining input.old) (I.remaining input.new) }
 {
     match read_front(alloc, input) {
@@ -221,8 +227,8 @@ fn front_of<I: Read>(alloc: Global, input: &mut I) -> Result<Front, Refused>
 }
 
 /// Serves a client of gdb's remote serial protocol: the input is a record, and behind it what the client sends, each
-/// piece of which is answered on the output at once. The session is that of the record's rank `rank`, before its first
-/// step; it ends where the client leaves, or with the input.
+/// piece of which is answered on the output at once. The session is that of the record's rank `rank`, or of all its ranks,
+/// before its first step; it ends where the client leaves, or with the input.
 ///
 /// The fault is that of the record, which decides at the byte where it is known; `Debug` with `NotARun`, where its steps
 /// are no run of its image, or with `NoRank`; `Memory` where memory is refused; `Read` where a read fails, where there are
@@ -230,7 +236,7 @@ fn front_of<I: Read>(alloc: Global, input: &mut I) -> Result<Front, Refused>
 /// fails.
 pub fn serve<I: Read, O: Write>(
     alloc: Global,
-    rank: u64,
+    rank: Option<u64>,
     input: &mut I,
     out: &mut O,
 ) -> Result<(), Refused>

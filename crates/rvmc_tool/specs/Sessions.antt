@@ -17,7 +17,7 @@ session_status None = 0
 session_status (Some fault) = fault_status fault
 
 -- what is answered to the packets behind a record
-pub record SaysOfSession (rank : ℕ) (bytes text : List ℕ) (status : ℕ) : Type 0 where
+pub record SaysOfSession (rank : Option ℕ) (bytes text : List ℕ) (status : ℕ) : Type 0 where
   pub ended : Option Fault
   pub is : IsSession rank bytes text ended
   pub status_is : status ≡ session_status ended

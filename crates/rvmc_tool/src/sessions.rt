@@ -29,7 +29,7 @@ fn refused<E: Write>(alloc: Global, line: &CommandLine, refused: Refused, err: &
 pub(crate) fn served<I: Read, O: Write, E: Write>(
     alloc: Global,
     line: &CommandLine,
-    rank: u64,
+    rank: Option<u64>,
     input: &mut I,
     out: &mut O,
     err: &mut E,

@@ -1,5 +1,5 @@
 -- A client that leaves.
-use Rattle.std.specs.Prelude.{ℕ, ◌≡◌, true, List, [], ◌∷◌, ◌++◌, codes, None, Ok}
+use Rattle.std.specs.Prelude.{ℕ, ◌≡◌, true, List, [], ◌∷◌, ◌++◌, codes, None, Ok, Option}
 use Rattle.std.proofs.Common.{refl, sym, ap, ◌∙◌, subst, arith}
 use Rattle.std.proofs.lemmas.List.{append-nil}
 use Rattle.cl_machine.specs.declared.steps.Step.{Step}
@@ -39,8 +39,8 @@ left : (serving : Serving) (talk : Talk) (text : List ℕ)
     → Converses (talk_begun serving) (Packet (68 ∷ []) ∷ []) talk text → Left talk text
 left serving talk text talks =
     let met = talks.3 in
-    let heard : Hears (talk_begun serving) Detach talks.0 met.reply
-    = subst (λ request. Hears (talk_begun serving) request talks.0 met.reply) is_detach met.replies in
+    let heard : Hears (talk_begun serving) (68 ∷ []) Detach talks.0 met.reply
+    = subst (λ request. Hears (talk_begun serving) (68 ∷ []) request talks.0 met.reply) is_detach met.replies in
     record {
       ended = ap (λ (t : Talk). t.ended) (talks.4.0 ∙ heard.stands);
       told = talks.5
@@ -55,7 +55,7 @@ pub ends : HeardLaw → (serving : Serving) (new : Connection) (text : List ℕ)
 ends law serving new text serves =
     (left serving new.talk text (law serving (codes "$D#44") (Packet (68 ∷ []) ∷ []) new text held serves)).ended
 
-pub answered : AnswersLaw → (rank : ℕ) (spelled text : List ℕ) (image : ImageParts) (steps : List Step)
+pub answered : AnswersLaw → (rank : Option ℕ) (spelled text : List ℕ) (image : ImageParts) (steps : List Step)
     → reading_record spelled ≡ Ok (image, steps) → IsSession rank (spelled ++ codes "$D#44") text None
     → text ≡ 43 ∷ packet_of (codes "OK")
 answered law rank spelled text image steps read session =

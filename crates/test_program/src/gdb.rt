@@ -29,7 +29,7 @@ pub fn who_has_left_is_heard_no_more(
 /// What a client sends right behind a record is answered, also where both are read at once.
 pub fn what_stands_behind_a_record_is_answered(
     alloc: Global,
-    rank: u64,
+    rank: Option<u64>,
     input: &mut &[u8],
     out: &mut Vec<u8>,
 ) -> Result<(), Refused>

@@ -78,12 +78,12 @@ fn requests_find_memory(rt: HostRuntime) {
     assert!(rt; is_move(rt.alloc(), b"vCont;s:1;c").unwrap_or(false));
 }
 
-/// An answer of each kind: what the server can do, four threads, a stop by a watchpoint, a register, and parts.
+/// An answer of each kind: what the server can do, with names of threads, four threads, a stop by a watchpoint, a register, and parts.
 fn answers(alloc: Global) -> io::Result<Vec<u8>> {
     let mut text = Vec::new(alloc);
-    put_supported(&mut text, 16384)?;
+    put_supported(&mut text, 16384, true)?;
     put_threads(&mut text, 4)?;
-    put_stop(&mut text, Stop::Written(32768), 1)?;
+    put_stop(&mut text, Stop::Written(32768), 2)?;
     put_register(alloc, &mut text, 0x1234)?;
     put_part(&mut text, b"abcdef", 2, 3)?;
     put_part(&mut text, b"abcdef", 5, 3)?;
@@ -95,6 +95,6 @@ fn answers(alloc: Global) -> io::Result<Vec<u8>> {
 fn answers_find_memory(rt: HostRuntime) {
     let text = answers(rt.alloc()).unwrap_or(Vec::new(rt.alloc()));
     let wanted =
-        b"PacketSize=4000;qXfer:features:read+;ReverseStep+;ReverseContinue+;vContSupported+;QStartNoAckMode+;swbreak+;hwbreak+m1,2,3,4T05watch:8000;thread:2;3412000000000000mcdelf";
+        b"PacketSize=4000;qXfer:features:read+;ReverseStep+;ReverseContinue+;vContSupported+;QStartNoAckMode+;swbreak+;hwbreak+;qXfer:threads:read+m1,2,3,4T05watch:8000;thread:2;3412000000000000mcdelf";
     assert_eq!(rt; text.as_slice(), wanted.as_slice());
 }

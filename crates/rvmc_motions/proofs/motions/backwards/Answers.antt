@@ -1,7 +1,7 @@
 use Rattle.std.proofs.Common.{◌≡◌, ◌≤◌, ◌-◌, ◌*◌, ◌/◌, arith, length, subst}
 use Rattle.std.proofs.lemmas.Result.{err_from_is_err_and}
 use Rattle.std.specs.Prelude.{ℕ}
-use Rattle.cl_state.specs.Rank.{Rank}
+use Rattle.cl_machine.specs.Cluster.{Cluster}
 use Rattle.rvmc_motions.specs.Turns.{IsHistory, backward_stop}
 use Rattle.rvmc_motions.specs.Walking.{IsBelow, IsLastIn}
 use Rattle.rvmc_motions.proofs.Ways.{back_found, back_more, only_memory, chunk_below, steps_of}
@@ -29,7 +29,7 @@ returns-in-Some-clause-goes c =
     let from = (c.loop-to.to - 1) / c.spacing-spacing.result * c.spacing-spacing.result in
     let low : from ≤ c.loop-to.to = chunk_below c.loop-to.to c.spacing-spacing.result in
     let last = subst
-    (λ found. (history : ℕ → Rank) → IsHistory now.image now.steps c.args.mover.rank history
+    (λ found. (history : ℕ → Cluster) → IsHistory now.image now.steps history
     → IsLastIn (backward_stop c.args.mover marks now.steps history) from c.loop-to.to found)
     c.in-Some.is c.in_ok-place.ensures.found in
     back_found old marks c.args.mover from c.loop-to.to now c.last_between.new.debugger c.loop-to.invariant low
@@ -43,7 +43,7 @@ loop-to-preserved c =
     let from = (c.loop-to.to - 1) / c.spacing-spacing.result * c.spacing-spacing.result in
     let low : from ≤ c.loop-to.to = chunk_below c.loop-to.to c.spacing-spacing.result in
     let last = subst
-    (λ found. (history : ℕ → Rank) → IsHistory now.image now.steps c.args.mover.rank history
+    (λ found. (history : ℕ → Cluster) → IsHistory now.image now.steps history
     → IsLastIn (backward_stop c.args.mover marks now.steps history) from c.loop-to.to found)
     c.in_default.is c.in_ok-place.ensures.found in
     back_more old marks c.args.mover from c.loop-to.to now c.last_between.new.debugger c.loop-to.invariant low

@@ -7,5 +7,5 @@ pub returns : goal.returns
 returns c =
     let symbols_are = c.as_slice-symbols.ensures ∙ ap (λ (x : ImageParts). x.symbols) c.parts.ensures.parts
     ∙ ap (λ (x : ImageParts). x.symbols) c.image.ensures in
-    line_found _ _ c.args.hart c.as_slice-symbols.result.now c.state-state.result.now _ c.self.view_is c.state-state.ensures symbols_are
+    line_found _ _ c.args.who c.as_slice-symbols.result.now c.state-state.result.now _ c.self.view_is c.state-state.ensures symbols_are
     c.in_ok-rank_line.ensures

@@ -5,5 +5,5 @@ use Rattle.rvmc_gdb.proofs.session.Session.thread_text.Goals as goal
 
 pub returns : goal.returns
 returns c =
-    subst (λ o. TellsHart c.args.self.now o c.in_ok-text_or_refused.field-0.items) (sym c.in-Some.is ∙ c.hart_of.ensures)
+    subst (λ o. TellsHart c.args.self.now o c.in_ok-text_or_refused.field-0.items) (sym c.in-Some.is ∙ c.who_of.ensures)
     (option_map (λ t. t.items) c.in_ok-found.found, c.in_ok-found.ensures, c.in_ok-text_or_refused.ensures)
