@@ -1,5 +1,7 @@
 """The calls that led to where a hart is, as docs/DEBUGGING.md ("Inside a library") tells them."""
 
+import places
+
 # the calls that are told of a hart, and the registers of the return address and of the frame pointer
 MOST, RA, S0 = 64, 1, 8
 
@@ -22,12 +24,18 @@ def callers(hart, memory):
     return found
 
 
-def place(image, at):
-    """Where a call is, with the symbol at it or nearest before it, the first of several."""
-    before = [(address, -number, name) for number, (address, name) in enumerate(image.symbols) if address <= at]
-    return f"{at:#x}" + (f" ({max(before)[2].decode()})" if before else "")
-
-
 def calls(image, hart, memory):
     """The calls as text, each for itself."""
-    return [f"called from {place(image, at)}" for at in callers(hart, memory)]
+    return [f"called from {places.name(image, at)}" for at in callers(hart, memory)]
+
+
+def own_call(image, hart, memory):
+    """Of a hart in the library: where the program itself called it, and an address in what it called. Else nothing."""
+    inner = hart.pc
+    if places.has_line(image, inner):
+        return None
+    for at in callers(hart, memory):
+        if places.has_line(image, at):
+            return at, inner
+        inner = at
+    return None

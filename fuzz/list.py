@@ -7,23 +7,13 @@ from cluster import Walk
 from formats import FREED, HELD, HUB, IDLE, MISS, PLAIN, READY, TAKE
 from hub import NOT_YET
 from machine import BRANCHES, ENDED, RUNNING, TRAPPED, WAITING, WORD, listed, word_of
-from why import place as named_place
+from places import place as named_place
+from why import CAUSES
 
 CODES = (
     "OK BAD_BUFFER BAD_COUNT BAD_TAG BAD_RANK BAD_COMM BAD_REQUEST TRUNCATED FULL BAD_PARTITION NO_CHANNEL SHAPE "
     "ACTIVE BAD_CALL BAD_MESSAGE ALREADY_READY NOT_ACTIVE"
 ).split()
-
-CAUSES = [
-    "instruction address misaligned",
-    "instruction access fault",
-    "illegal instruction",
-    "breakpoint",
-    "load address misaligned",
-    "load access fault",
-    "store address misaligned",
-    "store access fault",
-]
 
 SENDS = "buf count dest tag c"
 RECEIVES = "buf cap source tag c"
@@ -116,7 +106,7 @@ def left(word, before, hart):
 def instruction(before, hart):
     """An instruction, and what it left."""
     if before.word is None:
-        return "traps: instruction access fault"
+        return "traps: jump out of the text"
     text = listed(before.word)
     if text.startswith(".word"):
         return f".word {before.word:#x} traps: illegal instruction"

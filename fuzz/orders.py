@@ -486,7 +486,7 @@ class Recorded:
         for number, (mine, theirs) in enumerate(zip(self.messages, first.messages)):
             for (at, got, source), (_, _, other) in zip(mine, theirs):
                 if source != other:
-                    where, how = why.place(self.image, at), "got" if got else "saw"
+                    where, how = places.name(self.image, at), "got" if got else "saw"
                     return f": rank {number} at {where} {how} rank {source}'s message, in end 1 rank {other}'s"
         return ""
 

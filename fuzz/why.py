@@ -3,12 +3,26 @@
 import copy
 
 import frames
+import places
 from cluster import Walk
 from formats import HELD, HUB, MISS
 from hub import NOT_YET
 from machine import ENDED, TRAPPED, WAITING
 
 CALLS = {17: "SSEND", 18: "RECV", 23: "WAIT", 25: "PROBE", 27: "MPROBE", 29: "MRECV", 35: "WAITALL"}
+
+# the causes of traps by their numbers, as docs/MACHINE.md ("Traps") lists them
+CAUSES = [
+    "jump to a misaligned address",
+    "jump out of the text",
+    "illegal instruction",
+    "breakpoint",
+    "misaligned load",
+    "load outside memory",
+    "misaligned store",
+    "store outside memory or into the text",
+]
+STORE_ACCESS = 7
 
 
 class Wait:
@@ -103,25 +117,39 @@ class Tried:
         return [Wait(f"the shape of link {link} from rank {source}", [source])]
 
 
-def place(image, at):
-    """An address with the nearest symbol at or before it, the first of several."""
-    found = None
-    for address, name in image.symbols:
-        if address <= at and (found is None or address > found[0]):
-            found = (address, name)
-    return f"{at:#x}" + (f" ({found[1].decode()}+{at - found[0]:#x})" if found else "")
+def is_stack_full(image, hart):
+    """Whether the stack pointer is in the text, or below address 0."""
+    pointer = hart.regs[2]
+    return pointer >> 63 or pointer + 4 <= len(image.text)
+
+
+def cause(image, hart):
+    """The number and the name of a trap's cause."""
+    if hart.why == STORE_ACCESS and is_stack_full(image, hart):
+        return f"{hart.why} (stack overflow)"
+    return f"{hart.why} ({CAUSES[hart.why]})"
+
+
+def waiting_place(image, hart, memory):
+    """Where a hart waits: in the library at the program's own call, with the function of the library."""
+    call = frames.own_call(image, hart, memory)
+    if not call:
+        return places.place(image, hart.pc)
+    function = places.function(image, call[1])
+    return places.place(image, call[0]) + (f", in {function}," if function else "")
 
 
 def hart_line(image, rank, number, waits, framed):
     """How a hart is, perhaps with the calls that led there."""
     hart = rank.harts[number]
-    at = " ".join([place(image, hart.pc), *(frames.calls(image, hart, rank.memory) if framed else [])])
+    at = " ".join([places.place(image, hart.pc), *(frames.calls(image, hart, rank.memory) if framed else [])])
     told = f"runs at {at}"
     if hart.mode == ENDED:
         told = f"ended {hart.why}"
     elif hart.mode == TRAPPED:
-        told = f"trapped {hart.why} at {at}"
+        told = f"trapped {cause(image, hart)} at {at}"
     elif hart.mode == WAITING:
+        at = at if framed else waiting_place(image, hart, rank.memory)
         things = "; ".join(wait.text for wait in waits) or "nothing more"
         told = f"waits at {at} in {CALLS[hart.regs[17]]} for {things}"
     return f"rank {rank.number} hart {number} {told}\n"

@@ -28,6 +28,8 @@ for (const line of lines("start")) {
 }
 const symbols = lines("names").map((line) => line.split(" "))
   .map(([address, name]) => ({ address: parseInt(address, 16), name: unescaped(name) }))
+  // farm.c.46 and farm.c.46.2 are of a line
+  .map((one) => ({ ...one, line: /^(.*\.[A-Za-z]{1,3})\.([1-9][0-9]*)(\.[1-9][0-9]*)?$/.exec(one.name) }))
   .sort((one, other) => one.address - other.address);
 // a line of the program, by its place among all: its address, or -1 at a name
 const program = lines("program").map(unescaped)
@@ -93,15 +95,29 @@ function made(tag, text, kind) {
 const fill = (name, ...parts) => find(name).replaceChildren(...parts);
 const pcOf = (hart) => parseInt(hart.stand, 16);
 
-function named(address) {
-  const symbol = symbols.filter((one) => one.address <= address).pop();
-  return "0x" + hex(address, 1) + (symbol ? " (" + symbol.name + "+0x" + hex(address - symbol.address, 1) + ")" : "");
+// the nearest at an address or before it, and of several at one address the first
+function nearest(some, address) {
+  const before = some.filter((one) => one.address <= address);
+  return before.find((one) => one.address === before[before.length - 1].address);
 }
+
+// a place, as farm.c:46 in worker [0x344], or worker+0x24 [0x344] where no line is known
+function named(address) {
+  const at = "0x" + hex(address, 1);
+  const line = nearest(symbols.filter((one) => one.line), address);
+  const label = nearest(symbols.filter((one) => !one.line), address);
+  if (line && !(label && label.address > line.address))
+    return line.line[1] + ":" + line.line[2] + (label ? " in " + label.name : "") + " [" + at + "]";
+  return label ? label.name + "+0x" + hex(address - label.address, 1) + " [" + at + "]" : at;
+}
+
+const causes = ["jump to a misaligned address", "jump out of the text", "illegal instruction", "breakpoint",
+  "misaligned load", "load outside memory", "misaligned store", "store outside memory or into the text"];
 
 function standing(hart) {
   const [, pc, mode, number, at] = /^([0-9a-f]+)([wxt]?)(\d*)\.?([0-9a-f]*)$/.exec(hart.stand);
   if (mode === "x") return "ended " + number;
-  if (mode === "t") return "trapped " + number + " at " + named(parseInt(at, 16));
+  if (mode === "t") return "trapped " + number + " (" + causes[number] + ") at " + named(parseInt(at, 16));
   return (mode === "w" ? "waiting at " : "running at ") + named(parseInt(pc, 16));
 }
 

@@ -37,7 +37,7 @@ line says by whose message the end differs from the first:
   rank 0 output 2
   7
   ..
-  end 2: rank 0 at 0xa4 (divide+0x58) got rank 2's message, in end 1 rank 1's
+  end 2: rank 0 at divide+0x58 got rank 2's message, in end 1 rank 1's
   ..
   2 ends of 14 states: no other end
 

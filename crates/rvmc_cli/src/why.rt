@@ -20,14 +20,16 @@ For the end of the record, or with --at the place after N steps, one line is
 printed for each hart:
 
   rank 0 hart 0 ended 0
-  rank 0 hart 0 trapped 4 at 0x74
+  rank 0 hart 0 trapped 4 (misaligned load) at 0x74
   rank 0 hart 0 runs at 0x8
   rank 0 hart 0 waits at 0x2c in RECV for a message from rank 1 tag 7 comm 0
 
-After an address comes the nearest symbol of the image at or before it, if there
-is one, as `0x2c (loop+0x8)`; in a C program that is a source line, as
-`farm.c.12`. With --frames come the calls that led there, the last one first, as
-`0x1a4 (MPI_Barrier+0x94) called from 0xdc (life.c.41)`; they are found by the
+Places are written as `farm.c:46 in worker [0x344]`, as `loop+0x8 [0x2c]` where
+no line is known, or as the address alone. A hart that waits inside a library is
+shown at the program's own call, with the library's function behind it, as
+`life.c:41 in step [0xdc], in MPI_Barrier,`. With --frames it is shown where it
+is, and then the calls that led there, the last one first, as
+`MPI_Barrier+0x94 [0x1a4] called from life.c:41 in step`; they are found by the
 frame pointers on the hart's stack. If a hart waits for several things, `; `
 separates them. After the harts come, by sender and tag, the messages that no
 receive has taken. The last line is the verdict:

@@ -9,7 +9,7 @@ use cl_explore::Exploration;
 use cl_machine::Step;
 use cl_replay::replay;
 use rv_image::Image;
-use rvmc_inspect::put_place;
+use rvmc_places::put_name;
 use std::alloc::{AllocError, Global};
 
 /// The number of an end, from 1 on.
@@ -64,7 +64,7 @@ fn message_text(
     let rank = format!(in alloc; ": rank {number} at ")?;
     let message = other_message(alloc, found)?;
     text.extend_from_slice(rank.as_bytes())?;
-    put_place(alloc, &mut text, image.parts().symbols.as_slice(), address)?;
+    put_name(&mut text, image.parts().symbols.as_slice(), address)?;
     text.extend_from_slice(message.as_bytes())?;
     Ok(text)
 }

@@ -2,4 +2,3 @@ pub mod Lines
 pub mod Sends
 pub mod ByteLines
 pub mod Walking
-pub mod CallChains

@@ -1,10 +1,6 @@
-pub mod Places
-pub mod Frames
-pub mod Callers
 pub mod Waits
 pub mod Texts
 pub mod Unreceived
 pub mod Why
 pub mod WordTexts
 pub mod Words
-pub mod WorkedFrames

@@ -1,14 +1,12 @@
 -- How the harts of a rank stand, as text.
-use Rattle.std.specs.Prelude.{ℕ, Bool, List, [], ◌∷◌, ◌++◌, codes, Option, Some, None}
+use Rattle.std.specs.Prelude.{ℕ, Bool, true, false, List, [], ◌∷◌, ◌++◌, codes, Option, Some, None}
 use Rattle.std.specs.Fmt.{decimal}
 use Rattle.std.specs.List.{enumerate_from, flat_map}
 use Rattle.rv_hart.specs.State.{State}
 use Rattle.rv_hart.specs.declared.state.Mode.{Mode}
 use Rattle.rv_hart.specs.declared.state.Mode.TheVariants.{Running, Waiting, Ended, Trapped}
 use Rattle.rv_image.specs.declared.images.Symbol.{Symbol}
-use Rattle.rv_memory.specs.Fault.{cause_number}
 use Rattle.rv_memory.specs.Memory.{Memory}
-use Rattle.rv_memory.specs.declared.fault.Cause.{Cause}
 use Rattle.mp_hub.specs.Hub.{HubView}
 use Rattle.part_box.specs.declared.settled.Settled.{Settled}
 use Rattle.cl_calls.specs.declared.calls.Call.{Call}
@@ -18,9 +16,11 @@ use Rattle.cl_state.specs.Rank.{Rank}
 use Rattle.rvmc_report.specs.Report.{newline}
 use Rattle.rvmc_inspect.specs.declared.awaited.Wait.{Wait}
 use Rattle.rvmc_inspect.specs.declared.awaited.Wait.TheVariants as wait
-use Rattle.rvmc_inspect.specs.Callers.{callers_text}
-use Rattle.rvmc_inspect.specs.Places.{named_address_text}
+use Rattle.rvmc_places.specs.Callers.{callers_text}
+use Rattle.rvmc_places.specs.Causes.{trap_text}
+use Rattle.rvmc_places.specs.OwnCalls.{own_place_text}
 use Rattle.rvmc_inspect.specs.Waits.{waits}
+use Rattle.rvmc_places.specs.Places.{named_address_text}
 
 -- ---- what is waited for
 
@@ -100,25 +100,27 @@ abbrev pub standing_text : Bool → List Symbol → Memory → State → ℕ →
 standing_text framed symbols memory hart at =
     named_address_text symbols at ++ callers_text framed symbols memory hart
 
+-- of one that waits: with `framed` where it is and all calls that led there, or else the place of the program's own call
+abbrev pub waiting_place : Bool → List Symbol → Memory → State → List ℕ
+waiting_place true symbols memory hart = standing_text true symbols memory hart hart.pc
+waiting_place false symbols memory hart = own_place_text symbols memory hart
+
 abbrev pub waiting_text : Bool → List Symbol → Memory → State → List Wait → List ℕ
 waiting_text framed symbols memory hart found =
-    codes "waits at " ++ (standing_text framed symbols memory hart hart.pc ++ call_text hart found)
+    codes "waits at " ++ (waiting_place framed symbols memory hart ++ call_text hart found)
 
 abbrev pub ended_text : ℕ → List ℕ
 ended_text code = codes "ended " ++ decimal code
 
-abbrev pub trapped_text : Cause → List ℕ
-trapped_text cause = codes "trapped " ++ (decimal (cause_number cause) ++ codes " at ")
-
--- `runs at PC`, `waits at PC in CALL for WHAT`, `ended CODE`, or `trapped CAUSE at PC`; behind a PC may stand the calls
--- that led there
+-- `runs at PLACE`, `waits at PLACE in CALL for WHAT`, `ended CODE`, or `trapped NUMBER (CAUSE) at PLACE`; behind a place
+-- may stand the calls that led there
 abbrev pub doing_text : Bool → List Symbol → Memory → State → List Wait → Mode → List ℕ
 doing_text framed symbols memory hart found Running =
     codes "runs at " ++ standing_text framed symbols memory hart hart.pc
 doing_text framed symbols memory hart found (Waiting w) = waiting_text framed symbols memory hart found
 doing_text framed symbols memory hart found (Ended code) = ended_text code
 doing_text framed symbols memory hart found (Trapped cause at) =
-    trapped_text cause ++ standing_text framed symbols memory hart at
+    trap_text memory hart cause ++ standing_text framed symbols memory hart at
 
 -- `rank R hart H `, and how the hart stands
 abbrev pub hart_head : ℕ → ℕ → List ℕ

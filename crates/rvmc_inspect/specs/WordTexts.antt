@@ -5,8 +5,8 @@ use Rattle.std.specs.List.{flat_map, join_with_byte, range_with_len}
 use Rattle.rv_hart.specs.State.{State, read}
 use Rattle.rv_image.specs.declared.images.Symbol.{Symbol}
 use Rattle.rv_memory.specs.Memory.{Memory}
-use Rattle.rvmc_inspect.specs.Callers.{calls_text}
-use Rattle.rvmc_inspect.specs.Frames.{frames}
+use Rattle.rvmc_places.specs.Callers.{calls_text}
+use Rattle.rvmc_places.specs.Frames.{frames}
 use Rattle.rvmc_report.specs.Report.{hart_text, newline}
 
 -- a number in hex, in lower case, with zeros before it up to a width

@@ -3,20 +3,19 @@
 ghost use Rattle.std.specs.Prelude.{◌≡◌, ◌++◌, IfOk, OnOk, string_bytes};
 ghost use Rattle.cl_state.specs.Room.{rank_of};
 ghost use Rattle.rvmc_inspect.specs.Texts.{call_text, ended_text, hart_head, hart_line, hart_waits_text, doing_text};
-ghost use Rattle.rvmc_inspect.specs.Texts.{standing_text, trapped_text};
+ghost use Rattle.rvmc_inspect.specs.Texts.{standing_text, waiting_place};
 
 use crate::awaited::{Wait, put_waits};
-use crate::callers::put_callers;
 use crate::calls::call_name;
 use crate::finding::waits;
-use crate::places::put_place;
 use cl_calls::Call;
 use cl_state::RankState;
 use mp_hub::HubState;
 use part_box::Settled;
 use rv_hart::{Hart, Mode};
 use rv_image::Symbol;
-use rv_memory::{Cause, RankMemory};
+use rv_memory::RankMemory;
+use rvmc_places::{put_callers, put_own_place, put_place, trap_text};
 use std::alloc::{AllocError, Global};
 
 /// `rank R hart H `, before how the hart stands.
@@ -53,7 +52,6 @@ struct Setting<'a> {
 
 /// Adds where a hart is, and where it is asked for the calls that led there.
 fn put_standing(
-    alloc: Global,
     text: &mut Vec<u8>,
     setting: &Setting<'_>,
     hart: &Hart,
@@ -63,15 +61,8 @@ fn put_standing(
         ≡ text.old.items
         ++ standing_text setting.now.framed setting.now.symbols.now setting.now.memory.now hart.now at) }
 {
-    put_place(alloc, text, setting.symbols, at)?;
-    put_callers(
-        alloc,
-        text,
-        setting.symbols,
-        setting.memory,
-        hart,
-        setting.framed,
-    )
+    put_place(text, setting.symbols, at)?;
+    put_callers(text, setting.symbols, setting.memory, hart, setting.framed)
 }
 
 /// The code of a hart that ended.
@@ -81,12 +72,17 @@ fn ended_text(alloc: Global, code: u64) -> Result<String, AllocError>
     format!(in alloc; "ended {code}")
 }
 
-/// The cause of a trap, and that its place follows.
-fn trapped_text(alloc: Global, cause: Cause) -> Result<String, AllocError>
-    ensures { IfOk result (λ text. string_bytes text ≡ trapped_text cause) }
+/// Adds where a hart that waits is: with all calls that led there, or the program's own call.
+fn put_waiting(text: &mut Vec<u8>, setting: &Setting<'_>, hart: &Hart) -> Result<(), AllocError>
+    ensures { OnOk result (text.new.items
+        ≡ text.old.items
+        ++ waiting_place setting.now.framed setting.now.symbols.now setting.now.memory.now hart.now) }
 {
-    let number = cause.number();
-    format!(in alloc; "trapped {number} at ")
+    if setting.framed {
+        put_standing(text, setting, hart, hart.pc())
+    } else {
+        put_own_place(text, setting.symbols, setting.memory, hart)
+    }
 }
 
 /// Adds how a hart stands, and of one that waits in which call, and for what.
@@ -104,11 +100,11 @@ fn put_mode(
     match hart.mode() {
         Mode::Running => {
             text.extend_from_slice(b"runs at ")?;
-            put_standing(alloc, text, setting, hart, hart.pc())
+            put_standing(text, setting, hart, hart.pc())
         }
         Mode::Waiting(_) => {
             text.extend_from_slice(b"waits at ")?;
-            put_standing(alloc, text, setting, hart, hart.pc())?;
+            put_waiting(text, setting, hart)?;
             put_call(alloc, text, hart, found)
         }
         Mode::Ended(code) => {
@@ -116,9 +112,9 @@ fn put_mode(
             text.extend_from_slice(ended.as_bytes())
         }
         Mode::Trapped(cause, at) => {
-            let trapped = trapped_text(alloc, cause)?;
+            let trapped = trap_text(alloc, setting.memory, hart, cause)?;
             text.extend_from_slice(trapped.as_bytes())?;
-            put_standing(alloc, text, setting, hart, at)
+            put_standing(text, setting, hart, at)
         }
     }
 }

@@ -2,18 +2,14 @@
 //! stands, what one that waits is waiting for, and which messages weren't received; and the ranks of a deadlock.
 //!
 //! The meaning stands in specs/: the texts; what a word does or is refused for, and what all words print up to the first
-//! that is refused; what a hart waits for, which frames lead to where it is, and
-//! which symbol an address is told by. The verdict on a deadlock is that of
+//! that is refused; and what a hart waits for. Places are told by `rvmc_places`, and the verdict on a deadlock is that of
 //! `cl_deadlock`.
 #![tactic(auto)]
 
 mod awaited;
-mod callers;
 mod calls;
 mod finding;
-mod frames;
 mod harts;
-mod places;
 mod telling;
 mod unreceived;
 mod word_texts;
@@ -22,9 +18,7 @@ mod words;
 pub use awaited::{Wait, wait_text};
 pub use calls::call_name;
 pub use finding::waits;
-pub use frames::{Frame, frame_above, own_frame};
 pub use harts::put_harts;
-pub use places::{nearest, put_place};
 pub use telling::{put_company, why};
 pub use unreceived::put_unreceived;
 pub use word_texts::{bytes_text, place_text, regs_text};

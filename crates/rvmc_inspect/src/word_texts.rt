@@ -5,11 +5,11 @@ ghost use Rattle.rvmc_inspect.specs.WordTexts.{bytes_line, bytes_text, frames_te
 ghost use Rattle.rvmc_report.specs.Report.{output_text};
 ghost use Rattle.rvmc_inspect.specs.WordTexts.{register_line, regs_text, registers_text};
 
-use crate::callers::put_calls;
 use rv_decode::Reg;
 use rv_hart::Hart;
 use rv_image::Symbol;
 use rv_memory::RankMemory;
+use rvmc_places::put_calls;
 use rvmc_report::report::{hart_line, put_output};
 use std::alloc::{AllocError, Global};
 
@@ -62,15 +62,7 @@ pub fn frames_text(
 {
     let line = hart_line(alloc, usize::from(rank), usize::from(number), hart)?;
     let mut text = line.into_bytes();
-    put_calls(
-        alloc,
-        &mut text,
-        symbols,
-        memory,
-        hart,
-        b"called from ",
-        b"\n",
-    )?;
+    put_calls(&mut text, symbols, memory, hart, b"called from ", b"\n")?;
     Ok(text)
 }
 

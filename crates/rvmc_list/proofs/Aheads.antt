@@ -12,7 +12,7 @@ use Rattle.rv_hart.specs.declared.state.Mode.{Mode}
 use Rattle.rv_hart.specs.declared.state.Mode.TheVariants.{Running, Waiting, Ended, Trapped}
 use Rattle.rv_image.specs.declared.images.Symbol.{Symbol}
 use Rattle.cl_trace.specs.declared.events.Kind.{Kind}
-use Rattle.rvmc_inspect.specs.Places.{named_address_text}
+use Rattle.rvmc_places.specs.Places.{named_address_text}
 use Rattle.rvmc_list.specs.Ahead.{ahead_met, ahead_of, ahead_text, ahead_there, front_text, rest_text, spot_met, taken_text}
 use Rattle.rvmc_list.specs.Folding.{is_plain}
 use Rattle.rvmc_list.specs.Instructions.{instruction_text, left_text, outcome_text, word_text}

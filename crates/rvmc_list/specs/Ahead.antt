@@ -16,11 +16,11 @@ use Rattle.cl_replay.specs.declared.states.ClusterState.{ClusterState}
 use Rattle.cl_state.specs.Rank.{Rank}
 use Rattle.cl_state.specs.Room.{rank_of}
 use Rattle.cl_state.specs.declared.state.RankState.{RankState}
-use Rattle.rvmc_inspect.specs.Places.{named_address_text}
+use Rattle.rvmc_places.specs.Places.{named_address_text}
 use Rattle.rvmc_list.specs.Instructions.{store_text, stored_value, value_text}
 use Rattle.rvmc_list.specs.Keeping.{word_spot}
 use Rattle.rvmc_list.specs.Lines.{hart_of, head_text, sight_of, sight_text}
-use Rattle.rvmc_list.specs.Names.{cause_name}
+use Rattle.rvmc_places.specs.Causes.{cause_name}
 use Rattle.rvmc_list.specs.declared.ahead.Ahead.{Ahead}
 use Rattle.rvmc_list.specs.declared.ahead.Ahead.TheVariants as ahead
 
@@ -69,7 +69,7 @@ ahead_met (Some word) before = ahead_there (decoded word) before
 
 -- the word, or that there is none, behind the address
 abbrev pub spot_met : List Symbol → ℕ → Option ℕ → List ℕ
-spot_met symbols at None = named_address_text symbols at ++ (codes ": " ++ codes "traps: instruction access fault")
+spot_met symbols at None = named_address_text symbols at ++ (codes ": " ++ codes "traps: jump out of the text")
 spot_met symbols at (Some word) = word_spot symbols at word (decoded word)
 
 -- all that stands before what is left

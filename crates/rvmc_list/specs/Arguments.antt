@@ -11,7 +11,7 @@ use Rattle.cl_calls.specs.declared.calls.Probing.{Probing}
 use Rattle.cl_calls.specs.declared.calls.Receiving.{Receiving}
 use Rattle.cl_calls.specs.declared.calls.Sending.{Sending}
 use Rattle.cl_calls.specs.declared.calls.Several.{Several}
-use Rattle.rvmc_inspect.specs.Places.{hex_text}
+use Rattle.rvmc_places.specs.Places.{hex_text}
 
 -- a rank, a tag or a message: `any` is -1, as ANY_SOURCE and ANY_TAG are; `null` is -2, the null process and its message
 abbrev pub wild_text : ℕ → List ℕ

@@ -12,8 +12,8 @@ use Rattle.rv_hart.specs.Results.{is_taken}
 use Rattle.rv_hart.specs.State.{State, read}
 use Rattle.rv_hart.specs.declared.state.Mode.{Mode}
 use Rattle.rv_hart.specs.declared.state.Mode.TheVariants.{Trapped}
-use Rattle.rvmc_list.specs.Names.{cause_name}
-use Rattle.rvmc_inspect.specs.Places.{hex_text}
+use Rattle.rvmc_places.specs.Causes.{cause_name}
+use Rattle.rvmc_places.specs.Places.{hex_text}
 
 -- a register's new value, as ` = 0xa6968`; x0 has none
 abbrev pub value_text : ℕ → State → List ℕ
@@ -61,4 +61,4 @@ word_text word None before after =
 -- there is none where the pc isn't at text
 abbrev pub instruction_text : Option ℕ → State → State → List ℕ
 instruction_text (Some word) before after = word_text word (decoded word) before after
-instruction_text None before after = codes "traps: instruction access fault"
+instruction_text None before after = codes "traps: jump out of the text"

@@ -4,11 +4,11 @@ use Rattle.rv_decode.specs.Decoded.{decoded}
 use Rattle.rv_decode.specs.Text.{instr_text}
 use Rattle.rv_decode.specs.declared.instruction.Instr.{Instr}
 use Rattle.rv_image.specs.declared.images.Symbol.{Symbol}
-use Rattle.rvmc_inspect.specs.Places.{hex_text, named_address_text}
+use Rattle.rvmc_places.specs.Places.{hex_text, named_address_text}
 use Rattle.rvmc_list.specs.declared.kept.Kept.{Kept}
 use Rattle.rvmc_list.specs.declared.kept.Texts.{Texts}
 
--- an instruction behind its address, as `0x1c (go+0x4): addi x5, x5, 1`
+-- an instruction behind its address, as `go+0x4 [0x1c]: addi x5, x5, 1`
 abbrev pub spot_text : List Symbol → ℕ → Instr → List ℕ
 spot_text symbols at i = named_address_text symbols at ++ (codes ": " ++ instr_text i)
 

@@ -1,4 +1,3 @@
-pub mod Names
 pub mod Arguments
 pub mod Instructions
 pub mod Gave

@@ -12,7 +12,7 @@ use Rattle.cl_state.specs.declared.asking.Ask.{Ask}
 use Rattle.cl_state.specs.declared.asking.Ask.TheVariants as ask
 use Rattle.cl_trace.specs.declared.events.Kind.{Kind}
 use Rattle.cl_machine.specs.declared.steps.Step.{Step}
-use Rattle.rvmc_inspect.specs.Places.{named_address_text}
+use Rattle.rvmc_places.specs.Places.{named_address_text}
 use Rattle.rvmc_inspect.specs.Texts.{call_name}
 use Rattle.rvmc_list.specs.Arguments.{arguments_text}
 use Rattle.rvmc_list.specs.Gave.{box_text, end_text, is_refused, kind_text}

@@ -3,7 +3,7 @@ use Rattle.std.specs.Prelude.{ℕ, ◌≡◌, ◌*◌, List, ◌++◌, codes, le
 use Rattle.std.specs.Fmt.{decimal}
 use Rattle.std.specs.List.{flat_map}
 use Rattle.rv_image.specs.declared.images.Symbol.{Symbol}
-use Rattle.rvmc_inspect.specs.Places.{named_address_text}
+use Rattle.rvmc_places.specs.Places.{named_address_text}
 use Rattle.rvmc_tally.specs.Hottest.{AreHottest}
 use Rattle.rvmc_tally.specs.Tallies.{count_at}
 

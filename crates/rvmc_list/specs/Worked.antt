@@ -14,7 +14,8 @@ use Rattle.cl_machine.specs.Boxes.{Box, Thing, empty_box}
 use Rattle.cl_state.specs.declared.asking.Ask.{Ask}
 use Rattle.cl_state.specs.declared.asking.Ask.TheVariants as ask
 use Rattle.cl_trace.specs.declared.events.Kind.{Kind}
-use Rattle.rvmc_inspect.specs.Places.{named_address_text}
+use Rattle.rvmc_places.specs.Names.{line_named}
+use Rattle.rvmc_places.specs.Places.{line_at, named_address_text, nearest_of, place_name}
 use Rattle.rvmc_list.specs.Folding.{scenes_text}
 use Rattle.rvmc_list.specs.Lines.{sight_text}
 use Rattle.rvmc_list.specs.Phases.{Scene, phase_in}
@@ -60,48 +61,48 @@ hart_with pc (value ∷ values) = write (hart_with pc values) value.0 value.1
 pub an_addi : scenes_text [] all_steps
     (plain_scene (hart_with 4 ((5, 0xa7000) ∷ [])) 0x96828293 (hart_with 8 ((5, 0xa6968) ∷ [])) ∷ [])
     ≡ codes "7 rank 2 hart 1 stamp 9 at 0x4: addi x5, x5, -1688 = 0xa6968\n"
-unfolding sight_text named_address_text decoded digits
+unfolding sight_text named_address_text place_name line_at nearest_of line_named decoded digits
 an_addi = refl
 
 -- x0 has none
 pub a_nop : scenes_text two_symbols all_steps (plain_scene (fresh 4) 0x13 (fresh 8) ∷ [])
-    ≡ codes "7 rank 2 hart 1 stamp 9 at 0x4 (go+0x4): addi x0, x0, 0\n"
-unfolding sight_text named_address_text decoded digits
+    ≡ codes "7 rank 2 hart 1 stamp 9 at go+0x4 [0x4]: addi x0, x0, 0\n"
+unfolding sight_text named_address_text place_name line_at nearest_of line_named decoded digits
 a_nop = refl
 
 -- where a store writes, and what: the address is this side of 2^64, and a byte is the lowest of the register
 pub a_store : scenes_text [] all_steps
     (plain_scene (hart_with 8 ((2, 0x10000) ∷ (5, 0xa6968) ∷ [])) 0xfe513c23 (fresh 12) ∷ [])
     ≡ codes "7 rank 2 hart 1 stamp 9 at 0x8: sd x5, -8(x2) [0xfff8] = 0xa6968\n"
-unfolding sight_text named_address_text decoded digits
+unfolding sight_text named_address_text place_name line_at nearest_of line_named decoded digits
 a_store = refl
 
 pub a_stored_byte : scenes_text [] all_steps (plain_scene (hart_with 8 ((5, 0xa6968) ∷ [])) 0xfe500fa3 (fresh 12) ∷ [])
     ≡ codes "7 rank 2 hart 1 stamp 9 at 0x8: sb x5, -1(x0) [0xffffffffffffffff] = 0x68\n"
-unfolding sight_text named_address_text decoded digits
+unfolding sight_text named_address_text place_name line_at nearest_of line_named decoded digits
 a_stored_byte = refl
 
 pub a_branch_taken : scenes_text [] all_steps (plain_scene (fresh 8) 0x00628463 (fresh 16) ∷ [])
     ≡ codes "7 rank 2 hart 1 stamp 9 at 0x8: beq x5, x6, 8 taken\n"
-unfolding sight_text named_address_text decoded digits is_taken
+unfolding sight_text named_address_text place_name line_at nearest_of line_named decoded digits is_taken
 a_branch_taken = refl
 
 pub a_branch_not_taken : scenes_text [] all_steps
     (plain_scene (hart_with 8 ((6, 1) ∷ [])) 0x00628463 (hart_with 12 ((6, 1) ∷ [])) ∷ [])
     ≡ codes "7 rank 2 hart 1 stamp 9 at 0x8: beq x5, x6, 8 not taken\n"
-unfolding sight_text named_address_text decoded digits is_taken
+unfolding sight_text named_address_text place_name line_at nearest_of line_named decoded digits is_taken
 a_branch_not_taken = refl
 
 -- a trap by its name, and no value; and a word that is no instruction
 pub a_trap : scenes_text [] all_steps
     (plain_scene (fresh 8) 0x00103283 (in_mode (fresh 8) (Trapped LoadMisaligned 8)) ∷ [])
-    ≡ codes "7 rank 2 hart 1 stamp 9 at 0x8: ld x5, 1(x0) traps: load address misaligned\n"
-unfolding sight_text named_address_text decoded digits
+    ≡ codes "7 rank 2 hart 1 stamp 9 at 0x8: ld x5, 1(x0) traps: misaligned load\n"
+unfolding sight_text named_address_text place_name line_at nearest_of line_named decoded digits
 a_trap = refl
 
 pub an_illegal_word : scenes_text [] all_steps (plain_scene (fresh 8) 0xb (fresh 8) ∷ [])
     ≡ codes "7 rank 2 hart 1 stamp 9 at 0x8: .word 0xb traps: illegal instruction\n"
-unfolding sight_text named_address_text decoded digits
+unfolding sight_text named_address_text place_name line_at nearest_of line_named decoded digits
 an_illegal_word = refl
 
 -- ---- calls
@@ -112,8 +113,8 @@ send_at = hart_with 0x38 ((10, 0x80) ∷ (11, 5000) ∷ (12, 1) ∷ (13, 7) ∷ 
 
 pub a_refused_send : scenes_text two_symbols all_steps
     (scene_of Kind.Local send_at None None (hart_with 0x3c ((10, 2) ∷ (17, 16) ∷ [])) None ∷ [])
-    ≡ codes "7 rank 2 hart 1 stamp 9 at 0x38 (take+0x20): SEND refused: BAD_COUNT buf=0x80 count=5000 dest=1 tag=7 c=0\n"
-unfolding sight_text named_address_text digits
+    ≡ codes "7 rank 2 hart 1 stamp 9 at take+0x20 [0x38]: SEND refused: BAD_COUNT buf=0x80 count=5000 dest=1 tag=7 c=0\n"
+unfolding sight_text named_address_text place_name line_at nearest_of line_named digits
 a_refused_send = refl
 
 -- RECV of any rank and any tag
@@ -129,7 +130,7 @@ pub a_message : scenes_text [] all_steps
     ∷ 14 ∷ 15 ∷ [])))) recv_at None None (hart_with 0x3c ((10, 7) ∷ (17, 18) ∷ [])) None ∷ [])
     ≡ codes "7 rank 2 hart 1 stamp 9 at 0x38: RECV buf=0x80 cap=4 source=any tag=any c=0 st=0x0"
     ++ codes " -> message from rank 3 tag 7, 18 bytes: 0c 00 ff 01 02 03 04 05 06 07 08 09 0a 0b 0c 0d -> TRUNCATED\n"
-unfolding sight_text named_address_text digits
+unfolding sight_text named_address_text place_name line_at nearest_of line_named digits
 a_message = refl
 
 -- it looks in vain three times, which is one line where calls alone are told, and no other line stands between
@@ -139,7 +140,7 @@ in_vain = scene_of (Kind.Hub reply.NotYet) recv_at None None (in_mode recv_at (W
 pub looks_in_vain : scenes_text [] calls_alone (in_vain ∷ plain_scene (fresh 4) 0x13 (fresh 8) ∷ in_vain ∷ in_vain ∷ [])
     ≡ codes "7 rank 2 hart 1 stamp 9 at 0x38: RECV buf=0x80 cap=4 source=any tag=any c=0 st=0x0 -> waits"
     ++ codes " and 2 more looks in vain\n"
-unfolding sight_text named_address_text digits
+unfolding sight_text named_address_text place_name line_at nearest_of line_named digits
 looks_in_vain = refl
 
 -- ---- partitions
@@ -149,7 +150,7 @@ pub a_ready : scenes_text [] all_steps
     (scene_of Kind.Ready (hart_with 8 ((10, 3) ∷ (11, 1) ∷ (17, 42) ∷ [])) None (Some (0, 1)) (hart_with 12 []) (Some 2)
     ∷ [])
     ≡ codes "7 rank 2 hart 1 stamp 9 at 0x8: PREADY h=3 partition=1 -> link 0 partition 1 -> phase 2\n"
-unfolding sight_text named_address_text digits
+unfolding sight_text named_address_text place_name line_at nearest_of line_named digits
 a_ready = refl
 
 -- a box in which so many things were made, and so many taken

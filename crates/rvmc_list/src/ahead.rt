@@ -11,14 +11,14 @@ ghost use Rattle.rvmc_list.specs.Instructions.{store_text, stored_value as store
 ghost use Rattle.rvmc_list.specs.Keeping.{AreKept};
 
 use crate::kept::{Texts, put_spot};
-use crate::lines::{put_head, put_place};
-use crate::names::cause_name;
+use crate::lines::put_head;
 use crate::rows::{write_hex, write_word};
 use cl_machine::Step;
 use cl_state::RankState;
 use rv_decode::{BranchOp, Instr, Reg, StoreOp};
 use rv_hart::{Hart, Mode};
 use rv_image::Symbol;
+use rvmc_places::{cause_name, put_place};
 use std::io;
 
 /// What an instruction leaves unless it traps, as its hart tells before it is done.
@@ -175,7 +175,7 @@ fn put_met(
     let at = before.pc();
     let Some(word) = word else {
         put_place(text, symbols, at)?;
-        text.extend_from_slice(b": traps: instruction access fault")?;
+        text.extend_from_slice(b": traps: jump out of the text")?;
         return Ok(None);
     };
     match put_spot(text, texts, symbols, at, word)? {

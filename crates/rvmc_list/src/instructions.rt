@@ -43,7 +43,7 @@ pub(crate) fn put_instruction(
 {
     match word {
         None => {
-            text.extend_from_slice(b"traps: instruction access fault")?;
+            text.extend_from_slice(b"traps: jump out of the text")?;
             Ok(())
         }
         Some(word) => put_word(text, word, before, after),

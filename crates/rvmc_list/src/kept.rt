@@ -6,9 +6,9 @@ ghost use Rattle.rv_decode.specs.Decoded.{decoded};
 ghost use Rattle.rv_image.specs.declared.images.Symbol.{Symbol as SymbolOf};
 ghost use Rattle.rvmc_list.specs.Keeping.{AreKept, IsFound, IsKept, spot_text, word_spot};
 
-use crate::lines::put_place;
 use rv_decode::{Instr, decode};
 use rv_image::Symbol;
+use rvmc_places::put_place;
 use std::alloc::{AllocError, Global};
 use std::io;
 use std::io::Write;

@@ -5,7 +5,6 @@ ghost use Rattle.cl_calls.specs.Calls.{call_named};
 ghost use Rattle.cl_machine.specs.SameSteps.{kind_seen};
 ghost use Rattle.cl_state.specs.Asked.{asked};
 ghost use Rattle.cl_state.specs.Room.{rank_of};
-ghost use Rattle.rvmc_inspect.specs.Places.{name_text, named_address_text};
 ghost use Rattle.rvmc_list.specs.Lines.{box_met as box_asked, made_call_text, deed_text, done_text, hart_of, head_text};
 ghost use Rattle.rvmc_list.specs.Lines.{box_in as box_in_ask, refused_text, sight_text};
 ghost use Rattle.rvmc_list.specs.Seen.{IsSeenBefore, seen};
@@ -21,7 +20,8 @@ use cl_trace::Bare;
 use rv_decode::Reg;
 use rv_hart::Hart;
 use rv_image::Symbol;
-use rvmc_inspect::{call_name, nearest};
+use rvmc_inspect::call_name;
+use rvmc_places::put_place;
 use rvmc_stats::code_name;
 use std::alloc::AllocError;
 use std::io;
@@ -77,28 +77,6 @@ pub fn look(own: &RankState, step: &Step) -> Result<Option<Seen>, AllocError>
         word: own.memory.text_word(hart.pc()),
         asks: box_of(own, step)?,
     }))
-}
-
-/// Adds a symbol, as ` (go+0x4)`.
-fn put_name(text: &mut Vec<u8>, symbol: &Symbol, at: u64) -> io::Result<()>
-    ensures { OnOk result (text.new.items ≡ text.old.items ++ name_text at symbol.now) }
-{
-    text.extend_from_slice(b" (")?;
-    text.extend_from_slice(symbol.name.as_slice())?;
-    let offset = at.saturating_sub(u64::from(symbol.address));
-    write!(text, "+0x{offset:x})")
-}
-
-/// Adds an address and the symbol nearest before it, as `0x1c (go+0x4)`.
-#[tactic(auto, unfolding(rvmc_inspect::specs::Places::named_address_text))]
-pub(crate) fn put_place(text: &mut Vec<u8>, symbols: &[Symbol], at: u64) -> io::Result<()>
-    ensures { OnOk result (text.new.items ≡ text.old.items ++ named_address_text symbols.now at) }
-{
-    write!(text, "0x{at:x}")?;
-    match nearest(symbols, at) {
-        None => Ok(()),
-        Some(symbol) => put_name(text, symbol, at),
-    }
 }
 
 /// Writes where a step stands, and whose it is, and says where that begins.

@@ -3,13 +3,13 @@
 ghost use Rattle.std.specs.Prelude.{◌≡◌, ◌++◌, ◌<◌, ◌^◌, OnOk, length};
 ghost use Rattle.rvmc_list.specs.Places.{HasPlaceLines, HasPlaces, place_line, places_head};
 
-use crate::lines::put_place;
 use rv_image::Symbol;
+use rvmc_places::put_place;
 use rvmc_tally::{Tally, next_hottest};
 use std::io;
 use std::io::Write;
 
-/// Adds the line of a word of the text: how many turns were there, its address and the symbol nearest before it.
+/// Adds the line of a word of the text: how many turns were there, and its place.
 #[tactic(auto, unfolding(crate::specs::Places::place_line))]
 fn put_place_line(
     text: &mut Vec<u8>,

@@ -2,7 +2,7 @@
 
 ghost use Rattle.std.specs.Prelude.{◌≡◌, ◌+◌, ◌<◌, ◌≤◌, false, length};
 ghost use Rattle.std.specs.Fmt.{decimal, digit_glyph, digits};
-ghost use Rattle.rvmc_inspect.specs.Places.{hex_text};
+ghost use Rattle.rvmc_places.specs.Places.{hex_text};
 ghost use Rattle.rvmc_list.specs.Rows.{StandsBefore};
 
 use itoa::write_digits;

@@ -8,7 +8,7 @@ pub(crate) const HEAD: &str = "\
 <meta charset=utf-8>
 <meta name=viewport content='width=device-width'>
 <meta http-equiv=Content-Security-Policy content=\"default-src 'none'; style-src 'unsafe-inline';
- script-src 'sha256-HpRpghtEEU45SpFVs6F14RVSWncHs8zdb2urH2oTOJ4='\">
+ script-src 'sha256-ZIHU8UOz0I/17XdnVA3gnBkgOcEPRZBp8lrus8RgJaw='\">
 <title>rvmc: a record</title>
 <style>
 :root{color-scheme:light dark;font:13px system-ui,sans-serif;--ink:#1c1c1c;--dim:#666;--paper:#fff;--rule:#ccc;

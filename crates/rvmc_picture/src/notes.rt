@@ -5,7 +5,7 @@ use rv_decode::Reg;
 use rv_hart::{Hart, Mode};
 use rvmc_draw::{Deed, Shape, wildcard_in};
 use rvmc_inspect::call_name;
-use rvmc_list::cause_name;
+use rvmc_places::cause_name;
 use rvmc_stats::code_name;
 use std::alloc::Global;
 use std::io;

@@ -181,14 +181,20 @@ pub(crate) fn put_rows(text: &mut Vec<u8>, drawing: &Drawing, from: u64) -> io::
     Ok(down)
 }
 
-/// Where a line of the end is parted, so that it fits a narrow page: before ` in `.
+/// Where a line of the end is parted, so that it fits a narrow page: before the name of the call that a hart waits in,
+/// which is the last ` in ` with ` for ` behind it.
 fn parted(line: &[u8]) -> usize {
+    let mut found = line.len();
+    let mut last = line.len();
     for at in 0..line.len() {
         if line[at..].starts_with(b" in ") {
-            return at;
+            last = at;
+        }
+        if line[at..].starts_with(b" for ") {
+            found = last;
         }
     }
-    line.len()
+    found
 }
 
 /// Adds a line of what is told.

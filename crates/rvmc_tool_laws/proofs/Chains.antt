@@ -5,9 +5,9 @@ use Rattle.std.proofs.lemmas.List.{length-map}
 use Rattle.std.proofs.lemmas.Option.{same_Some}
 use Rattle.rv_hart.specs.State.{State}
 use Rattle.rv_memory.specs.Memory.{Memory}
-use Rattle.rvmc_inspect.specs.Frames.{frame_above, frame_at, frames, frames_from, is_frame_end, own_frame}
+use Rattle.rvmc_places.specs.Frames.{frame_above, frame_at, frames, frames_from, is_frame_end, own_frame}
 use Rattle.rvmc_tool_laws.specs.Frames.{FramesRiseLaw, HeldFramesLaw}
-use Rattle.rvmc_inspect.specs.declared.frames.Frame.{Frame}
+use Rattle.rvmc_places.specs.declared.frames.Frame.{Frame}
 
 -- a frame that is there ends where it was looked for
 ends_there : (memory : Memory) (pointer : ℕ) (frame : Frame) → frame_at memory pointer ≡ Some frame → frame.pointer ≡ pointer

@@ -3,8 +3,8 @@ use Rattle.std.specs.Prelude.{ℕ, ◌≡◌, ◌+◌, ◌≤◌, length, map, s
 use Rattle.std.specs.List.Sorted.{IsStrictlyIncreasing}
 use Rattle.rv_hart.specs.State.{State}
 use Rattle.rv_memory.specs.Memory.{Memory}
-use Rattle.rvmc_inspect.specs.Frames.{frame_at, frames}
-use Rattle.rvmc_inspect.specs.declared.frames.Frame.{Frame}
+use Rattle.rvmc_places.specs.Frames.{frame_at, frames}
+use Rattle.rvmc_places.specs.declared.frames.Frame.{Frame}
 
 -- frame pointers rise, so no frame stands twice in a chain; and there are 64 at most
 abbrev pub FramesRiseLaw : Type 0

@@ -10,7 +10,7 @@ use Rattle.mp_transfers.specs.Inits.{is_receiver}
 use Rattle.mp_wait_laws.specs.Waits.{could_pair, could_send, sends_over}
 use Rattle.rvmc_inspect.specs.declared.awaited.Wait.{Wait}
 use Rattle.rvmc_inspect.specs.declared.awaited.Wait.TheVariants as wait
-use Rattle.rvmc_inspect.specs.Places.{nearest}
+use Rattle.rvmc_places.specs.Places.{nearest}
 use Rattle.rvmc_inspect.specs.Waits.{partition_wait, post_wait, shape_wait, taken_wait}
 
 -- ---- symbols

@@ -15,7 +15,7 @@ use Rattle.rv_hart.specs.State.{State}
 use Rattle.rv_hart.specs.declared.state.Mode.TheVariants.{Waiting}
 use Rattle.rv_hart.specs.declared.state.Wait.{Wait as HartWait}
 use Rattle.cl_calls.specs.Calls.{call_named}
-use Rattle.rvmc_inspect.specs.Texts.{call_name, call_text, doing_text, hart_head, hart_line, hart_waits_text, standing_text, waits_text}
+use Rattle.rvmc_inspect.specs.Texts.{call_name, call_text, doing_text, hart_head, hart_line, hart_waits_text, waiting_place, waits_text}
 use Rattle.rvmc_inspect.specs.Waits.{waits}
 use Rattle.rvmc_inspect.specs.Words.{IsTextOfWords, Refuses, Walks}
 use Rattle.rvmc_inspect.specs.declared.awaited.Wait.TheVariants.{Receiver}
@@ -87,7 +87,7 @@ module _ (hub : HubView) (boxes : List (List Settled)) (r : ℕ) (rank : Rank) (
       (λ m. StandsIn (codes " for rank 1 to receive; rank 2 to receive")
       (hart_head r 0 ++ (doing_text false [] rank.memory hart (Receiver 1 ∷ Receiver 2 ∷ []) m ++ newline))) (sym mode)
       (line_has (codes " for rank 1 to receive; rank 2 to receive") (hart_head r 0)
-      (standing_text false [] rank.memory hart hart.pc) (call_name (call_named hart)) (codes "waits at ")
+      (waiting_place false [] rank.memory hart) (call_name (call_named hart)) (codes "waits at ")
       (codes " for " ++ waits_text (Receiver 1 ∷ Receiver 2 ∷ [])) newline
       (subst (λ text. StandsIn (codes " for rank 1 to receive; rank 2 to receive") (codes " for " ++ text)) (sym both)
       (itself (codes " for rank 1 to receive; rank 2 to receive"))))

@@ -73,7 +73,7 @@ end 1
 8 bytes
 end 2
 a
-end 2: rank 0 at 0xa4 (divide+0x58) got rank 2's message, in end 1 rank 1's
+end 2: rank 0 at divide+0x58 got rank 2's message, in end 1 rank 1's
 2 bytes
 b
 2 ends of 20 states: no other end from start 1 of 2
@@ -131,7 +131,7 @@ fn first_text(alloc: Global) -> Result<Vec<u8>, AllocError> {
     };
     let mut ends = Vec::new(alloc);
     ends.push(end(alloc, b"end 1", b"end 2\na\n")?)?;
-    let head = b"end 2: rank 0 at 0xa4 (divide+0x58) got rank 2's message, in end 1 rank 1's";
+    let head = b"end 2: rank 0 at divide+0x58 got rank 2's message, in end 1 rank 1's";
     ends.push(end(alloc, head, b"b\n")?)?;
     let part = Part {
         number: 1,

@@ -3,8 +3,8 @@ use Rattle.std.specs.Prelude.{◌≡◌, ℕ, List, [], ◌∷◌, refl}
 use Rattle.std.specs.List.{flat_map}
 use Rattle.rv_hart.specs.State.{State, fresh, write}
 use Rattle.rv_memory.specs.Memory.{Memory, bytes_of}
-use Rattle.rvmc_inspect.specs.Frames.{frames}
-use Rattle.rvmc_inspect.specs.declared.frames.Frame.{Frame}
+use Rattle.rvmc_places.specs.Frames.{frames}
+use Rattle.rvmc_places.specs.declared.frames.Frame.{Frame}
 
 -- a memory of these words, lowest first
 abbrev memory_of : List ℕ → Memory

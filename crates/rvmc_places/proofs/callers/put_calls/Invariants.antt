@@ -1,7 +1,7 @@
 use Rattle.std.proofs.Common.{◌≡◌, ◌++◌, ◌-◌}
-use Rattle.rvmc_inspect.specs.Callers.{calls_text}
-use Rattle.rvmc_inspect.specs.Frames.{frames, frames_from}
-use Rattle.rvmc_inspect.proofs.callers.put_calls.Given as goal
+use Rattle.rvmc_places.specs.Callers.{calls_text}
+use Rattle.rvmc_places.specs.Frames.{frames, frames_from}
+use Rattle.rvmc_places.proofs.callers.put_calls.Given as goal
 
 -- the calls so far, and those of the frames that are left
 abbrev pub invariant-loop-number : goal.invariant-loop-number

@@ -1,25 +1,20 @@
 -- The calls that led to where a hart is, as text.
-use Rattle.std.specs.Prelude.{ℕ, ◌-◌, Bool, true, false, List, [], ◌++◌, codes, Option, None, Some}
+use Rattle.std.specs.Prelude.{ℕ, ◌-◌, Bool, true, false, List, [], ◌++◌, codes}
 use Rattle.std.specs.List.{flat_map}
 use Rattle.rv_hart.specs.State.{State}
 use Rattle.rv_image.specs.declared.images.Symbol.{Symbol}
 use Rattle.rv_memory.specs.Memory.{Memory}
-use Rattle.rvmc_inspect.specs.Frames.{frames}
-use Rattle.rvmc_inspect.specs.Places.{hex_text, nearest}
-use Rattle.rvmc_inspect.specs.declared.frames.Frame.{Frame}
+use Rattle.rvmc_places.specs.Frames.{frames}
+use Rattle.rvmc_places.specs.declared.frames.Frame.{Frame}
+use Rattle.rvmc_places.specs.Places.{place_name}
 
 -- where the function of a frame was called: at the instruction before the one that it returns to
 abbrev pub called_at : Frame → ℕ
 called_at frame = frame.back - 4
 
--- a symbol, as ` (life.c.41)`, where there is one
-abbrev pub symbol_name : Option Symbol → List ℕ
-symbol_name None = []
-symbol_name (Some symbol) = codes " (" ++ (symbol.name ++ codes ")")
-
--- where a function was called, and the symbol nearest before that, as `0xdc (life.c.41)`
+-- where a function was called, as `life.c:41 in step`
 abbrev pub call_place : List Symbol → ℕ → List ℕ
-call_place symbols at = hex_text at ++ symbol_name (nearest at symbols)
+call_place symbols at = place_name symbols at
 
 -- the calls of these frames, each between the same texts
 abbrev pub calls_text : List ℕ → List ℕ → List Symbol → List Frame → List ℕ

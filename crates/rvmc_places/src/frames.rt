@@ -1,7 +1,7 @@
 //! The frames of the functions that a hart is in, as its memory has them.
 
 ghost use Rattle.std.specs.Prelude.{◌≡◌};
-ghost use Rattle.rvmc_inspect.specs.Frames.{frame_above, frame_at, own_frame};
+ghost use Rattle.rvmc_places.specs.Frames.{frame_above, frame_at, own_frame};
 
 use rv_decode::Reg;
 use rv_hart::Hart;

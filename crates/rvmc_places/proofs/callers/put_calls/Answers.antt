@@ -1,7 +1,7 @@
-use Rattle.std.proofs.Common.{◌-◌, ◌+◌, ◌<◌, ◌≤◌, arith}
-use Rattle.rvmc_inspect.specs.Frames.{frames, frames_from}
-use Rattle.rvmc_inspect.proofs.CallChains.{all_told, last_call, next_call, none_left, one_left}
-use Rattle.rvmc_inspect.proofs.callers.put_calls.Goals as goal
+use Rattle.std.proofs.Common.{◌-◌, ◌+◌, arith}
+use Rattle.rvmc_places.specs.Frames.{frames, frames_from}
+use Rattle.rvmc_places.proofs.CallChains.{all_told, last_call, next_call, none_left, one_left}
+use Rattle.rvmc_places.proofs.callers.put_calls.Goals as goal
 
 pub returns-in-None : goal.returns-in-None
 returns-in-None c =

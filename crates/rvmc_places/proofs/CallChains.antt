@@ -3,9 +3,9 @@ use Rattle.std.proofs.Common.{ℕ, zero, suc, ◌≡◌, ◌∙◌, ◌+◌, ◌
 use Rattle.std.specs.Prelude.{Option, Some, None}
 use Rattle.rv_image.specs.declared.images.Symbol.{Symbol}
 use Rattle.rv_memory.specs.Memory.{Memory}
-use Rattle.rvmc_inspect.specs.Callers.{called_at, call_place, calls_text}
-use Rattle.rvmc_inspect.specs.Frames.{frame_above, frames_from}
-use Rattle.rvmc_inspect.specs.declared.frames.Frame.{Frame}
+use Rattle.rvmc_places.specs.Callers.{called_at, call_place, calls_text}
+use Rattle.rvmc_places.specs.Frames.{frame_above, frames_from}
+use Rattle.rvmc_places.specs.declared.frames.Frame.{Frame}
 
 -- no frame, and none above it
 frames_none : (memory : Memory) (most : ℕ) → frames_from memory most None ≡ []

@@ -1,10 +1,10 @@
 -- The frames of the functions that a hart is in, by its frame pointers.
 use Rattle.std.proofs.Common.{zero, suc}
 use Rattle.std.specs.Prelude.{ℕ, ◌-◌, ◌%◌, ◌&&◌, ◌==◌, nat_le, nat_lt, if◌then◌else◌, Bool, List, [], ◌∷◌, length, Option, None, Some}
-use Rattle.std.specs.Prelude.{option_and_then, option_map}
+use Rattle.std.specs.Prelude.{option_map}
 use Rattle.rv_hart.specs.State.{State, read}
 use Rattle.rv_memory.specs.Memory.{Memory, value_at}
-use Rattle.rvmc_inspect.specs.declared.frames.Frame.{Frame}
+use Rattle.rvmc_places.specs.declared.frames.Frame.{Frame}
 
 -- gcc and clang lay frames out so for RISC-V: s0 is the address behind the function's frame, the word below it is where
 -- the function returns to, and the one below that its caller's s0 (RISC-V ELF psABI, Frame Pointer Convention)

@@ -1,56 +1,28 @@
 //! The calls that led to where a hart is, as text.
 
 ghost use Rattle.std.specs.Prelude.{◌≡◌, ◌++◌, OnOk};
-ghost use Rattle.std.specs.Option.{option_copied};
-ghost use Rattle.rvmc_inspect.specs.Callers.{called_at, call_place, callers_text, calls_text, symbol_name};
-ghost use Rattle.rvmc_inspect.specs.Frames.{frames};
+ghost use Rattle.rvmc_places.specs.Callers.{called_at, call_place, callers_text, calls_text};
+ghost use Rattle.rvmc_places.specs.Frames.{frames};
 
 use crate::frames::{Frame, frame_above, own_frame};
-use crate::places::{address_text, nearest};
+use crate::texts::put_name;
 use rv_hart::Hart;
 use rv_image::Symbol;
 use rv_memory::RankMemory;
-use std::alloc::{AllocError, Global};
+use std::alloc::AllocError;
 
 /// The most calls that are told of a hart.
-const MOST: usize = 64;
-
-/// Adds a symbol's name, if there is one.
-fn put_symbol(text: &mut Vec<u8>, symbol: Option<&Symbol>) -> Result<(), AllocError>
-    ensures { OnOk result (text.new.items ≡ text.old.items ++ symbol_name (option_copied symbol.entry)) }
-{
-    let Some(symbol) = symbol else {
-        return Ok(());
-    };
-    text.extend_from_slice(b" (")?;
-    text.extend_from_slice(symbol.name.as_slice())?;
-    text.extend_from_slice(b")")
-}
+pub(crate) const MOST: usize = 64;
 
 /// Where the function of a frame was called.
-fn called_at(frame: Frame) -> u64
+pub(crate) fn called_at(frame: Frame) -> u64
     ensures { result ≡ called_at frame }
 {
     frame.back.saturating_sub(4)
 }
 
-/// Adds the place of a call, as `0xdc (life.c.41)`.
-fn put_call_place(
-    alloc: Global,
-    text: &mut Vec<u8>,
-    symbols: &[Symbol],
-    at: u64,
-) -> Result<(), AllocError>
-    ensures { OnOk result (text.new.items ≡ text.old.items ++ call_place symbols.now at) }
-{
-    let address = address_text(alloc, at)?;
-    text.extend_from_slice(address.as_bytes())?;
-    put_symbol(text, nearest(symbols, at))
-}
-
 /// Adds a call, between two texts.
 fn put_call(
-    alloc: Global,
     text: &mut Vec<u8>,
     symbols: &[Symbol],
     frame: Frame,
@@ -62,13 +34,12 @@ fn put_call(
         ≡ text.old.items ++ (before.now ++ (call_place symbols.now (called_at frame) ++ behind.now))) }
 {
     text.extend_from_slice(before)?;
-    put_call_place(alloc, text, symbols, called_at(frame))?;
+    put_name(text, symbols, called_at(frame))?;
     text.extend_from_slice(behind)
 }
 
 /// Adds the calls that led to where the hart is, the last one first and at most 64, each between the same texts.
-pub(crate) fn put_calls(
-    alloc: Global,
+pub fn put_calls(
     text: &mut Vec<u8>,
     symbols: &[Symbol],
     memory: &RankMemory,
@@ -85,7 +56,7 @@ pub(crate) fn put_calls(
         match next {
             None => return Ok(()),
             Some(frame) => {
-                put_call(alloc, text, symbols, frame, before, behind)?;
+                put_call(text, symbols, frame, before, behind)?;
                 next = frame_above(memory, frame);
             }
         }
@@ -95,8 +66,7 @@ pub(crate) fn put_calls(
 
 /// Adds the calls that led to where the hart is, if they are asked for.
 #[tactic(auto, unfolding(crate::specs::Callers::callers_text))]
-pub(crate) fn put_callers(
-    alloc: Global,
+pub fn put_callers(
     text: &mut Vec<u8>,
     symbols: &[Symbol],
     memory: &RankMemory,
@@ -109,5 +79,5 @@ pub(crate) fn put_callers(
     if !framed {
         return Ok(());
     }
-    put_calls(alloc, text, symbols, memory, hart, b" called from ", b"")
+    put_calls(text, symbols, memory, hart, b" called from ", b"")
 }

@@ -1,0 +1,4 @@
+pub mod Nearer
+pub mod ReadBack
+pub mod CallChains
+pub mod OwnChains

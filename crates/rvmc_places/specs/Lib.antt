@@ -1,0 +1,11 @@
+pub mod Names
+pub mod Read
+pub mod Places
+pub mod Laws
+pub mod Worked
+pub mod Frames
+pub mod WorkedFrames
+pub mod Callers
+pub mod OwnCalls
+pub mod WorkedCalls
+pub mod Causes
