@@ -39,7 +39,7 @@ use Rattle.cl_explore.proofs.Lists.{at_inside}
 use Rattle.rvmc_explore.specs.Endless.{AllMayEnd, AreComplete, NeverStuck, SaysNoneStuck, SaysUnending, SaysUnendingOf, SomeNeverEnds}
 use Rattle.rvmc_explore.specs.Searched.{AreSound, GoesIn}
 use Rattle.rvmc_explore.specs.StatusLaw.{StatusLaw}
-use Rattle.rvmc_explore.specs.Telling.{Tells, any_end, is_some_company, is_stuck, trapped_in, waits_in}
+use Rattle.rvmc_explore.specs.Telling.{Tells, any_end, is_some_company, has_stuck, trapped_in, waits_in}
 
 -- ---- moves as edges
 
@@ -324,7 +324,7 @@ status_at : (image : ImageParts) (order : List ℕ) (states turns : ℕ) (text :
     × (status ≡ 0 → tells.unending ≡ false) × (status ≡ 8 → tells.unending ≡ true)
 status_at image order states turns text status tells which =
     let found = (tells.listed).found in
-    let is = by_cases (found.left == 0) (any_end trapped_in found.kept found.ends) (is_stuck order found) tells.unending status
+    let is = by_cases (found.left == 0) (any_end trapped_in found.kept found.ends) (has_stuck order found) tells.unending status
     tells.status_is which in
     let none_left : found.left ≡ 0 = eqb-true found.left 0 is.0 in
     let none = no_company found (any_end (waits_in order) found.kept found.ends) is.1 in

@@ -13,7 +13,7 @@ use Rattle.rvmc_starts.specs.declared.starts.Start.{Start}
 use Rattle.rvmc_explore.specs.Endless.{SaysNoneStuck, SaysUnending}
 use Rattle.rvmc_explore.specs.Outcomes.{AreTold, nodes_told}
 use Rattle.rvmc_explore.specs.Recorded.{Leads, numbered}
-use Rattle.rvmc_explore.specs.Telling.{status_of}
+use Rattle.rvmc_explore.specs.Telling.{findings_status}
 use Rattle.rvmc_explore.specs.declared.outcomes.Outcome.{Outcome}
 use Rattle.rvmc_explore.specs.declared.starting.StartFault.{StartFault}
 use Rattle.rvmc_explore.specs.declared.starting.StartFault.TheVariants.{Memory, NoTurn, OtherImage}
@@ -65,7 +65,7 @@ pub record TellsFrom (image : ImageParts) (start : Start) (states turns : ℕ) (
   pub ends : AreEndsTold told part.ends
   pub unending_is : SaysUnending image start.harts (listed.behind).start (listed.found).left part.unending
   pub none_stuck : SaysNoneStuck image start.harts (listed.behind).start (listed.found).left (listed.found).companies
-  pub status_is : status ≡ status_of start.harts listed.found part.unending
+  pub status_is : status ≡ findings_status start.harts listed.found part.unending
   pub status_told : part.status ≡ status
   pub spelled : text ≡ part_text part
 

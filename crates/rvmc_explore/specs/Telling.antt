@@ -90,12 +90,12 @@ abbrev pub is_some_company : List Company → Bool
 is_some_company companies = not (length companies == 0)
 
 -- a hart that takes turns waits at an end, or some ranks are stuck anywhere
-abbrev pub is_stuck : List ℕ → Findings → Bool
-is_stuck order found = any_end (waits_in order) found.kept found.ends || is_some_company found.companies
+abbrev pub has_stuck : List ℕ → Findings → Bool
+has_stuck order found = any_end (waits_in order) found.kept found.ends || is_some_company found.companies
 
-abbrev pub status_of : List ℕ → Findings → Bool → ℕ
-status_of order found unending =
-    search_status found.left (any_end trapped_in found.kept found.ends) (is_stuck order found) unending
+abbrev pub findings_status : List ℕ → Findings → Bool → ℕ
+findings_status order found unending =
+    search_status found.left (any_end trapped_in found.kept found.ends) (has_stuck order found) unending
 
 -- ---- the whole
 
@@ -115,4 +115,4 @@ pub record Tells (image : ImageParts) (order : List ℕ) (states turns : ℕ) (t
       ≡ body
       ++ (unending_line unending
       ++ last_line (length told) (length (listed.found).kept) (listed.found).left long turns)
-  pub status_is : status ≡ status_of order listed.found unending
+  pub status_is : status ≡ findings_status order listed.found unending

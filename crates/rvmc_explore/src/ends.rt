@@ -80,7 +80,7 @@ fn put_ranks(
 }
 
 /// Whether a hart that takes turns waits in some rank: then it waits for ever, since nobody goes on.
-fn is_stuck(ranks: &[RankState], order: &[u8]) -> bool
+fn has_stuck(ranks: &[RankState], order: &[u8]) -> bool
     ensures { result ≡ any_waits order.now ranks.now }
 {
     ranks.iter().any(|rank| waits(rank.harts.as_slice(), order))
@@ -95,7 +95,7 @@ fn wait_text(
 ) -> Result<Vec<u8>, AllocError>
     ensures { IfOk result (λ text. IsWaitText (any_waits order.now state.now.ranks.items) image.now state.now text.items) }
 {
-    if is_stuck(state.ranks.as_slice(), order) {
+    if has_stuck(state.ranks.as_slice(), order) {
         why(alloc, image, state, false)
     } else {
         Ok(Vec::new(alloc))

@@ -5,7 +5,7 @@ ghost use Rattle.std.specs.List.{list_any};
 ghost use Rattle.rvmc_report.specs.Report.{has_trapped, is_trapped};
 ghost use Rattle.rvmc_explore.specs.Ends.{one_waits};
 ghost use Rattle.cl_explore.specs.Ends.{findings};
-ghost use Rattle.rvmc_explore.specs.Telling.{any_end, holds_of, status_of, trapped_in, waits_in};
+ghost use Rattle.rvmc_explore.specs.Telling.{any_end, holds_of, findings_status, trapped_in, waits_in};
 
 use crate::ends::waits;
 use cl_explore::{Exploration, KeptNode};
@@ -74,7 +74,7 @@ fn any_waits(nodes: &[KeptNode], order: &[u8], ends: &[usize]) -> bool
 /// The status of a search: 4 where not all is told, else 3 where a hart trapped at an end, else 7 where a hart that takes turns
 /// waits at one, or some ranks are stuck, else 8 where some runs go on for ever, else 0.
 pub(crate) fn search_status(found: &Exploration, order: &[u8], unending: bool) -> u8
-    ensures { result ≡ status_of order.now (findings found.now) unending }
+    ensures { result ≡ findings_status order.now (findings found.now) unending }
 {
     if found.left > 0 {
         return 4;

@@ -11,7 +11,7 @@ use Rattle.rvmc_places.specs.declared.near.Kind.{Kind}
 use Rattle.rvmc_places.specs.declared.near.Kind.TheVariants as kind
 use Rattle.rvmc_places.specs.Laws.{OneLineLaw}
 use Rattle.rvmc_places.specs.Names.{Line, first_line, is_file, is_number, line_again, line_named, line_parted, parted, parts_at, last_dot}
-use Rattle.rvmc_places.specs.Places.{function_text, hex_text, is_inside, is_nearer, is_of, label_text, line_at, line_within, nearer, nearest_from, nearest_of, place_name, text_by}
+use Rattle.rvmc_places.specs.Places.{function_text, hex_text, is_inside, is_nearer, is_kind, label_text, line_at, line_within, nearer, nearest_from, nearest_of, place_name, text_by}
 
 -- ---- what is read of a text: the bytes of names at its front, and those behind a colon
 
@@ -145,11 +145,11 @@ chosen_ok false at found one other is ok = ok
 
 nearest_ok : (wanted : Kind) (at : ℕ) (found : Option Symbol) (symbols : List Symbol) → OkSymbol found
     → AllByRecursion (λ (s : Symbol). is_symbol_name s.name ≡ true) symbols
-    → OkSymbol (nearest_from at found (filter (is_of wanted) symbols))
+    → OkSymbol (nearest_from at found (filter (is_kind wanted) symbols))
 unfolding Named
 nearest_ok wanted at found [] ok all = ok
 nearest_ok wanted at found (symbol ∷ symbols) ok all =
-    chosen_ok (is_of wanted symbol) at found (symbol ∷ filter (is_of wanted) symbols) (filter (is_of wanted) symbols)
+    chosen_ok (is_kind wanted symbol) at found (symbol ∷ filter (is_kind wanted) symbols) (filter (is_kind wanted) symbols)
     (nearest_ok wanted at (nearer at found symbol) symbols
     (nearer_ok (is_nearer at found symbol) found symbol ok (named_ok symbol all.0)) all.1)
     (nearest_ok wanted at found symbols ok all.1)

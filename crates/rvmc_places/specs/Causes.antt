@@ -30,13 +30,13 @@ is_some_word (Some word) = true
 abbrev pub is_stack_full : Memory → State → Bool
 is_stack_full memory hart = is_some_word (word_at memory (read hart 2)) || nat_le (2 ^ 63) (read hart 2)
 
-abbrev pub store_trap : Bool → List ℕ
-store_trap true = codes "stack overflow"
-store_trap false = cause_name StoreAccess
+abbrev pub store_cause : Bool → List ℕ
+store_cause true = codes "stack overflow"
+store_cause false = cause_name StoreAccess
 
 -- a store that fails because the stack is full is told as that
 abbrev pub trap_name : Memory → State → Cause → List ℕ
-trap_name memory hart StoreAccess = store_trap (is_stack_full memory hart)
+trap_name memory hart StoreAccess = store_cause (is_stack_full memory hart)
 trap_name memory hart cause = cause_name cause
 
 -- `trapped 7 (stack overflow) at `, before the place

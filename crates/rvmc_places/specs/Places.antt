@@ -33,13 +33,13 @@ is_some_line None = false
 is_some_line (Some line) = true
 
 -- a symbol of a line, or a label
-abbrev pub is_of : Kind → Symbol → Bool
-is_of kind.Line symbol = is_some_line (line_named symbol.name)
-is_of kind.Label symbol = not (is_some_line (line_named symbol.name))
+abbrev pub is_kind : Kind → Symbol → Bool
+is_kind kind.Line symbol = is_some_line (line_named symbol.name)
+is_kind kind.Label symbol = not (is_some_line (line_named symbol.name))
 
 -- the nearest of one kind
 unfoldable pub nearest_of : Kind → List Symbol → ℕ → Option Symbol
-nearest_of wanted symbols at = nearest at (filter (is_of wanted) symbols)
+nearest_of wanted symbols at = nearest at (filter (is_kind wanted) symbols)
 
 -- ---- the line of a place
 

@@ -1,7 +1,7 @@
 //! Why a hart trapped, as text.
 
 ghost use Rattle.std.specs.Prelude.{◌≡◌, IfOk, string_bytes};
-ghost use Rattle.rvmc_places.specs.Causes.{cause_name as cause_name_of, is_stack_full, store_trap, trap_name, trap_text};
+ghost use Rattle.rvmc_places.specs.Causes.{cause_name as cause_name_of, is_stack_full, store_cause, trap_name, trap_text};
 
 use rv_decode::Reg;
 use rv_hart::Hart;
@@ -33,8 +33,8 @@ fn is_stack_full(memory: &RankMemory, hart: &Hart) -> bool
 }
 
 /// Why a store trapped: because the stack is full, or else by its cause.
-fn store_trap(full: bool) -> &'static str
-    ensures { result.now ≡ store_trap full }
+fn store_cause(full: bool) -> &'static str
+    ensures { result.now ≡ store_cause full }
 {
     if full {
         "stack overflow"
@@ -48,7 +48,7 @@ fn trap_name(memory: &RankMemory, hart: &Hart, cause: Cause) -> &'static str
     ensures { result.now ≡ trap_name memory.now hart.now cause }
 {
     match cause {
-        Cause::StoreAccess => store_trap(is_stack_full(memory, hart)),
+        Cause::StoreAccess => store_cause(is_stack_full(memory, hart)),
         _ => cause_name(cause),
     }
 }

@@ -2,7 +2,7 @@
 
 ghost use Rattle.std.specs.Prelude.{◌≡◌, option_map};
 ghost use Rattle.std.specs.Option.{option_copied};
-ghost use Rattle.rvmc_places.specs.Places.{is_inside, is_nearer, is_of, line_at as line_of, nearest_of};
+ghost use Rattle.rvmc_places.specs.Places.{is_inside, is_nearer, is_kind, line_at as line_of, nearest_of};
 ghost use Rattle.rvmc_places.specs.Read.{read_of};
 ghost use Rattle.rvmc_places.specs.declared.near.Kind.TheVariants as kind;
 
@@ -19,8 +19,8 @@ pub enum Kind {
 }
 
 /// Whether the symbol is of a kind.
-fn is_of(wanted: Kind, symbol: &Symbol) -> bool
-    ensures { result ≡ is_of wanted symbol.now }
+fn is_kind(wanted: Kind, symbol: &Symbol) -> bool
+    ensures { result ≡ is_kind wanted symbol.now }
 {
     match wanted {
         Kind::Line => line_named(symbol.name.as_slice()).is_some(),
@@ -46,7 +46,7 @@ fn nearest_of(wanted: Kind, symbols: &[Symbol], at: u64) -> Option<&Symbol>
 {
     let mut found = None;
     for symbol in symbols {
-        if is_nearer(at, found, symbol) && is_of(wanted, symbol) {
+        if is_nearer(at, found, symbol) && is_kind(wanted, symbol) {
             found = Some(symbol);
         }
     }

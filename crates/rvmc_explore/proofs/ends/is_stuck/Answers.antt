@@ -3,7 +3,7 @@ use Rattle.std.proofs.lemmas.Iterator.{YieldsList-from_slice}
 use Rattle.std.proofs.lemmas.Iterator.Search.{any_from_yields_List}
 use Rattle.cl_state.specs.declared.state.RankState.{RankState}
 use Rattle.rvmc_explore.specs.Ends.{one_waits}
-use Rattle.rvmc_explore.proofs.ends.is_stuck.Goals as goal
+use Rattle.rvmc_explore.proofs.ends.has_stuck.Goals as goal
 
 pub returns : goal.returns
 returns c =

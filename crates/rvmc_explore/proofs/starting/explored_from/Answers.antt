@@ -4,7 +4,7 @@ use Rattle.rvmc_starts.specs.Parts.{part_text}
 use Rattle.rvmc_starts.specs.declared.parts.Part.{Part}
 use Rattle.rvmc_explore.specs.Outcomes.{AreTold}
 use Rattle.rvmc_explore.specs.Starting.{AreEndsTold}
-use Rattle.rvmc_explore.specs.Telling.{status_of}
+use Rattle.rvmc_explore.specs.Telling.{findings_status}
 use Rattle.rvmc_explore.proofs.Endless.{says_none_stuck}
 use Rattle.rvmc_explore.proofs.Listed.{within}
 use Rattle.rvmc_explore.proofs.starting.explored_from.Goals as goal
@@ -61,7 +61,7 @@ returns-clause-told c =
       none_stuck = says_none_stuck c.args.image.now start.harts behind.start (findings found)
           c.parts-parts.ensures.limits behind.explored;
       status_is = c.search_status-status.ensures
-          ∙ ap (λ order. status_of order (findings found) c.in_ok-unending.unending) c.as_slice-order.ensures;
+          ∙ ap (λ order. findings_status order (findings found) c.in_ok-unending.unending) c.as_slice-order.ensures;
       status_told = refl;
       spelled = c.in_ok-put_part.ensures ∙ ap (λ (old : List ℕ). old ++ part_text part) c.new-text.ensures.items;
     }
