@@ -1,6 +1,6 @@
 //! What stands on standard output.
 
-ghost use Rattle.std.specs.Prelude.{◌≡◌, ◌&&◌, false};
+ghost use Rattle.std.specs.Prelude.{◌≡◌, ◌&&◌};
 ghost use Rattle.rvmc_tool.specs.Outputs.{ends_by_budget, hides_a_wait, output_bytes};
 
 use cl_text::RecordText;
@@ -29,31 +29,5 @@ pub(crate) fn reported(text: Vec<u8>, spent: bool, waits: bool) -> Output
         (true, true) => Output::Waiting(text),
         (true, false) => Output::Spent(text),
         (false, _) => Output::Text(text),
-    }
-}
-
-/// A report that says for what each hart waits.
-pub(crate) fn explained(text: Vec<u8>, spent: bool) -> Output
-    ensures text { output_bytes result ≡ text.items }
-    ensures waits { hides_a_wait result ≡ false }
-    ensures budget { ends_by_budget result ≡ spent }
-{
-    if spent {
-        Output::Spent(text)
-    } else {
-        Output::Text(text)
-    }
-}
-
-/// A record.
-pub(crate) fn recorded(text: RecordText, spent: bool) -> Output
-    ensures text { output_bytes result ≡ text }
-    ensures waits { hides_a_wait result ≡ false }
-    ensures budget { ends_by_budget result ≡ spent }
-{
-    if spent {
-        Output::SpentRecord(text)
-    } else {
-        Output::Record(text)
     }
 }

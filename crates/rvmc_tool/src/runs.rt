@@ -15,7 +15,7 @@ ghost use Rattle.rvmc_report.specs.Report.{rank_ends, status_of};
 
 use crate::answers::{Answer, End};
 use crate::explaining::report_with_why;
-use crate::outputs::{Output, explained, recorded, reported};
+use crate::outputs::{Output, reported};
 use crate::plans::{listed, plans_of};
 use crate::stuck::{one_until_stuck, run_until_stuck};
 use crate::waiting::{any_waits, is_spent};
@@ -66,8 +66,22 @@ fn output_of(
             let waits = any_waits(&left);
             Ok(reported(report(alloc, &left)?, spent, waits))
         }
-        Written::Record => Ok(recorded(record_of(alloc, image, left)?, spent)),
-        Written::Why => Ok(explained(report_with_why(alloc, image, left)?, spent)),
+        Written::Record => {
+            let text = record_of(alloc, image, left)?;
+            if spent {
+                Ok(Output::SpentRecord(text))
+            } else {
+                Ok(Output::Record(text))
+            }
+        }
+        Written::Why => {
+            let text = report_with_why(alloc, image, left)?;
+            if spent {
+                Ok(Output::Spent(text))
+            } else {
+                Ok(Output::Text(text))
+            }
+        }
     }
 }
 
