@@ -66,7 +66,10 @@ abbrev pub HearsUnless : Bool → Talk → List ℕ → Talk → List ℕ → Ty
 HearsUnless true old payload new text = (new ≡ old) × (text ≡ [])
 HearsUnless false old payload new text = Hears old payload (request_in payload) new text
 
--- the client has the last packet
+-- this payload is answered, and the client doesn't say yet that it has the answer; or it does
+abbrev pub unread_by : Talk → List ℕ → Talk
+unread_by talk payload = record talk { unread = Some payload }
+
 abbrev pub read : Talk → Talk
 read talk = record talk { unread = None }
 

@@ -58,7 +58,7 @@ impl Model for Server {
 }
 
 impl Server {
-    ghost use Rattle.rvmc_gdb.specs.Talks.{Hears, HearsUnless, MeetsUnless, Meets, Replies, Serves, Takes, connected, flow_of, repeats, written};
+    ghost use Rattle.rvmc_gdb.specs.Talks.{Hears, HearsUnless, MeetsUnless, Meets, Replies, Serves, Takes, connected, flow_of, repeats, unread_by, written};
 
     /// A session of whose stream nothing is read yet.
     pub fn new(alloc: Global, session: Session) -> Server
@@ -93,6 +93,14 @@ impl Server {
         Ok(packet)
     }
 
+    /// This payload is answered, and the client doesn't say yet that the answer has arrived.
+    fn await_arrival(&mut self, payload: Payload)
+        ensures place { self.new.place ≡ self.old.place }
+        ensures unread { self.new.talk ≡ unread_by self.old.talk payload }
+    {
+        self.unread = Some(payload);
+    }
+
     /// Adds the answer to the request of a payload.
     fn hear(
         &mut self,
@@ -108,9 +116,9 @@ impl Server {
         let packet = self.written(request, reply.as_slice())?;
         out.extend_from_slice(packet.as_slice())?;
         self.last = packet;
-        self.unread = Some(payload);
         self.wanted = self.wanted && !quiets(request);
         self.ended = leaves(request);
+        self.await_arrival(payload);
         Ok(())
     }
 
