@@ -95,11 +95,7 @@ fn new_file(rt: &HostRuntime, place: &str) -> io::Result<(String, File)> {
 }
 
 /// A new file beside a place, with the permissions of the file that stands there, if one does.
-fn beside(
-    rt: &HostRuntime,
-    place: String,
-    found: Option<Metadata>,
-) -> io::Result<(Output, Sink)> {
+fn beside(rt: &HostRuntime, place: String, found: Option<Metadata>) -> io::Result<(Output, Sink)> {
     let (name, file) = new_file(rt, place.as_str())?;
     if let Some(found) = found {
         let _set = file.set_permissions(found.permissions());

@@ -250,7 +250,9 @@ fn put_awaited<W: fmt::Write>(f: &mut fmt::Formatter<W>, awaited: Awaited) -> fm
             "waiting for {wanted} on standard input (Ctrl-D ends it); a file can be named instead, \
              and rvmc --help says more"
         ),
-        Awaited::Packets => f.write_str("waiting for gdb's packets on standard input (Ctrl-D ends it)"),
+        Awaited::Packets => f.write_str(
+            "waiting for gdb's packets on standard input (Ctrl-D ends it)",
+        ),
     }
 }
 

@@ -109,13 +109,25 @@ fn text_of(alloc: Global, hint: RunHint) -> Result<String, AllocError>
             " bytes; rvmc check reads at most 67108864",
         ),
         RunHint::States(states) => {
-            numbered(alloc, "states are left; rvmc explore --states ", states, " goes further")
+            numbered(
+                alloc,
+                "states are left; rvmc explore --states ",
+                states,
+                " goes further",
+            )
         }
         RunHint::StatesAll => {
-            format!(in alloc; "states are left; rvmc explore --split 64 makes parts to search one by one")
+            format!(in alloc;
+                "states are left; rvmc explore --split 64 makes parts to search one by one"
+            )
         }
         RunHint::Turns(turns) => {
-            numbered(alloc, "states are left; rvmc explore --turns ", turns, " goes further")
+            numbered(
+                alloc,
+                "states are left; rvmc explore --turns ",
+                turns,
+                " goes further",
+            )
         }
     }
 }

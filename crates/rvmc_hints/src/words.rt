@@ -88,7 +88,8 @@ pub fn form_of(head: &[u8]) -> Option<&'static str>
 }
 
 static COMMANDS: [&str; 13] = [
-    "asm", "dis", "run", "one", "check", "report", "list", "draw", "page", "debug", "gdb", "why", "explore",
+    "asm", "dis", "run", "one", "check", "report", "list", "draw", "page", "debug", "gdb", "why",
+    "explore",
 ];
 
 fn near_in(names: &[&'static str], word: &str) -> Option<&'static str>

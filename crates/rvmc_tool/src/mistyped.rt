@@ -41,7 +41,8 @@ fn form_hint<'a>(alloc: Global, words: &[&str]) -> Option<Hint<'a>> {
 }
 
 /// Where the number of ranks is fixed.
-const RANKS: &str = "the image fixes the number of ranks: rvmc-mpi run -n 4 FILE.c, rvmc-cc -n 4 FILE.c, or .ranks 4 in a \
+const RANKS: &str =
+    "the image fixes the number of ranks: rvmc-mpi run -n 4 FILE.c, rvmc-cc -n 4 FILE.c, or .ranks 4 in a \
                      source";
 
 /// How files are named.

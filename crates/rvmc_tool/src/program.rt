@@ -104,7 +104,8 @@ fn put_output<W: Write>(out: &mut W, output: &Output) -> bool
 {
     match output {
         Output::Text(text) | Output::Waiting(text) | Output::Spent(text) => put(out, text),
-        Output::Record(text) | Output::SpentRecord(text) => text.put(out).is_ok() && out.flush().is_ok(),
+        Output::Record(text) | Output::SpentRecord(text) => text.put(out).is_ok()
+            && out.flush().is_ok(),
     }
 }
 
@@ -164,9 +165,7 @@ fn tell_answer<O: Write, E: Write>(
 {
     let taken = put_output(out, &answer.output);
     match answer.end {
-        End::Status(status) => {
-            ended_with_hint(alloc, line, &answer.output, err, taken, status)
-        }
+        End::Status(status) => { ended_with_hint(alloc, line, &answer.output, err, taken, status) }
         End::Cut(fault) => {
             if taken {
                 fail_with_hint(alloc, line, bytes, fault, err)
