@@ -4,6 +4,7 @@ from every state, where states count as one only if they are equal but for clock
 import re
 
 import cluster
+import places
 import why
 from formats import FREED, HELD, HUB, IDLE, LOCAL, MISS, PLAIN, TAKE
 from hub import NOT_YET
