@@ -1,0 +1,64 @@
+-- Machines of ranks that take turns, and turns that may go first.
+use Rattle.std.specs.Prelude.{ℕ, ◌+◌, ◌≡◌, ◌≢◌, ◌⊎◌, ◌↔◌, List, [], ◌∷◌}
+
+pub record Machine : Type 1 where
+  pub State : Type 0
+  -- a turn of this rank leads from the one to the other
+  pub Goes : ℕ → State → State → Type 0
+  -- the same, but for what no rank can ever be told
+  pub Alike : State → State → Type 0
+  -- what the rank asks for in its next turn is one of the patterns
+  pub IsWithin : State → ℕ → Type 0
+  -- so few messages that no send is refused
+  pub HasRoom : State → Type 0
+  -- 0 for the poll of a rank that waits on its own receive, else more
+  pub weight : State → ℕ → ℕ
+  -- the next turn of this rank may go before those of all others, while these stay within the patterns
+  pub IsSure : State → ℕ → Type 0
+
+module _ (m : Machine) where
+  -- turns of these ranks, one behind the other
+  abbrev pub GoesOn : List ℕ → m.State → m.State → Type 0
+  GoesOn [] old new = new ≡ old
+  GoesOn (r ∷ rs) old new = (mid : m.State) × m.Goes r old mid × GoesOn rs mid new
+
+  abbrev pub weighs : (rs : List ℕ) (old new : m.State) → GoesOn rs old new → ℕ
+  weighs [] old new walk = 0
+  weighs (r ∷ rs) old new walk = m.weight old r + weighs rs walk.0 new walk.2
+
+  -- each of these turns is one of the patterns
+  abbrev pub AllWithin : (rs : List ℕ) (old new : m.State) → GoesOn rs old new → Type 0
+  AllWithin [] old new walk = Unit {0}
+  AllWithin (r ∷ rs) old new walk = m.IsWithin old r × AllWithin rs walk.0 new walk.2
+
+  -- turns of r and then of s lead to what is alike, or those and the poll of r, which posted its receive first and is
+  -- told its message now
+  pub record IsExchanged (r s : ℕ) (old new : m.State) : Type 0 where
+    pub first : m.State
+    pub goes : m.Goes r old first
+    pub second : m.State
+    pub then : m.Goes s first second
+    pub alike : m.Alike new second
+        ⊎ ((last : m.State) × (m.weight second r ≡ 0) × m.IsWithin second r × m.Goes r second last × m.Alike new last)
+
+  pub record IsMachine : Type 0 where
+    pub itself : (a : m.State) → m.Alike a a
+    pub back : (a b : m.State) → m.Alike a b → m.Alike b a
+    pub on : (a b c : m.State) → m.Alike a b → m.Alike b c → m.Alike a c
+    -- alike states go alike by a turn within the patterns
+    pub follows : (r : ℕ) (a b c : m.State) → m.Alike a b → m.IsWithin a r → m.Goes r a c
+        → (d : m.State) × m.Goes r b d × m.Alike c d
+    pub within : (r : ℕ) (a b : m.State) → m.Alike a b → m.IsWithin a r → m.IsWithin b r
+    pub weight : (r : ℕ) (a b : m.State) → m.Alike a b → m.weight b r ≡ m.weight a r
+    pub room : (a b : m.State) → m.Alike a b → m.HasRoom a → m.HasRoom b
+    -- messages don't get fewer
+    pub grows : (r : ℕ) (a b : m.State) → m.Goes r a b → m.HasRoom b → m.HasRoom a
+    -- what a rank asks for is its own
+    pub own : (r s : ℕ) (a b : m.State) → s ≢ r → m.Goes r a b → m.IsWithin a s ↔ m.IsWithin b s
+    pub owns : (r s : ℕ) (a b : m.State) → s ≢ r → m.Goes r a b → m.weight b s ≡ m.weight a s
+    -- a sure turn can be taken, and is within the patterns
+    pub goes : (r : ℕ) (a : m.State) → m.IsSure a r → (b : m.State) × m.Goes r a b
+    pub asks : (r : ℕ) (a : m.State) → m.IsSure a r → m.IsWithin a r
+    -- a turn of another rank is in vain, or the sure one stays sure behind it and could have gone first
+    pub first : (r s : ℕ) (a b : m.State) → s ≢ r → m.IsSure a r → m.IsWithin a s → m.HasRoom a → m.Goes s a b
+        → m.Alike a b ⊎ (m.IsSure b r × ((c : m.State) → m.Goes r b c → IsExchanged r s a c))
