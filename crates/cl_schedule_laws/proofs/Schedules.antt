@@ -1,10 +1,10 @@
 -- Where turns that are sure go first, every run can be continued to a node.
-use Rattle.std.proofs.Common.{◌≡◌, ℕ, zero, suc, ◌+◌, ◌<◌, ◌≤◌, ◌⊎◌, inl, inr, List, [], ◌∷◌, ◌++◌, length, refl, sym, ap, ◌∙◌, subst, arith}
+use Rattle.std.proofs.Common.{◌≡◌, ℕ, zero, suc, ◌+◌, ◌<◌, ◌≤◌, ◌⊎◌, inl, inr, true, List, [], ◌∷◌, ◌++◌, length, refl, sym, ap, ◌∙◌, subst, arith}
 use Rattle.std.specs.Prelude.{◌≢◌}
-use Rattle.std.proofs.lemmas.Bool.{cases_eq}
-use Rattle.cl_schedule_laws.specs.Machines.{AllWithin, GoesOn, IsMachine, Machine, weighs}
-use Rattle.cl_schedule_laws.specs.Laws.{HasFound, IsClosed, IsFound, IsOnItsWay, Kept, ScheduleLaw, kept_of, machine_of}
-use Rattle.cl_schedule_laws.proofs.Walks.{AllRoom, Front, Fronted, Longer, along, front, heavy, is_next, is_there, snoc}
+use Rattle.std.proofs.lemmas.Bool.{cases_eq, cases_lt}
+use Rattle.cl_schedule_laws.specs.Machines.{AllWithin, GoesOn, IsMachine, Machine, Ranks}
+use Rattle.cl_schedule_laws.specs.Laws.{HasFound, IsClosed, IsFound, IsOnItsWay, Kept, Leads, ScheduleLaw, kept_of, machine_of}
+use Rattle.cl_schedule_laws.proofs.Walks.{AllRoom, Front, Fronted, along, front, heavy, is_next, is_there, longer_too, snoc}
 
 module _ (m : Machine) (kept : Kept m) (is : IsMachine m) (closed : IsClosed m kept) where
   abbrev State : Type 0
@@ -118,22 +118,44 @@ module _ (m : Machine) (kept : Kept m) (is : IsMachine m) (closed : IsClosed m k
             let s = closed.next r node walk.0 its walk.1 in
             known.lighter s.0 walk.0 c rs s.1 walk.2 (omega (arith, some, weight))
 
-    -- where a rank is sure
-    at_sure : (r : ℕ) → m.IsSure start r
-        → ((b : State) → m.Goes r start b → (fewer : ℕ) × (fewer < n) × kept.Settles fewer b)
-        → (c : State) (weight : ℕ) → weight ≤ w → Front m is r start c weight
-        → Found c
-    at_sure r sure leads c weight most (is_there f) =
-        let s = leads f.first f.goes in
-        found_alike f.last c (is.back c f.last f.alike)
-        (known.sooner s.0 f.first f.last f.ranks s.2 f.walk
-        ((let k = f.light in omega (arith, k, most)), s.1))
-    at_sure r sure leads c weight most (is_next d goes its f) =
-        let s = leads f.first f.goes in
-        found_back r c d its goes
-        (found_alike f.last d (is.back d f.last f.alike)
-        (known.sooner s.0 f.first f.last f.ranks s.2 f.walk
-        ((let k = f.light in omega (arith, k, most)), s.1)))
+    -- where some ranks are sure
+    module _ (set : Ranks) (one : ℕ) (leads : Leads m kept n start one)
+        (each : (r : ℕ) → set r ≡ true → Leads m kept n start r ⊎ ((b : State) → m.Goes r start b → m.Alike start b))
+        (c : State) where
+      along_sooner : (r weight long : ℕ) (d : State) → weight ≤ w + m.weight start r → Leads m kept n start r
+          → Fronted m is r start d weight long
+          → Found d
+      along_sooner r weight long d most on f =
+          let s = on f.first f.goes in
+          found_alike f.last d (is.back d f.last f.alike)
+          (known.sooner s.0 f.first f.last f.ranks s.2 f.walk
+          ((let k = f.light in omega (arith, k, most)), s.1))
+
+      -- a turn in vain is left out
+      left_out : (r weight : ℕ) → weight ≤ w
+          → (f : Fronted m is r start c weight l) → m.Alike start f.first
+          → Found c
+      left_out r weight most f vain =
+          let t = along m is f.ranks f.first start f.last (is.back start f.first vain) f.walk f.inside in
+          let same = is.on c f.last t.last f.alike t.alike in
+          found_alike t.last c (is.back c t.last same) (elim (cases_lt 0 (m.weight start r)) [
+            | inl some ↦
+                known.lighter n start t.last f.ranks settles t.walk
+                (let e = t.weighs in let k = f.light in omega (arith, e, k, most, some))
+            | inr zero' ↦
+                let short = f.short (omega (arith, zero')) in
+                known.shorter n start t.last f.ranks settles t.walk
+                ((let e = t.weighs in let k = f.light in omega (arith, e, k, most)), omega arith, short)
+          ])
+
+      at_sure : (weight : ℕ) → weight ≤ w → Front m is set one start c weight l → Found c
+      at_sure weight most (is_there r among f) = elim (each r among) [
+        | inl on ↦ along_sooner r weight l c (omega (arith, most)) on f
+        | inr vain ↦ left_out r weight most f (vain f.first f.goes)
+      ]
+      at_sure weight most (is_next d goes its f) =
+          found_back one c d its goes
+          (along_sooner one (weight + m.weight start one) (suc l) d (omega (arith, most)) leads f)
 
     found : (c : State) (rs : List ℕ) → (walk : GoesOn m rs start c) → heavy m is rs start c walk ≤ w → length rs ≤ l
         → IsOnItsWay m kept n start
@@ -145,8 +167,9 @@ module _ (m : Machine) (kept : Kept m) (is : IsMachine m) (closed : IsClosed m k
         (at_node at.0 at.1 at.2 rs t.last t.walk t.inside (let e = t.weighs in omega (arith, e, weight)) long)
     found c rs walk weight long (inr sure) =
         let g = good rs c walk weight long in
-        at_sure sure.0 sure.1 sure.2 c (heavy m is rs start c walk) weight
-        (front m is sure.0 rs start c sure.1 walk g.inside g.room)
+        at_sure sure.0 sure.1 sure.4 sure.5 c (heavy m is rs start c walk) weight
+        (longer_too m is sure.0 sure.1 start c (heavy m is rs start c walk) (length rs) l long
+        (front m is sure.0 sure.1 sure.3 rs start c sure.2 walk g.inside g.room))
 
   -- ---- three bounds, one inside the other
 

@@ -1,8 +1,8 @@
 -- Walks: longer by a turn, along likeness, and with a sure turn put first.
-use Rattle.std.proofs.Common.{◌≡◌, ℕ, ◌+◌, ◌≤◌, ◌⊎◌, inl, inr, List, [], ◌∷◌, ◌++◌, refl, sym, ap, ◌∙◌, subst, arith}
+use Rattle.std.proofs.Common.{◌≡◌, ℕ, suc, ◌+◌, ◌≤◌, ◌<◌, Bool, true, false, length, ◌⊎◌, inl, inr, List, [], ◌∷◌, ◌++◌, refl, sym, ap, ◌∙◌, subst, arith}
 use Rattle.std.specs.Prelude.{◌≢◌}
-use Rattle.std.proofs.lemmas.Bool.{cases_eq}
-use Rattle.cl_schedule_laws.specs.Machines.{AllWithin, GoesOn, IsExchanged, IsMachine, Machine, weighs}
+use Rattle.std.proofs.lemmas.Bool.{cases_Bool}
+use Rattle.cl_schedule_laws.specs.Machines.{AllWithin, GoesOn, IsExchanged, IsMachine, Machine, Ranks, weighs}
 
 module _ (m : Machine) (is : IsMachine m) where
   abbrev pub State : Type 0
@@ -79,26 +79,31 @@ module _ (m : Machine) (is : IsMachine m) where
       let f = is.follows r a b walk.0 alike inside.0 walk.1 in
       (is.room a b alike room.0, room_along rs walk.0 f.0 c f.2 walk.2 inside.1 room.1)
 
-  -- a turn of the rank, and turns behind it that weigh no more than so much, lead to what is alike
-  pub record Fronted (r : ℕ) (a c : State) (weight : ℕ) : Type 0 where
+  -- a turn of the rank, and turns behind it that weigh less by what the turn weighs, lead to what is alike; where it
+  -- weighs nothing they are fewer
+  pub record Fronted (r : ℕ) (a c : State) (weight long : ℕ) : Type 0 where
     pub first : State
     pub goes : m.Goes r a first
     pub ranks : List ℕ
     pub last : State
     pub walk : Walk ranks first last
     pub inside : AllWithin m ranks first last walk
-    pub light : heavy ranks first last walk ≤ weight
+    pub light : heavy ranks first last walk + m.weight a r ≤ weight
+    pub short : m.weight a r ≡ 0 → length ranks < long
     pub alike : m.Alike c last
 
-  -- a turn of the rank is among them, or can be taken at the end
-  pub data Front (r : ℕ) (a c : State) (weight : ℕ) : Type 0 where
-    is_there : Fronted r a c weight → Front r a c weight
-    is_next : (d : State) → m.Goes r c d → m.IsWithin c r → Fronted r a d weight → Front r a c weight
+  -- turns of some ranks: one of theirs is among those taken, or that of this one can be taken at the end
+  pub data Front (rs : Ranks) (one : ℕ) (a c : State) (weight long : ℕ) : Type 0 where
+    is_there : (r : ℕ) → rs r ≡ true → Fronted r a c weight long → Front rs one a c weight long
+    is_next : (d : State) → m.Goes one c d → m.IsWithin c one
+        → Fronted one a d (weight + m.weight a one) (suc long)
+        → Front rs one a c weight long
 
   -- a turn of another rank before it
-  before : (r s w n : ℕ) (a b c : State) → s ≢ r → m.IsWithin a s → m.Goes s a b
-      → ((e : State) → m.Goes r b e → IsExchanged m r s a e) → m.weight a s ≡ w → Fronted r b c n → Fronted r a c (w + n)
-  before r s w n a b c apart asks goes all weight f = go x.alike
+  before : (r s n l : ℕ) (a b c : State) → s ≢ r → m.IsWithin a s → m.Goes s a b
+      → ((e : State) → m.Goes r b e → IsExchanged m r s a e) → Fronted r b c n l
+      → Fronted r a c (m.weight a s + n) (suc l)
+  before r s n l a b c apart asks goes all f = go x.alike
     where
       x : IsExchanged m r s a f.first
       x = all f.first f.goes
@@ -106,13 +111,16 @@ module _ (m : Machine) (is : IsMachine m) where
       its : m.IsWithin x.first s
       its = (is.own r s a x.first apart x.goes).0 asks
 
-      same : m.weight x.first s ≡ w
-      same = is.owns r s a x.first apart x.goes ∙ weight
+      same : m.weight x.first s ≡ m.weight a s
+      same = is.owns r s a x.first apart x.goes
+
+      mine : m.weight b r ≡ m.weight a r
+      mine = is.owns s r a b (λ e. apart (sym e)) goes
 
       go : m.Alike f.first x.second
-          ⊎ ((last : State) × (m.weight x.second r ≡ 0) × m.IsWithin x.second r × m.Goes r x.second last
-          × m.Alike f.first last)
-          → Fronted r a c (w + n)
+          ⊎ ((last : State) × (0 < m.weight a r) × (m.weight x.second r ≡ 0) × m.IsWithin x.second r
+          × m.Goes r x.second last × m.Alike f.first last)
+          → Fronted r a c (m.weight a s + n) (suc l)
       go (inl alike) =
           let t = along f.ranks f.first x.second f.last alike f.walk f.inside in
           record {
@@ -122,36 +130,41 @@ module _ (m : Machine) (is : IsMachine m) where
             last = t.last;
             walk = (x.second, x.then, t.walk);
             inside = (its, t.inside);
-            light = (let e = t.weighs in let k = f.light in let u = same in omega (arith, e, k, u));
+            light = (let e = t.weighs in let k = f.light in let u = same in let v = mine in omega (arith, e, k, u, v));
+            short = λ none. (let k = f.short (mine ∙ none) in omega (arith, k));
             alike = is.on c f.last t.last f.alike t.alike;
           }
       go (inr y) =
-          let t = along f.ranks f.first y.0 f.last y.4 f.walk f.inside in
+          let t = along f.ranks f.first y.0 f.last y.5 f.walk f.inside in
           record {
             first = x.first;
             goes = x.goes;
             ranks = s ∷ r ∷ f.ranks;
             last = t.last;
-            walk = (x.second, x.then, (y.0, y.3, t.walk));
-            inside = (its, (y.2, t.inside));
-            light = (let e = t.weighs in let k = f.light in let u = same in let z = y.1 in omega (arith, e, k, u, z));
+            walk = (x.second, x.then, (y.0, y.4, t.walk));
+            inside = (its, (y.3, t.inside));
+            light =
+                (let e = t.weighs in let k = f.light in let u = same in let v = mine in let z = y.2 in
+                omega (arith, e, k, u, v, z));
+            short = λ none. absurd (let some = y.1 in omega (arith, some, none));
             alike = is.on c f.last t.last f.alike t.alike;
           }
 
-  lighter : (r m' n : ℕ) (a c : State) → m' ≤ n → Fronted r a c m' → Fronted r a c n
-  lighter r m' n a c most f = record {
+  lighter : (r w n k l : ℕ) (a c : State) → w ≤ n → k ≤ l → Fronted r a c w k → Fronted r a c n l
+  lighter r w n k l a c most longer f = record {
     first = f.first;
     goes = f.goes;
     ranks = f.ranks;
     last = f.last;
     walk = f.walk;
     inside = f.inside;
-    light = (let k = f.light in omega (arith, k, most));
+    light = (let x = f.light in omega (arith, x, most));
+    short = λ none. (let x = f.short none in omega (arith, x, longer));
     alike = f.alike;
   }
 
-  fronted_alike : (r n : ℕ) (a c d : State) → m.Alike d c → Fronted r a c n → Fronted r a d n
-  fronted_alike r n a c d alike f = record {
+  fronted_alike : (r n l : ℕ) (a c d : State) → m.Alike d c → Fronted r a c n l → Fronted r a d n l
+  fronted_alike r n l a c d alike f = record {
     first = f.first;
     goes = f.goes;
     ranks = f.ranks;
@@ -159,67 +172,95 @@ module _ (m : Machine) (is : IsMachine m) where
     walk = f.walk;
     inside = f.inside;
     light = f.light;
+    short = f.short;
     alike = is.on d c f.last alike f.alike;
   }
 
-  -- the same of the turns behind the first
-  abbrev Rest : ℕ → List ℕ → Type 0
-  Rest r rs = (a c : State) → m.IsSure a r → (walk : Walk rs a c) → AllWithin m rs a c walk → AllRoom rs a c walk
-      → Front r a c (heavy rs a c walk)
+  module _ (rs : Ranks) (one : ℕ) (its : rs one ≡ true) where
+    -- the same of the turns behind the first
+    abbrev Rest : List ℕ → Type 0
+    Rest qs = (a c : State) → m.AreSure a rs → (walk : Walk qs a c) → AllWithin m qs a c walk → AllRoom qs a c walk
+        → Front rs one a c (heavy qs a c walk) (length qs)
 
-  vain : (r w n : ℕ) (a b c : State) → m.Alike b c → Front r a b n → Front r a c (w + n)
-  vain r w n a b c alike (is_there f) =
-      is_there (lighter r n (w + n) a c (omega arith) (fronted_alike r n a b c (is.back b c alike) f))
-  vain r w n a b c alike (is_next d goes asks f) =
-      let t = is.follows r b c d alike asks goes in
-      is_next t.0 t.1 (is.within r b c alike asks)
-      (lighter r n (w + n) a t.0 (omega arith) (fronted_alike r n a d t.0 (is.back d t.0 t.2) f))
+    vain : (w n l : ℕ) (a b c : State) → m.Alike b c → Front rs one a b n l → Front rs one a c (w + n) (suc l)
+    vain w n l a b c alike (is_there r among f) =
+        is_there r among
+        (lighter r n (w + n) l (suc l) a c (omega arith) (omega arith)
+        (fronted_alike r n l a b c (is.back b c alike) f))
+    vain w n l a b c alike (is_next d goes asks f) =
+        let t = is.follows one b c d alike asks goes in
+        is_next t.0 t.1 (is.within one b c alike asks)
+        (lighter one (n + m.weight a one) (w + n + m.weight a one) (suc l) (suc (suc l)) a t.0 (omega arith) (omega arith)
+        (fronted_alike one (n + m.weight a one) (suc l) a d t.0 (is.back d t.0 t.2) f))
 
-  behind : (r s n : ℕ) (a b c : State) → s ≢ r → m.IsWithin a s → m.Goes s a b
-      → ((e : State) → m.Goes r b e → IsExchanged m r s a e) → Front r b c n → Front r a c (m.weight a s + n)
-  behind r s n a b c apart asks goes all (is_there f) =
-      is_there (before r s (m.weight a s) n a b c apart asks goes all refl f)
-  behind r s n a b c apart asks goes all (is_next d next its f) =
-      is_next d next its (before r s (m.weight a s) n a b d apart asks goes all refl f)
+    other_rank : (r s : ℕ) → rs r ≡ true → rs s ≡ false → s ≢ r
+    other_rank r s among apart same = (let e : rs s ≡ true = ap rs same ∙ among in absurd (cc))
 
-  pub front : (r : ℕ) (rs : List ℕ) → Rest r rs
-  front r [] a c sure walk inside room =
-      let t = is.goes r a sure in
-      is_next t.0 (subst (λ x. m.Goes r x t.0) (sym walk) t.1)
-      (subst (λ x. m.IsWithin x r) (sym walk) (is.asks r a sure))
-      (record {
-        first = t.0;
-        goes = t.1;
-        ranks = [];
-        last = t.0;
-        walk = refl;
-        inside = tt;
+    behind : (s n l : ℕ) (a b c : State) → rs s ≡ false → m.IsWithin a s → m.Goes s a b
+        → ((r : ℕ) (e : State) → rs r ≡ true → m.Goes r b e → IsExchanged m r s a e) → Front rs one b c n l
+        → Front rs one a c (m.weight a s + n) (suc l)
+    behind s n l a b c apart asks goes all (is_there r among f) =
+        is_there r among
+        (before r s n l a b c (other_rank r s among apart) asks goes (λ e turn. all r e among turn) f)
+    behind s n l a b c apart asks goes all (is_next d next mine f) =
+        let same = is.owns s one a b (λ e. other_rank one s its apart (sym e)) goes in
+        is_next d next mine
+        (lighter one (m.weight a s + (n + m.weight b one)) (m.weight a s + n + m.weight a one) (suc (suc l)) (suc (suc l)) a d
+        (omega (arith, same)) (omega arith)
+        (before one s (n + m.weight b one) (suc l) a b d (other_rank one s its apart) asks goes
+        (λ e turn. all one e its turn) f))
+
+    pub front : (qs : List ℕ) → Rest qs
+    front [] a c sure walk inside room =
+        let t = is.goes rs one a sure its in
+        is_next t.0 (subst (λ x. m.Goes one x t.0) (sym walk) t.1)
+        (subst (λ x. m.IsWithin x one) (sym walk) (is.asks rs one a sure its))
+        (record {
+          first = t.0;
+          goes = t.1;
+          ranks = [];
+          last = t.0;
+          walk = refl;
+          inside = tt;
+          light = omega arith;
+          short = λ none. omega arith;
+          alike = is.itself t.0;
+        })
+    front (s ∷ qs) a c sure walk inside room = elim (cases_Bool (rs s)) [
+      | inl among ↦ is_there s among (record {
+        first = walk.0;
+        goes = walk.1;
+        ranks = qs;
+        last = c;
+        walk = walk.2;
+        inside = inside.1;
         light = omega arith;
-        alike = is.itself t.0;
+        short = λ none. omega arith;
+        alike = is.itself c;
       })
-  front r (s ∷ rs) a c sure walk inside room = elim (cases_eq s r) [
-    | inl same ↦ is_there (record {
-      first = walk.0;
-      goes = subst (λ k. m.Goes k a walk.0) same walk.1;
-      ranks = rs;
-      last = c;
-      walk = walk.2;
-      inside = inside.1;
-      light = omega arith;
-      alike = is.itself c;
-    })
-    | inr apart ↦ other apart (front r rs) (is.first r s a walk.0 apart sure inside.0 room.0 walk.1)
-  ]
-    where
-      other : s ≢ r → Rest r rs
-          → m.Alike a walk.0 ⊎ (m.IsSure walk.0 r × ((e : State) → m.Goes r walk.0 e → IsExchanged m r s a e))
-          → Front r a c (m.weight a s + heavy rs walk.0 c walk.2)
-      other apart rest (inl alike) =
-          let home = is.back a walk.0 alike in
-          let t = along rs walk.0 a c home walk.2 inside.1 in
-          vain r (m.weight a s) (heavy rs walk.0 c walk.2) a t.last c (is.back c t.last t.alike)
-          (subst (λ n. Front r a t.last n) t.weighs
-          (rest a t.last sure t.walk t.inside (room_along rs walk.0 a c home walk.2 inside.1 room.1)))
-      other apart rest (inr y) =
-          behind r s (heavy rs walk.0 c walk.2) a walk.0 c apart inside.0 walk.1 y.1
-          (rest walk.0 c y.0 walk.2 inside.1 room.1)
+      | inr apart ↦ other apart (front qs) (is.first rs s a walk.0 apart sure inside.0 room.0 walk.1)
+    ]
+      where
+        other : rs s ≡ false → Rest qs
+            → m.Alike a walk.0
+            ⊎ (m.AreSure walk.0 rs
+            × ((r : ℕ) (e : State) → rs r ≡ true → m.Goes r walk.0 e → IsExchanged m r s a e))
+            → Front rs one a c (m.weight a s + heavy qs walk.0 c walk.2) (suc (length qs))
+        other apart rest (inl alike) =
+            let home = is.back a walk.0 alike in
+            let t = along qs walk.0 a c home walk.2 inside.1 in
+            vain (m.weight a s) (heavy qs walk.0 c walk.2) (length qs) a t.last c (is.back c t.last t.alike)
+            (subst (λ n. Front rs one a t.last n (length qs)) t.weighs
+            (rest a t.last sure t.walk t.inside (room_along qs walk.0 a c home walk.2 inside.1 room.1)))
+        other apart rest (inr y) =
+            behind s (heavy qs walk.0 c walk.2) (length qs) a walk.0 c apart inside.0 walk.1 y.1
+            (rest walk.0 c y.0 walk.2 inside.1 room.1)
+
+pub longer_too : (m : Machine) (is : IsMachine m) (rs : Ranks) (one : ℕ) (a c : m.State) (w k l : ℕ) → k ≤ l
+    → Front m is rs one a c w k
+    → Front m is rs one a c w l
+longer_too m is rs one a c w k l most (is_there r among f) =
+    is_there r among (lighter m is r w w k l a c (omega arith) most f)
+longer_too m is rs one a c w k l most (is_next d goes asks f) =
+    is_next d goes asks
+    (lighter m is one (w + m.weight a one) (w + m.weight a one) (suc k) (suc l) a d (omega arith) (omega (arith, most)) f)

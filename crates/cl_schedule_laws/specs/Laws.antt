@@ -1,19 +1,24 @@
 -- The law of schedules.
 use Rattle.std.specs.Prelude.{ℕ, ◌<◌, ◌≡◌, ◌⊎◌, Bool, true, List}
-use Rattle.cl_schedule_laws.specs.Machines.{AllWithin, GoesOn, IsMachine, Machine}
+use Rattle.cl_schedule_laws.specs.Machines.{AllWithin, GoesOn, IsMachine, Machine, Ranks}
 
--- states at which all ranks are let go, and those that lead to them by sure turns, with a bound on how many
+-- states at which all ranks are let go, and those that lead to them, with a bound on how many turns
 pub record Kept (m : Machine) : Type 1 where
   pub IsNode : m.State → Type 0
   pub Settles : ℕ → m.State → Type 0
 
 module _ (m : Machine) (kept : Kept m) where
-  -- the state is alike a node, or one rank is sure and wherever its turn leads settles in fewer turns
+  -- wherever the rank's turn leads settles in fewer turns
+  abbrev pub Leads : ℕ → m.State → ℕ → Type 0
+  Leads n a r = (b : m.State) → m.Goes r a b → (fewer : ℕ) × (fewer < n) × kept.Settles fewer b
+
+  -- the state is alike a node; or some ranks are sure, the turn of one of them leads on, and that of each other one does
+  -- or is in vain
   abbrev pub IsOnItsWay : ℕ → m.State → Type 0
   IsOnItsWay n a =
       ((node : m.State) × kept.IsNode node × m.Alike a node)
-      ⊎ ((r : ℕ) × m.IsSure a r
-      × ((b : m.State) → m.Goes r a b → (fewer : ℕ) × (fewer < n) × kept.Settles fewer b))
+      ⊎ ((rs : Ranks) × (one : ℕ) × m.AreSure a rs × (rs one ≡ true) × Leads n a one
+      × ((r : ℕ) → rs r ≡ true → Leads n a r ⊎ ((b : m.State) → m.Goes r a b → m.Alike a b)))
 
   pub record IsClosed : Type 0 where
     -- wherever a turn of any rank leads from a node settles
@@ -51,7 +56,7 @@ pub record Numbered : Type 0 where
   pub within : ℕ → ℕ → Bool
   pub room : ℕ → Bool
   pub weight : ℕ → ℕ → ℕ
-  pub sure : ℕ → ℕ → Bool
+  pub sure : ℕ → Ranks → Bool
   pub node : ℕ → Bool
   pub settles : ℕ → ℕ → Bool
 
@@ -63,7 +68,7 @@ machine_of m = record {
   IsWithin = λ a r. m.within a r ≡ true;
   HasRoom = λ a. m.room a ≡ true;
   weight = m.weight;
-  IsSure = λ a r. m.sure a r ≡ true;
+  AreSure = λ a rs. m.sure a rs ≡ true;
 }
 
 abbrev pub kept_of : (m : Numbered) → Kept (machine_of m)

@@ -1,5 +1,9 @@
 -- Machines of ranks that take turns, and turns that may go first.
-use Rattle.std.specs.Prelude.{ℕ, ◌+◌, ◌≡◌, ◌≢◌, ◌⊎◌, ◌↔◌, List, [], ◌∷◌}
+use Rattle.std.specs.Prelude.{ℕ, ◌+◌, ◌≡◌, ◌≢◌, ◌<◌, ◌⊎◌, ◌↔◌, Bool, true, false, List, [], ◌∷◌}
+
+-- some ranks
+abbrev pub Ranks : Type 0
+Ranks = ℕ → Bool
 
 pub record Machine : Type 1 where
   pub State : Type 0
@@ -13,8 +17,8 @@ pub record Machine : Type 1 where
   pub HasRoom : State → Type 0
   -- 0 for the poll of a rank that waits on its own receive, else more
   pub weight : State → ℕ → ℕ
-  -- the next turn of this rank may go before those of all others, while these stay within the patterns
-  pub IsSure : State → ℕ → Type 0
+  -- the next turns of these ranks may go before those of all others, while the others stay within the patterns
+  pub AreSure : State → Ranks → Type 0
 
 module _ (m : Machine) where
   -- turns of these ranks, one behind the other
@@ -31,15 +35,16 @@ module _ (m : Machine) where
   AllWithin [] old new walk = Unit {0}
   AllWithin (r ∷ rs) old new walk = m.IsWithin old r × AllWithin rs walk.0 new walk.2
 
-  -- turns of r and then of s lead to what is alike, or those and the poll of r, which posted its receive first and is
-  -- told its message now
+  -- turns of r and then of s lead to what is alike; or those and the poll of r do, which posted its receive before the
+  -- message came
   pub record IsExchanged (r s : ℕ) (old new : m.State) : Type 0 where
     pub first : m.State
     pub goes : m.Goes r old first
     pub second : m.State
     pub then : m.Goes s first second
     pub alike : m.Alike new second
-        ⊎ ((last : m.State) × (m.weight second r ≡ 0) × m.IsWithin second r × m.Goes r second last × m.Alike new last)
+        ⊎ ((last : m.State) × (0 < m.weight old r) × (m.weight second r ≡ 0) × m.IsWithin second r
+        × m.Goes r second last × m.Alike new last)
 
   pub record IsMachine : Type 0 where
     pub itself : (a : m.State) → m.Alike a a
@@ -56,9 +61,11 @@ module _ (m : Machine) where
     -- what a rank asks for is its own
     pub own : (r s : ℕ) (a b : m.State) → s ≢ r → m.Goes r a b → m.IsWithin a s ↔ m.IsWithin b s
     pub owns : (r s : ℕ) (a b : m.State) → s ≢ r → m.Goes r a b → m.weight b s ≡ m.weight a s
-    -- a sure turn can be taken, and is within the patterns
-    pub goes : (r : ℕ) (a : m.State) → m.IsSure a r → (b : m.State) × m.Goes r a b
-    pub asks : (r : ℕ) (a : m.State) → m.IsSure a r → m.IsWithin a r
-    -- a turn of another rank is in vain, or the sure one stays sure behind it and could have gone first
-    pub first : (r s : ℕ) (a b : m.State) → s ≢ r → m.IsSure a r → m.IsWithin a s → m.HasRoom a → m.Goes s a b
-        → m.Alike a b ⊎ (m.IsSure b r × ((c : m.State) → m.Goes r b c → IsExchanged r s a c))
+    -- each of the sure turns can be taken, and is within the patterns
+    pub goes : (rs : Ranks) (r : ℕ) (a : m.State) → m.AreSure a rs → rs r ≡ true → (b : m.State) × m.Goes r a b
+    pub asks : (rs : Ranks) (r : ℕ) (a : m.State) → m.AreSure a rs → rs r ≡ true → m.IsWithin a r
+    -- a turn of another rank is in vain, or the sure ones stay sure behind it and could have gone first
+    pub first : (rs : Ranks) (s : ℕ) (a b : m.State) → rs s ≡ false → m.AreSure a rs → m.IsWithin a s → m.HasRoom a
+        → m.Goes s a b
+        → m.Alike a b
+        ⊎ (m.AreSure b rs × ((r : ℕ) (c : m.State) → rs r ≡ true → m.Goes r b c → IsExchanged r s a c))
