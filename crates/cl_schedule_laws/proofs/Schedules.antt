@@ -4,7 +4,7 @@ use Rattle.std.specs.Prelude.{◌≢◌}
 use Rattle.std.proofs.lemmas.Bool.{cases_eq, cases_lt}
 use Rattle.cl_schedule_laws.specs.Machines.{AllWithin, GoesOn, IsMachine, Machine, Ranks}
 use Rattle.cl_schedule_laws.specs.Laws.{HasFound, IsClosed, IsFound, IsOnItsWay, Kept, Leads, ScheduleLaw, kept_of, machine_of}
-use Rattle.cl_schedule_laws.proofs.Walks.{AllRoom, Front, Fronted, along, front, heavy, is_next, is_there, longer_too, snoc}
+use Rattle.cl_schedule_laws.proofs.Walks.{AllRoom, Front, Fronted, Reaches, along, front, heavy, is_next, is_there, longer_too, snoc, stays, then}
 
 module _ (m : Machine) (kept : Kept m) (is : IsMachine m) (closed : IsClosed m kept) where
   abbrev State : Type 0
@@ -45,6 +45,11 @@ module _ (m : Machine) (kept : Kept m) (is : IsMachine m) (closed : IsClosed m k
     is = f.is;
     alike = f.alike;
   }
+
+  found_before : (c d : State) → Reaches m is c d → Found d → Found c
+  found_before c d stays f = f
+  found_before c d (then {d = b} s d' more goes asks) f =
+      found_before c b more (found_back s b d asks goes f)
 
   found_node : (a : State) → kept.IsNode a → Found a
   found_node a node = record {
@@ -122,23 +127,22 @@ module _ (m : Machine) (kept : Kept m) (is : IsMachine m) (closed : IsClosed m k
     module _ (set : Ranks) (one : ℕ) (leads : Leads m kept n start one)
         (each : (r : ℕ) → set r ≡ true → Leads m kept n start r ⊎ ((b : State) → m.Goes r start b → m.Alike start b))
         (c : State) where
-      along_sooner : (r weight long : ℕ) (d : State) → weight ≤ w + m.weight start r → Leads m kept n start r
-          → Fronted m is r start d weight long
-          → Found d
-      along_sooner r weight long d most on f =
+      along_sooner : (r weight long : ℕ) → weight ≤ w + m.weight start r → Leads m kept n start r
+          → Fronted m is r start c weight long
+          → Found c
+      along_sooner r weight long most on f =
           let s = on f.first f.goes in
-          found_alike f.last d (is.back d f.last f.alike)
+          found_before c f.end f.more (found_alike f.last f.end (is.back f.end f.last f.alike)
           (known.sooner s.0 f.first f.last f.ranks s.2 f.walk
-          ((let k = f.light in omega (arith, k, most)), s.1))
+          ((let k = f.light in omega (arith, k, most)), s.1)))
 
       -- a turn in vain is left out
-      left_out : (r weight : ℕ) → weight ≤ w
-          → (f : Fronted m is r start c weight l) → m.Alike start f.first
-          → Found c
+      left_out : (r weight : ℕ) → weight ≤ w → (f : Fronted m is r start c weight l) → m.Alike start f.first → Found c
       left_out r weight most f vain =
           let t = along m is f.ranks f.first start f.last (is.back start f.first vain) f.walk f.inside in
-          let same = is.on c f.last t.last f.alike t.alike in
-          found_alike t.last c (is.back c t.last same) (elim (cases_lt 0 (m.weight start r)) [
+          let same = is.on f.end f.last t.last f.alike t.alike in
+          found_before c f.end f.more (found_alike t.last f.end (is.back f.end t.last same)
+          (elim (cases_lt 0 (m.weight start r)) [
             | inl some ↦
                 known.lighter n start t.last f.ranks settles t.walk
                 (let e = t.weighs in let k = f.light in omega (arith, e, k, most, some))
@@ -146,16 +150,15 @@ module _ (m : Machine) (kept : Kept m) (is : IsMachine m) (closed : IsClosed m k
                 let short = f.short (omega (arith, zero')) in
                 known.shorter n start t.last f.ranks settles t.walk
                 ((let e = t.weighs in let k = f.light in omega (arith, e, k, most)), omega arith, short)
-          ])
+          ]))
 
       at_sure : (weight : ℕ) → weight ≤ w → Front m is set one start c weight l → Found c
       at_sure weight most (is_there r among f) = elim (each r among) [
-        | inl on ↦ along_sooner r weight l c (omega (arith, most)) on f
+        | inl on ↦ along_sooner r weight l (omega (arith, most)) on f
         | inr vain ↦ left_out r weight most f (vain f.first f.goes)
       ]
-      at_sure weight most (is_next d goes its f) =
-          found_back one c d its goes
-          (along_sooner one (weight + m.weight start one) (suc l) d (omega (arith, most)) leads f)
+      at_sure weight most (is_next f) =
+          along_sooner one (weight + m.weight start one) (suc l) (omega (arith, most)) leads f
 
     found : (c : State) (rs : List ℕ) → (walk : GoesOn m rs start c) → heavy m is rs start c walk ≤ w → length rs ≤ l
         → IsOnItsWay m kept n start

@@ -55,8 +55,10 @@ pub record Numbered : Type 0 where
   pub alike : ℕ → ℕ → Bool
   pub within : ℕ → ℕ → Bool
   pub room : ℕ → Bool
+  pub space : ℕ → Bool
   pub weight : ℕ → ℕ → ℕ
   pub sure : ℕ → Ranks → Bool
+  pub ready : ℕ → ℕ → Bool
   pub node : ℕ → Bool
   pub settles : ℕ → ℕ → Bool
 
@@ -67,8 +69,10 @@ machine_of m = record {
   Alike = λ a b. m.alike a b ≡ true;
   IsWithin = λ a r. m.within a r ≡ true;
   HasRoom = λ a. m.room a ≡ true;
+  HasSpace = λ a. m.space a ≡ true;
   weight = m.weight;
   AreSure = λ a rs. m.sure a rs ≡ true;
+  IsReady = λ a r. m.ready a r ≡ true;
 }
 
 abbrev pub kept_of : (m : Numbered) → Kept (machine_of m)
