@@ -1,0 +1,3 @@
+pub mod Swaps
+pub mod Two
+pub mod Boards
