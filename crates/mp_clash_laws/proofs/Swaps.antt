@@ -26,7 +26,7 @@ below n place h = elsewhere n place (λ e. absurd (omega (arith, h, e))) (λ e. 
 pub beyond : (n place : ℕ) → n + 2 ≤ place → to_other n place ≡ place
 beyond n place h = elsewhere n place (λ e. absurd (omega (arith, h, e))) (λ e. absurd (omega (arith, h, e)))
 
-twice : (n place : ℕ) → to_other n (to_other n place) ≡ place
+pub twice : (n place : ℕ) → to_other n (to_other n place) ≡ place
 twice n place = elim (cases_eq place n) [
   | inl first ↦ ap (λ k. to_other n (to_other n k)) first ∙ ap (to_other n) (at_first n) ∙ at_second n ∙ sym first
   | inr other ↦ elim (cases_eq place (suc n)) [

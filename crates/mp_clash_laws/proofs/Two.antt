@@ -131,7 +131,7 @@ module _ (ms : List Line) (p q : Post) (good : Good ms) where
   two_longer =
       let a = add_length ms q in let b = add_length (add ms q) p in omega (arith, a, b)
 
-  last_one : slice_get one (suc n) ≡ Some (new_line p (partner_for (add ms q) p))
+  pub last_one : slice_get one (suc n) ≡ Some (new_line p (partner_for (add ms q) p))
   last_one =
       subst (λ k. slice_get one k ≡ Some (new_line p (partner_for (add ms q) p)))
       (add_length ms q ∙ add-one (length ms)) (add_new (add ms q) p)
