@@ -23,12 +23,12 @@ use Rattle.mp_clash_laws.proofs.Two.{last_one, new_line, one, other, two_longer}
 
 -- ---- the bodies
 
-item_at : {A : Type 0} (xs : List A) (k : ℕ) → k < length xs → (x : A) × (slice_get xs k ≡ Some x)
+pub item_at : {A : Type 0} (xs : List A) (k : ℕ) → k < length xs → (x : A) × (slice_get xs k ≡ Some x)
 item_at [] k h = absurd (omega (arith, h))
 item_at (x ∷ xs) zero h = (x, refl)
 item_at (x ∷ xs) (suc k) h = item_at xs k (omega (arith, h))
 
-snoc_length : {A : Type 0} (xs : List A) (x : A) → length (xs ++ x ∷ []) ≡ suc (length xs)
+pub snoc_length : {A : Type 0} (xs : List A) (x : A) → length (xs ++ x ∷ []) ≡ suc (length xs)
 snoc_length [] x = refl
 snoc_length (y ∷ xs) x = ap suc (snoc_length xs x)
 

@@ -1,3 +1,5 @@
 pub mod Swaps
 pub mod Two
 pub mod Boards
+pub mod Postings
+pub mod Calls

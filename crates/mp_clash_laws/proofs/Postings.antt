@@ -9,7 +9,7 @@ use Rattle.mp_types.specs.declared.messages.Message.{Message}
 use Rattle.mp_types.specs.declared.replies.Reply.{Reply}
 use Rattle.mp_types.specs.declared.replies.Reply.TheVariants as reply
 use Rattle.mp_types.specs.declared.requests.Request.{Request}
-use Rattle.mp_types.specs.declared.requests.Request.TheVariants.{Send, Recv}
+use Rattle.mp_types.specs.declared.requests.Request.TheVariants.{Send, Recv, Collect, Finished, Probe, Claim, Claimed, All, Init, Cut}
 use Rattle.mp_match.specs.declared.posts.Line.{Line}
 use Rattle.mp_match.specs.declared.posts.Post.{Post}
 use Rattle.mp_match.specs.declared.posts.Post.TheVariants as post
@@ -74,6 +74,14 @@ posting h r (Send sync comm dest tag bytes) is room =
     cond-true (nat_lt (held_count h.board.bodies) 65536) _ (reply.Code Full, h)
     (lt-ltb (held_count h.board.bodies) 65536 (let e = held_below h.board.bodies in omega (arith, e, room)))
 posting h r (Recv false comm source tag) is room = refl
+posting h r (Collect k) is room = absurd is
+posting h r (Finished k) is room = absurd is
+posting h r (Probe comm source tag) is room = absurd is
+posting h r (Claim comm source tag) is room = absurd is
+posting h r (Claimed now k) is room = absurd is
+posting h r (All ks) is room = absurd is
+posting h r (Init sends comm peer tag parts size) is room = absurd is
+posting h r (Cut link) is room = absurd is
 posting h r (Recv true comm source tag) is room =
     ap (λ o. got_or h (reply.Posted (next_number h.board) false) (collect_from b o)) found ∙ go (partner_for h.board.lines p)
   where

@@ -208,7 +208,7 @@ module _ (ms : List Line) (p q : Post) (good : Good ms) where
   long_other : length (add ms p) ≡ suc n
   long_other = add_length ms p ∙ add-one (length ms)
 
-  last_other : slice_get other (suc n) ≡ Some (new_line q (partner_for (add ms p) q))
+  pub last_other : slice_get other (suc n) ≡ Some (new_line q (partner_for (add ms p) q))
   last_other =
       subst (λ k. slice_get other k ≡ Some (new_line q (partner_for (add ms p) q))) long_other (add_new (add ms p) q)
 
@@ -297,6 +297,12 @@ module _ (ms : List Line) (p q : Post) (good : Good ms) where
 
         no_partner : (r : Post) → partner_for ms r ≡ None → partner_for ms r ≡ Some i → ⊥
         no_partner r none some = absurd (cc)
+
+    -- p, which was first, has q as its partner
+    pub pair_there : slice_get other n ≡ Some (given (new_line p (partner_for ms p)) (suc n))
+    pair_there =
+        add_given (add ms p) q n (new_line p (partner_for ms p)) (add_new ms p) yours
+        ∙ given_last (add ms p) q (new_line p (partner_for ms p)) long_other
 
     pub lines_pair : (place : ℕ) → IsSame place
     lines_pair = from_each old_pair first_pair second_pair

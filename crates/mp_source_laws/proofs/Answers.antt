@@ -57,7 +57,7 @@ module _ {wild : Wild} (names : Renaming) where
   if_so true false x y z w e s t = absurd (cc)
   if_so false true x y z w e s t = absurd (cc)
 
-  boarded : (h k : HubView) (b c : Board) → AlikeHubs wild names h k → AlikeBoards wild names b c
+  pub boarded : (h k : HubView) (b c : Board) → AlikeHubs wild names h k → AlikeBoards wild names b c
       → AlikeHubs wild names (with_board h b) (with_board k c)
   boarded h k b c alike boards = record {
     links = alike.links;

@@ -30,7 +30,7 @@ pub record SameGot {G : Type 0} (wild : Wild) (names : Renaming) (x y : G × Boa
   pub boards : AlikeBoards wild names x.1 y.1
 
 module _ {wild : Wild} (names : Renaming) (a b : Board) (alike : AlikeBoards wild names a b) where
-  without_alike : (place : ℕ) → AlikeBoards wild names (without a place) (without b (names.to place))
+  pub without_alike : (place : ℕ) → AlikeBoards wild names (without a place) (without b (names.to place))
   without_alike place = record {
     many = alike.many;
     next = alike.next;
