@@ -36,11 +36,11 @@ module _ {A : Type 0} (xs : List A) (x y : A) where
   abbrev n : ℕ
   n = length xs
 
-  last_of : (u v : A) → slice_get ((xs ++ u ∷ []) ++ v ∷ []) (suc n) ≡ Some v
+  pub last_of : (u v : A) → slice_get ((xs ++ u ∷ []) ++ v ∷ []) (suc n) ≡ Some v
   last_of u v =
       subst (λ k. slice_get ((xs ++ u ∷ []) ++ v ∷ []) k ≡ Some v) (snoc_length xs u) (get_last (xs ++ u ∷ []) v)
 
-  first_of : (u v : A) → slice_get ((xs ++ u ∷ []) ++ v ∷ []) n ≡ Some u
+  pub first_of : (u v : A) → slice_get ((xs ++ u ∷ []) ++ v ∷ []) n ≡ Some u
   first_of u v = get_front (xs ++ u ∷ []) (v ∷ []) n u (get_last xs u)
 
   pub two_items : (place : ℕ)

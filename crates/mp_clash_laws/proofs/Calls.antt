@@ -43,7 +43,7 @@ use Rattle.mp_clash_laws.proofs.Two.{ArePair, ArentPair, HaveOwn, finds_none, la
 
 -- ---- who has which partner
 
-plain : (r : ℕ) (q : Request) → IsPlain (post_of r q)
+pub plain : (r : ℕ) (q : Request) → IsPlain (post_of r q)
 plain r (Send sync comm dest tag bytes) = tt
 plain r (Recv now comm source tag) = tt
 plain r (Collect n) = tt
@@ -70,7 +70,7 @@ either_way (post.Send s) (post.Claim a) u v = absurd v
 either_way (post.Receive b) (post.Claim a) u v = absurd v
 
 -- two posts are a pair of their own, or not
-pair_or_not : (ms : List Line) (p q : Post) → IsPlain p → IsPlain q → ArePair ms p q ⊎ ArentPair ms p q
+pub pair_or_not : (ms : List Line) (p q : Post) → IsPlain p → IsPlain q → ArePair ms p q ⊎ ArentPair ms p q
 pair_or_not ms p q u v = go (partner_for ms p) refl (partner_for ms q) refl (may_pair p q) refl
   where
     go : (o : Option ℕ) → partner_for ms p ≡ o → (k : Option ℕ) → partner_for ms q ≡ k → (b : Bool) → may_pair p q ≡ b
@@ -142,7 +142,7 @@ module _ (wild : Wild) (h : HubView) (r s : ℕ) (apart : r ≢ s) (within : Wai
   send_receive t a (post.Receive c) x y = absurd (cc)
   send_receive t a (post.Claim c) x y = absurd (cc)
 
-  own : (q p : Request) → IsPosting q → IsPosting p → NoRace wild q p
+  pub own : (q p : Request) → IsPosting q → IsPosting p → NoRace wild q p
       → HaveOwn h.board.lines (post_of r q) (post_of s p)
   own q p is its calm i e f =
       let c = chosen h.board.lines (post_of r q) i e in
@@ -175,7 +175,7 @@ behind_number n =
     let f : suc n ≡ n + 1 = omega arith in
     ap (number_by (swap n)) e ∙ ap suc (at_second n) ∙ f
 
-before_number : (n : ℕ) → number_by (swap n) (n + 1) ≡ n + 1 + 1
+pub before_number : (n : ℕ) → number_by (swap n) (n + 1) ≡ n + 1 + 1
 before_number n =
     let e : n + 1 ≡ suc n = omega arith in
     let f : suc (suc n) ≡ n + 1 + 1 = omega arith in
@@ -248,7 +248,7 @@ emptied_alike wild names a b (Some k) fixed alike =
     subst (λ j. AlikeBoards wild names (without a k) (without b j)) (fixed k refl) (without_alike names a b alike k)
 
 -- hubs are alike where their boards are and nothing else is changed
-hubs_of : (wild : Wild) (names : Renaming) (h : HubView) (a b : Board) → AlikeBoards wild names a b
+pub hubs_of : (wild : Wild) (names : Renaming) (h : HubView) (a b : Board) → AlikeBoards wild names a b
     → AlikeHubs wild names (with_board h a) (with_board h b)
 hubs_of wild names h a b alike = record {
   links = refl;
@@ -288,10 +288,10 @@ module _ (wild : Wild) (h : HubView) (r s : ℕ) (q p : Request) (is : IsPosting
   small : length b.bodies < 65536
   small = (let e = even in omega (arith, e, room))
 
-  first_s : outcome h s p ≡ (told_at b s p (partner_in b s p), with_board h b_s)
+  pub first_s : outcome h s p ≡ (told_at b s p (partner_in b s p), with_board h b_s)
   first_s = posting h s p its small
 
-  first_r : outcome h r q ≡ (told_at b r q (partner_in b r q), with_board h b_r)
+  pub first_r : outcome h r q ≡ (told_at b r q (partner_in b r q), with_board h b_r)
   first_r = posting h r q is small
 
   long_bodies : (c : Board) (u : ℕ) (t : Request) (o : Option ℕ) → length c.bodies ≡ length b.bodies
@@ -302,14 +302,14 @@ module _ (wild : Wild) (h : HubView) (r s : ℕ) (q p : Request) (is : IsPosting
       omega (arith, e, f, same)
 
   -- behind both
-  second_r : outcome (outcome h s p).1 r q
+  pub second_r : outcome (outcome h s p).1 r q
       ≡ (told_at b_s r q (partner_in b_s r q), with_board h (board_at b_s r q (partner_in b_s r q)))
   second_r =
       ap (λ (o : Reply × HubView). outcome o.1 r q) first_s
       ∙ posting (with_board h b_s) r q is
       (let e = long_bodies b s p (partner_in b s p) refl in let f = even in omega (arith, e, f, room))
 
-  second_s : outcome (outcome h r q).1 s p
+  pub second_s : outcome (outcome h r q).1 s p
       ≡ (told_at b_r s p (partner_in b_r s p), with_board h (board_at b_r s p (partner_in b_r s p)))
   second_s =
       ap (λ (o : Reply × HubView). outcome o.1 s p) first_r
@@ -472,13 +472,13 @@ module _ (wild : Wild) (h : HubView) (r s : ℕ) (q p : Request) (is : IsPosting
   -- ---- where they are a pair
 
   module _ (pair : ArePair b.lines P Q) where
-    mine_pair : partner_in b_s r q ≡ Some n
+    pub mine_pair : partner_in b_s r q ≡ Some n
     mine_pair = ap (λ ms. partner_for ms P) lines_s ∙ new_partner b.lines P Q pair
 
-    theirs_pair : partner_in b_r s p ≡ Some n
+    pub theirs_pair : partner_in b_r s p ≡ Some n
     theirs_pair = ap (λ ms. partner_for ms Q) lines_r ∙ new_partner b.lines Q P (pair_back b.lines P Q pair)
 
-    paired_boards : AlikeBoards wild (swap n) (board_with (posted b s p) P (body_of q)) (board_with (posted b r q) Q (body_of p))
+    pub paired_boards : AlikeBoards wild (swap n) (board_with (posted b s p) P (body_of q)) (board_with (posted b r q) Q (body_of p))
     paired_boards =
         two_alike wild b P Q (body_of q) (body_of p) laid.good even (plain r q) (plain s p) makers
         (no_race wild r s q p is its calm) (lines_pair b.lines P Q laid.good pair)

@@ -3,3 +3,4 @@ pub mod Two
 pub mod Boards
 pub mod Postings
 pub mod Calls
+pub mod Later

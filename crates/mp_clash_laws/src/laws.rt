@@ -1,8 +1,8 @@
 //! Laws of clashes, with no code: each function's contract is the law.
 
-ghost use Rattle.mp_clash_laws.specs.Laws.{ClashLaw};
+ghost use Rattle.mp_clash_laws.specs.Laws.{PostsLaw};
 
-/// Calls of two ranks that don't clash may be exchanged.
-pub fn clash_law()
-    ensures { ClashLaw }
+/// Sends and receives of two ranks that make no race may be exchanged.
+pub fn posts_law()
+    ensures { PostsLaw }
 {}
