@@ -55,7 +55,7 @@ plain r (All ns) = tt
 plain r (Init sends comm peer tag parts size) = tt
 plain r (Cut link) = tt
 
-made_by : (r : ℕ) (q : Request) → IsPosting q → maker (post_of r q) ≡ r
+pub made_by : (r : ℕ) (q : Request) → IsPosting q → maker (post_of r q) ≡ r
 made_by r (Send sync comm dest tag bytes) is = refl
 made_by r (Recv now comm source tag) is = refl
 made_by r _ is = absurd is
@@ -213,7 +213,7 @@ told_sooner (Recv now comm source tag) n o (Some m) is = refl
 told_sooner _ n o m is = absurd is
 
 -- what is taken is the partner's
-taken_is : (q : Request) (o : Option ℕ) (i : ℕ) → taken_of q o ≡ Some i → o ≡ Some i
+pub taken_is : (q : Request) (o : Option ℕ) (i : ℕ) → taken_of q o ≡ Some i → o ≡ Some i
 taken_is (Recv true comm source tag) o i e = e
 taken_is (Recv false comm source tag) o i e = absurd (cc)
 taken_is (Send sync comm dest tag bytes) o i e = absurd (cc)

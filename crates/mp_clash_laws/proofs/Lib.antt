@@ -4,3 +4,4 @@ pub mod Boards
 pub mod Postings
 pub mod Calls
 pub mod Later
+pub mod Refused

@@ -1,6 +1,6 @@
 -- Two calls of two ranks that may be exchanged.
-use Rattle.std.specs.Prelude.{ℕ, suc, ◌+◌, ◌≡◌, ◌≢◌, ◌⊎◌, Bool, true, false, length, Some, None}
-use Rattle.std.specs.List.{slice_get}
+use Rattle.std.specs.Prelude.{ℕ, suc, ◌+◌, ◌≡◌, ◌≢◌, ◌⊎◌, ◌&&◌, Bool, true, false, length, Some, None}
+use Rattle.std.specs.List.{list_all, slice_get}
 use Rattle.mp_types.specs.declared.messages.Message.{Message}
 use Rattle.mp_types.specs.declared.replies.Reply.{Reply}
 use Rattle.mp_types.specs.declared.replies.Reply.TheVariants.{Posted, Got}
@@ -8,7 +8,8 @@ use Rattle.mp_types.specs.declared.requests.Request.{Request}
 use Rattle.mp_types.specs.declared.requests.Request.TheVariants as request
 use Rattle.mp_match.specs.declared.posts.Post.TheVariants.{Receive}
 use Rattle.mp_match.specs.declared.posts.Selection.{Selection}
-use Rattle.mp_hub.specs.Hub.{HubView, outcome}
+use Rattle.mp_match.specs.Board.{is_send_of, line_of}
+use Rattle.mp_hub.specs.Hub.{HubView, are_distinct, is_known, may_collect, outcome}
 use Rattle.mp_alike_laws.specs.Renaming.{Renaming, number_by}
 use Rattle.mp_source_laws.specs.Alike.{AlikeHubs, Wild}
 use Rattle.mp_source_laws.specs.Laws.{AsksFrom}
@@ -74,3 +75,10 @@ abbrev pub NoSync : ℕ → Request → ℕ → Request → Type 0
 NoSync r (request.Recv now comm source tag) s (request.Send true other dest label bytes) = dest ≢ r
 NoSync r (request.Send true comm dest tag bytes) s (request.Recv now other source label) = dest ≢ s
 NoSync r _ s _ = Unit {0}
+
+-- what the rank names isn't its own, or was collected, or is named twice: its call is refused
+abbrev pub IsRefused : HubView → ℕ → Request → Type 0
+IsRefused h s (request.Collect post) = may_collect h s post ≡ false
+IsRefused h s (request.Finished post) = is_send_of s (line_of h.board post) ≡ false
+IsRefused h s (request.All posts) = (are_distinct posts && list_all (λ n. is_known h s n) posts) ≡ false
+IsRefused h s _ = ⊥
