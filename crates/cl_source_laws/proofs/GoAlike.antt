@@ -40,15 +40,15 @@ pub same_reply : (a : Journal) (rank : ℕ) (q : Request) (b : Journal) (p : Req
 unfolding reply_in
 same_reply a rank q b p wild names may alike is =
     ap (λ x. reply_in b rank x) is
-    ∙ answers_law.reply wild names a.links b.links (calls_of a.entries) (calls_of b.entries) rank q alike
+    ∙ answers_law.reply wild names a.links b.links (calls_of a.entries) (calls_of b.entries) rank q may alike
 
-same_number : (a b : Journal) (names : Renaming) → AlikeHubs wild names (hub_of a) (hub_of b) → (rank : ℕ) (q : Request)
+same_number : {wild : Wild} → (a b : Journal) (names : Renaming) → AlikeHubs wild names (hub_of a) (hub_of b) → (rank : ℕ) (q : Request)
     (number : ℕ) (done : Bool) → reply_in a rank q ≡ reply.Posted number done → number_by names number ≡ number
 unfolding reply_in
 same_number a b names alike rank q number done told =
     posted_named names a.links (calls_of a.entries) (hub_of b) alike rank q number done told
 
-hub_entered : (a b : Journal) (names : Renaming) → AlikeHubs wild names (hub_of a) (hub_of b) → (e f : Entry)
+hub_entered : (wild : Wild) (a b : Journal) (names : Renaming) → AlikeHubs wild names (hub_of a) (hub_of b) → (e f : Entry)
     → AsksWithin wild e.rank e.request → f.rank ≡ e.rank → f.request ≡ request_by names e.request
     → AlikeHubs wild names (hub_of (with_entry a e)) (hub_of (with_entry b f))
 hub_entered wild a b names alike e f may rank request =

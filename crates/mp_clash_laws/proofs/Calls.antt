@@ -455,6 +455,7 @@ module _ (wild : Wild) (h : HubView) (r s : ℕ) (q p : Request) (is : IsPosting
     pub exchange_apart : MayExchange wild h r q s p
     exchange_apart = record {
       names = swap n;
+      old = λ place h. below n place h;
       told = record {
         mine = ap (λ (o : Reply × HubView). o.0) first_r
             ∙ told_later q n (partner_in b r q) (message_of (posted b r q) (taken_of q (partner_in b r q)))
@@ -501,6 +502,7 @@ module _ (wild : Wild) (h : HubView) (r s : ℕ) (q p : Request) (is : IsPosting
       pub exchange_paired : MayExchange wild h r q s p
       exchange_paired = record {
         names = swap n;
+        old = λ place h. below n place h;
         told = record {
           mine = ap (λ (o : Reply × HubView). o.0) first_r ∙ told_first b r q (partner_in b r q) none
               ∙ ap (λ o. told_of q n o None) pair.none ∙ told_later q n None None

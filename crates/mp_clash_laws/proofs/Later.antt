@@ -31,7 +31,7 @@ use Rattle.mp_clash_laws.specs.Laws.{PostsLaw}
 use Rattle.mp_clash_laws.proofs.Boards.{first_of, last_of}
 use Rattle.mp_clash_laws.proofs.Calls.{before_number, exchange_apart, exchange_paired, first_r, first_s, hubs_of, mine_pair, own, pair_or_not, paired_boards, plain, second_r, second_s, theirs_pair}
 use Rattle.mp_clash_laws.proofs.Postings.{board_at, emptied_at, message_of, partner_in, post_of, posted, taken_of, told_at, told_of}
-use Rattle.mp_clash_laws.proofs.Swaps.{at_first, swap}
+use Rattle.mp_clash_laws.proofs.Swaps.{at_first, below, swap}
 use Rattle.mp_clash_laws.proofs.Two.{ArePair, ArentPair, last_other, new_line, new_partner, one, other, pair_there}
 
 -- no message waits under the number of the next post
@@ -135,6 +135,11 @@ module _ (wild : Wild) (h : HubView) (r s comm : ℕ) (source tag : Option ℕ) 
     pub collects_later : CollectsLater wild h r q s p
     collects_later = record {
       names = swap n;
+      old = λ place h. below n place h;
+      comm = comm;
+      source = source;
+      tag = tag;
+      asks = refl;
       message = sent;
       at_once = ap (λ (o : Reply × HubView). o.0) first_two;
       posted = ap (λ (o : Reply × HubView). o.0) posted_first;

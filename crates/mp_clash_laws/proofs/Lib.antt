@@ -5,3 +5,4 @@ pub mod Postings
 pub mod Calls
 pub mod Later
 pub mod Refused
+pub mod Rows

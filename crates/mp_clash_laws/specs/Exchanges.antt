@@ -1,5 +1,5 @@
 -- Two calls of two ranks that may be exchanged.
-use Rattle.std.specs.Prelude.{ℕ, suc, ◌+◌, ◌≡◌, ◌≢◌, ◌⊎◌, ◌&&◌, Bool, true, false, length, Some, None}
+use Rattle.std.specs.Prelude.{ℕ, suc, ◌+◌, ◌<◌, ◌≡◌, ◌≢◌, ◌⊎◌, ◌&&◌, Bool, true, false, length, Option, Some, None}
 use Rattle.std.specs.List.{list_all, slice_get}
 use Rattle.mp_types.specs.declared.messages.Message.{Message}
 use Rattle.mp_types.specs.declared.replies.Reply.{Reply}
@@ -28,9 +28,14 @@ pub record AreTold (names : Renaming) (h : HubView) (r : ℕ) (q : Request) (s :
   pub mine : (outcome h r q).0 ≡ reply_by names (outcome (outcome h s p).1 r q).0
   pub theirs : (outcome (outcome h r q).1 s p).0 ≡ reply_by names (outcome h s p).0
 
+-- each post that was there keeps its number
+abbrev pub KeepsOld : Renaming → HubView → Type 0
+KeepsOld names h = (place : ℕ) → place < length h.board.lines → names.to place ≡ place
+
 -- whichever is first, both are told the same and the hubs are alike
 pub record MayExchange (wild : Wild) (h : HubView) (r : ℕ) (q : Request) (s : ℕ) (p : Request) : Type 0 where
   pub names : Renaming
+  pub old : KeepsOld names h
   pub told : AreTold names h r q s p
   pub hubs : AlikeHubs wild names (behind h s p r q) (behind h r q s p)
 
@@ -42,6 +47,11 @@ next_of h = length h.board.lines + 1
 -- the send
 pub record CollectsLater (wild : Wild) (h : HubView) (r : ℕ) (q : Request) (s : ℕ) (p : Request) : Type 0 where
   pub names : Renaming
+  pub old : KeepsOld names h
+  pub comm : ℕ
+  pub source : Option ℕ
+  pub tag : Option ℕ
+  pub asks : q ≡ request.Recv true comm source tag
   pub message : Message
   pub at_once : (outcome (outcome h s p).1 r q).0 ≡ Got message
   pub posted : (outcome h r q).0 ≡ Posted (next_of h) false
