@@ -23,11 +23,11 @@ pub record IsCalm (wild : Wild) (c : Cluster) : Type 0 where
       → NamesBelow (length (hub_of c.journal).board.lines) rank
   pub boxes : (i : ℕ) (box : Box) → slice_get c.boxes i ≡ Some box → AlikeBoxes box box
 
--- a turn of the same hart leads from the one to the other
-pub record Turn (r hart : ℕ) (old new : Cluster) : Type 0 where
+-- a turn of this hart leads from the one to the other
+pub record Turn (r which : ℕ) (old new : Cluster) : Type 0 where
   pub step : Step
   pub rank : step.rank ≡ r
-  pub hart : step.hart ≡ hart
+  pub hart : step.hart ≡ which
   pub leads : Leads old step new
 
 -- two turns lead to what is alike; or those and the poll of a receive do that was posted before its message was sent; or
