@@ -7,41 +7,40 @@ pub record Kept (m : Machine) : Type 1 where
   pub IsNode : m.State → Type 0
   pub Settles : ℕ → m.State → Type 0
 
-module _ (m : Machine) (kept : Kept m) where
-  -- wherever the rank's turn leads settles in fewer turns
-  abbrev pub Leads : ℕ → m.State → ℕ → Type 0
-  Leads n a r = (b : m.State) → m.Goes r a b → (fewer : ℕ) × (fewer < n) × kept.Settles fewer b
+-- wherever the rank's turn leads settles in fewer turns
+abbrev pub Leads : (m : Machine) → Kept m → ℕ → m.State → ℕ → Type 0
+Leads m kept n a r = (b : m.State) → m.Goes r a b → (fewer : ℕ) × (fewer < n) × kept.Settles fewer b
 
-  -- the state is alike a node; or some ranks are sure, the turn of one of them leads on, and that of each other one does
-  -- or is in vain
-  abbrev pub IsOnItsWay : ℕ → m.State → Type 0
-  IsOnItsWay n a =
-      ((node : m.State) × kept.IsNode node × m.Alike a node)
-      ⊎ ((rs : Ranks) × (one : ℕ) × m.AreSure a rs × (rs one ≡ true) × Leads n a one
-      × ((r : ℕ) → rs r ≡ true → Leads n a r ⊎ ((b : m.State) → m.Goes r a b → m.Alike a b)))
+-- the state is alike a node; or some ranks are sure, the turn of one of them leads on, and that of each other one does
+-- or is in vain
+abbrev pub IsOnItsWay : (m : Machine) → Kept m → ℕ → m.State → Type 0
+IsOnItsWay m kept n a =
+    ((node : m.State) × kept.IsNode node × m.Alike a node)
+    ⊎ ((rs : Ranks) × (one : ℕ) × m.AreSure a rs × (rs one ≡ true) × Leads m kept n a one
+    × ((r : ℕ) → rs r ≡ true → Leads m kept n a r ⊎ ((b : m.State) → m.Goes r a b → m.Alike a b)))
 
-  pub record IsClosed : Type 0 where
-    -- wherever a turn of any rank leads from a node settles
-    pub next : (r : ℕ) (a b : m.State) → kept.IsNode a → m.Goes r a b → (n : ℕ) × kept.Settles n b
-    -- there each rank asks within the patterns, there is room, and no rank's receive has come that it polls
-    pub within : (r : ℕ) (a : m.State) → kept.IsNode a → m.IsWithin a r
-    pub room : (a : m.State) → kept.IsNode a → m.HasRoom a
-    pub idle : (r : ℕ) (a b : m.State) → kept.IsNode a → m.weight a r ≡ 0 → m.Goes r a b → m.Alike a b
-    -- what settles does so, and each rank asks within the patterns on the way too
-    pub settles : (n : ℕ) (a : m.State) → kept.Settles n a → IsOnItsWay n a
-    pub asks : (n r : ℕ) (a : m.State) → kept.Settles n a → m.IsWithin a r
+pub record IsClosed (m : Machine) (kept : Kept m) : Type 0 where
+  -- wherever a turn of any rank leads from a node settles
+  pub next : (r : ℕ) (a b : m.State) → kept.IsNode a → m.Goes r a b → (n : ℕ) × kept.Settles n b
+  -- there each rank asks within the patterns, there is room, and no rank's receive has come that it polls
+  pub within : (r : ℕ) (a : m.State) → kept.IsNode a → m.IsWithin a r
+  pub room : (a : m.State) → kept.IsNode a → m.HasRoom a
+  pub idle : (r : ℕ) (a b : m.State) → kept.IsNode a → m.weight a r ≡ 0 → m.Goes r a b → m.Alike a b
+  -- what settles does so, and each rank asks within the patterns on the way too
+  pub settles : (n : ℕ) (a : m.State) → kept.Settles n a → IsOnItsWay m kept n a
+  pub asks : (n r : ℕ) (a : m.State) → kept.Settles n a → m.IsWithin a r
 
-  -- each rank asks within the patterns, there is room, and some turns within the patterns lead to what is alike a node
-  pub record IsFound (here : m.State) : Type 0 where
-    pub within : (r : ℕ) → m.IsWithin here r
-    pub room : m.HasRoom here
-    pub more : List ℕ
-    pub there : m.State
-    pub walk : GoesOn m more here there
-    pub inside : AllWithin m more here there walk
-    pub node : m.State
-    pub is : kept.IsNode node
-    pub alike : m.Alike there node
+-- each rank asks within the patterns, there is room, and some turns within the patterns lead to what is alike a node
+pub record IsFound (m : Machine) (kept : Kept m) (here : m.State) : Type 0 where
+  pub within : (r : ℕ) → m.IsWithin here r
+  pub room : m.HasRoom here
+  pub more : List ℕ
+  pub there : m.State
+  pub walk : GoesOn m more here there
+  pub inside : AllWithin m more here there walk
+  pub node : m.State
+  pub is : kept.IsNode node
+  pub alike : m.Alike there node
 
 -- wherever turns lead from a state that settles, whoever takes them
 abbrev pub HasFound : (m : Machine) → Kept m → Type 0
