@@ -301,14 +301,14 @@ exchange_law wild r mine s theirs old mid new x y q p calm apart hy ay posts hx 
       then = then;
       reordered = elim (posts_law wild old.journal.links (calls_of old.journal.entries) r s q p apart posts also calm.few
           calm.waits race sync) [
-        | inl k ↦ at_once (plain wild r mine s theirs x y q p old calm apart hy ay hx ax k new second b c)
-        | inr more ↦ elim more [
-          | inl k ↦
-              let l = polled wild r mine s theirs x y q p old calm apart hy ay hx ax k new second b c in
-              r_polls l.last l.turn l.alike
-          | inr k ↦
-              let l = polled wild s theirs r mine y x p q old calm (λ e. apart (sym e)) hx ax hy ay k second new c b in
-              s_polls l.last l.turn (likeness_law.back wild second l.last l.alike)
-        ]
-      ];
+            | inl k ↦ at_once (plain wild r mine s theirs x y q p old calm apart hy ay hx ax k new second b c)
+            | inr more ↦ elim more [
+              | inl k ↦
+                  let l = polled wild r mine s theirs x y q p old calm apart hy ay hx ax k new second b c in
+                  r_polls l.last l.turn l.alike
+              | inr k ↦
+                  let l = polled wild s theirs r mine y x p q old calm (λ e. apart (sym e)) hx ax hy ay k second new c b in
+                  s_polls l.last l.turn (likeness_law.back wild second l.last l.alike)
+            ]
+          ];
     }
