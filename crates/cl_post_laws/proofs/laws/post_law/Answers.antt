@@ -1,0 +1,13 @@
+use Rattle.cl_post_laws.proofs.Later as later_source
+use Rattle.cl_post_laws.proofs.Renamed as source
+use Rattle.cl_post_laws.proofs.laws.post_law.Goals as goal
+
+pub returns : goal.returns
+returns c = record {
+  renamed = source.renamed;
+  below = source.below;
+  polls = λ rank hart comm asked_source tag post stamp there asks.
+      later_source.polls rank hart comm asked_source tag there asks post stamp;
+  later = λ rank hart comm asked_source tag post before stamp message there asks.
+      later_source.later rank hart comm asked_source tag there asks post before stamp message;
+}

@@ -1,0 +1,83 @@
+-- The law of schedules.
+use Rattle.std.specs.Prelude.{ℕ, ◌<◌, ◌≡◌, ◌⊎◌, Bool, true, List}
+use Rattle.cl_schedule_laws.specs.Machines.{AllWithin, GoesOn, IsMachine, Machine, Ranks}
+
+-- states at which all ranks are let go, and those that lead to them, with a bound on how many turns
+pub record Kept (m : Machine) : Type 1 where
+  pub IsNode : m.State → Type 0
+  pub Settles : ℕ → m.State → Type 0
+
+-- wherever the rank's turn leads settles in fewer turns
+abbrev pub Leads : (m : Machine) → Kept m → ℕ → m.State → ℕ → Type 0
+Leads m kept n a r = (b : m.State) → m.Goes r a b → (fewer : ℕ) × (fewer < n) × kept.Settles fewer b
+
+-- the state is alike a node; or some ranks are sure, the turn of one of them leads on, and that of each other one does
+-- or is in vain
+abbrev pub IsOnItsWay : (m : Machine) → Kept m → ℕ → m.State → Type 0
+IsOnItsWay m kept n a =
+    ((node : m.State) × kept.IsNode node × m.Alike a node)
+    ⊎ ((rs : Ranks) × (one : ℕ) × m.AreSure a rs × (rs one ≡ true) × Leads m kept n a one
+    × ((r : ℕ) → rs r ≡ true → Leads m kept n a r ⊎ ((b : m.State) → m.Goes r a b → m.Alike a b)))
+
+pub record IsClosed (m : Machine) (kept : Kept m) : Type 0 where
+  -- wherever a turn of any rank leads from a node settles
+  pub next : (r : ℕ) (a b : m.State) → kept.IsNode a → m.Goes r a b → (n : ℕ) × kept.Settles n b
+  -- there each rank asks within the patterns, there is room, and no rank's receive has come that it polls
+  pub within : (r : ℕ) (a : m.State) → kept.IsNode a → m.IsWithin a r
+  pub room : (a : m.State) → kept.IsNode a → m.HasRoom a
+  pub idle : (r : ℕ) (a b : m.State) → kept.IsNode a → m.weight a r ≡ 0 → m.Goes r a b → m.Alike a b
+  -- what settles does so, and each rank asks within the patterns on the way too
+  pub settles : (n : ℕ) (a : m.State) → kept.Settles n a → IsOnItsWay m kept n a
+  pub asks : (n r : ℕ) (a : m.State) → kept.Settles n a → m.IsWithin a r
+
+-- each rank asks within the patterns, there is room, and some turns within the patterns lead to what is alike a node
+pub record IsFound (m : Machine) (kept : Kept m) (here : m.State) : Type 0 where
+  pub within : (r : ℕ) → m.IsWithin here r
+  pub room : m.HasRoom here
+  pub more : List ℕ
+  pub there : m.State
+  pub walk : GoesOn m more here there
+  pub inside : AllWithin m more here there walk
+  pub node : m.State
+  pub is : kept.IsNode node
+  pub alike : m.Alike there node
+
+-- wherever turns lead from a state that settles, whoever takes them
+abbrev pub HasFound : (m : Machine) → Kept m → Type 0
+HasFound m kept =
+    (n : ℕ) (start end : m.State) (rs : List ℕ) → kept.Settles n start → GoesOn m rs start end → IsFound m kept end
+
+-- ---- machines whose states have numbers, so that the law is one of numbers
+
+pub record Numbered : Type 0 where
+  pub goes : ℕ → ℕ → ℕ → Bool
+  pub alike : ℕ → ℕ → Bool
+  pub within : ℕ → ℕ → Bool
+  pub room : ℕ → Bool
+  pub space : ℕ → Bool
+  pub weight : ℕ → ℕ → ℕ
+  pub sure : ℕ → Ranks → Bool
+  pub ready : ℕ → ℕ → Bool
+  pub node : ℕ → Bool
+  pub settles : ℕ → ℕ → Bool
+
+abbrev pub machine_of : Numbered → Machine
+machine_of m = record {
+  State = ℕ;
+  Goes = λ r a b. m.goes r a b ≡ true;
+  Alike = λ a b. m.alike a b ≡ true;
+  IsWithin = λ a r. m.within a r ≡ true;
+  HasRoom = λ a. m.room a ≡ true;
+  HasSpace = λ a. m.space a ≡ true;
+  weight = m.weight;
+  AreSure = λ a rs. m.sure a rs ≡ true;
+  IsReady = λ a r. m.ready a r ≡ true;
+}
+
+abbrev pub kept_of : (m : Numbered) → Kept (machine_of m)
+kept_of m = record { IsNode = λ a. m.node a ≡ true; Settles = λ n a. m.settles n a ≡ true }
+
+abbrev pub ScheduleLaw : Type 0
+ScheduleLaw =
+    (m : Numbered) → IsMachine (machine_of m) → IsClosed (machine_of m) (kept_of m)
+    → HasFound (machine_of m) (kept_of m)

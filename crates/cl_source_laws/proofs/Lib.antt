@@ -1,0 +1,3 @@
+pub mod Likeness
+pub mod Replies
+pub mod GoAlike

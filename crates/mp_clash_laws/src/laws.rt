@@ -1,0 +1,13 @@
+//! Laws of clashes, with no code: each function's contract is the law.
+
+ghost use Rattle.mp_clash_laws.specs.Laws.{PostsLaw, RefusedLaw};
+
+/// Sends and receives of two ranks that make no race may be exchanged.
+pub fn posts_law()
+    ensures { PostsLaw }
+{}
+
+/// A call that is refused stays so behind a send or a receive of another rank, and changes nothing.
+pub fn refused_law()
+    ensures { RefusedLaw }
+{}

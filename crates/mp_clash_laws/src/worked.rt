@@ -1,0 +1,9 @@
+//! Worked rows: calls that may be exchanged, and calls that clash.
+
+ghost use Rattle.mp_clash_laws.specs.Rows.{WorkedClashes};
+
+/// Two sends to a rank clash only where it may ask for any source. A receive that is posted before its message collects
+/// it later. A synchronous send and its receive clash.
+pub fn worked_clashes()
+    ensures { WorkedClashes }
+{}
