@@ -3,6 +3,7 @@
 #include <string.h>
 #include "../mpi.h"
 #include "errors.h"
+#include "layouts.h"
 
 enum { FIRST_KEY = 16 };
 enum object { COMMUNICATOR, DATATYPE };
@@ -43,8 +44,11 @@ static int wrong_object(const char *call, enum object object, int handle)
 {
     int size;
 
-    if (object == DATATYPE)
-        return rvmc_code(call, RVMC_SIZE_OF(handle) ? RVMC_OK : RVMC_BAD_COUNT, 0, 0, 0, handle, 0, 0, MPI_COMM_WORLD);
+    if (object == DATATYPE) {
+        int exists = rvmc_is_derived(handle) ? rvmc_derived.layout(handle) != 0 : RVMC_SIZE_OF(handle);
+
+        return rvmc_code(call, exists ? RVMC_OK : RVMC_BAD_COUNT, 0, 0, 0, handle, 0, 0, MPI_COMM_WORLD);
+    }
     return rvmc_comm_code(call, rvmc_asked_of(RVMC_SIZE, handle, &size), handle);
 }
 
@@ -114,6 +118,71 @@ static int delete_at(struct attribute **at)
     return error;
 }
 
+/* An object goes: so do its attributes, the newest first, and its name. What a function of the program refuses ends that. */
+static int delete_of(enum object object, int handle)
+{
+    int error = MPI_SUCCESS;
+
+    for (struct attribute **at = &attributes; *at && !error;)
+        if ((*at)->object == object && (*at)->handle == handle) {
+            error = delete_at(at);
+            at = &attributes;
+        } else {
+            at = &(*at)->next;
+        }
+    for (struct name **at = &object_names; *at && !error;)
+        if ((*at)->object == object && (*at)->handle == handle) {
+            struct name *old = *at;
+
+            *at = old->next;
+            free(old);
+        } else {
+            at = &(*at)->next;
+        }
+    return error;
+}
+
+static int add(enum object object, int handle, int key, void *value)
+{
+    struct attribute *new = malloc(sizeof *new);
+
+    if (!new)
+        return MPI_ERR_NO_MEM;
+    *new = (struct attribute){attributes, object, handle, key, value};
+    attributes = new;
+    return MPI_SUCCESS;
+}
+
+/* An object is made of another one: it has those attributes whose keys say so, in the order in which they were set. */
+static int copy_all(enum object object, int from, int to)
+{
+    struct attribute *next = 0, *last;
+    int error = MPI_SUCCESS, flag;
+    void *copy;
+
+    do {
+        last = 0;
+        for (struct attribute *at = attributes; at != next; at = at->next)
+            if (at->object == object && at->handle == from)
+                last = at;
+        next = last;
+        if (last && keys[last->key - FIRST_KEY].copy) {
+            struct key *key = keys + last->key - FIRST_KEY;
+
+            flag = 0;
+            error = key->copy(from, last->key, key->extra, last->value, &copy, &flag);
+            if (!error && flag)
+                error = add(object, to, last->key, copy);
+        }
+    } while (last && !error);
+    return error;
+}
+
+static int of_types(MPI_Datatype from, MPI_Datatype to)
+{
+    return to == MPI_DATATYPE_NULL ? delete_of(DATATYPE, from) : copy_all(DATATYPE, from, to);
+}
+
 /* At the end those of MPI_COMM_WORLD go, the newest first. */
 static void delete_all(void)
 {
@@ -126,7 +195,7 @@ static void delete_all(void)
 
 static int set(const char *call, enum object object, int handle, int key, void *value)
 {
-    struct attribute **at, *new;
+    struct attribute **at;
     int error = wrong_object(call, object, handle);
 
     if (error)
@@ -136,12 +205,10 @@ static int set(const char *call, enum object object, int handle, int key, void *
     at = place_of(object, handle, key);
     if (*at && (error = delete_at(at)))
         return error;
-    new = malloc(sizeof *new);
-    if (!new)
+    if (add(object, handle, key, value))
         return rvmc_full_heap(call);
-    *new = (struct attribute){attributes, object, handle, key, value};
-    attributes = new;
     rvmc_at_the_end = delete_all;
+    rvmc_attributes_of_types = of_types;
     return MPI_SUCCESS;
 }
 
@@ -293,6 +360,7 @@ static int set_name(const char *call, enum object object, int handle, const char
         name->object = object;
         name->handle = handle;
         object_names = name;
+        rvmc_attributes_of_types = of_types;
     }
     strncpy(name->text, text, sizeof name->text - 1);
     name->text[sizeof name->text - 1] = 0;
