@@ -62,6 +62,7 @@ long rvmc_claim_received(void *buffer, long size, MPI_Message message, MPI_Statu
 rvmc_answer rvmc_claim_posted(void *buffer, long size, MPI_Message message);
 rvmc_answer rvmc_large_send_init(const void *buffer, long size, int dest, int tag, MPI_Comm c);
 void rvmc_large_freed(MPI_Request request);
+void rvmc_freed(MPI_Request request, int kind);
 long rvmc_large_started(MPI_Request request);
 
 /* --- errors (chapter 9) --- */
@@ -636,10 +637,8 @@ RVMC_INLINE int MPI_Request_free(MPI_Request *request)
     else
         a = rvmc_call(RVMC_REQUEST_FREE, was, 0, 0, 0, 0, 0);
     if (!a.code) {
-        if ((kind & RVMC_LARGE) && (kind & RVMC_SENDER) && (kind & RVMC_PERSISTENT))
-            rvmc_large_freed(was);
-        if (__builtin_expect(kind & RVMC_OWN, 0))
-            rvmc_own.freed(was);
+        if (__builtin_expect(kind & (RVMC_LARGE | RVMC_OWN), 0))
+            rvmc_freed(was, kind);
         *request = MPI_REQUEST_NULL;
     }
     return rvmc_request_code("MPI_Request_free", a.code, was);

@@ -40,12 +40,17 @@ static int wrong_key(const char *call, int key)
                                    ? "the key is MPI_KEYVAL_INVALID" : "%d is no key for this kind of object", (long)key));
 }
 
+static int is_mark(MPI_Datatype type)
+{
+    return type == MPI_LB || type == MPI_UB;
+}
+
 static int wrong_object(const char *call, enum object object, int handle)
 {
     int size;
 
     if (object == DATATYPE) {
-        int exists = rvmc_is_derived(handle) ? rvmc_derived.layout(handle) != 0 : RVMC_SIZE_OF(handle);
+        int exists = RVMC_SIZE_OF(handle) || is_mark(handle) || (rvmc_is_derived(handle) && rvmc_derived.layout(handle));
 
         return rvmc_code(call, exists ? RVMC_OK : RVMC_BAD_COUNT, 0, 0, 0, handle, 0, 0, MPI_COMM_WORLD);
     }
@@ -392,8 +397,14 @@ int MPI_Type_set_name(MPI_Datatype type, const char *text)
 int MPI_Type_get_name(MPI_Datatype type, char *text, int *length)
 {
     struct name *name = name_of(DATATYPE, type);
+    int error = type ? wrong_object("MPI_Type_get_name", DATATYPE, type) : MPI_SUCCESS;
 
-    strcpy(text, name ? name->text : rvmc_type_name(type));
+    if (error)
+        return error;
+    if (is_mark(type))
+        strcpy(text, type == MPI_LB ? "MPI_LB" : "MPI_UB");
+    else
+        strcpy(text, name ? name->text : rvmc_is_derived(type) ? "" : rvmc_type_name(type));
     *length = (int)strlen(text);
     return MPI_SUCCESS;
 }

@@ -26,8 +26,6 @@ const char *rvmc_type_name(MPI_Datatype type)
     static char name[32];
     int number = type >> 16;
 
-    if (RVMC_KIND_OF(type) >= RVMC_DERIVED)
-        return type == MPI_LB ? "MPI_LB" : type == MPI_UB ? "MPI_UB" : "";
     if (number < 1 || number >= (int)(sizeof type_names / sizeof *type_names))
         return "MPI_DATATYPE_NULL";
     strcpy(name, "MPI_");

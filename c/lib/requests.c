@@ -23,6 +23,15 @@ int rvmc_one_by_one(int count, const MPI_Request *requests)
     return 0;
 }
 
+/* What the library knows of a request that was freed. */
+void rvmc_freed(MPI_Request request, int kind)
+{
+    if (kind & RVMC_OWN)
+        rvmc_own.freed(request);
+    else if ((kind & (RVMC_SENDER | RVMC_PERSISTENT)) == (RVMC_SENDER | RVMC_PERSISTENT))
+        rvmc_large_freed(request);
+}
+
 void rvmc_all_completed(int count, MPI_Request *requests)
 {
     for (int i = 0; i < count; i++) {
