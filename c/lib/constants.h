@@ -4,7 +4,7 @@
 #define RVMC_CONSTANTS_H
 
 typedef long MPI_Request, MPI_Message, MPI_Aint, MPI_Count, MPI_Offset;
-typedef int MPI_Comm, MPI_Datatype, MPI_Op, MPI_Info, MPI_Errhandler, MPI_Fint;
+typedef int MPI_Comm, MPI_Group, MPI_Datatype, MPI_Op, MPI_Info, MPI_Errhandler, MPI_Fint;
 
 /* The three words of 8 bytes that the machine writes, low byte first. So the fields are the lower halves, and MPI_ERROR is
    the upper half of the number of bytes: 0, which is MPI_SUCCESS, in each status that the machine writes. */
@@ -27,7 +27,10 @@ typedef int MPI_Type_delete_attr_function(MPI_Datatype type, int key, void *valu
 #define MPI_VERSION 4
 #define MPI_SUBVERSION 1
 #define MPI_COMM_WORLD 0
+#define MPI_COMM_SELF 1
 #define MPI_COMM_NULL (-1)
+#define MPI_GROUP_NULL 0
+#define MPI_GROUP_EMPTY (1 << 28)
 #define MPI_ANY_SOURCE (-1)
 #define MPI_ANY_TAG (-1)
 #define MPI_PROC_NULL (-2)

@@ -11,7 +11,7 @@
 #pragma GCC optimize("Os")
 #endif
 
-MPI_Errhandler rvmc_handlers[RVMC_MOST_COMMUNICATORS];
+MPI_Errhandler rvmc_handlers[RVMC_COMMUNICATORS];
 void (*rvmc_own_handler)(MPI_Comm c, MPI_Errhandler handler, int error);
 int rvmc_state;
 
@@ -74,7 +74,7 @@ void rvmc_say(const char *format, ...)
 /* What a handler makes of an error: what the call returns, or 0 for what is told and traps. */
 static int handled(MPI_Comm c, int error)
 {
-    MPI_Errhandler handler = rvmc_handlers[c > 0 && c < RVMC_NUMBER(rvmc_communicators) ? c : 0];
+    MPI_Errhandler handler = rvmc_handlers[c > 0 && c < RVMC_COMMUNICATORS ? c : 0];
 
     if (rvmc_state != RVMC_BEGUN)
         return 0;
@@ -109,7 +109,9 @@ int rvmc_raise(const char *call, MPI_Comm c, int error, const char *argument, co
 
 static long size_of(MPI_Comm c)
 {
-    return rvmc_call(RVMC_SIZE, c, 0, 0, 0, 0, 0).value;
+    const struct rvmc_communicator *of = rvmc_known(c);
+
+    return of ? of->size : 0;
 }
 
 int rvmc_wrong_comm(const char *call, long code, MPI_Comm c)
@@ -120,8 +122,8 @@ int rvmc_wrong_comm(const char *call, long code, MPI_Comm c)
         return rvmc_raise(call, c, MPI_ERR_OTHER, 0, "MPI is initialized already");
     if (c == MPI_COMM_NULL)
         return rvmc_raise(call, c, MPI_ERR_COMM, "comm", "the communicator is MPI_COMM_NULL");
-    return rvmc_raise(call, c, MPI_ERR_COMM, "comm", c < 0 || c >= RVMC_NUMBER(rvmc_communicators)
-                      ? "%d is no communicator" : "this rank is no member of communicator %d", (long)c);
+    return rvmc_raise(call, c, MPI_ERR_COMM, "comm", c > 0 && c < RVMC_COMMUNICATORS && rvmc_table[c].size
+                      ? "this rank is no member of the communicator" : "%d is no communicator", (long)c);
 }
 
 /* A null pointer, or bytes that aren't in the memory, or that a receive would write into the program. */
@@ -183,8 +185,11 @@ int rvmc_wrong(const char *call, long code, const void *buffer, long count, MPI_
 
     code &= 255;
     switch (code) {
-    case RVMC_NOT_BEGUN:
     case RVMC_BAD_COMM:
+        if (c == MPI_COMM_SELF)
+            return rvmc_raise(call, c, MPI_ERR_OTHER, "comm", rvmc_no_context);
+        return rvmc_wrong_comm(call, code, c);
+    case RVMC_NOT_BEGUN:
         return rvmc_wrong_comm(call, code, c);
     case RVMC_BAD_RANK:
         return rvmc_raise(call, c, MPI_ERR_RANK, of & RVMC_SOURCE ? "source" : "dest",
@@ -253,8 +258,9 @@ int rvmc_wrong_parts(const char *call, long code, long parts, long size)
     return rvmc_raise(call, c, MPI_ERR_COUNT, "count", "a partition of %d bytes, but 8 to 128 in whole 8s are served", size);
 }
 
-int rvmc_wrong_collective(const char *call, const struct group *g)
+int rvmc_wrong_collective(const struct group *g)
 {
+    const char *call = g->call;
     const MPI_Comm c = g->communicator;
 
     switch (g->code) {

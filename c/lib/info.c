@@ -15,7 +15,7 @@ static struct {
     int open;
 } infos[INFOS];
 static struct pair *environment;
-static MPI_Info of_communicators[RVMC_MOST_COMMUNICATORS];
+static MPI_Info of_communicators[RVMC_COMMUNICATORS];
 
 static struct pair **pairs_of(MPI_Info info)
 {

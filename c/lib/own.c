@@ -88,7 +88,8 @@ long rvmc_own_init(int mode, const void *buffer, long size, int dest, int tag, M
     struct sender *s = malloc(sizeof *s);
 
     if (!rvmc_idle())
-        a = s ? rvmc_send_small(RVMC_SEND_INIT, buffer, rvmc_first(size), dest, tag, c) : (rvmc_answer){RVMC_NO_MEMORY, 0};
+        a = s ? rvmc_send_small(RVMC_SEND_INIT, buffer, rvmc_first(size), rvmc_there(c, dest), tag, rvmc_context(c))
+            : (rvmc_answer){RVMC_NO_MEMORY, 0};
     if (!rvmc_made(a, request, RVMC_PERSISTENT | RVMC_SENDER | RVMC_OWN)) {
         free(senders[a.value & 255]);
         senders[a.value & 255] = s;

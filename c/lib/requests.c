@@ -19,11 +19,13 @@ int rvmc_one_by_one(int count, const MPI_Request *requests)
     return 0;
 }
 
-void rvmc_all_completed(int count, MPI_Request *requests)
+void rvmc_all_completed(int count, MPI_Request *requests, MPI_Status *statuses)
 {
     for (int i = 0; i < count; i++) {
         int kind = rvmc_kind(requests[i]);
 
+        if (kind & RVMC_ELSEWHERE)
+            rvmc_completed_elsewhere(rvmc_rests[requests[i]].communicator, kind, statuses ? statuses + i : 0);
         if (kind & RVMC_PERSISTENT)
             rvmc_kinds[requests[i]] = (unsigned char)(kind & ~RVMC_ACTIVE);
         else
@@ -87,7 +89,7 @@ int MPI_Testall(int count, MPI_Request requests[], int *flag, MPI_Status statuse
             return rvmc_request_code("MPI_Testall", RVMC_PARTS_AMONG, requests[i]);
         if (kinds[i] & (RVMC_OWN | RVMC_KEPT))
             handles[i] = rvmc_own.inner(requests[i]);
-        if (kinds[i] & RVMC_LARGE) {
+        if (kinds[i] & (RVMC_LARGE | RVMC_ELSEWHERE)) {
             rests[i] = rvmc_rests[requests[i]];
             where = statuses ? statuses : own;
         }
