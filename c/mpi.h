@@ -690,5 +690,6 @@ RVMC_INLINE int MPI_Parrived(MPI_Request request, int partition, int *flag)
 }
 
 #include "lib/declared.h"
+#include "lib/declared_communicators.h"
 #include "lib/lacks.h"
 #endif

@@ -3,6 +3,7 @@
 #include <string.h>
 #include "../mpi.h"
 #include "errors.h"
+#include "contexts.h"
 
 enum { FIRST_KEY = 16 };
 enum object { COMMUNICATOR, DATATYPE };
@@ -114,19 +115,52 @@ static int delete_at(struct attribute **at)
     return error;
 }
 
-/* At the end those of MPI_COMM_WORLD go, the newest first. */
-static void delete_all(void)
+/* Those of a communicator, the newest first. A function may change others. */
+static int delete_of(MPI_Comm c)
 {
     struct attribute **at = &attributes;
+    int error = MPI_SUCCESS;
 
-    while (*at)
-        if ((*at)->object != COMMUNICATOR || delete_at(at))
+    while (!error && *at)
+        if ((*at)->object != COMMUNICATOR || (*at)->handle != c) {
             at = &(*at)->next;
+        } else {
+            error = delete_at(at);
+            at = &attributes;
+        }
+    return error;
+}
+
+/* At the end, those of MPI_COMM_SELF first (11.2.4). */
+static void delete_all(void)
+{
+    delete_of(MPI_COMM_SELF);
+    delete_of(MPI_COMM_WORLD);
+}
+
+static int add(const char *call, enum object object, int handle, int key, void *value);
+
+/* For MPI_Comm_dup: what the function of a key says of the new communicator's. */
+static int copy_of(MPI_Comm from, MPI_Comm to)
+{
+    for (struct attribute *at = attributes; at; at = at->next) {
+        struct key *key = keys + at->key - FIRST_KEY;
+        void *value;
+        int flag = 0, error;
+
+        if (at->object != COMMUNICATOR || at->handle != from || !key->copy)
+            continue;
+        error = key->copy(from, at->key, key->extra, at->value, &value, &flag);
+        error = error || !flag ? error : add("MPI_Comm_dup", COMMUNICATOR, to, at->key, value);
+        if (error)
+            return error;
+    }
+    return MPI_SUCCESS;
 }
 
 static int set(const char *call, enum object object, int handle, int key, void *value)
 {
-    struct attribute **at, *new;
+    struct attribute **at;
     int error = wrong_object(call, object, handle);
 
     if (error)
@@ -136,12 +170,20 @@ static int set(const char *call, enum object object, int handle, int key, void *
     at = place_of(object, handle, key);
     if (*at && (error = delete_at(at)))
         return error;
-    new = malloc(sizeof *new);
+    return add(call, object, handle, key, value);
+}
+
+static int add(const char *call, enum object object, int handle, int key, void *value)
+{
+    struct attribute *new = malloc(sizeof *new);
+
     if (!new)
         return rvmc_full_heap(call);
     *new = (struct attribute){attributes, object, handle, key, value};
     attributes = new;
     rvmc_at_the_end = delete_all;
+    rvmc_hooks.copied_attributes = copy_of;
+    rvmc_hooks.freed_attributes = delete_of;
     return MPI_SUCCESS;
 }
 
@@ -278,6 +320,14 @@ static struct name *name_of(enum object object, int handle)
     return name;
 }
 
+static void free_name(MPI_Comm c)
+{
+    struct name *name = name_of(COMMUNICATOR, c);
+
+    if (name)
+        name->text[0] = 0;
+}
+
 static int set_name(const char *call, enum object object, int handle, const char *text)
 {
     struct name *name = name_of(object, handle);
@@ -293,6 +343,7 @@ static int set_name(const char *call, enum object object, int handle, const char
         name->object = object;
         name->handle = handle;
         object_names = name;
+        rvmc_hooks.freed_name = free_name;
     }
     strncpy(name->text, text, sizeof name->text - 1);
     name->text[sizeof name->text - 1] = 0;
@@ -311,7 +362,7 @@ int MPI_Comm_get_name(MPI_Comm c, char *text, int *length)
 
     if (error)
         return error;
-    strcpy(text, name ? name->text : c == MPI_COMM_WORLD ? "MPI_COMM_WORLD" : "");
+    strcpy(text, name ? name->text : c == MPI_COMM_WORLD ? "MPI_COMM_WORLD" : c == MPI_COMM_SELF ? "MPI_COMM_SELF" : "");
     *length = (int)strlen(text);
     return MPI_SUCCESS;
 }

@@ -40,6 +40,7 @@ enum {
     RVMC_TAG_AGAIN = 112,                     /* and the hart: a message that was claimed, on its way to a request */
     RVMC_TAG_MUTEX = 116,                     /* and the mutex, below 800 */
     RVMC_TAG_GROUP = 920,                     /* and 8 times the communicator and some of a tag: MPI_Comm_create_group */
+    RVMC_TAG_CONTEXT = 1000,                  /* a hart may make a communicator */
     RVMC_TAG_REST = 1024,                     /* and the number of a large message: its pieces behind the first */
     RVMC_TAG_LATER = 29056,                   /* and 448 times the communicator and a number: collectives that don't wait */
     RVMC_MOST_LATER = 448

@@ -5,7 +5,7 @@
 
 struct group rvmc_group(const char *call, MPI_Comm c)
 {
-    struct group g = {call, c, rvmc_known(c), 0, 1, RVMC_OK, 0, 0, 0};
+    struct group g = {call, c, rvmc_known(c), RVMC_TAG_COLLECTIVE + c, 0, 1, RVMC_OK, 0, 0, 0};
 
     if (rvmc_idle()) {
         g.code = RVMC_NOT_BEGUN;

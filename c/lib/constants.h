@@ -63,6 +63,10 @@ typedef int MPI_Type_delete_attr_function(MPI_Datatype type, int key, void *valu
 #define MPI_THREAD_FUNNELED 1
 #define MPI_THREAD_SERIALIZED 2
 #define MPI_THREAD_MULTIPLE 3
+#define MPI_COMM_TYPE_SHARED 1
+#define MPI_COMM_TYPE_HW_GUIDED 2
+#define MPI_COMM_TYPE_HW_UNGUIDED 3
+#define MPI_COMM_TYPE_RESOURCE_GUIDED 4
 #define MPI_IDENT 0
 #define MPI_CONGRUENT 1
 #define MPI_SIMILAR 2
@@ -244,6 +248,8 @@ enum {
 /* Fortran's handles are the same numbers. */
 #define MPI_Comm_c2f(c) ((MPI_Fint)(c))
 #define MPI_Comm_f2c(c) ((MPI_Comm)(c))
+#define MPI_Group_c2f(group) ((MPI_Fint)(group))
+#define MPI_Group_f2c(group) ((MPI_Group)(group))
 #define MPI_Type_c2f(type) ((MPI_Fint)(type))
 #define MPI_Type_f2c(type) ((MPI_Datatype)(type))
 #define MPI_Op_c2f(op) ((MPI_Fint)(op))

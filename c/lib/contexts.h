@@ -25,8 +25,23 @@ RVMC_INLINE int rvmc_group_place(MPI_Group group, int rank)
     return -1;
 }
 MPI_Group rvmc_group_of(const struct rvmc_communicator *of);
+int rvmc_group_like(MPI_Group group, MPI_Group other);
+int rvmc_wrong_group(const char *call, MPI_Group group);
 
-/* Makes a communicator of these ranks with a context that each of them has free. */
-MPI_Comm rvmc_make(MPI_Group group, int context);
+struct group;
+/* Makes a communicator of the places of g that have the same color, in the order of their keys. Returns the call's error. */
+int rvmc_split(struct group *g, int color, int key, MPI_Comm *made);
+
+/* What else a communicator has, where a program has linked it: each does what is to be done when one is made of another one,
+   or freed. */
+extern struct rvmc_hooks {
+    int (*copied_attributes)(MPI_Comm from, MPI_Comm to);
+    int (*freed_attributes)(MPI_Comm c);
+    void (*freed_name)(MPI_Comm c);
+    void (*freed_info)(MPI_Comm c);
+    void (*used_handler)(MPI_Errhandler handler, int change);
+    int (*copied_topology)(MPI_Comm from, MPI_Comm to);
+    void (*freed_topology)(MPI_Comm c);
+} rvmc_hooks;
 
 #endif

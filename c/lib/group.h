@@ -12,7 +12,7 @@ struct group {
     const char *call;
     MPI_Comm communicator;
     const struct rvmc_communicator *of;
-    int me, size;
+    int tag, me, size;
     long code;
     const char *argument;
     long value, expected;
@@ -46,7 +46,7 @@ RVMC_INLINE void give(struct group *g, const void *buffer, long count, MPI_Datat
 
     for (long at = 0; at < size && !g->code; at += RVMC_PIECE) {
         long code = rvmc_call(RVMC_SEND, (long)buffer + at, rvmc_first(size - at), rvmc_rank_at(g->of, to),
-                              RVMC_TAG_COLLECTIVE + g->communicator, RVMC_TWIN, 0).code;
+                              g->tag, RVMC_TWIN, 0).code;
 
         if (code)
             fault(g, code, "sendbuf", (long)buffer, size);
@@ -60,7 +60,7 @@ RVMC_INLINE void take(struct group *g, void *buffer, long count, MPI_Datatype ty
 
     for (long at = 0; at < size && !g->code; at += RVMC_PIECE) {
         long code = rvmc_call(RVMC_RECV, (long)buffer + at, rvmc_first(size - at), rvmc_rank_at(g->of, from),
-                              RVMC_TAG_COLLECTIVE + g->communicator, RVMC_TWIN, (long)&status).code;
+                              g->tag, RVMC_TWIN, (long)&status).code;
 
         if (code == RVMC_TRUNCATED || (!code && status.rvmc_bytes != rvmc_first(size - at)))
             fault(g, RVMC_OTHER_COUNT, 0, from, size);
@@ -72,8 +72,7 @@ RVMC_INLINE void take(struct group *g, void *buffer, long count, MPI_Datatype ty
 /* A message without bytes, that only says something by being there. */
 RVMC_INLINE void give_word(struct group *g, int to)
 {
-    long code = g->code ? RVMC_OK : rvmc_call(RVMC_SEND, 0, 0, rvmc_rank_at(g->of, to), RVMC_TAG_COLLECTIVE + g->communicator,
-                                              RVMC_TWIN, 0).code;
+    long code = g->code ? RVMC_OK : rvmc_call(RVMC_SEND, 0, 0, rvmc_rank_at(g->of, to), g->tag, RVMC_TWIN, 0).code;
 
     if (code)
         fault(g, code, 0, 0, 0);
@@ -82,7 +81,7 @@ RVMC_INLINE void give_word(struct group *g, int to)
 RVMC_INLINE void take_word(struct group *g, int from)
 {
     long code = g->code ? RVMC_OK : rvmc_call(RVMC_RECV, 0, 0, rvmc_rank_at(g->of, from),
-                                              RVMC_TAG_COLLECTIVE + g->communicator, RVMC_TWIN, 0).code;
+                                              g->tag, RVMC_TWIN, 0).code;
 
     if (code)
         fault(g, code, 0, 0, 0);

@@ -39,7 +39,7 @@ static int commutes(MPI_Op op)
 
 static int wrong_op(const char *call, MPI_Op op)
 {
-    struct group g = {call, MPI_COMM_WORLD, 0, 0, 0, RVMC_BAD_OP, "op", op, 0};
+    struct group g = {call, MPI_COMM_WORLD, 0, 0, 0, 0, RVMC_BAD_OP, "op", op, 0};
 
     return finish(&g);
 }
@@ -249,7 +249,7 @@ int MPI_Reduce_scatter_block(const void *from, void *to, int count, MPI_Datatype
 
 int MPI_Reduce_local(const void *from, void *to, int count, MPI_Datatype type, MPI_Op op, rvmc_fold *fold_of_type)
 {
-    struct group g = {"MPI_Reduce_local", MPI_COMM_WORLD, 0, 0, 1, rvmc_idle() ? RVMC_NOT_BEGUN : RVMC_OK, 0, 0, 0};
+    struct group g = {"MPI_Reduce_local", MPI_COMM_WORLD, 0, 0, 0, 1, rvmc_idle() ? RVMC_NOT_BEGUN : RVMC_OK, 0, 0, 0};
     struct folding f = folding(&g, from, count, type, op, fold_of_type);
 
     wanted(&g, from, to, count);
