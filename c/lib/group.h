@@ -39,6 +39,17 @@ RVMC_INLINE void fault(struct group *g, long code, const char *argument, long va
     g->expected = expected;
 }
 
+/* Whether a handle is a datatype, and the bytes from one of it to the next. */
+RVMC_INLINE int is_type(MPI_Datatype type)
+{
+    return RVMC_SIZE_OF(type) != 0;
+}
+
+RVMC_INLINE long extent_of(MPI_Datatype type)
+{
+    return RVMC_SIZE_OF(type);
+}
+
 /* So many elements of a datatype for the rank at a place of the communicator. */
 RVMC_INLINE void give(struct group *g, const void *buffer, long count, MPI_Datatype type, int to)
 {

@@ -18,8 +18,8 @@
 #define RVMC_WHY_SPAWN "the ranks of an image are all there are: none is spawned, and none joins"
 #define RVMC_WHY_INTERCOMM "there are no intercommunicators"
 #define RVMC_WHY_COUNT "counts are int: a rank has 1 MiB at most"
-#define RVMC_WHY_TOPOLOGY "there are no topologies: work out the neighbours' ranks"
-#define RVMC_WHY_COMM "communicators are declared by rvmc-cc --comm and named RVMC_COMM(1) and so on"
+#define RVMC_WHY_TOPOLOGY "neighborhood collectives are served that wait, and are called each time: MPI_Neighbor_alltoall and its kin"
+#define RVMC_WHY_COMM "communicators are made of others, by calls that wait: MPI_Comm_dup, MPI_Comm_split, MPI_Comm_create and its kin"
 #define RVMC_WHY_NONBLOCKING "collectives that don't wait aren't served: name the call without I"
 #define RVMC_WHY_PERSISTENT "persistent collectives aren't served: call the collective each time"
 #define RVMC_WHY_FORTRAN "Fortran's handles, types and statuses aren't served"
@@ -117,11 +117,6 @@ RVMC_CONSTANT(MPI_WIN_MODEL, WINDOW) RVMC_CONSTANT(MPI_WIN_NULL, WINDOW) RVMC_CO
 RVMC_CONSTANT(MPI_WIN_NULL_DELETE_FN, WINDOW) RVMC_CONSTANT(MPI_WIN_SEPARATE, WINDOW)
 RVMC_CONSTANT(MPI_WIN_SIZE, WINDOW) RVMC_CONSTANT(MPI_WIN_UNIFIED, WINDOW)
 RVMC_CONSTANT(MPI_MAX_PORT_NAME, SPAWN)
-RVMC_CONSTANT(MPI_CART, TOPOLOGY) RVMC_CONSTANT(MPI_DIST_GRAPH, TOPOLOGY) RVMC_CONSTANT(MPI_GRAPH, TOPOLOGY)
-RVMC_CONSTANT(MPI_UNWEIGHTED, TOPOLOGY) RVMC_CONSTANT(MPI_WEIGHTS_EMPTY, TOPOLOGY)
-
-
-
 RVMC_CONSTANT(MPI_COMPLEX32, FORTRAN) RVMC_CONSTANT(MPI_F_ERROR, FORTRAN) RVMC_CONSTANT(MPI_F_SOURCE, FORTRAN)
 RVMC_CONSTANT(MPI_F_STATUSES_IGNORE, FORTRAN) RVMC_CONSTANT(MPI_F_STATUS_IGNORE, FORTRAN)
 RVMC_CONSTANT(MPI_F_STATUS_SIZE, FORTRAN) RVMC_CONSTANT(MPI_F_TAG, FORTRAN) RVMC_CONSTANT(MPI_INTEGER16, FORTRAN)
@@ -510,9 +505,9 @@ RVMC_CALL(MPI_Win_sync, WINDOW) RVMC_CALL(MPI_Win_test, WINDOW) RVMC_CALL(MPI_Wi
 RVMC_CALL(MPI_Win_unlock_all, WINDOW) RVMC_CALL(MPI_Win_wait, WINDOW)
 RVMC_CALL(MPI_Grequest_complete, GREQUEST) RVMC_CALL(MPI_Grequest_start, GREQUEST)
 RVMC_CALL(MPI_Close_port, SPAWN) RVMC_CALL(MPI_Comm_accept, SPAWN) RVMC_CALL(MPI_Comm_connect, SPAWN)
-RVMC_CALL(MPI_Comm_join, SPAWN) RVMC_CALL(MPI_Comm_spawn, SPAWN)
-RVMC_CALL(MPI_Comm_spawn_multiple, SPAWN) RVMC_CALL(MPI_Lookup_name, SPAWN) RVMC_CALL(MPI_Open_port, SPAWN)
-RVMC_CALL(MPI_Publish_name, SPAWN) RVMC_CALL(MPI_Unpublish_name, SPAWN)
+RVMC_CALL(MPI_Comm_join, SPAWN) RVMC_CALL(MPI_Comm_spawn, SPAWN) RVMC_CALL(MPI_Comm_spawn_multiple, SPAWN)
+RVMC_CALL(MPI_Lookup_name, SPAWN) RVMC_CALL(MPI_Open_port, SPAWN) RVMC_CALL(MPI_Publish_name, SPAWN)
+RVMC_CALL(MPI_Unpublish_name, SPAWN)
 RVMC_CALL(MPI_Comm_remote_group, INTERCOMM) RVMC_CALL(MPI_Comm_remote_size, INTERCOMM)
 RVMC_CALL(MPI_Intercomm_create, INTERCOMM) RVMC_CALL(MPI_Intercomm_create_from_groups, INTERCOMM)
 RVMC_CALL(MPI_Intercomm_merge, INTERCOMM)
@@ -558,31 +553,13 @@ RVMC_CALL(MPI_Type_create_subarray_c, COUNT) RVMC_CALL(MPI_Type_get_contents_c, 
 RVMC_CALL(MPI_Type_get_envelope_c, COUNT) RVMC_CALL(MPI_Type_get_extent_c, COUNT)
 RVMC_CALL(MPI_Type_get_true_extent_c, COUNT) RVMC_CALL(MPI_Type_indexed_c, COUNT) RVMC_CALL(MPI_Type_size_c, COUNT)
 RVMC_CALL(MPI_Type_vector_c, COUNT) RVMC_CALL(MPI_Unpack_c, COUNT) RVMC_CALL(MPI_Unpack_external_c, COUNT)
-RVMC_CALL(MPI_Cart_coords, TOPOLOGY) RVMC_CALL(MPI_Cart_create, TOPOLOGY) RVMC_CALL(MPI_Cart_get, TOPOLOGY)
-RVMC_CALL(MPI_Cart_map, TOPOLOGY) RVMC_CALL(MPI_Cart_rank, TOPOLOGY) RVMC_CALL(MPI_Cart_shift, TOPOLOGY)
-RVMC_CALL(MPI_Cart_sub, TOPOLOGY) RVMC_CALL(MPI_Cartdim_get, TOPOLOGY) RVMC_CALL(MPI_Dims_create, TOPOLOGY)
-RVMC_CALL(MPI_Dist_graph_create, TOPOLOGY) RVMC_CALL(MPI_Dist_graph_create_adjacent, TOPOLOGY)
-RVMC_CALL(MPI_Dist_graph_neighbors, TOPOLOGY) RVMC_CALL(MPI_Dist_graph_neighbors_count, TOPOLOGY)
-RVMC_CALL(MPI_Graph_create, TOPOLOGY) RVMC_CALL(MPI_Graph_get, TOPOLOGY) RVMC_CALL(MPI_Graph_map, TOPOLOGY)
-RVMC_CALL(MPI_Graph_neighbors, TOPOLOGY) RVMC_CALL(MPI_Graph_neighbors_count, TOPOLOGY)
-RVMC_CALL(MPI_Graphdims_get, TOPOLOGY) RVMC_CALL(MPI_Ineighbor_allgather, TOPOLOGY)
-RVMC_CALL(MPI_Ineighbor_allgatherv, TOPOLOGY) RVMC_CALL(MPI_Ineighbor_alltoall, TOPOLOGY)
-RVMC_CALL(MPI_Ineighbor_alltoallv, TOPOLOGY) RVMC_CALL(MPI_Ineighbor_alltoallw, TOPOLOGY)
-RVMC_CALL(MPI_Neighbor_allgather, TOPOLOGY) RVMC_CALL(MPI_Neighbor_allgather_init, TOPOLOGY)
-RVMC_CALL(MPI_Neighbor_allgatherv, TOPOLOGY) RVMC_CALL(MPI_Neighbor_allgatherv_init, TOPOLOGY)
-RVMC_CALL(MPI_Neighbor_alltoall, TOPOLOGY) RVMC_CALL(MPI_Neighbor_alltoall_init, TOPOLOGY)
-RVMC_CALL(MPI_Neighbor_alltoallv, TOPOLOGY) RVMC_CALL(MPI_Neighbor_alltoallv_init, TOPOLOGY)
-RVMC_CALL(MPI_Neighbor_alltoallw, TOPOLOGY) RVMC_CALL(MPI_Neighbor_alltoallw_init, TOPOLOGY)
-RVMC_CALL(MPI_Topo_test, TOPOLOGY)
-RVMC_CALL(MPI_Comm_create_from_group, COMM)
-
-RVMC_CALL(MPI_Comm_idup, COMM)
-RVMC_CALL(MPI_Comm_idup_with_info, COMM)
-
+RVMC_CALL(MPI_Ineighbor_allgather, TOPOLOGY) RVMC_CALL(MPI_Ineighbor_allgatherv, TOPOLOGY)
+RVMC_CALL(MPI_Ineighbor_alltoall, TOPOLOGY) RVMC_CALL(MPI_Ineighbor_alltoallv, TOPOLOGY)
+RVMC_CALL(MPI_Ineighbor_alltoallw, TOPOLOGY) RVMC_CALL(MPI_Neighbor_allgather_init, TOPOLOGY)
+RVMC_CALL(MPI_Neighbor_allgatherv_init, TOPOLOGY) RVMC_CALL(MPI_Neighbor_alltoall_init, TOPOLOGY)
+RVMC_CALL(MPI_Neighbor_alltoallv_init, TOPOLOGY) RVMC_CALL(MPI_Neighbor_alltoallw_init, TOPOLOGY)
+RVMC_CALL(MPI_Comm_create_from_group, COMM) RVMC_CALL(MPI_Comm_idup, COMM) RVMC_CALL(MPI_Comm_idup_with_info, COMM)
 RVMC_CALL(MPI_Group_from_session_pset, COMM)
-
-
-
 RVMC_CALL(MPI_Iallgather, NONBLOCKING) RVMC_CALL(MPI_Iallgatherv, NONBLOCKING) RVMC_CALL(MPI_Iallreduce, NONBLOCKING)
 RVMC_CALL(MPI_Ialltoall, NONBLOCKING) RVMC_CALL(MPI_Ialltoallv, NONBLOCKING) RVMC_CALL(MPI_Ialltoallw, NONBLOCKING)
 RVMC_CALL(MPI_Ibarrier, NONBLOCKING) RVMC_CALL(MPI_Ibcast, NONBLOCKING) RVMC_CALL(MPI_Iexscan, NONBLOCKING)
