@@ -3,9 +3,10 @@
 #include "../mpi.h"
 #include "group.h"
 
-struct group rvmc_group(const char *call, MPI_Comm c)
+struct group rvmc_group_at(const char *call, MPI_Comm c, const void *place)
 {
-    struct group g = {call, c, rvmc_known(c), RVMC_TAG_COLLECTIVE + c, 0, 1, RVMC_OK, 0, 0, 0};
+    struct group g = {.call = call, .place = place, .communicator = c, .of = rvmc_known(c), .tag = RVMC_TAG_COLLECTIVE + c,
+                      .size = 1, .root = -1, .count = -1};
 
     if (rvmc_idle()) {
         g.code = RVMC_NOT_BEGUN;
@@ -18,10 +19,11 @@ struct group rvmc_group(const char *call, MPI_Comm c)
     return g;
 }
 
-struct group rvmc_rooted(const char *call, MPI_Comm c, int root)
+struct group rvmc_rooted_at(const char *call, MPI_Comm c, int root, const void *place)
 {
-    struct group g = rvmc_group(call, c);
+    struct group g = rvmc_group_at(call, c, place);
 
+    g.root = root;
     if (root < 0 || root >= g.size)
         fault(&g, RVMC_BAD_ROOT, "root", root, 0);
     return g;

@@ -13,7 +13,7 @@ static struct rvmc_communicator of_group(MPI_Group group, int context)
     unsigned ranks = 0, places = ~0u;
 
     for (int place = 0; place < rvmc_group_size(group); place++) {
-        int rank = rvmc_group_at(group, place);
+        int rank = rvmc_member_at(group, place);
 
         ranks |= (unsigned)rank << 4 * place;
         places ^= (unsigned)(place ^ RVMC_NOWHERE) << 4 * rank;
@@ -201,7 +201,7 @@ static int wrong_members(const char *call, MPI_Comm c, MPI_Group group)
     int error = rvmc_wrong_group(call, group);
 
     for (int place = 0; of && !error && place < rvmc_group_size(group); place++)
-        if (rvmc_position(of, rvmc_group_at(group, place)) < 0)
+        if (rvmc_position(of, rvmc_member_at(group, place)) < 0)
             error = rvmc_trapped(rvmc_raise(call, c, MPI_ERR_GROUP, "group", "rank %d of the group isn't in the communicator",
                                             (long)place));
     return error;

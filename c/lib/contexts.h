@@ -7,7 +7,7 @@ RVMC_INLINE int rvmc_group_size(MPI_Group group)
 {
     return group >> 24 & 15;
 }
-RVMC_INLINE int rvmc_group_at(MPI_Group group, int place)
+RVMC_INLINE int rvmc_member_at(MPI_Group group, int place)
 {
     return group >> 3 * place & 7;
 }
@@ -20,7 +20,7 @@ RVMC_INLINE MPI_Group rvmc_group_and(MPI_Group group, int rank)
 RVMC_INLINE int rvmc_group_place(MPI_Group group, int rank)
 {
     for (int place = 0; place < rvmc_group_size(group); place++)
-        if (rvmc_group_at(group, place) == rank)
+        if (rvmc_member_at(group, place) == rank)
             return place;
     return -1;
 }

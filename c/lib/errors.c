@@ -60,6 +60,15 @@ static void put_parts(const char *format, va_list values)
     }
 }
 
+void rvmc_put(const char *format, ...)
+{
+    va_list values;
+
+    va_start(values, format);
+    put_parts(format, values);
+    va_end(values);
+}
+
 void rvmc_say(const char *format, ...)
 {
     va_list values;
@@ -71,8 +80,7 @@ void rvmc_say(const char *format, ...)
     va_end(values);
 }
 
-/* What a handler makes of an error: what the call returns, or 0 for what is told and traps. */
-static int handled(MPI_Comm c, int error)
+int rvmc_handled(MPI_Comm c, int error)
 {
     MPI_Errhandler handler = rvmc_handlers[c > 0 && c < RVMC_COMMUNICATORS ? c : 0];
 
@@ -86,7 +94,7 @@ static int handled(MPI_Comm c, int error)
 int rvmc_raise(const char *call, MPI_Comm c, int error, const char *argument, const char *format, ...)
 {
     va_list values;
-    int answer = handled(c, error);
+    int answer = rvmc_handled(c, error);
 
     if (answer)
         return answer;
@@ -283,6 +291,8 @@ int rvmc_wrong_collective(const struct group *g)
         return wrong_buffer(call, c, g->argument, (const void *)g->value, g->expected);
     case RVMC_ALIASED:
         return rvmc_raise(call, c, MPI_ERR_BUFFER, g->argument, "both buffers are at %x: MPI_IN_PLACE says that", g->value);
+    case RVMC_MISMATCH:
+        return rvmc_wrong_mismatch(g);
     case RVMC_OTHER_COUNT:
         return rvmc_raise(call, c, MPI_ERR_TRUNCATE, g->argument, "rank %d gave another count, where %d bytes are expected",
                           g->value, g->expected);

@@ -7,6 +7,9 @@
 extern MPI_Errhandler rvmc_handlers[RVMC_COMMUNICATORS];
 extern void (*rvmc_own_handler)(MPI_Comm c, MPI_Errhandler handler, int error);
 
+/* What the error handler of a communicator makes of an error: what the call returns, or 0 for what is told and traps. */
+int rvmc_handled(MPI_Comm c, int error);
+
 /* An error of a call, by the handler of the communicator: what the call returns, or 0 for a trap. The format is one of
    rvmc_say. */
 int rvmc_raise(const char *call, MPI_Comm c, int error, const char *argument, const char *format, ...);

@@ -20,7 +20,7 @@ int rvmc_group_like(MPI_Group group, MPI_Group other)
     if (rvmc_group_size(group) != rvmc_group_size(other))
         return MPI_UNEQUAL;
     for (int place = 0; place < rvmc_group_size(group); place++)
-        if (rvmc_group_place(other, rvmc_group_at(group, place)) < 0)
+        if (rvmc_group_place(other, rvmc_member_at(group, place)) < 0)
             return MPI_UNEQUAL;
     return MPI_SIMILAR;
 }
@@ -77,7 +77,7 @@ int MPI_Group_translate_ranks(MPI_Group group, int count, const int ranks[], MPI
             continue;
         }
         error = wrong_rank(call, group, ranks[i]);
-        place = error ? -1 : rvmc_group_place(other, rvmc_group_at(group, ranks[i]));
+        place = error ? -1 : rvmc_group_place(other, rvmc_member_at(group, ranks[i]));
         others[i] = place < 0 ? MPI_UNDEFINED : place;
     }
     return error;
@@ -107,8 +107,8 @@ static int sifted(const char *call, MPI_Group begin, MPI_Group group, MPI_Group 
     error = error ? error : rvmc_wrong_group(call, other);
     *made = begin;
     for (int place = 0; place < rvmc_group_size(group) && !error; place++)
-        if ((rvmc_group_place(other, rvmc_group_at(group, place)) >= 0) == in)
-            *made = rvmc_group_and(*made, rvmc_group_at(group, place));
+        if ((rvmc_group_place(other, rvmc_member_at(group, place)) >= 0) == in)
+            *made = rvmc_group_and(*made, rvmc_member_at(group, place));
     return error;
 }
 
@@ -135,11 +135,11 @@ static int listed(const char *call, MPI_Group group, int count, const int ranks[
     *made = MPI_GROUP_EMPTY;
     for (int i = 0; i < count && !error; i++) {
         error = wrong_rank(call, group, ranks[i]);
-        if (!error && rvmc_group_place(*made, rvmc_group_at(group, ranks[i])) >= 0)
+        if (!error && rvmc_group_place(*made, rvmc_member_at(group, ranks[i])) >= 0)
             error = rvmc_trapped(rvmc_raise(call, MPI_COMM_WORLD, MPI_ERR_RANK, "ranks", "rank %d stands there twice",
                                             (long)ranks[i]));
         if (!error)
-            *made = rvmc_group_and(*made, rvmc_group_at(group, ranks[i]));
+            *made = rvmc_group_and(*made, rvmc_member_at(group, ranks[i]));
     }
     return error;
 }

@@ -39,7 +39,7 @@ static int commutes(MPI_Op op)
 
 static int wrong_op(const char *call, MPI_Op op)
 {
-    struct group g = {call, MPI_COMM_WORLD, 0, 0, 0, 0, RVMC_BAD_OP, "op", op, 0};
+    struct group g = {.call = call, .communicator = MPI_COMM_WORLD, .code = RVMC_BAD_OP, .argument = "op", .value = op};
 
     return finish(&g);
 }
@@ -75,7 +75,7 @@ static void fold(struct group *g, const struct folding *f, void *into, void *bef
     int length = (int)count;
     MPI_Datatype type = f->type;
 
-    if (g->code)
+    if (g->code || !count)
         return;
     if (is_own(f->op))
         own[f->op - RVMC_OWN_OPS].function(before, into, &length, &type);
@@ -84,7 +84,7 @@ static void fold(struct group *g, const struct folding *f, void *into, void *bef
 }
 
 /* Whether there is something to fold, and the operation is one of the datatype: tried on one element, for a rank that folds
-   nothing asks too. */
+   nothing asks too. All messages say what the whole call folds. */
 static struct folding folding(struct group *g, const void *from, int count, MPI_Datatype type, MPI_Op op, rvmc_fold *fold)
 {
     _Alignas(16) char into[32] = {0}, before[32] = {0};
@@ -100,6 +100,8 @@ static struct folding folding(struct group *g, const void *from, int count, MPI_
         fault(g, RVMC_BAD_OP, "op", 0, type);
     if (!g->code && !is_own(op) && (!fold || fold(into, before, 1, op)))
         fault(g, RVMC_BAD_OP, "op", op, type);
+    g->op = op;
+    rvmc_whole(g, count, type);
     return f;
 }
 
@@ -139,14 +141,15 @@ RVMC_INLINE char *climb(struct group *g, const struct folding *f, char *mine, ch
     return mine;
 }
 
-/* As much at once as the stack has room for. The result is in to, of the root alone. */
+/* As much at once as the stack has room for, and nothing at all once: then messages have heads alone. The result is in to, of
+   the root alone. */
 RVMC_INLINE void reduce(struct group *g, const struct folding *f, const char *from, char *to, long count, int root)
 {
     BUFFER(mine);
     BUFFER(others);
     int top = commutes(f->op) ? root : 0;
 
-    for (long at = 0; at < count && !g->code; at += FOLDED / f->size) {
+    for (long at = 0; (at < count || !at) && !g->code; at += FOLDED / f->size) {
         long n = least(count - at, FOLDED / f->size);
         char *result;
 
@@ -249,7 +252,8 @@ int MPI_Reduce_scatter_block(const void *from, void *to, int count, MPI_Datatype
 
 int MPI_Reduce_local(const void *from, void *to, int count, MPI_Datatype type, MPI_Op op, rvmc_fold *fold_of_type)
 {
-    struct group g = {"MPI_Reduce_local", MPI_COMM_WORLD, 0, 0, 0, 1, rvmc_idle() ? RVMC_NOT_BEGUN : RVMC_OK, 0, 0, 0};
+    struct group g = {.call = "MPI_Reduce_local", .communicator = MPI_COMM_WORLD, .size = 1,
+                      .code = rvmc_idle() ? RVMC_NOT_BEGUN : RVMC_OK};
     struct folding f = folding(&g, from, count, type, op, fold_of_type);
 
     wanted(&g, from, to, count);
@@ -265,7 +269,7 @@ RVMC_INLINE void scan(struct group *g, const struct folding *f, const char *from
     BUFFER(before);
     BUFFER(lower);
 
-    for (long at = 0; at < count && !g->code; at += FOLDED / f->size) {
+    for (long at = 0; (at < count || !at) && !g->code; at += FOLDED / f->size) {
         long n = least(count - at, FOLDED / f->size), size = n * f->size;
 
         memcpy(mine, from + at * f->size, size);
