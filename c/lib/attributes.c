@@ -3,6 +3,7 @@
 #include <string.h>
 #include "../mpi.h"
 #include "errors.h"
+#include "contexts.h"
 #include "layouts.h"
 
 enum { FIRST_KEY = 16 };
@@ -123,79 +124,71 @@ static int delete_at(struct attribute **at)
     return error;
 }
 
-/* An object goes: so do its attributes, the newest first, and its name. What a function of the program refuses ends that. */
+/* Those of an object, the newest first. A function may change others. */
 static int delete_of(enum object object, int handle)
 {
+    struct attribute **at = &attributes;
     int error = MPI_SUCCESS;
 
-    for (struct attribute **at = &attributes; *at && !error;)
-        if ((*at)->object == object && (*at)->handle == handle) {
+    while (!error && *at)
+        if ((*at)->object != object || (*at)->handle != handle) {
+            at = &(*at)->next;
+        } else {
             error = delete_at(at);
             at = &attributes;
-        } else {
-            at = &(*at)->next;
-        }
-    for (struct name **at = &object_names; *at && !error;)
-        if ((*at)->object == object && (*at)->handle == handle) {
-            struct name *old = *at;
-
-            *at = old->next;
-            free(old);
-        } else {
-            at = &(*at)->next;
         }
     return error;
 }
 
-static int add(enum object object, int handle, int key, void *value)
+/* At the end, those of MPI_COMM_SELF first (11.2.4). */
+static void delete_all(void)
 {
-    struct attribute *new = malloc(sizeof *new);
+    delete_of(COMMUNICATOR, MPI_COMM_SELF);
+    delete_of(COMMUNICATOR, MPI_COMM_WORLD);
+}
 
-    if (!new)
-        return MPI_ERR_NO_MEM;
-    *new = (struct attribute){attributes, object, handle, key, value};
-    attributes = new;
+static int delete_of_communicator(MPI_Comm c)
+{
+    return delete_of(COMMUNICATOR, c);
+}
+
+static int add(const char *call, enum object object, int handle, int key, void *value);
+
+/* For MPI_Comm_dup and MPI_Type_dup: what the function of a key says of the new object's. */
+static int copy_of(const char *call, enum object object, int from, int to)
+{
+    for (struct attribute *at = attributes; at; at = at->next) {
+        struct key *key = keys + at->key - FIRST_KEY;
+        void *value;
+        int flag = 0, error;
+
+        if (at->object != object || at->handle != from || !key->copy)
+            continue;
+        error = key->copy(from, at->key, key->extra, at->value, &value, &flag);
+        error = error || !flag ? error : add(call, object, to, at->key, value);
+        if (error)
+            return error;
+    }
     return MPI_SUCCESS;
 }
 
-/* An object is made of another one: it has those attributes whose keys say so, in the order in which they were set. */
-static int copy_all(enum object object, int from, int to)
+static int copy_of_communicator(MPI_Comm from, MPI_Comm to)
 {
-    struct attribute *next = 0, *last;
-    int error = MPI_SUCCESS, flag;
-    void *copy;
-
-    do {
-        last = 0;
-        for (struct attribute *at = attributes; at != next; at = at->next)
-            if (at->object == object && at->handle == from)
-                last = at;
-        next = last;
-        if (last && keys[last->key - FIRST_KEY].copy) {
-            struct key *key = keys + last->key - FIRST_KEY;
-
-            flag = 0;
-            error = key->copy(from, last->key, key->extra, last->value, &copy, &flag);
-            if (!error && flag)
-                error = add(object, to, last->key, copy);
-        }
-    } while (last && !error);
-    return error;
+    return copy_of("MPI_Comm_dup", COMMUNICATOR, from, to);
 }
+
+static void free_name_of(enum object object, int handle);
 
 static int of_types(MPI_Datatype from, MPI_Datatype to)
 {
-    return to == MPI_DATATYPE_NULL ? delete_of(DATATYPE, from) : copy_all(DATATYPE, from, to);
-}
+    int error;
 
-/* At the end those of MPI_COMM_WORLD go, the newest first. */
-static void delete_all(void)
-{
-    struct attribute **at = &attributes;
-
-    while (*at)
-        if ((*at)->object != COMMUNICATOR || delete_at(at))
-            at = &(*at)->next;
+    if (to != MPI_DATATYPE_NULL)
+        return copy_of("MPI_Type_dup", DATATYPE, from, to);
+    error = delete_of(DATATYPE, from);
+    if (!error)
+        free_name_of(DATATYPE, from);
+    return error;
 }
 
 static int set(const char *call, enum object object, int handle, int key, void *value)
@@ -210,10 +203,21 @@ static int set(const char *call, enum object object, int handle, int key, void *
     at = place_of(object, handle, key);
     if (*at && (error = delete_at(at)))
         return error;
-    if (add(object, handle, key, value))
+    return add(call, object, handle, key, value);
+}
+
+static int add(const char *call, enum object object, int handle, int key, void *value)
+{
+    struct attribute *new = malloc(sizeof *new);
+
+    if (!new)
         return rvmc_full_heap(call);
+    *new = (struct attribute){attributes, object, handle, key, value};
+    attributes = new;
     rvmc_at_the_end = delete_all;
     rvmc_attributes_of_types = of_types;
+    rvmc_hooks.copied_attributes = copy_of_communicator;
+    rvmc_hooks.freed_attributes = delete_of_communicator;
     return MPI_SUCCESS;
 }
 
@@ -350,6 +354,19 @@ static struct name *name_of(enum object object, int handle)
     return name;
 }
 
+static void free_name_of(enum object object, int handle)
+{
+    struct name *name = name_of(object, handle);
+
+    if (name)
+        name->text[0] = 0;
+}
+
+static void free_name(MPI_Comm c)
+{
+    free_name_of(COMMUNICATOR, c);
+}
+
 static int set_name(const char *call, enum object object, int handle, const char *text)
 {
     struct name *name = name_of(object, handle);
@@ -366,6 +383,7 @@ static int set_name(const char *call, enum object object, int handle, const char
         name->handle = handle;
         object_names = name;
         rvmc_attributes_of_types = of_types;
+        rvmc_hooks.freed_name = free_name;
     }
     strncpy(name->text, text, sizeof name->text - 1);
     name->text[sizeof name->text - 1] = 0;
@@ -384,7 +402,7 @@ int MPI_Comm_get_name(MPI_Comm c, char *text, int *length)
 
     if (error)
         return error;
-    strcpy(text, name ? name->text : c == MPI_COMM_WORLD ? "MPI_COMM_WORLD" : "");
+    strcpy(text, name ? name->text : c == MPI_COMM_WORLD ? "MPI_COMM_WORLD" : c == MPI_COMM_SELF ? "MPI_COMM_SELF" : "");
     *length = (int)strlen(text);
     return MPI_SUCCESS;
 }

@@ -4,7 +4,7 @@
 #define RVMC_CONSTANTS_H
 
 typedef long MPI_Request, MPI_Message, MPI_Aint, MPI_Count, MPI_Offset;
-typedef int MPI_Comm, MPI_Datatype, MPI_Op, MPI_Info, MPI_Errhandler, MPI_Fint;
+typedef int MPI_Comm, MPI_Group, MPI_Datatype, MPI_Op, MPI_Info, MPI_Errhandler, MPI_Fint;
 
 /* The three words of 8 bytes that the machine writes, low byte first. So the fields are the lower halves, and MPI_ERROR is
    the upper half of the number of bytes: 0, which is MPI_SUCCESS, in each status that the machine writes. */
@@ -27,7 +27,10 @@ typedef int MPI_Type_delete_attr_function(MPI_Datatype type, int key, void *valu
 #define MPI_VERSION 4
 #define MPI_SUBVERSION 1
 #define MPI_COMM_WORLD 0
+#define MPI_COMM_SELF 1
 #define MPI_COMM_NULL (-1)
+#define MPI_GROUP_NULL 0
+#define MPI_GROUP_EMPTY (1 << 28)
 #define MPI_ANY_SOURCE (-1)
 #define MPI_ANY_TAG (-1)
 #define MPI_PROC_NULL (-2)
@@ -60,6 +63,15 @@ typedef int MPI_Type_delete_attr_function(MPI_Datatype type, int key, void *valu
 #define MPI_THREAD_FUNNELED 1
 #define MPI_THREAD_SERIALIZED 2
 #define MPI_THREAD_MULTIPLE 3
+#define MPI_GRAPH 1
+#define MPI_CART 2
+#define MPI_DIST_GRAPH 3
+#define MPI_UNWEIGHTED ((int *)-3L)
+#define MPI_WEIGHTS_EMPTY ((int *)-4L)
+#define MPI_COMM_TYPE_SHARED 1
+#define MPI_COMM_TYPE_HW_GUIDED 2
+#define MPI_COMM_TYPE_HW_UNGUIDED 3
+#define MPI_COMM_TYPE_RESOURCE_GUIDED 4
 #define MPI_IDENT 0
 #define MPI_CONGRUENT 1
 #define MPI_SIMILAR 2
@@ -273,6 +285,8 @@ enum {
 /* Fortran's handles are the same numbers. */
 #define MPI_Comm_c2f(c) ((MPI_Fint)(c))
 #define MPI_Comm_f2c(c) ((MPI_Comm)(c))
+#define MPI_Group_c2f(group) ((MPI_Fint)(group))
+#define MPI_Group_f2c(group) ((MPI_Group)(group))
 #define MPI_Type_c2f(type) ((MPI_Fint)(type))
 #define MPI_Type_f2c(type) ((MPI_Datatype)(type))
 #define MPI_Op_c2f(op) ((MPI_Fint)(op))

@@ -156,12 +156,12 @@ RVMC_INLINE long rvmc_ready(const void *buffer, long size, int dest, int tag, MP
     return rvmc_call(RVMC_TEST, a.value, 0, 0, 0, 0, 0).value ? RVMC_OK : RVMC_NOT_READY;
 }
 /* A request that is complete: a send to no process. */
-RVMC_INLINE long rvmc_complete(long code, MPI_Comm c, MPI_Request *request)
+RVMC_INLINE long rvmc_complete(long code, MPI_Request *request)
 {
     rvmc_answer a = {code, 0};
 
     if (!code)
-        a = rvmc_call(RVMC_ISEND, 0, 0, MPI_PROC_NULL, 0, c, 0);
+        a = rvmc_call(RVMC_ISEND, 0, 0, MPI_PROC_NULL, 0, MPI_COMM_WORLD, 0);
     return rvmc_made(a, request, RVMC_SENDER);
 }
 RVMC_INLINE int MPI_Bsend(const void *buffer, int count, MPI_Datatype type, int dest, int tag, MPI_Comm c)
@@ -189,7 +189,7 @@ RVMC_INLINE int MPI_Ibsend(const void *buffer, int count, MPI_Datatype type, int
 
     if (rvmc_is_derived(type))
         return rvmc_derived.send("MPI_Ibsend", RVMC_IBSEND, 0, buffer, count, type, dest, tag, c, request);
-    code = rvmc_complete(rvmc_buffered(buffer, rvmc_bytes(count, type), dest, tag, c), c, request);
+    code = rvmc_complete(rvmc_buffered(buffer, rvmc_bytes(count, type), dest, tag, c), request);
     return rvmc_code("MPI_Ibsend", code, 0, buffer, count, type, dest, tag, c);
 }
 RVMC_INLINE int MPI_Irsend(const void *buffer, int count, MPI_Datatype type, int dest, int tag, MPI_Comm c,
@@ -199,7 +199,7 @@ RVMC_INLINE int MPI_Irsend(const void *buffer, int count, MPI_Datatype type, int
 
     if (rvmc_is_derived(type))
         return rvmc_derived.send("MPI_Irsend", RVMC_IRSEND, 0, buffer, count, type, dest, tag, c, request);
-    code = rvmc_complete(rvmc_ready(buffer, rvmc_bytes(count, type), dest, tag, c), c, request);
+    code = rvmc_complete(rvmc_ready(buffer, rvmc_bytes(count, type), dest, tag, c), request);
     return rvmc_code("MPI_Irsend", code, 0, buffer, count, type, dest, tag, c);
 }
 RVMC_INLINE int MPI_Ssend_init(const void *buffer, int count, MPI_Datatype type, int dest, int tag, MPI_Comm c,

@@ -82,7 +82,8 @@ long rvmc_own_init(int mode, const void *buffer, long size, int dest, int tag, M
     struct sender *s = malloc(sizeof *s);
 
     if (!rvmc_idle())
-        a = s ? rvmc_send_small(RVMC_SEND_INIT, buffer, rvmc_first(size), dest, tag, c) : (rvmc_answer){RVMC_NO_MEMORY, 0};
+        a = s ? rvmc_send_small(RVMC_SEND_INIT, buffer, rvmc_first(size), rvmc_there(c, dest), tag, rvmc_context(c))
+              : (rvmc_answer){RVMC_NO_MEMORY, 0};
     if (!rvmc_made(a, request, RVMC_PERSISTENT | RVMC_SENDER)) {
         *s = (struct sender){buffer, size, mode, dest, tag, c, MPI_REQUEST_NULL, 0, 0};
         rvmc_own_request(*request, &owner, s);

@@ -96,7 +96,7 @@ static long keep(MPI_Request request, int kind, const MPI_Status *status)
     *kept[request] = *status;
     if (!(kind & (RVMC_PERSISTENT | RVMC_PARTITIONED))) {
         open_again(request);
-        kind &= ~(RVMC_LARGE | RVMC_OWN);
+        kind &= ~(RVMC_LARGE | RVMC_OWN | RVMC_ELSEWHERE);
     }
     rvmc_kinds[request] = (unsigned char)(kind | RVMC_KEPT);
     begin();

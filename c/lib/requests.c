@@ -32,11 +32,13 @@ void rvmc_freed(MPI_Request request, int kind)
         rvmc_large_freed(request);
 }
 
-void rvmc_all_completed(int count, MPI_Request *requests)
+void rvmc_all_completed(int count, MPI_Request *requests, MPI_Status *statuses)
 {
     for (int i = 0; i < count; i++) {
         int kind = rvmc_kind(requests[i]);
 
+        if (kind & RVMC_ELSEWHERE)
+            rvmc_completed_elsewhere(rvmc_rests[requests[i]].communicator, kind, statuses ? statuses + i : 0);
         if (kind & RVMC_PERSISTENT)
             rvmc_kinds[requests[i]] = (unsigned char)(kind & ~RVMC_ACTIVE);
         else
@@ -104,7 +106,7 @@ int MPI_Testall(int count, MPI_Request requests[], int *flag, MPI_Status statuse
             *flag = 0;
             return MPI_SUCCESS;
         }
-        if (kinds[i] & (RVMC_LARGE | RVMC_OWN)) {
+        if (kinds[i] & (RVMC_LARGE | RVMC_ELSEWHERE | RVMC_OWN)) {
             rests[i] = rvmc_rests[requests[i]];
             where = statuses ? statuses : own;
         }

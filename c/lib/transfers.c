@@ -68,8 +68,8 @@ static long sent(int how, const char *buffer, long size, int dest, int tag, MPI_
     switch (how) {
     case RVMC_BSEND: return rvmc_buffered(buffer, size, dest, tag, c);
     case RVMC_RSEND: return rvmc_ready(buffer, size, dest, tag, c);
-    case RVMC_IBSEND: return rvmc_complete(rvmc_buffered(buffer, size, dest, tag, c), c, request);
-    case RVMC_IRSEND: return rvmc_complete(rvmc_ready(buffer, size, dest, tag, c), c, request);
+    case RVMC_IBSEND: return rvmc_complete(rvmc_buffered(buffer, size, dest, tag, c), request);
+    case RVMC_IRSEND: return rvmc_complete(rvmc_ready(buffer, size, dest, tag, c), request);
     case RVMC_ISEND:
     case RVMC_ISSEND: return rvmc_made(rvmc_send(how, buffer, size, dest, tag, c), request, RVMC_SENDER);
     default: return rvmc_send(how, buffer, size, dest, tag, c).code;
