@@ -52,6 +52,9 @@ extern struct rvmc_derived {
     void (*changed_uses)(MPI_Datatype type, int change);
     struct rvmc_layout *(*layout)(MPI_Datatype type);
     long (*elements)(long bytes, MPI_Datatype type);
+    int (*usable)(MPI_Datatype type);
+    long (*extent)(MPI_Datatype type);
+    long (*bytes)(MPI_Datatype type);
 } rvmc_derived;
 extern void (*rvmc_at_the_end)(void);
 
