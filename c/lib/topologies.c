@@ -107,7 +107,7 @@ static int wrong_grid(const struct group *g, int dimensions, const int dims[])
     for (int i = 0; i < dimensions; i++)
         if (dims[i] <= 0)
             return wrong(g->call, g->communicator, MPI_ERR_DIMS, "dims", "a dimension of %d", dims[i]);
-    return wrong(g->call, g->communicator, MPI_ERR_DIMS, "dims", "the grid has more places than the communicator, which has %d",
+    return wrong(g->call, g->communicator, MPI_ERR_ARG, "dims", "the grid has more places than the communicator, which has %d",
                  g->size);
 }
 
