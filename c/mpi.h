@@ -28,12 +28,34 @@ extern unsigned char rvmc_kinds[256];
 extern struct rvmc_rest rvmc_rests[256];
 extern void *rvmc_claims;
 
-/* What a program that uses them has linked: requests of the library's own, and what there is to do at the end. */
+/* What a program that uses them has linked: requests of the library's own (lib/owners.h), datatypes that it made
+   (lib/transfers.c), and what there is to do at the end. Of the ways to send and to receive, those of the machine have its
+   numbers, and others one behind them. */
 extern struct rvmc_own {
     long (*asked)(long number, MPI_Request *request, int *flag, MPI_Status *status);
     long (*started)(MPI_Request request);
     MPI_Request (*inner)(MPI_Request request);
+    void (*freed)(MPI_Request request);
 } rvmc_own;
+enum {
+    RVMC_BSEND = 64, RVMC_RSEND, RVMC_IBSEND, RVMC_IRSEND, RVMC_SSEND_INIT, RVMC_BSEND_INIT, RVMC_RSEND_INIT
+};
+struct rvmc_layout;
+extern struct rvmc_derived {
+    int (*send)(const char *call, int how, int of, const void *buffer, int count, MPI_Datatype type, int dest, int tag,
+                MPI_Comm c, MPI_Request *request);
+    int (*receive)(const char *call, int how, int of, void *buffer, int count, MPI_Datatype type, int source, int tag,
+                   MPI_Comm c, MPI_Status *status, MPI_Request *request);
+    int (*in_parts)(const char *call, long number, const void *buffer, int partitions, MPI_Count count, MPI_Datatype type,
+                    int peer, int tag, MPI_Comm c, MPI_Request *request);
+    char *(*packed)(const void *buffer, int count, MPI_Datatype type);
+    void (*changed_uses)(MPI_Datatype type, int change);
+    struct rvmc_layout *(*layout)(MPI_Datatype type);
+    long (*elements)(long bytes, MPI_Datatype type);
+    int (*usable)(MPI_Datatype type);
+    long (*extent)(MPI_Datatype type);
+    long (*bytes)(MPI_Datatype type);
+} rvmc_derived;
 extern void (*rvmc_at_the_end)(void);
 
 /* docs/C.md, Large messages: a message of 4,096 bytes or more is a first piece of 4,096 bytes and its rest. These speak of
@@ -46,6 +68,7 @@ long rvmc_claim_received(void *buffer, long size, MPI_Message message, MPI_Statu
 rvmc_answer rvmc_claim_posted(void *buffer, long size, MPI_Message message);
 rvmc_answer rvmc_large_send_init(const void *buffer, long size, long dest, int tag, long context);
 void rvmc_large_freed(MPI_Request request);
+void rvmc_freed(MPI_Request request, int kind);
 long rvmc_large_started(MPI_Request request);
 
 /* --- errors (chapter 9) --- */
@@ -93,6 +116,11 @@ RVMC_INLINE int rvmc_idle(void)
 RVMC_INLINE long rvmc_bytes(long count, MPI_Datatype type)
 {
     return count < 0 || !RVMC_SIZE_OF(type) ? -1 : count * RVMC_SIZE_OF(type);
+}
+/* Whether a program made this datatype; then its data are packed before they are sent, and unpacked when they are there. */
+RVMC_INLINE int rvmc_is_derived(MPI_Datatype type)
+{
+    return __builtin_expect(!RVMC_SIZE_OF(type), 0) && rvmc_derived.send;
 }
 RVMC_INLINE long rvmc_first(long size)
 {
@@ -226,28 +254,44 @@ RVMC_INLINE long rvmc_receive(void *buffer, long size, int source, int tag, MPI_
 }
 RVMC_INLINE int MPI_Send(const void *buffer, int count, MPI_Datatype type, int dest, int tag, MPI_Comm c)
 {
-    long code = rvmc_send(RVMC_SEND, buffer, rvmc_bytes(count, type), dest, tag, c).code;
+    long code;
 
+    if (rvmc_is_derived(type))
+        return rvmc_derived.send("MPI_Send", RVMC_SEND, 0, buffer, count, type, dest, tag, c, 0);
+    code = rvmc_send(RVMC_SEND, buffer, rvmc_bytes(count, type), dest, tag, c).code;
     return rvmc_code("MPI_Send", code, 0, buffer, count, type, dest, tag, c);
 }
 RVMC_INLINE int MPI_Ssend(const void *buffer, int count, MPI_Datatype type, int dest, int tag, MPI_Comm c)
 {
-    long code = rvmc_send(RVMC_SSEND, buffer, rvmc_bytes(count, type), dest, tag, c).code;
+    long code;
 
+    if (rvmc_is_derived(type))
+        return rvmc_derived.send("MPI_Ssend", RVMC_SSEND, 0, buffer, count, type, dest, tag, c, 0);
+    code = rvmc_send(RVMC_SSEND, buffer, rvmc_bytes(count, type), dest, tag, c).code;
     return rvmc_code("MPI_Ssend", code, 0, buffer, count, type, dest, tag, c);
 }
 RVMC_INLINE int MPI_Recv(void *buffer, int count, MPI_Datatype type, int source, int tag, MPI_Comm c, MPI_Status *status)
 {
-    long code = rvmc_receive(buffer, rvmc_bytes(count, type), source, tag, c, status);
+    long code;
 
+    if (rvmc_is_derived(type))
+        return rvmc_derived.receive("MPI_Recv", RVMC_RECV, 0, buffer, count, type, source, tag, c, status, 0);
+    code = rvmc_receive(buffer, rvmc_bytes(count, type), source, tag, c, status);
     return rvmc_code("MPI_Recv", code, RVMC_SOURCE, buffer, count, type, source, tag, c);
 }
 /* A standard send always copies its bytes and returns, so sending first and receiving then waits for nobody (3.10). */
 RVMC_INLINE int MPI_Sendrecv(const void *out, int out_count, MPI_Datatype out_type, int dest, int out_tag, void *in,
                              int in_count, MPI_Datatype in_type, int source, int in_tag, MPI_Comm c, MPI_Status *status)
 {
-    long code = rvmc_send(RVMC_SEND, out, rvmc_bytes(out_count, out_type), dest, out_tag, c).code;
+    long code;
 
+    if (rvmc_is_derived(out_type) || rvmc_is_derived(in_type)) {
+        int error = rvmc_derived.send("MPI_Sendrecv", RVMC_SEND, RVMC_OUT, out, out_count, out_type, dest, out_tag, c, 0);
+
+        return error ? error : rvmc_derived.receive("MPI_Sendrecv", RVMC_RECV, RVMC_IN, in, in_count, in_type, source, in_tag,
+                                                    c, status, 0);
+    }
+    code = rvmc_send(RVMC_SEND, out, rvmc_bytes(out_count, out_type), dest, out_tag, c).code;
     if (code)
         return rvmc_code("MPI_Sendrecv", code, RVMC_OUT, out, out_count, out_type, dest, out_tag, c);
     code = rvmc_receive(in, rvmc_bytes(in_count, in_type), source, in_tag, c, status);
@@ -256,8 +300,15 @@ RVMC_INLINE int MPI_Sendrecv(const void *out, int out_count, MPI_Datatype out_ty
 RVMC_INLINE int MPI_Sendrecv_replace(void *buffer, int count, MPI_Datatype type, int dest, int out_tag, int source,
                                      int in_tag, MPI_Comm c, MPI_Status *status)
 {
-    long code = rvmc_send(RVMC_SEND, buffer, rvmc_bytes(count, type), dest, out_tag, c).code;
+    long code;
 
+    if (rvmc_is_derived(type)) {
+        int error = rvmc_derived.send("MPI_Sendrecv_replace", RVMC_SEND, 0, buffer, count, type, dest, out_tag, c, 0);
+
+        return error ? error : rvmc_derived.receive("MPI_Sendrecv_replace", RVMC_RECV, 0, buffer, count, type, source, in_tag,
+                                                    c, status, 0);
+    }
+    code = rvmc_send(RVMC_SEND, buffer, rvmc_bytes(count, type), dest, out_tag, c).code;
     if (code)
         return rvmc_code("MPI_Sendrecv_replace", code, 0, buffer, count, type, dest, out_tag, c);
     code = rvmc_receive(buffer, rvmc_bytes(count, type), source, in_tag, c, status);
@@ -293,15 +344,21 @@ RVMC_INLINE long rvmc_made_receive(rvmc_answer a, void *buffer, long size, MPI_C
 RVMC_INLINE int MPI_Isend(const void *buffer, int count, MPI_Datatype type, int dest, int tag, MPI_Comm c,
                           MPI_Request *request)
 {
-    long code = rvmc_made(rvmc_send(RVMC_ISEND, buffer, rvmc_bytes(count, type), dest, tag, c), request, RVMC_SENDER);
+    long code;
 
+    if (rvmc_is_derived(type))
+        return rvmc_derived.send("MPI_Isend", RVMC_ISEND, 0, buffer, count, type, dest, tag, c, request);
+    code = rvmc_made(rvmc_send(RVMC_ISEND, buffer, rvmc_bytes(count, type), dest, tag, c), request, RVMC_SENDER);
     return rvmc_code("MPI_Isend", code, 0, buffer, count, type, dest, tag, c);
 }
 RVMC_INLINE int MPI_Issend(const void *buffer, int count, MPI_Datatype type, int dest, int tag, MPI_Comm c,
                            MPI_Request *request)
 {
-    long code = rvmc_made(rvmc_send(RVMC_ISSEND, buffer, rvmc_bytes(count, type), dest, tag, c), request, RVMC_SENDER);
+    long code;
 
+    if (rvmc_is_derived(type))
+        return rvmc_derived.send("MPI_Issend", RVMC_ISSEND, 0, buffer, count, type, dest, tag, c, request);
+    code = rvmc_made(rvmc_send(RVMC_ISSEND, buffer, rvmc_bytes(count, type), dest, tag, c), request, RVMC_SENDER);
     return rvmc_code("MPI_Issend", code, 0, buffer, count, type, dest, tag, c);
 }
 RVMC_INLINE long rvmc_posted_claim(void *buffer, long size, MPI_Message message, MPI_Comm c, MPI_Request *request)
@@ -332,8 +389,11 @@ RVMC_INLINE long rvmc_posted(void *buffer, long size, int source, int tag, MPI_C
 RVMC_INLINE int MPI_Irecv(void *buffer, int count, MPI_Datatype type, int source, int tag, MPI_Comm c,
                           MPI_Request *request)
 {
-    long code = rvmc_posted(buffer, rvmc_bytes(count, type), source, tag, c, request);
+    long code;
 
+    if (rvmc_is_derived(type))
+        return rvmc_derived.receive("MPI_Irecv", RVMC_IRECV, 0, buffer, count, type, source, tag, c, 0, request);
+    code = rvmc_posted(buffer, rvmc_bytes(count, type), source, tag, c, request);
     return rvmc_code("MPI_Irecv", code, RVMC_SOURCE, buffer, count, type, source, tag, c);
 }
 
@@ -352,17 +412,12 @@ RVMC_INLINE long rvmc_completed(MPI_Request *request, int kind, const struct rvm
         rvmc_completed_elsewhere(rest->communicator, kind, where);
     return code;
 }
-RVMC_INLINE long rvmc_asked(long number, MPI_Request *request, int *flag, MPI_Status *status)
+RVMC_INLINE long rvmc_asked_machine(long number, MPI_Request *request, int kind, int *flag, MPI_Status *status)
 {
-    int kind = rvmc_kind(*request);
     struct rvmc_rest rest = {0, 0, 0, 0, 0, 0};
     MPI_Status own, *where = status;
     rvmc_answer a;
 
-    if (rvmc_idle())
-        return RVMC_NOT_BEGUN;
-    if (__builtin_expect(kind & (RVMC_OWN | RVMC_KEPT), 0))
-        return rvmc_own.asked(number, request, flag, status);
     if (kind & (RVMC_LARGE | RVMC_ELSEWHERE)) {
         rest = rvmc_rests[*request];
         where = status ? status : &own;
@@ -370,6 +425,16 @@ RVMC_INLINE long rvmc_asked(long number, MPI_Request *request, int *flag, MPI_St
     a = rvmc_call(number, *request, (long)where, 0, 0, 0, 0);
     *flag = number == RVMC_WAIT ? a.code == RVMC_OK || a.code == RVMC_TRUNCATED : (int)a.value;
     return *flag && *request ? rvmc_completed(request, kind, &rest, where, a.code) : a.code;
+}
+RVMC_INLINE long rvmc_asked(long number, MPI_Request *request, int *flag, MPI_Status *status)
+{
+    int kind = rvmc_kind(*request);
+
+    if (rvmc_idle())
+        return RVMC_NOT_BEGUN;
+    if (__builtin_expect(kind & (RVMC_OWN | RVMC_KEPT), 0))
+        return rvmc_own.asked(number, request, flag, status);
+    return rvmc_asked_machine(number, request, kind, flag, status);
 }
 RVMC_INLINE int MPI_Test(MPI_Request *request, int *flag, MPI_Status *status)
 {
@@ -505,34 +570,53 @@ RVMC_INLINE int MPI_Improbe(int source, int tag, MPI_Comm c, int *flag, MPI_Mess
     *flag = *message != MPI_MESSAGE_NULL;
     return rvmc_code("MPI_Improbe", code, RVMC_SOURCE, 0, 0, MPI_BYTE, source, tag, c);
 }
-RVMC_INLINE int MPI_Mrecv(void *buffer, int count, MPI_Datatype type, MPI_Message *message, MPI_Status *status)
+RVMC_INLINE long rvmc_receive_matched(void *buffer, long size, MPI_Message *message, MPI_Status *status)
 {
     MPI_Comm c = rvmc_comm_of(*message);
     MPI_Message own = rvmc_message_in(-c, *message);
-    long code, size = rvmc_bytes(count, type);
+    long code;
 
     if (own < MPI_MESSAGE_NO_PROC)
         code = rvmc_claim_received(buffer, size, own, status);
     else
         code = rvmc_call(RVMC_MRECV, (long)buffer, rvmc_first(size), own, (long)status, 0, 0).code;
     *message = MPI_MESSAGE_NULL;
-    rvmc_arrived(code, c, status);
+    return rvmc_arrived(code, c, status);
+}
+RVMC_INLINE int MPI_Mrecv(void *buffer, int count, MPI_Datatype type, MPI_Message *message, MPI_Status *status)
+{
+    MPI_Comm c = rvmc_comm_of(*message);
+    long code;
+
+    if (rvmc_is_derived(type))
+        return rvmc_derived.receive("MPI_Mrecv", RVMC_MRECV, 0, buffer, count, type, 0, 0, c, status, message);
+    code = rvmc_receive_matched(buffer, rvmc_bytes(count, type), message, status);
     return rvmc_code("MPI_Mrecv", code, RVMC_SOURCE, buffer, count, type, 0, 0, c);
+}
+RVMC_INLINE long rvmc_post_matched(void *buffer, long size, MPI_Message *message, MPI_Request *request)
+{
+    MPI_Comm c = rvmc_comm_of(*message);
+    MPI_Message own = rvmc_message_in(-c, *message);
+    rvmc_answer a;
+
+    *message = MPI_MESSAGE_NULL;
+    if (own < MPI_MESSAGE_NO_PROC)
+        return rvmc_posted_claim(buffer, size, own, c, request);
+    a = rvmc_call(RVMC_IMRECV, (long)buffer, rvmc_first(size), own, 0, 0, 0);
+    return rvmc_made(a, request, a.code ? 0 : rvmc_elsewhere(c, a.value));
 }
 RVMC_INLINE int MPI_Imrecv(void *buffer, int count, MPI_Datatype type, MPI_Message *message, MPI_Request *request)
 {
     MPI_Comm c = rvmc_comm_of(*message);
-    MPI_Message own = rvmc_message_in(-c, *message);
-    long code, size = rvmc_bytes(count, type);
-    rvmc_answer a;
+    MPI_Message matched = *message;
+    long code;
 
-    *message = MPI_MESSAGE_NULL;
-    if (own < MPI_MESSAGE_NO_PROC) {
-        code = rvmc_posted_claim(buffer, size, own, c, request);
-    } else {
-        a = rvmc_call(RVMC_IMRECV, (long)buffer, rvmc_first(size), own, 0, 0, 0);
-        code = rvmc_made(a, request, a.code ? 0 : rvmc_elsewhere(c, a.value));
+    if (rvmc_is_derived(type)) {
+        *message = MPI_MESSAGE_NULL;
+        *request = matched;
+        return rvmc_derived.receive("MPI_Imrecv", RVMC_IMRECV, 0, buffer, count, type, 0, 0, c, 0, request);
     }
+    code = rvmc_post_matched(buffer, rvmc_bytes(count, type), message, request);
     return rvmc_code("MPI_Imrecv", code, RVMC_SOURCE, buffer, count, type, 0, 0, c);
 }
 
@@ -545,6 +629,8 @@ RVMC_INLINE int MPI_Send_init(const void *buffer, int count, MPI_Datatype type, 
 
     if (rvmc_idle())
         return rvmc_comm_code("MPI_Send_init", RVMC_NOT_BEGUN, c);
+    if (rvmc_is_derived(type))
+        return rvmc_derived.send("MPI_Send_init", RVMC_SEND_INIT, 0, buffer, count, type, dest, tag, c, request);
     if (size >= RVMC_PIECE)
         code = rvmc_made(rvmc_large_send_init(buffer, size, rvmc_there(c, dest), tag, rvmc_context(c)), request,
                          RVMC_PERSISTENT | RVMC_LARGE | RVMC_SENDER);
@@ -553,25 +639,28 @@ RVMC_INLINE int MPI_Send_init(const void *buffer, int count, MPI_Datatype type, 
                          RVMC_PERSISTENT | RVMC_SENDER);
     return rvmc_code("MPI_Send_init", code, 0, buffer, count, type, dest, tag, c);
 }
+RVMC_INLINE long rvmc_init_receive(void *buffer, long size, int source, int tag, MPI_Comm c, MPI_Request *request)
+{
+    rvmc_answer a = {RVMC_NOT_BEGUN, 0};
+
+    if (!rvmc_idle())
+        a = rvmc_call(RVMC_RECV_INIT, (long)buffer, rvmc_first(size), rvmc_there(c, source), tag, rvmc_context(c), 0);
+    return rvmc_made_receive(a, buffer, size, c, RVMC_PERSISTENT, request);
+}
 RVMC_INLINE int MPI_Recv_init(void *buffer, int count, MPI_Datatype type, int source, int tag, MPI_Comm c,
                               MPI_Request *request)
 {
-    long code = RVMC_NOT_BEGUN, size = rvmc_bytes(count, type);
-
-    if (!rvmc_idle())
-        code = rvmc_made_receive(rvmc_call(RVMC_RECV_INIT, (long)buffer, rvmc_first(size), rvmc_there(c, source), tag,
-                                           rvmc_context(c), 0), buffer, size, c, RVMC_PERSISTENT, request);
-    return rvmc_code("MPI_Recv_init", code, RVMC_SOURCE, buffer, count, type, source, tag, c);
-}
-RVMC_INLINE long rvmc_started(MPI_Request request)
-{
-    int kind = rvmc_kind(request);
     long code;
 
-    if (rvmc_idle())
-        return RVMC_NOT_BEGUN;
-    if (__builtin_expect(kind & RVMC_OWN, 0))
-        return rvmc_own.started(request);
+    if (rvmc_is_derived(type))
+        return rvmc_derived.receive("MPI_Recv_init", RVMC_RECV_INIT, 0, buffer, count, type, source, tag, c, 0, request);
+    code = rvmc_init_receive(buffer, rvmc_bytes(count, type), source, tag, c, request);
+    return rvmc_code("MPI_Recv_init", code, RVMC_SOURCE, buffer, count, type, source, tag, c);
+}
+RVMC_INLINE long rvmc_start_machine(MPI_Request request, int kind)
+{
+    long code;
+
     code = (kind & RVMC_LARGE) || rvmc_claims ? rvmc_large_started(request) : RVMC_OK;
 
     if (!code)
@@ -579,6 +668,16 @@ RVMC_INLINE long rvmc_started(MPI_Request request)
     if (!code)
         rvmc_kinds[request & 255] = (unsigned char)(kind | RVMC_ACTIVE);
     return code;
+}
+RVMC_INLINE long rvmc_started(MPI_Request request)
+{
+    int kind = rvmc_kind(request);
+
+    if (rvmc_idle())
+        return RVMC_NOT_BEGUN;
+    if (__builtin_expect(kind & RVMC_OWN, 0))
+        return rvmc_own.started(request);
+    return rvmc_start_machine(request, kind);
 }
 RVMC_INLINE int MPI_Start(MPI_Request *request)
 {
@@ -605,8 +704,8 @@ RVMC_INLINE int MPI_Request_free(MPI_Request *request)
     else
         a = rvmc_call(RVMC_REQUEST_FREE, was, 0, 0, 0, 0, 0);
     if (!a.code) {
-        if ((kind & RVMC_LARGE) && (kind & RVMC_SENDER) && (kind & RVMC_PERSISTENT))
-            rvmc_large_freed(was);
+        if (__builtin_expect(kind & (RVMC_LARGE | RVMC_OWN), 0))
+            rvmc_freed(was, kind);
         if (kind & RVMC_ELSEWHERE)
             rvmc_closed(rvmc_rests[was].communicator);
         *request = MPI_REQUEST_NULL;
@@ -633,6 +732,8 @@ RVMC_INLINE int MPI_Psend_init(const void *buffer, int partitions, MPI_Count cou
     rvmc_answer a = {buffer ? RVMC_NOT_BEGUN : RVMC_BAD_BUFFER, 0};
 
     (void)info;
+    if (rvmc_is_derived(type))
+        return rvmc_derived.in_parts("MPI_Psend_init", RVMC_PSEND_INIT, buffer, partitions, count, type, dest, tag, c, request);
     if (buffer && !rvmc_idle())
         a = rvmc_call(RVMC_PSEND_INIT, (long)buffer, partitions, rvmc_bytes(count, type), rvmc_there(c, dest), tag,
                       rvmc_context(c));
@@ -645,6 +746,8 @@ RVMC_INLINE int MPI_Precv_init(void *buffer, int partitions, MPI_Count count, MP
     rvmc_answer a = {RVMC_NOT_BEGUN, 0};
 
     (void)info;
+    if (rvmc_is_derived(type))
+        return rvmc_derived.in_parts("MPI_Precv_init", RVMC_PRECV_INIT, buffer, partitions, count, type, source, tag, c, request);
     if (!rvmc_idle())
         a = rvmc_call(RVMC_PRECV_INIT, (long)buffer, partitions, rvmc_bytes(count, type), rvmc_there(c, source), tag,
                       rvmc_context(c));

@@ -100,9 +100,13 @@ typedef int MPI_Type_delete_attr_function(MPI_Datatype type, int key, void *valu
    its extent. What a reduction does goes by kind and size alone. lib/datatypes.c has the names. */
 enum {
     RVMC_SIGNED = 1, RVMC_UNSIGNED, RVMC_BYTES, RVMC_TRUTH, RVMC_FLOATING, RVMC_COMPLEX,
-    RVMC_FLOATING_PAIR, RVMC_OPAQUE, RVMC_SIGNED_PAIR, RVMC_TWO_SIGNED, RVMC_TWO_FLOATING
+    RVMC_FLOATING_PAIR, RVMC_OPAQUE, RVMC_SIGNED_PAIR, RVMC_TWO_SIGNED, RVMC_TWO_FLOATING, RVMC_DERIVED, RVMC_MARK
 };
 #define RVMC_TYPE(number, kind, size) ((number) << 16 | (kind) << 8 | (size))
+/* One that a program made has no size here, and a number of its own with a bit that no basic one has. */
+#define RVMC_MADE_SIGN 128
+#define RVMC_MADE(place) RVMC_TYPE(((place) << 1 & ~255) | RVMC_MADE_SIGN | ((place) & 127), RVMC_DERIVED, 0)
+#define RVMC_MADE_PLACE(type) (((type) >> 17 & ~127) | ((type) >> 16 & 127))
 #define RVMC_SIZE_OF(type) ((type) & 255)
 #define RVMC_KIND_OF(type) ((type) >> 8 & 255)
 #define RVMC_SHAPE_OF(type) ((type) & 65535)
@@ -168,6 +172,36 @@ enum {
 #define MPI_2INTEGER RVMC_TYPE(52, 10, 8)
 #define MPI_2REAL RVMC_TYPE(53, 11, 8)
 #define MPI_2DOUBLE_PRECISION RVMC_TYPE(54, 11, 16)
+/* The bounds of MPI_Type_struct, which have no bytes. */
+#define MPI_LB RVMC_TYPE(1, RVMC_MARK, 0)
+#define MPI_UB RVMC_TYPE(2, RVMC_MARK, 0)
+
+/* How a datatype was made (5.1.13), and the arguments of arrays (5.1.3, 5.1.4). */
+#define MPI_COMBINER_NAMED 1
+#define MPI_COMBINER_DUP 2
+#define MPI_COMBINER_CONTIGUOUS 3
+#define MPI_COMBINER_VECTOR 4
+#define MPI_COMBINER_HVECTOR_INTEGER 5
+#define MPI_COMBINER_HVECTOR 6
+#define MPI_COMBINER_INDEXED 7
+#define MPI_COMBINER_HINDEXED_INTEGER 8
+#define MPI_COMBINER_HINDEXED 9
+#define MPI_COMBINER_INDEXED_BLOCK 10
+#define MPI_COMBINER_STRUCT_INTEGER 11
+#define MPI_COMBINER_STRUCT 12
+#define MPI_COMBINER_SUBARRAY 13
+#define MPI_COMBINER_DARRAY 14
+#define MPI_COMBINER_F90_REAL 15
+#define MPI_COMBINER_F90_COMPLEX 16
+#define MPI_COMBINER_F90_INTEGER 17
+#define MPI_COMBINER_RESIZED 18
+#define MPI_COMBINER_HINDEXED_BLOCK 19
+#define MPI_ORDER_C 56
+#define MPI_ORDER_FORTRAN 57
+#define MPI_DISTRIBUTE_BLOCK 121
+#define MPI_DISTRIBUTE_CYCLIC 122
+#define MPI_DISTRIBUTE_NONE 123
+#define MPI_DISTRIBUTE_DFLT_DARG (-49767)
 
 /* The operations (6.9.2). Those of a program's own have the numbers behind them. */
 #define MPI_OP_NULL 0

@@ -280,7 +280,8 @@ int rvmc_wrong_collective(const struct group *g)
     case RVMC_BAD_COUNT:
         return rvmc_raise(call, c, MPI_ERR_COUNT, g->argument, "count %d is negative", g->value);
     case RVMC_BAD_TYPE:
-        return rvmc_raise(call, c, MPI_ERR_TYPE, g->argument, "the datatype is MPI_DATATYPE_NULL, or none");
+        return rvmc_raise(call, c, MPI_ERR_TYPE, g->argument, RVMC_KIND_OF(g->value) == RVMC_DERIVED
+                          ? "the datatype isn't committed, or was freed" : "the datatype is MPI_DATATYPE_NULL, or none");
     case RVMC_BAD_OP:
         if (!g->value)
             return rvmc_raise(call, c, MPI_ERR_OP, "op", "the operation is MPI_OP_NULL, or none");
