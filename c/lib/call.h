@@ -27,12 +27,14 @@ enum {
     RVMC_CODES = 17,
     RVMC_LARGE_PROBE = RVMC_CODES, RVMC_BAD_ROOT, RVMC_BAD_OP, RVMC_OTHER_COUNT, RVMC_NO_MEMORY, RVMC_IN_PLACE,
     RVMC_PARTS_AMONG, RVMC_NOT_BEGUN, RVMC_BEGUN_TWICE, RVMC_BAD_TYPE, RVMC_ALIASED, RVMC_NOT_READY, RVMC_NO_BUFFER,
-    RVMC_TWO_BUFFERS, RVMC_NO_CANCEL, RVMC_SEVERAL_HARTS, RVMC_MISMATCH
+    RVMC_TWO_BUFFERS, RVMC_NO_CANCEL, RVMC_SEVERAL_HARTS, RVMC_MISMATCH,
+    RVMC_TOO_MANY, RVMC_LATER_FAILED
 };
 
 /* The tags of the twin. A rank sends itself those of harts and mutexes. */
 enum {
     RVMC_TAG_COLLECTIVE = 0,                  /* and the communicator, below 8: of collectives that wait */
+    RVMC_TAG_IDUP = 8,                        /* and the communicator: MPI_Comm_idup */
     RVMC_TAG_FREE = 96,                       /* a hart that has no thread */
     RVMC_TAG_HEAP = 97,                       /* the heap, which no hart is at work on */
     RVMC_TAG_WORK = 104,                      /* and the hart: there is work for it, or the end; start.S has it too */

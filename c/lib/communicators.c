@@ -1,6 +1,7 @@
 /* communicators.c: the table of communicators (communicators.h), and what stands between MPI's ranks and the machine's. */
 #include "../mpi.h"
 #include "errors.h"
+#include "contexts.h"
 
 enum { CONTEXTS = 0xfc };                         /* 2 to 7 */
 
@@ -102,6 +103,8 @@ long rvmc_context_of(MPI_Comm c)
     if (!of)
         return -1;
     if (of->context < 0) {
+        if (rvmc_hooks.settled)
+            rvmc_hooks.settled(MPI_COMM_NULL);
         rvmc_begin_context();
         if (of->context < 0)
             rvmc_table[c].context = (signed char)rvmc_take_context(-1);

@@ -158,6 +158,8 @@ int rvmc_split(struct group *g, int color, int key, MPI_Comm *made)
     struct told all[MOST];
     struct choice choice = {0, ~0};
 
+    if (rvmc_hooks.settled)
+        rvmc_hooks.settled(MPI_COMM_NULL);
     if (!g->code)
         tell_all(g, (struct told){rvmc_contexts, color, key}, all);
     for (int r = 0; r < g->size && !g->code; r++)
@@ -194,6 +196,8 @@ static int create(struct group *g, MPI_Group group, MPI_Comm *made)
     struct told all[MOST];
     struct choice choice = {0, ~0};
 
+    if (rvmc_hooks.settled)
+        rvmc_hooks.settled(MPI_COMM_NULL);
     if (!g->code)
         tell_all(g, (struct told){rvmc_contexts, group, 0}, all);
     for (int r = 0; r < g->size && !g->code; r++)
@@ -246,11 +250,9 @@ int MPI_Comm_create_group(MPI_Comm c, MPI_Group group, int tag, MPI_Comm *made)
     return create(&g, group, made);
 }
 
-int MPI_Comm_dup(MPI_Comm c, MPI_Comm *made)
+/* What a copy has beside its ranks. */
+static int copied(MPI_Comm c, int error, MPI_Comm *made)
 {
-    struct group g = rvmc_group("MPI_Comm_dup", c);
-    int error = create(&g, g.of ? rvmc_group_of(g.of) : MPI_GROUP_EMPTY, made);
-
     if (!error && rvmc_hooks.copied_topology)
         error = rvmc_hooks.copied_topology(c, *made);
     if (!error && rvmc_hooks.copied_attributes)
@@ -258,6 +260,18 @@ int MPI_Comm_dup(MPI_Comm c, MPI_Comm *made)
     if (error && *made != MPI_COMM_NULL)
         MPI_Comm_free(made);
     return error;
+}
+
+int MPI_Comm_dup(MPI_Comm c, MPI_Comm *made)
+{
+    struct group g = rvmc_group("MPI_Comm_dup", c);
+
+    return copied(c, create(&g, g.of ? rvmc_group_of(g.of) : MPI_GROUP_EMPTY, made), made);
+}
+
+int rvmc_make_copy(struct group *g, int free, MPI_Comm *made)
+{
+    return copied(g->communicator, make(g, rvmc_group_of(g->of), (struct choice){~0u, free}, made), made);
 }
 
 int MPI_Comm_dup_with_info(MPI_Comm c, MPI_Info info, MPI_Comm *made)
