@@ -20,7 +20,8 @@ use std::alloc::{AllocError, Global};
 const EXAMPLES: &str = "\
 What a program prints may depend on which rank runs first. `explore` runs the
 image under every schedule of its ranks, and lists every outcome: an end is a
-state from which no hart goes on.
+state from which no hart goes on. If ranks are stuck while others run on for
+ever, they are listed too, as `deadlock: ranks 1 2 while others run on`.
 
 The verdict is about this machine. A send copies its message and returns, and a
 message arrives at once. MPI allows more: a standard send may wait until it is
@@ -68,14 +69,16 @@ At most 67,108,864 bytes are read, from FILE or else from standard input. With -
 the output goes to a file, which is in its place once it is whole.
 
 Status:
-  0 the list is complete, and every hart ended at each end
+  0 the list is complete, every hart ended at each end, and each run can end
   1 error in the source, the image, the plan, a start or a text, or no such end
   2 error in the command line
   3 a hart trapped at some end
   4 the list is not complete
   5 out of memory
   6 a read or write failed, or the input is too long
-  7 the list is complete, and some end is a deadlock
+  7 the list is complete, and some end is a deadlock, or some ranks are stuck
+    while others run on
+  8 the list is complete, and some run goes on for ever: nothing ends it any more
 
 Examples:
   rvmc explore farm.image

@@ -135,7 +135,8 @@ Status:
     the machine; `explore`: not every outcome was found
   5 out of memory or threads
   6 a read or write failed, or the input is too long
-  7 `explore` found every outcome, and one of them is a deadlock";
+  7 `explore` found every outcome, and one of them is a deadlock
+  8 `explore` found every outcome, and some run goes on for ever";
 
 fn top<'a>(alloc: Global) -> Result<Command<'a>, AllocError>
     ensures { IfOk result (StandsFor top_app) }
