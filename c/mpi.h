@@ -621,4 +621,7 @@ RVMC_INLINE int MPI_Parrived(MPI_Request request, int partition, int *flag)
 
 #include "lib/declared.h"
 #include "lib/lacks.h"
+#ifdef RVMC_CHECK
+#include "lib/check.h"
+#endif
 #endif

@@ -1,0 +1,93 @@
+/* check.h: what mpi.h has at its end under rvmc-cc --check. The program's calls go to functions of the library's files
+   check_*.c, which look at the arguments and then make MPI's own call. Calls that mpi.h has inline keep MPI's name as their
+   symbol; for the others that is the name of the library's function. */
+#ifndef RVMC_CHECK_H
+#define RVMC_CHECK_H
+
+#define RVMC_CHECKED_INLINE(name) __typeof__(MPI_##name) rvmc_checked_##name __asm__("MPI_" #name);
+#define RVMC_CHECKED(name) __typeof__(MPI_##name) rvmc_checked_##name;
+
+RVMC_CHECKED_INLINE(Init) RVMC_CHECKED_INLINE(Init_thread) RVMC_CHECKED_INLINE(Finalize)
+RVMC_CHECKED_INLINE(Send) RVMC_CHECKED_INLINE(Ssend) RVMC_CHECKED_INLINE(Bsend) RVMC_CHECKED_INLINE(Rsend)
+RVMC_CHECKED_INLINE(Recv) RVMC_CHECKED_INLINE(Sendrecv) RVMC_CHECKED_INLINE(Sendrecv_replace)
+RVMC_CHECKED_INLINE(Isend) RVMC_CHECKED_INLINE(Issend) RVMC_CHECKED_INLINE(Ibsend) RVMC_CHECKED_INLINE(Irsend)
+RVMC_CHECKED_INLINE(Irecv) RVMC_CHECKED_INLINE(Isendrecv) RVMC_CHECKED_INLINE(Isendrecv_replace)
+RVMC_CHECKED_INLINE(Probe) RVMC_CHECKED_INLINE(Iprobe) RVMC_CHECKED_INLINE(Mprobe) RVMC_CHECKED_INLINE(Improbe)
+RVMC_CHECKED_INLINE(Mrecv) RVMC_CHECKED_INLINE(Imrecv)
+RVMC_CHECKED_INLINE(Send_init) RVMC_CHECKED_INLINE(Ssend_init) RVMC_CHECKED_INLINE(Bsend_init)
+RVMC_CHECKED_INLINE(Rsend_init) RVMC_CHECKED_INLINE(Recv_init) RVMC_CHECKED_INLINE(Start) RVMC_CHECKED_INLINE(Startall)
+RVMC_CHECKED_INLINE(Wait) RVMC_CHECKED_INLINE(Test) RVMC_CHECKED_INLINE(Waitall) RVMC_CHECKED_INLINE(Request_free)
+RVMC_CHECKED(Testall) RVMC_CHECKED(Waitany) RVMC_CHECKED(Testany) RVMC_CHECKED(Waitsome) RVMC_CHECKED(Testsome)
+RVMC_CHECKED(Request_get_status) RVMC_CHECKED(Cancel)
+
+
+RVMC_CHECKED(Barrier) RVMC_CHECKED(Bcast) RVMC_CHECKED(Gather) RVMC_CHECKED(Gatherv) RVMC_CHECKED(Scatter)
+RVMC_CHECKED(Scatterv) RVMC_CHECKED(Allgather) RVMC_CHECKED(Allgatherv) RVMC_CHECKED(Alltoall) RVMC_CHECKED(Alltoallv)
+RVMC_CHECKED(Alltoallw)
+#ifndef RVMC_REDUCTIONS
+RVMC_CHECKED(Reduce) RVMC_CHECKED(Allreduce) RVMC_CHECKED(Scan) RVMC_CHECKED(Exscan) RVMC_CHECKED(Reduce_scatter)
+RVMC_CHECKED(Reduce_scatter_block)
+#endif
+
+#ifdef RVMC_CHECK
+#define MPI_Init rvmc_checked_Init
+#define MPI_Init_thread rvmc_checked_Init_thread
+#define MPI_Finalize rvmc_checked_Finalize
+#define MPI_Send rvmc_checked_Send
+#define MPI_Ssend rvmc_checked_Ssend
+#define MPI_Bsend rvmc_checked_Bsend
+#define MPI_Rsend rvmc_checked_Rsend
+#define MPI_Recv rvmc_checked_Recv
+#define MPI_Sendrecv rvmc_checked_Sendrecv
+#define MPI_Sendrecv_replace rvmc_checked_Sendrecv_replace
+#define MPI_Isend rvmc_checked_Isend
+#define MPI_Issend rvmc_checked_Issend
+#define MPI_Ibsend rvmc_checked_Ibsend
+#define MPI_Irsend rvmc_checked_Irsend
+#define MPI_Irecv rvmc_checked_Irecv
+#define MPI_Isendrecv rvmc_checked_Isendrecv
+#define MPI_Isendrecv_replace rvmc_checked_Isendrecv_replace
+#define MPI_Probe rvmc_checked_Probe
+#define MPI_Iprobe rvmc_checked_Iprobe
+#define MPI_Mprobe rvmc_checked_Mprobe
+#define MPI_Improbe rvmc_checked_Improbe
+#define MPI_Mrecv rvmc_checked_Mrecv
+#define MPI_Imrecv rvmc_checked_Imrecv
+#define MPI_Send_init rvmc_checked_Send_init
+#define MPI_Ssend_init rvmc_checked_Ssend_init
+#define MPI_Bsend_init rvmc_checked_Bsend_init
+#define MPI_Rsend_init rvmc_checked_Rsend_init
+#define MPI_Recv_init rvmc_checked_Recv_init
+#define MPI_Start rvmc_checked_Start
+#define MPI_Startall rvmc_checked_Startall
+#define MPI_Wait rvmc_checked_Wait
+#define MPI_Test rvmc_checked_Test
+#define MPI_Waitall rvmc_checked_Waitall
+#define MPI_Testall rvmc_checked_Testall
+#define MPI_Waitany rvmc_checked_Waitany
+#define MPI_Testany rvmc_checked_Testany
+#define MPI_Waitsome rvmc_checked_Waitsome
+#define MPI_Testsome rvmc_checked_Testsome
+#define MPI_Request_free rvmc_checked_Request_free
+#define MPI_Request_get_status rvmc_checked_Request_get_status
+#define MPI_Cancel rvmc_checked_Cancel
+#define MPI_Barrier rvmc_checked_Barrier
+#define MPI_Bcast rvmc_checked_Bcast
+#define MPI_Gather rvmc_checked_Gather
+#define MPI_Gatherv rvmc_checked_Gatherv
+#define MPI_Scatter rvmc_checked_Scatter
+#define MPI_Scatterv rvmc_checked_Scatterv
+#define MPI_Allgather rvmc_checked_Allgather
+#define MPI_Allgatherv rvmc_checked_Allgatherv
+#define MPI_Alltoall rvmc_checked_Alltoall
+#define MPI_Alltoallv rvmc_checked_Alltoallv
+#define MPI_Alltoallw rvmc_checked_Alltoallw
+#define MPI_Reduce rvmc_checked_Reduce
+#define MPI_Allreduce rvmc_checked_Allreduce
+#define MPI_Scan rvmc_checked_Scan
+#define MPI_Exscan rvmc_checked_Exscan
+#define MPI_Reduce_scatter rvmc_checked_Reduce_scatter
+#define MPI_Reduce_scatter_block rvmc_checked_Reduce_scatter_block
+#endif
+
+#endif
