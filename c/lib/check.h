@@ -21,12 +21,58 @@ RVMC_CHECKED(Testall) RVMC_CHECKED(Waitany) RVMC_CHECKED(Testany) RVMC_CHECKED(W
 RVMC_CHECKED(Request_get_status) RVMC_CHECKED(Cancel)
 
 
-RVMC_CHECKED(Barrier) RVMC_CHECKED(Bcast) RVMC_CHECKED(Gather) RVMC_CHECKED(Gatherv) RVMC_CHECKED(Scatter)
-RVMC_CHECKED(Scatterv) RVMC_CHECKED(Allgather) RVMC_CHECKED(Allgatherv) RVMC_CHECKED(Alltoall) RVMC_CHECKED(Alltoallv)
-RVMC_CHECKED(Alltoallw)
+/* Before a collective a function looks at its memory; the call itself stays the program's, so that its line is. */
+#define RVMC_CHECKED_BEFORE(name, parameters, arguments) \
+    void rvmc_check_##name parameters; \
+    RVMC_INLINE int rvmc_checked_##name parameters \
+    { \
+        rvmc_check_##name arguments; \
+        return MPI_##name arguments; \
+    }
+
+RVMC_CHECKED_BEFORE(Barrier, (MPI_Comm c), (c))
+RVMC_CHECKED_BEFORE(Bcast, (void *buffer, int count, MPI_Datatype type, int root, MPI_Comm c), (buffer, count, type, root, c))
+RVMC_CHECKED_BEFORE(Gather, (const void *out, int out_count, MPI_Datatype out_type, void *in, int in_count,
+                             MPI_Datatype in_type, int root, MPI_Comm c),
+                    (out, out_count, out_type, in, in_count, in_type, root, c))
+RVMC_CHECKED_BEFORE(Gatherv, (const void *out, int out_count, MPI_Datatype out_type, void *in, const int in_counts[],
+                              const int places[], MPI_Datatype in_type, int root, MPI_Comm c),
+                    (out, out_count, out_type, in, in_counts, places, in_type, root, c))
+RVMC_CHECKED_BEFORE(Scatter, (const void *out, int out_count, MPI_Datatype out_type, void *in, int in_count,
+                              MPI_Datatype in_type, int root, MPI_Comm c),
+                    (out, out_count, out_type, in, in_count, in_type, root, c))
+RVMC_CHECKED_BEFORE(Scatterv, (const void *out, const int out_counts[], const int places[], MPI_Datatype out_type, void *in,
+                               int in_count, MPI_Datatype in_type, int root, MPI_Comm c),
+                    (out, out_counts, places, out_type, in, in_count, in_type, root, c))
+RVMC_CHECKED_BEFORE(Allgather, (const void *out, int out_count, MPI_Datatype out_type, void *in, int in_count,
+                                MPI_Datatype in_type, MPI_Comm c),
+                    (out, out_count, out_type, in, in_count, in_type, c))
+RVMC_CHECKED_BEFORE(Allgatherv, (const void *out, int out_count, MPI_Datatype out_type, void *in, const int in_counts[],
+                                 const int places[], MPI_Datatype in_type, MPI_Comm c),
+                    (out, out_count, out_type, in, in_counts, places, in_type, c))
+RVMC_CHECKED_BEFORE(Alltoall, (const void *out, int out_count, MPI_Datatype out_type, void *in, int in_count,
+                               MPI_Datatype in_type, MPI_Comm c),
+                    (out, out_count, out_type, in, in_count, in_type, c))
+RVMC_CHECKED_BEFORE(Alltoallv, (const void *out, const int out_counts[], const int out_places[], MPI_Datatype out_type,
+                                void *in, const int in_counts[], const int in_places[], MPI_Datatype in_type, MPI_Comm c),
+                    (out, out_counts, out_places, out_type, in, in_counts, in_places, in_type, c))
+RVMC_CHECKED_BEFORE(Alltoallw, (const void *out, const int out_counts[], const int out_places[],
+                                const MPI_Datatype out_types[], void *in, const int in_counts[], const int in_places[],
+                                const MPI_Datatype in_types[], MPI_Comm c),
+                    (out, out_counts, out_places, out_types, in, in_counts, in_places, in_types, c))
 #ifndef RVMC_REDUCTIONS
-RVMC_CHECKED(Reduce) RVMC_CHECKED(Allreduce) RVMC_CHECKED(Scan) RVMC_CHECKED(Exscan) RVMC_CHECKED(Reduce_scatter)
-RVMC_CHECKED(Reduce_scatter_block)
+RVMC_CHECKED_BEFORE(Reduce, (const void *from, void *to, int count, MPI_Datatype type, MPI_Op op, int root, MPI_Comm c),
+                    (from, to, count, type, op, root, c))
+RVMC_CHECKED_BEFORE(Allreduce, (const void *from, void *to, int count, MPI_Datatype type, MPI_Op op, MPI_Comm c),
+                    (from, to, count, type, op, c))
+RVMC_CHECKED_BEFORE(Scan, (const void *from, void *to, int count, MPI_Datatype type, MPI_Op op, MPI_Comm c),
+                    (from, to, count, type, op, c))
+RVMC_CHECKED_BEFORE(Exscan, (const void *from, void *to, int count, MPI_Datatype type, MPI_Op op, MPI_Comm c),
+                    (from, to, count, type, op, c))
+RVMC_CHECKED_BEFORE(Reduce_scatter, (const void *from, void *to, const int counts[], MPI_Datatype type, MPI_Op op, MPI_Comm c),
+                    (from, to, counts, type, op, c))
+RVMC_CHECKED_BEFORE(Reduce_scatter_block, (const void *from, void *to, int count, MPI_Datatype type, MPI_Op op, MPI_Comm c),
+                    (from, to, count, type, op, c))
 #endif
 
 #ifdef RVMC_CHECK

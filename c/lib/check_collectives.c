@@ -1,5 +1,5 @@
-/* check_collectives.c: the collectives under --check: the memory that they read and write. What one rank says otherwise than
-   another is told by the library itself. */
+/* check_collectives.c: what --check looks at before a collective: the memory that it reads and writes. Where ranks don't
+   agree, the library itself says so (mismatch.c). */
 #include "checked.h"
 
 /* A call with its buffers: one for the rank, or a part of one for each rank. */
@@ -63,23 +63,19 @@ static void typed_parts(const struct call *call, const void *buffer, const int *
         rvmc_check_buffer(call->name, call->behind, (const char *)buffer + places[r], counts[r], types[r], is_written);
 }
 
-#define MAKE(made) return rvmc_check_end(rvmc_told ? MPI_SUCCESS : (made))
-
-int rvmc_checked_Barrier(MPI_Comm c)
+void rvmc_check_Barrier(MPI_Comm c)
 {
     begin("MPI_Barrier", RVMC_BEHIND, c);
-    MAKE(MPI_Barrier(c));
 }
 
-int rvmc_checked_Bcast(void *buffer, int count, MPI_Datatype type, int root, MPI_Comm c)
+void rvmc_check_Bcast(void *buffer, int count, MPI_Datatype type, int root, MPI_Comm c)
 {
     struct call call = begin("MPI_Bcast", RVMC_BEHIND, c);
 
     rvmc_check_buffer(call.name, call.behind, buffer, count, type, rank_in(c) != root);
-    MAKE(MPI_Bcast(buffer, count, type, root, c));
 }
 
-int rvmc_checked_Gather(const void *out, int out_count, MPI_Datatype out_type, void *in, int in_count, MPI_Datatype in_type,
+void rvmc_check_Gather(const void *out, int out_count, MPI_Datatype out_type, void *in, int in_count, MPI_Datatype in_type,
                         int root, MPI_Comm c)
 {
     struct call call = begin("MPI_Gather", RVMC_BEHIND, c);
@@ -87,10 +83,9 @@ int rvmc_checked_Gather(const void *out, int out_count, MPI_Datatype out_type, v
     sends(&call, out, out_count, out_type);
     if (rank_in(c) == root)
         receives(&call, in, (long)in_count * size_of(c), in_type);
-    MAKE(MPI_Gather(out, out_count, out_type, in, in_count, in_type, root, c));
 }
 
-int rvmc_checked_Gatherv(const void *out, int out_count, MPI_Datatype out_type, void *in, const int in_counts[],
+void rvmc_check_Gatherv(const void *out, int out_count, MPI_Datatype out_type, void *in, const int in_counts[],
                          const int places[], MPI_Datatype in_type, int root, MPI_Comm c)
 {
     struct call call = begin("MPI_Gatherv", RVMC_BEHIND, c);
@@ -98,10 +93,9 @@ int rvmc_checked_Gatherv(const void *out, int out_count, MPI_Datatype out_type, 
     sends(&call, out, out_count, out_type);
     if (rank_in(c) == root)
         parts(&call, in, in_counts, places, in_type, RVMC_IS_WRITTEN);
-    MAKE(MPI_Gatherv(out, out_count, out_type, in, in_counts, places, in_type, root, c));
 }
 
-int rvmc_checked_Scatter(const void *out, int out_count, MPI_Datatype out_type, void *in, int in_count, MPI_Datatype in_type,
+void rvmc_check_Scatter(const void *out, int out_count, MPI_Datatype out_type, void *in, int in_count, MPI_Datatype in_type,
                          int root, MPI_Comm c)
 {
     struct call call = begin("MPI_Scatter", RVMC_BEHIND, c);
@@ -109,10 +103,9 @@ int rvmc_checked_Scatter(const void *out, int out_count, MPI_Datatype out_type, 
     receives(&call, in, in_count, in_type);
     if (rank_in(c) == root)
         sends(&call, out, (long)out_count * size_of(c), out_type);
-    MAKE(MPI_Scatter(out, out_count, out_type, in, in_count, in_type, root, c));
 }
 
-int rvmc_checked_Scatterv(const void *out, const int out_counts[], const int places[], MPI_Datatype out_type, void *in,
+void rvmc_check_Scatterv(const void *out, const int out_counts[], const int places[], MPI_Datatype out_type, void *in,
                           int in_count, MPI_Datatype in_type, int root, MPI_Comm c)
 {
     struct call call = begin("MPI_Scatterv", RVMC_BEHIND, c);
@@ -120,100 +113,90 @@ int rvmc_checked_Scatterv(const void *out, const int out_counts[], const int pla
     receives(&call, in, in_count, in_type);
     if (rank_in(c) == root)
         parts(&call, out, out_counts, places, out_type, RVMC_IS_READ);
-    MAKE(MPI_Scatterv(out, out_counts, places, out_type, in, in_count, in_type, root, c));
 }
 
-int rvmc_checked_Allgather(const void *out, int out_count, MPI_Datatype out_type, void *in, int in_count, MPI_Datatype in_type,
+void rvmc_check_Allgather(const void *out, int out_count, MPI_Datatype out_type, void *in, int in_count, MPI_Datatype in_type,
                            MPI_Comm c)
 {
     struct call call = begin("MPI_Allgather", RVMC_BEHIND, c);
 
     sends(&call, out, out_count, out_type);
     receives(&call, in, (long)in_count * size_of(c), in_type);
-    MAKE(MPI_Allgather(out, out_count, out_type, in, in_count, in_type, c));
 }
 
-int rvmc_checked_Allgatherv(const void *out, int out_count, MPI_Datatype out_type, void *in, const int in_counts[],
+void rvmc_check_Allgatherv(const void *out, int out_count, MPI_Datatype out_type, void *in, const int in_counts[],
                             const int places[], MPI_Datatype in_type, MPI_Comm c)
 {
     struct call call = begin("MPI_Allgatherv", RVMC_BEHIND, c);
 
     sends(&call, out, out_count, out_type);
     parts(&call, in, in_counts, places, in_type, RVMC_IS_WRITTEN);
-    MAKE(MPI_Allgatherv(out, out_count, out_type, in, in_counts, places, in_type, c));
 }
 
-int rvmc_checked_Alltoall(const void *out, int out_count, MPI_Datatype out_type, void *in, int in_count, MPI_Datatype in_type,
+void rvmc_check_Alltoall(const void *out, int out_count, MPI_Datatype out_type, void *in, int in_count, MPI_Datatype in_type,
                           MPI_Comm c)
 {
     struct call call = begin("MPI_Alltoall", RVMC_BEHIND, c);
 
     sends(&call, out, (long)out_count * size_of(c), out_type);
     receives(&call, in, (long)in_count * size_of(c), in_type);
-    MAKE(MPI_Alltoall(out, out_count, out_type, in, in_count, in_type, c));
 }
 
-int rvmc_checked_Alltoallv(const void *out, const int out_counts[], const int out_places[], MPI_Datatype out_type, void *in,
+void rvmc_check_Alltoallv(const void *out, const int out_counts[], const int out_places[], MPI_Datatype out_type, void *in,
                            const int in_counts[], const int in_places[], MPI_Datatype in_type, MPI_Comm c)
 {
     struct call call = begin("MPI_Alltoallv", RVMC_BEHIND, c);
 
     parts(&call, out, out_counts, out_places, out_type, RVMC_IS_READ);
     parts(&call, in, in_counts, in_places, in_type, RVMC_IS_WRITTEN);
-    MAKE(MPI_Alltoallv(out, out_counts, out_places, out_type, in, in_counts, in_places, in_type, c));
 }
 
-int rvmc_checked_Alltoallw(const void *out, const int out_counts[], const int out_places[], const MPI_Datatype out_types[],
+void rvmc_check_Alltoallw(const void *out, const int out_counts[], const int out_places[], const MPI_Datatype out_types[],
                            void *in, const int in_counts[], const int in_places[], const MPI_Datatype in_types[], MPI_Comm c)
 {
     struct call call = begin("MPI_Alltoallw", RVMC_BEHIND, c);
 
     typed_parts(&call, out, out_counts, out_places, out_types, RVMC_IS_READ);
     typed_parts(&call, in, in_counts, in_places, in_types, RVMC_IS_WRITTEN);
-    MAKE(MPI_Alltoallw(out, out_counts, out_places, out_types, in, in_counts, in_places, in_types, c));
 }
 
 /* --- reductions (6.9 to 6.11) --- */
 
-int rvmc_checked_Reduce(const void *from, void *to, int count, MPI_Datatype type, MPI_Op op, int root, MPI_Comm c)
+void rvmc_check_Reduce(const void *from, void *to, int count, MPI_Datatype type, MPI_Op op __attribute__((unused)), int root, MPI_Comm c)
 {
     struct call call = begin("MPI_Reduce", RVMC_BEHIND, c);
 
     sends(&call, from, count, type);
     if (rank_in(c) == root)
         receives(&call, to, count, type);
-    MAKE(MPI_Reduce(from, to, count, type, op, root, c));
 }
 
-int rvmc_checked_Allreduce(const void *from, void *to, int count, MPI_Datatype type, MPI_Op op, MPI_Comm c)
+void rvmc_check_Allreduce(const void *from, void *to, int count, MPI_Datatype type, MPI_Op op __attribute__((unused)), MPI_Comm c)
 {
     struct call call = begin("MPI_Allreduce", RVMC_BEHIND, c);
 
     sends(&call, from, count, type);
     receives(&call, to, count, type);
-    MAKE(MPI_Allreduce(from, to, count, type, op, c));
 }
 
-int rvmc_checked_Scan(const void *from, void *to, int count, MPI_Datatype type, MPI_Op op, MPI_Comm c)
+void rvmc_check_Scan(const void *from, void *to, int count, MPI_Datatype type, MPI_Op op __attribute__((unused)), MPI_Comm c)
 {
     struct call call = begin("MPI_Scan", RVMC_BEHIND, c);
 
     sends(&call, from, count, type);
     receives(&call, to, count, type);
-    MAKE(MPI_Scan(from, to, count, type, op, c));
 }
 
-int rvmc_checked_Exscan(const void *from, void *to, int count, MPI_Datatype type, MPI_Op op, MPI_Comm c)
+void rvmc_check_Exscan(const void *from, void *to, int count, MPI_Datatype type, MPI_Op op __attribute__((unused)), MPI_Comm c)
 {
     struct call call = begin("MPI_Exscan", RVMC_BEHIND, c);
 
     sends(&call, from, count, type);
     if (rank_in(c) > 0)
         receives(&call, to, count, type);
-    MAKE(MPI_Exscan(from, to, count, type, op, c));
 }
 
-int rvmc_checked_Reduce_scatter(const void *from, void *to, const int counts[], MPI_Datatype type, MPI_Op op, MPI_Comm c)
+void rvmc_check_Reduce_scatter(const void *from, void *to, const int counts[], MPI_Datatype type, MPI_Op op __attribute__((unused)), MPI_Comm c)
 {
     struct call call = begin("MPI_Reduce_scatter", RVMC_BEHIND, c);
     long all = 0;
@@ -223,15 +206,13 @@ int rvmc_checked_Reduce_scatter(const void *from, void *to, const int counts[], 
     sends(&call, from, all, type);
     if (counts && rank_in(c) >= 0)
         receives(&call, to, from == MPI_IN_PLACE ? all : counts[rank_in(c)], type);
-    MAKE(MPI_Reduce_scatter(from, to, counts, type, op, c));
 }
 
-int rvmc_checked_Reduce_scatter_block(const void *from, void *to, int count, MPI_Datatype type, MPI_Op op, MPI_Comm c)
+void rvmc_check_Reduce_scatter_block(const void *from, void *to, int count, MPI_Datatype type, MPI_Op op __attribute__((unused)), MPI_Comm c)
 {
     struct call call = begin("MPI_Reduce_scatter_block", RVMC_BEHIND, c);
     long all = (long)count * size_of(c);
 
     sends(&call, from, all, type);
     receives(&call, to, from == MPI_IN_PLACE ? all : count, type);
-    MAKE(MPI_Reduce_scatter_block(from, to, count, type, op, c));
 }

@@ -40,11 +40,11 @@ struct packet {
 static void write_head(const struct rvmc_record *r)
 {
     long elements = rvmc_type_elements(r->type, r->count);
-    struct rvmc_head head = {RVMC_HEAD_MARK, rvmc_type_hash(r->type, r->count, elements), (unsigned)elements,
+    struct rvmc_letter head = {RVMC_LETTER_MARK, rvmc_type_hash(r->type, r->count, elements), (unsigned)elements,
                              (unsigned)r->size, r->behind, (unsigned)number_of(r->call), (unsigned)r->type, (unsigned)r->count};
 
-    memcpy(r->room, &head, RVMC_HEAD);
-    rvmc_type_pack(r->room + RVMC_HEAD, r->buffer, r->count, r->type);
+    memcpy(r->room, &head, RVMC_LETTER);
+    rvmc_type_pack(r->room + RVMC_LETTER, r->buffer, r->count, r->type);
 }
 
 static struct packet packet_of(const char *call, unsigned behind, const void *buffer, int count, MPI_Datatype type, int dest)
@@ -56,11 +56,11 @@ static struct packet packet_of(const char *call, unsigned behind, const void *bu
         return plain;
     rvmc_check_buffer(call, behind, buffer, count, type, 0);
     r.size = count * rvmc_type_seen(type).size;
-    r.room = rvmc_check_take(r.size + RVMC_HEAD);
+    r.room = rvmc_check_take(r.size + RVMC_LETTER);
     if (!r.room)
         return plain;
     write_head(&r);
-    return (struct packet){r.room, r.room, (int)r.size + RVMC_HEAD, MPI_BYTE};
+    return (struct packet){r.room, r.room, (int)r.size + RVMC_LETTER, MPI_BYTE};
 }
 
 #define SENDS(name) \
@@ -132,7 +132,7 @@ int rvmc_checked_Bsend(const void *buffer, int count, MPI_Datatype type, int des
 
     rvmc_check_begin("MPI_Bsend", RVMC_BEHIND);
     p = packet_of("MPI_Bsend", RVMC_BEHIND, buffer, count, type, dest);
-    lent = p.room ? RVMC_HEAD : 0;
+    lent = p.room ? RVMC_LETTER : 0;
     lend_room(lent);
     if (!rvmc_told)
         code = MPI_Bsend(p.bytes, p.count, p.type, dest, tag, c);
@@ -150,7 +150,7 @@ int rvmc_checked_Ibsend(const void *buffer, int count, MPI_Datatype type, int de
     rvmc_check_begin("MPI_Ibsend", RVMC_BEHIND);
     rvmc_variable_lost("MPI_Ibsend", RVMC_BEHIND, request);
     p = packet_of("MPI_Ibsend", RVMC_BEHIND, buffer, count, type, dest);
-    lent = p.room ? RVMC_HEAD : 0;
+    lent = p.room ? RVMC_LETTER : 0;
     lend_room(lent);
     if (!rvmc_told)
         code = MPI_Ibsend(p.bytes, p.count, p.type, dest, tag, c, &raw);
@@ -169,8 +169,8 @@ void rvmc_without_head(MPI_Status *status)
     int bytes = 0;
 
     MPI_Get_count(status, MPI_BYTE, &bytes);
-    if (bytes >= RVMC_HEAD)
-        MPI_Status_set_elements(status, MPI_BYTE, bytes - RVMC_HEAD);
+    if (bytes >= RVMC_LETTER)
+        MPI_Status_set_elements(status, MPI_BYTE, bytes - RVMC_LETTER);
 }
 
 /* The handler decides what a truncated message is: an error that is told, or a code that the program looks at. */
@@ -183,12 +183,12 @@ static int errors_return(MPI_Comm c)
 }
 
 /* How a receive, or a send, names its elements: 3 MPI_INT. */
-static const char *sent_type(const struct rvmc_head *head)
+static const char *sent_type(const struct rvmc_letter *head)
 {
     return rvmc_type_said((MPI_Datatype)head->type);
 }
 
-static int fits(const struct rvmc_head *head, const struct rvmc_record *r)
+static int fits(const struct rvmc_letter *head, const struct rvmc_record *r)
 {
     long mine = rvmc_type_elements(r->type, r->count);
 
@@ -200,7 +200,7 @@ static int fits(const struct rvmc_head *head, const struct rvmc_record *r)
 }
 
 /* Both names of a receive: where it was posted, and where it is completed. */
-static void tell_difference(unsigned behind, const struct rvmc_record *r, const struct rvmc_head *head, int source,
+static void tell_difference(unsigned behind, const struct rvmc_record *r, const struct rvmc_letter *head, int source,
                             const char *what)
 {
     RVMC_TELL(behind, head->behind, "%s %s %d %s, but rank %d sent %d %s by %s", rvmc_check_call(r->call, r->behind), what,
@@ -212,19 +212,19 @@ static void tell_difference(unsigned behind, const struct rvmc_record *r, const 
    code. */
 long rvmc_delivered(unsigned behind, const struct rvmc_record *r, MPI_Status *status, long code)
 {
-    struct rvmc_head head;
+    struct rvmc_letter head;
     int got = 0;
 
     if (code && code != RVMC_TRUNCATED)
         return code;
     MPI_Get_count(status, MPI_BYTE, &got);
-    memcpy(&head, r->room, RVMC_HEAD);
-    if (got < RVMC_HEAD || head.mark != RVMC_HEAD_MARK) {
+    memcpy(&head, r->room, RVMC_LETTER);
+    if (got < RVMC_LETTER || head.mark != RVMC_LETTER_MARK) {
         rvmc_type_unpack(r->buffer, r->room, got, r->count, r->type);
         return code;
     }
     rvmc_without_head(status);
-    rvmc_type_unpack(r->buffer, r->room + RVMC_HEAD, got - RVMC_HEAD, r->count, r->type);
+    rvmc_type_unpack(r->buffer, r->room + RVMC_LETTER, got - RVMC_LETTER, r->count, r->type);
     if (code == RVMC_TRUNCATED && !errors_return(r->communicator)) {
         tell_difference(behind, r, &head, status->MPI_SOURCE, "has room for");
         return RVMC_OK;
@@ -247,7 +247,7 @@ static struct rvmc_record receive_of(const char *call, unsigned behind, void *bu
         return r;
     rvmc_check_buffer(call, behind, buffer, count, type, 1);
     r.size = count * rvmc_type_seen(type).size;
-    r.room = rvmc_check_take(r.size + RVMC_HEAD);
+    r.room = rvmc_check_take(r.size + RVMC_LETTER);
     return r;
 }
 
@@ -258,7 +258,7 @@ static long receive(struct rvmc_record *r, MPI_Status *status)
     long code = RVMC_OK;
 
     if (!rvmc_told)
-        code = rvmc_receive(r->room, r->size + RVMC_HEAD, r->peer, r->tag, r->communicator, &own);
+        code = rvmc_receive(r->room, r->size + RVMC_LETTER, r->peer, r->tag, r->communicator, &own);
     if (!rvmc_told)
         code = rvmc_delivered(r->behind, r, &own, code);
     if (status && !rvmc_told)
@@ -304,7 +304,7 @@ int rvmc_checked_Irecv(void *buffer, int count, MPI_Datatype type, int source, i
     if (!rvmc_told && !r.room)
         code = MPI_Irecv(buffer, count, type, source, tag, c, &raw);
     else if (!rvmc_told)
-        code = MPI_Irecv(r.room, (int)r.size + RVMC_HEAD, MPI_BYTE, source, tag, c, &raw);
+        code = MPI_Irecv(r.room, (int)r.size + RVMC_LETTER, MPI_BYTE, source, tag, c, &raw);
     *request = MPI_REQUEST_NULL;
     if (raw == MPI_REQUEST_NULL || !open_receive(&r, request, raw))
         rvmc_check_give_back(r.room);
@@ -374,7 +374,7 @@ static long post_half(struct rvmc_record *r, MPI_Request *request)
 {
     MPI_Request raw = MPI_REQUEST_NULL;
     void *buffer = r->room ? r->room : r->buffer;
-    long size = r->room ? r->size + RVMC_HEAD : rvmc_bytes(r->count, r->type);
+    long size = r->room ? r->size + RVMC_LETTER : rvmc_bytes(r->count, r->type);
     long code = rvmc_posted(buffer, size, r->peer, r->tag, r->communicator, &raw);
 
     if (raw == MPI_REQUEST_NULL || !open_receive(r, request, raw))
@@ -499,7 +499,7 @@ int rvmc_checked_Mrecv(void *buffer, int count, MPI_Datatype type, MPI_Message *
     if (!r.room)
         return rvmc_check_end(MPI_Mrecv(buffer, count, type, message, status));
     if (!rvmc_told)
-        code = MPI_Mrecv(r.room, (int)r.size + RVMC_HEAD, MPI_BYTE, message, &own);
+        code = MPI_Mrecv(r.room, (int)r.size + RVMC_LETTER, MPI_BYTE, message, &own);
     if (!rvmc_told && !code)
         rvmc_delivered(RVMC_BEHIND, &r, &own, RVMC_OK);
     if (status)
@@ -520,7 +520,7 @@ int rvmc_checked_Imrecv(void *buffer, int count, MPI_Datatype type, MPI_Message 
     if (!rvmc_told && !r.room)
         code = MPI_Imrecv(buffer, count, type, message, &raw);
     else if (!rvmc_told)
-        code = MPI_Imrecv(r.room, (int)r.size + RVMC_HEAD, MPI_BYTE, message, &raw);
+        code = MPI_Imrecv(r.room, (int)r.size + RVMC_LETTER, MPI_BYTE, message, &raw);
     *request = MPI_REQUEST_NULL;
     if (raw == MPI_REQUEST_NULL || !open_receive(&r, request, raw))
         rvmc_check_give_back(r.room);
@@ -543,7 +543,7 @@ static struct rvmc_record *lasting(const char *call, unsigned behind, const void
     r->communicator = c;
     if (has_head(buffer, count, type, peer)) {
         r->size = count * rvmc_type_seen(type).size;
-        r->room = rvmc_check_take(r->size + RVMC_HEAD);
+        r->room = rvmc_check_take(r->size + RVMC_LETTER);
     }
     return r;
 }
@@ -557,7 +557,7 @@ static void open_lasting(struct rvmc_record *r, MPI_Request *request, MPI_Reques
         rvmc_record_gone(r);
 }
 
-#define LASTS(name, qualifier, kind)     int rvmc_checked_##name(qualifier void *buffer, int count, MPI_Datatype type, int peer, int tag, MPI_Comm c,                             MPI_Request *request)     {         MPI_Request raw = MPI_REQUEST_NULL;         struct rvmc_record *r;         int code, has_room;                 rvmc_check_begin("MPI_" #name, RVMC_BEHIND);         rvmc_variable_lost("MPI_" #name, RVMC_BEHIND, request);         r = lasting("MPI_" #name, RVMC_BEHIND, buffer, count, type, peer, c, kind);         has_room = r && r->room;         code = MPI_##name(has_room ? r->room : buffer, has_room ? (int)r->size + RVMC_HEAD : count,                           has_room ? MPI_BYTE : type, peer, tag, c, &raw);         open_lasting(r, request, raw);         return rvmc_check_end(code);     }
+#define LASTS(name, qualifier, kind)     int rvmc_checked_##name(qualifier void *buffer, int count, MPI_Datatype type, int peer, int tag, MPI_Comm c,                             MPI_Request *request)     {         MPI_Request raw = MPI_REQUEST_NULL;         struct rvmc_record *r;         int code, has_room;                 rvmc_check_begin("MPI_" #name, RVMC_BEHIND);         rvmc_variable_lost("MPI_" #name, RVMC_BEHIND, request);         r = lasting("MPI_" #name, RVMC_BEHIND, buffer, count, type, peer, c, kind);         has_room = r && r->room;         code = MPI_##name(has_room ? r->room : buffer, has_room ? (int)r->size + RVMC_LETTER : count,                           has_room ? MPI_BYTE : type, peer, tag, c, &raw);         open_lasting(r, request, raw);         return rvmc_check_end(code);     }
 LASTS(Send_init, const, RVMC_IS_SEND)
 LASTS(Ssend_init, const, RVMC_IS_SEND)
 LASTS(Bsend_init, const, RVMC_IS_SEND)
@@ -579,7 +579,7 @@ static int start(const char *call, unsigned behind, MPI_Request *request)
         return MPI_SUCCESS;
     if (r->room && (r->kind & RVMC_IS_SEND))
         write_head(r);
-    lent = r->room ? RVMC_HEAD : 0;
+    lent = r->room ? RVMC_LETTER : 0;
     lend_room(lent);
     code = MPI_Start(&raw);
     lend_room(-lent);
@@ -620,18 +620,18 @@ static void look_for_messages(unsigned behind, MPI_Comm c)
     int flag = 1, bytes;
 
     while (!MPI_Improbe(MPI_ANY_SOURCE, MPI_ANY_TAG, c, &flag, &message, &status) && flag) {
-        struct rvmc_head head = {0};
+        struct rvmc_letter head = {0};
         char *room;
 
         MPI_Get_count(&status, MPI_BYTE, &bytes);
-        room = rvmc_check_take(bytes + RVMC_HEAD);
+        room = rvmc_check_take(bytes + RVMC_LETTER);
         if (!room)
             return;
         MPI_Mrecv(room, bytes, MPI_BYTE, &message, &status);
-        if (bytes >= RVMC_HEAD)
-            memcpy(&head, room, RVMC_HEAD);
+        if (bytes >= RVMC_LETTER)
+            memcpy(&head, room, RVMC_LETTER);
         rvmc_check_give_back(room);
-        if (head.mark == RVMC_HEAD_MARK)
+        if (head.mark == RVMC_LETTER_MARK)
             RVMC_TELL(behind, head.behind, "%s: nobody received %d %s with tag %d, which rank %d sent by %s",
                       rvmc_check_call("MPI_Finalize", behind), (long)head.count, sent_type(&head), (long)status.MPI_TAG,
                       (long)status.MPI_SOURCE,

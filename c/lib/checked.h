@@ -117,10 +117,10 @@ void rvmc_requests_at_the_end(unsigned behind);
 /* --- messages (check_messages.c) --- */
 
 /* What stands before the data of each message. */
-struct rvmc_head {
+struct rvmc_letter {
     unsigned mark, hash, elements, bytes, behind, call, type, count;
 };
-enum { RVMC_HEAD = sizeof(struct rvmc_head), RVMC_HEAD_MARK = 0x4d454843 };
+enum { RVMC_LETTER = sizeof(struct rvmc_letter), RVMC_LETTER_MARK = 0x4d454843 };
 long rvmc_delivered(unsigned behind, const struct rvmc_record *r, MPI_Status *status, long code);
 void rvmc_without_head(MPI_Status *status);
 void rvmc_messages_at_the_end(unsigned behind);
