@@ -3,6 +3,8 @@
 #include <string.h>
 #include "../mpi.h"
 #include "errors.h"
+#include "contexts.h"
+#include "layouts.h"
 
 enum { FIRST_KEY = 16 };
 enum object { COMMUNICATOR, DATATYPE };
@@ -39,12 +41,20 @@ static int wrong_key(const char *call, int key)
                                    ? "the key is MPI_KEYVAL_INVALID" : "%d is no key for this kind of object", (long)key));
 }
 
+static int is_mark(MPI_Datatype type)
+{
+    return type == MPI_LB || type == MPI_UB;
+}
+
 static int wrong_object(const char *call, enum object object, int handle)
 {
     int size;
 
-    if (object == DATATYPE)
-        return rvmc_code(call, RVMC_SIZE_OF(handle) ? RVMC_OK : RVMC_BAD_COUNT, 0, 0, 0, handle, 0, 0, MPI_COMM_WORLD);
+    if (object == DATATYPE) {
+        int exists = RVMC_SIZE_OF(handle) || is_mark(handle) || (rvmc_is_derived(handle) && rvmc_derived.layout(handle));
+
+        return rvmc_code(call, exists ? RVMC_OK : RVMC_BAD_COUNT, 0, 0, 0, handle, 0, 0, MPI_COMM_WORLD);
+    }
     return rvmc_comm_code(call, rvmc_asked_of(RVMC_SIZE, handle, &size), handle);
 }
 
@@ -114,19 +124,76 @@ static int delete_at(struct attribute **at)
     return error;
 }
 
-/* At the end those of MPI_COMM_WORLD go, the newest first. */
-static void delete_all(void)
+/* Those of an object, the newest first. A function may change others. */
+static int delete_of(enum object object, int handle)
 {
     struct attribute **at = &attributes;
+    int error = MPI_SUCCESS;
 
-    while (*at)
-        if ((*at)->object != COMMUNICATOR || delete_at(at))
+    while (!error && *at)
+        if ((*at)->object != object || (*at)->handle != handle) {
             at = &(*at)->next;
+        } else {
+            error = delete_at(at);
+            at = &attributes;
+        }
+    return error;
+}
+
+/* At the end, those of MPI_COMM_SELF first (11.2.4). */
+static void delete_all(void)
+{
+    delete_of(COMMUNICATOR, MPI_COMM_SELF);
+    delete_of(COMMUNICATOR, MPI_COMM_WORLD);
+}
+
+static int delete_of_communicator(MPI_Comm c)
+{
+    return delete_of(COMMUNICATOR, c);
+}
+
+static int add(const char *call, enum object object, int handle, int key, void *value);
+
+/* For MPI_Comm_dup and MPI_Type_dup: what the function of a key says of the new object's. */
+static int copy_of(const char *call, enum object object, int from, int to)
+{
+    for (struct attribute *at = attributes; at; at = at->next) {
+        struct key *key = keys + at->key - FIRST_KEY;
+        void *value;
+        int flag = 0, error;
+
+        if (at->object != object || at->handle != from || !key->copy)
+            continue;
+        error = key->copy(from, at->key, key->extra, at->value, &value, &flag);
+        error = error || !flag ? error : add(call, object, to, at->key, value);
+        if (error)
+            return error;
+    }
+    return MPI_SUCCESS;
+}
+
+static int copy_of_communicator(MPI_Comm from, MPI_Comm to)
+{
+    return copy_of("MPI_Comm_dup", COMMUNICATOR, from, to);
+}
+
+static void free_name_of(enum object object, int handle);
+
+static int of_types(MPI_Datatype from, MPI_Datatype to)
+{
+    int error;
+
+    if (to != MPI_DATATYPE_NULL)
+        return copy_of("MPI_Type_dup", DATATYPE, from, to);
+    error = delete_of(DATATYPE, from);
+    if (!error)
+        free_name_of(DATATYPE, from);
+    return error;
 }
 
 static int set(const char *call, enum object object, int handle, int key, void *value)
 {
-    struct attribute **at, *new;
+    struct attribute **at;
     int error = wrong_object(call, object, handle);
 
     if (error)
@@ -136,12 +203,21 @@ static int set(const char *call, enum object object, int handle, int key, void *
     at = place_of(object, handle, key);
     if (*at && (error = delete_at(at)))
         return error;
-    new = malloc(sizeof *new);
+    return add(call, object, handle, key, value);
+}
+
+static int add(const char *call, enum object object, int handle, int key, void *value)
+{
+    struct attribute *new = malloc(sizeof *new);
+
     if (!new)
         return rvmc_full_heap(call);
     *new = (struct attribute){attributes, object, handle, key, value};
     attributes = new;
     rvmc_at_the_end = delete_all;
+    rvmc_attributes_of_types = of_types;
+    rvmc_hooks.copied_attributes = copy_of_communicator;
+    rvmc_hooks.freed_attributes = delete_of_communicator;
     return MPI_SUCCESS;
 }
 
@@ -278,6 +354,19 @@ static struct name *name_of(enum object object, int handle)
     return name;
 }
 
+static void free_name_of(enum object object, int handle)
+{
+    struct name *name = name_of(object, handle);
+
+    if (name)
+        name->text[0] = 0;
+}
+
+static void free_name(MPI_Comm c)
+{
+    free_name_of(COMMUNICATOR, c);
+}
+
 static int set_name(const char *call, enum object object, int handle, const char *text)
 {
     struct name *name = name_of(object, handle);
@@ -293,6 +382,8 @@ static int set_name(const char *call, enum object object, int handle, const char
         name->object = object;
         name->handle = handle;
         object_names = name;
+        rvmc_attributes_of_types = of_types;
+        rvmc_hooks.freed_name = free_name;
     }
     strncpy(name->text, text, sizeof name->text - 1);
     name->text[sizeof name->text - 1] = 0;
@@ -311,7 +402,7 @@ int MPI_Comm_get_name(MPI_Comm c, char *text, int *length)
 
     if (error)
         return error;
-    strcpy(text, name ? name->text : c == MPI_COMM_WORLD ? "MPI_COMM_WORLD" : "");
+    strcpy(text, name ? name->text : c == MPI_COMM_WORLD ? "MPI_COMM_WORLD" : c == MPI_COMM_SELF ? "MPI_COMM_SELF" : "");
     *length = (int)strlen(text);
     return MPI_SUCCESS;
 }
@@ -324,8 +415,14 @@ int MPI_Type_set_name(MPI_Datatype type, const char *text)
 int MPI_Type_get_name(MPI_Datatype type, char *text, int *length)
 {
     struct name *name = name_of(DATATYPE, type);
+    int error = type ? wrong_object("MPI_Type_get_name", DATATYPE, type) : MPI_SUCCESS;
 
-    strcpy(text, name ? name->text : rvmc_type_name(type));
+    if (error)
+        return error;
+    if (is_mark(type))
+        strcpy(text, type == MPI_LB ? "MPI_LB" : "MPI_UB");
+    else
+        strcpy(text, name ? name->text : rvmc_is_derived(type) ? "" : rvmc_type_name(type));
     *length = (int)strlen(text);
     return MPI_SUCCESS;
 }

@@ -27,19 +27,23 @@ enum {
     RVMC_CODES = 17,
     RVMC_LARGE_PROBE = RVMC_CODES, RVMC_BAD_ROOT, RVMC_BAD_OP, RVMC_OTHER_COUNT, RVMC_NO_MEMORY, RVMC_IN_PLACE,
     RVMC_PARTS_AMONG, RVMC_NOT_BEGUN, RVMC_BEGUN_TWICE, RVMC_BAD_TYPE, RVMC_ALIASED, RVMC_NOT_READY, RVMC_NO_BUFFER,
-    RVMC_TWO_BUFFERS, RVMC_NO_CANCEL, RVMC_SEVERAL_HARTS
+    RVMC_TWO_BUFFERS, RVMC_NO_CANCEL, RVMC_SEVERAL_HARTS, RVMC_MISMATCH
 };
 
-/* The tags of the twin communicators. A rank sends itself those of harts and mutexes in the twin of communicator 0. */
+/* The tags of the twin. A rank sends itself those of harts and mutexes. */
 enum {
-    RVMC_TAG_COLLECTIVE = 0,                  /* and the kind of collective, below 32 */
+    RVMC_TAG_COLLECTIVE = 0,                  /* and the communicator, below 8: of collectives that wait */
     RVMC_TAG_FREE = 96,                       /* a hart that has no thread */
     RVMC_TAG_HEAP = 97,                       /* the heap, which no hart is at work on */
     RVMC_TAG_WORK = 104,                      /* and the hart: there is work for it, or the end; start.S has it too */
     RVMC_TAG_DONE = 108,                      /* and the hart: its thread has returned */
     RVMC_TAG_AGAIN = 112,                     /* and the hart: a message that was claimed, on its way to a request */
     RVMC_TAG_MUTEX = 116,                     /* and the mutex, below 800 */
-    RVMC_TAG_REST = 1024                      /* and the number of a large message: its pieces behind the first */
+    RVMC_TAG_GROUP = 920,                     /* and 8 times the communicator and some of a tag: MPI_Comm_create_group */
+    RVMC_TAG_CONTEXT = 1000,                  /* a hart may make a communicator */
+    RVMC_TAG_REST = 1024,                     /* and the number of a large message: its pieces behind the first */
+    RVMC_TAG_LATER = 29056,                   /* and 448 times the communicator and a number: collectives that don't wait */
+    RVMC_MOST_LATER = 448
 };
 #define RVMC_MOST_TAG 32767
 
@@ -73,11 +77,11 @@ RVMC_INLINE rvmc_answer rvmc_call(long number, long x0, long x1, long x2, long x
 #endif
 }
 
-/* What the linker is told of the image: numbers in the place of addresses. */
+/* What the linker is told of the image: numbers in the place of addresses. The communicators are those of --comm. */
 extern char rvmc_harts[], rvmc_stack[], rvmc_communicators[], rvmc_stacks[], rvmc_memory[];
 #define RVMC_NUMBER(symbol) ((long)(symbol))
-/* User communicators are 0 to rvmc_communicators - 1, and the twin of each stands as many places behind it. */
-#define RVMC_TWIN(c) ((c) + RVMC_NUMBER(rvmc_communicators))
+/* The machine's communicator in which the library talks, of all ranks. start.S has it too. */
+#define RVMC_TWIN 1
 
 extern int rvmc_rank;                             /* the rank's number, its position in communicator 0 */
 extern _Thread_local int rvmc_hart;

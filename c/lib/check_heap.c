@@ -223,7 +223,7 @@ static void *give(size_t size, size_t align, int giver, unsigned behind)
     unsigned long real, at;
 
     rvmc_check_lock();
-    real = (unsigned long)real_block(size + (align > 16 ? align : 0));
+    real = (unsigned long)real_block(size + align);
     at = real + ZONE;
     if (real) {
         at = (at + align - 1) & ~(align - 1);

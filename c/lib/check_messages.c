@@ -2,6 +2,7 @@
    the call that sent it. So a receive can tell what was sent where, also if it has no room for all of it. */
 #include <string.h>
 #include "checked.h"
+#include "layouts.h"
 
 static const char *const senders[] = {
     "MPI_Send", "MPI_Ssend", "MPI_Bsend", "MPI_Rsend", "MPI_Isend", "MPI_Issend", "MPI_Ibsend", "MPI_Irsend", "MPI_Sendrecv",
@@ -21,10 +22,15 @@ static int number_of(const char *call)
 /* Whether a message can have a head: else the call is MPI's own business, which tells what is wrong with the arguments. */
 static int has_head(const void *buffer, int count, MPI_Datatype type, int peer)
 {
-    long size = count * rvmc_type_seen(type).size, memory = RVMC_NUMBER(rvmc_memory);
+    struct rvmc_layout one = rvmc_measures(type);
+    long all = count > 1 ? (count - 1) * (one.high - one.low) : 0, memory = RVMC_NUMBER(rvmc_memory);
+    long first = (long)buffer + one.true_low + (all < 0 ? all : 0);
 
-    return peer != MPI_PROC_NULL && count >= 0 && rvmc_type_seen(type).size && size <= memory && (buffer || !size) &&
-           (long)buffer >= 0 && (long)buffer + count * rvmc_type_seen(type).extent <= memory;
+    if (peer == MPI_PROC_NULL || count < 0 || !one.committed || (!RVMC_SIZE_OF(type) && !rvmc_layout_of(type)))
+        return 0;
+    if (!count || !one.bytes)
+        return 1;
+    return first > 0 && first + one.true_high - one.true_low + (all < 0 ? -all : all) <= memory && count * one.bytes <= memory;
 }
 
 /* --- sending --- */
@@ -641,10 +647,10 @@ static void look_for_messages(unsigned behind, MPI_Comm c)
 
 void rvmc_messages_at_the_end(unsigned behind)
 {
-    for (int i = 0; i < RVMC_NUMBER(rvmc_communicators); i++) {
+    for (MPI_Comm c = 0; c < RVMC_COMMUNICATORS; c++) {
         int rank;
 
-        if (!rvmc_asked_of(RVMC_RANK, rvmc_comm(i), &rank))
-            look_for_messages(behind, rvmc_comm(i));
+        if (!rvmc_asked_of(RVMC_RANK, c, &rank) && (c == MPI_COMM_WORLD || rvmc_table[c].context >= 0))
+            look_for_messages(behind, c);
     }
 }

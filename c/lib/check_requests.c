@@ -2,6 +2,7 @@
    or used when it is no longer one, can be told. */
 #include <string.h>
 #include "checked.h"
+#include "layouts.h"
 
 /* Handles are numbers that no program has by chance. */
 #define FIRST_HANDLE 0x5eed000000000000L
@@ -26,6 +27,7 @@ struct rvmc_record *rvmc_record_new(const char *call, unsigned behind, int kind)
 void rvmc_record_open(struct rvmc_record *record, MPI_Request *request, MPI_Request raw)
 {
     rvmc_check_lock();
+    rvmc_use_type(record->type);
     record->raw = raw;
     record->handle = FIRST_HANDLE + ++count_handles;
     record->variable = request;
@@ -45,8 +47,10 @@ void rvmc_record_gone(struct rvmc_record *record)
     rvmc_regions_drop(record);
     while (*at && *at != record)
         at = &(*at)->next;
-    if (*at)
+    if (*at) {
         *at = record->next;
+        rvmc_leave_type(record->type);
+    }
     rvmc_check_give_back(record->room);
     rvmc_check_give_back(record);
     rvmc_check_unlock();

@@ -3,11 +3,47 @@
 #include <string.h>
 #include "checked.h"
 #include "errors.h"
+#include "layouts.h"
+
+struct rvmc_type rvmc_type_seen(MPI_Datatype type)
+{
+    struct rvmc_layout one = rvmc_measures(type);
+
+    if (!one.committed)
+        return (struct rvmc_type){0, 0, 0};
+    return (struct rvmc_type){one.bytes, one.high - one.low, one.elements};
+}
+
+/* The name of a datatype; that of the call before stays too. */
+const char *rvmc_type_said(MPI_Datatype type)
+{
+    static char names[2][MPI_MAX_OBJECT_NAME];
+    static int next;
+
+    if (!RVMC_SIZE_OF(type))
+        return "of a derived datatype";
+    next = !next;
+    return strncpy(names[next], rvmc_type_name(type), MPI_MAX_OBJECT_NAME - 1);
+}
+
+void rvmc_type_pack(char *to, const void *from, long count, MPI_Datatype type)
+{
+    rvmc_pack(to, count * rvmc_measures(type).bytes, from, count, type);
+}
+
+/* As many values as so many bytes have. */
+void rvmc_type_unpack(void *to, const char *from, long bytes, long count, MPI_Datatype type)
+{
+    rvmc_unpack(from, bytes, to, count, type);
+}
+
+/* --- signatures --- */
 
 /* h -> factor * h + add: what some elements do to a hash. */
 struct step {
     unsigned factor, add;
 };
+static const struct step no_step = {1, 0};
 
 static struct step after(struct step first, struct step then)
 {
@@ -16,7 +52,7 @@ static struct step after(struct step first, struct step then)
 
 static struct step repeated(struct step one, long times)
 {
-    struct step all = {1, 0};
+    struct step all = no_step;
 
     for (; times > 0; times /= 2) {
         if (times % 2)
@@ -26,107 +62,196 @@ static struct step repeated(struct step one, long times)
     return all;
 }
 
-/* The basic datatypes that one value of a pair consists of; of any other, itself. */
-static int parts_of(MPI_Datatype type, MPI_Datatype parts[2])
-{
-    parts[0] = type;
-    parts[1] = MPI_INT;
-    switch (type) {
-    case MPI_FLOAT_INT: parts[0] = MPI_FLOAT; return 2;
-    case MPI_DOUBLE_INT: parts[0] = MPI_DOUBLE; return 2;
-    case MPI_LONG_INT: parts[0] = MPI_LONG; return 2;
-    case MPI_SHORT_INT: parts[0] = MPI_SHORT; return 2;
-    case MPI_2INT: parts[0] = MPI_INT; return 2;
-    case MPI_LONG_DOUBLE_INT: parts[0] = MPI_LONG_DOUBLE; return 2;
-    default: return 1;
-    }
-}
-
-static struct step step_of(MPI_Datatype basic)
+static struct step element(MPI_Datatype basic)
 {
     return (struct step){16777619U, (unsigned)(basic >> 16) * 2654435761U + 1};
 }
 
-struct rvmc_type rvmc_type_seen(MPI_Datatype type)
+/* The first of the two basic datatypes of a pair; of any other, itself. */
+static MPI_Datatype first_of(MPI_Datatype type)
 {
-    MPI_Datatype parts[2];
-    long size = RVMC_SIZE_OF(type);
+    switch (type) {
+    case MPI_FLOAT_INT: return MPI_FLOAT;
+    case MPI_DOUBLE_INT: return MPI_DOUBLE;
+    case MPI_LONG_INT: return MPI_LONG;
+    case MPI_SHORT_INT: return MPI_SHORT;
+    case MPI_2INT: return MPI_INT;
+    case MPI_LONG_DOUBLE_INT: return MPI_LONG_DOUBLE;
+    default: return type;
+    }
+}
 
-    return (struct rvmc_type){size, size, parts_of(type, parts)};
+/* The first elements of so many values, as far as *left of them go; takes their number away. */
+static struct step elements_of(MPI_Datatype type, long count, long *left)
+{
+    const struct rvmc_layout *made = rvmc_layout_of(type);
+    long each = rvmc_measures(type).elements, whole = each ? *left / each : count, one_value = each;
+    struct step all;
+
+    whole = whole < count ? whole : count;
+    if (!made) {
+        struct step one = element(first_of(type));
+
+        all = repeated(first_of(type) == type ? one : after(one, element(MPI_INT)), whole);
+        *left -= whole * each;
+        if (whole == count || !*left)
+            return all;
+        --*left;
+        return after(all, one);
+    }
+    all = no_step;
+    if (whole) {
+        struct step one = no_step;
+
+        for (int i = 0; i < made->count; i++)
+            one = after(one, elements_of(made->blocks[i].type, made->blocks[i].length, &one_value));
+        all = repeated(repeated(one, made->times), whole);
+        *left -= whole * each;
+    }
+    for (long t = 0; whole < count && t < made->times && *left; t++)
+        for (int i = 0; i < made->count && *left; i++)
+            all = after(all, elements_of(made->blocks[i].type, made->blocks[i].length, left));
+    return all;
 }
 
 long rvmc_type_elements(MPI_Datatype type, long count)
 {
-    return rvmc_type_seen(type).elements * count;
+    return rvmc_measures(type).elements * count;
 }
 
 /* A hash of the first elements of so many values. */
 unsigned rvmc_type_hash(MPI_Datatype type, long count, long elements)
 {
-    MPI_Datatype parts[2];
-    int n = parts_of(type, parts);
-    struct step one = step_of(parts[0]), all;
-
-    if (n == 2)
-        one = after(one, step_of(parts[1]));
-    if (elements > n * count)
-        elements = n * count;
-    all = repeated(one, elements / n);
-    if (elements % n)
-        all = after(all, step_of(parts[0]));
-    return all.add;
+    return elements_of(type, count, &elements).add;
 }
 
-/* The name of a datatype; that of the call before stays too. */
-const char *rvmc_type_said(MPI_Datatype type)
-{
-    static char names[2][MPI_MAX_OBJECT_NAME];
-    static int next;
+/* --- memory --- */
 
-    next = !next;
-    return strncpy(names[next], rvmc_type_name(type), MPI_MAX_OBJECT_NAME - 1);
+/* What visits the runs of bytes of some values, in their order; those that meet are one. */
+struct visit {
+    void (*each)(struct visit *visit, long low, long size);
+    long low, size;                               /* the run that may go on */
+    const struct rvmc_record *record;
+    const char *call;
+    unsigned behind;
+    int is_written, found;
+    struct rvmc_region region;
+    const struct visit *other;
+};
+
+static void run(struct visit *v, long low, long size)
+{
+    if (size <= 0)
+        return;
+    if (v->size && v->low + v->size == low) {
+        v->size += size;
+        return;
+    }
+    if (v->size)
+        v->each(v, v->low, v->size);
+    v->low = low;
+    v->size = size;
 }
 
-void rvmc_type_pack(char *to, const void *from, long count, MPI_Datatype type)
+static void walk(struct visit *v, long place, long count, MPI_Datatype type)
 {
-    memcpy(to, from, count * rvmc_type_seen(type).size);
+    const struct rvmc_layout *l = rvmc_layout_of(type);
+    long extent = l ? l->high - l->low : 0;
+
+    if (!l)
+        run(v, place, count * RVMC_SIZE_OF(type));
+    else if (l->solid && (count <= 1 || extent == l->bytes))
+        run(v, place + l->true_low, count * l->bytes);
+    else
+        for (; count > 0; count--, place += extent)
+            for (long t = 0; t < l->times; t++)
+                for (int i = 0; i < l->count; i++)
+                    walk(v, place + t * l->stride + l->blocks[i].place, l->blocks[i].length, l->blocks[i].type);
 }
 
-/* As many values as so many bytes have. */
-void rvmc_type_unpack(void *to, const char *from, long bytes, long count, MPI_Datatype type)
+static void walk_all(struct visit *v, const void *buffer, long count, MPI_Datatype type)
 {
-    long most = count * rvmc_type_seen(type).size;
+    walk(v, (long)buffer, count, type);
+    if (v->size)
+        v->each(v, v->low, v->size);
+    v->size = 0;
+}
 
-    memcpy(to, from, bytes < most ? bytes : most);
+/* Runs of one length at one stride are one region. */
+static void add_to_region(struct visit *v, long low, long size)
+{
+    struct rvmc_region *r = &v->region;
+
+    if (r->count && r->length == size && low > r->low) {
+        long stride = low - (r->low + r->stride * (r->count - 1));
+
+        if (r->count == 1 && stride >= size)
+            r->stride = (unsigned)stride;
+        if (stride == r->stride) {
+            r->count++;
+            return;
+        }
+    }
+    if (r->count)
+        rvmc_region_add(v->record, r);
+    *r = (struct rvmc_region){(unsigned)low, (unsigned)size, 1, 1, 0, v->is_written};
 }
 
 void rvmc_type_regions(const struct rvmc_record *record, const void *buffer, long count, MPI_Datatype type, int is_received)
 {
-    long size = count * rvmc_type_seen(type).extent;
-    struct rvmc_region region = {(unsigned)(unsigned long)buffer, (unsigned)size, 1, 1, record, is_received};
+    struct visit v = {.each = add_to_region, .record = record, .is_written = is_received != 0};
 
-    if (size > 0 && buffer)
-        rvmc_region_add(record, &region);
+    walk_all(&v, buffer, count, type);
+    if (v.region.count)
+        rvmc_region_add(record, &v.region);
 }
 
-/* Elements that nobody has written are told, but for bytes, which may be a structure's padding. */
+static void look(struct visit *v, long low, long size)
+{
+    rvmc_check_range(v->call, v->behind, (const void *)low, size, v->is_written);
+}
+
 void rvmc_check_buffer(const char *call, unsigned behind, const void *buffer, long count, MPI_Datatype type, int is_written)
 {
-    struct rvmc_type seen = rvmc_type_seen(type);
+    struct visit v = {.each = look, .call = call, .behind = behind, .is_written = is_written};
 
-    if (count > 0 && buffer && buffer != MPI_IN_PLACE)
-        rvmc_check_range(call, behind, buffer, count * seen.extent, is_written);
+    if (count > 0 && buffer != MPI_IN_PLACE && (buffer || rvmc_layout_of(type)) && rvmc_type_seen(type).size)
+        walk_all(&v, buffer, count, type);
 }
 
-/* Two buffers of one call may not overlap. */
+/* --- two buffers of one call --- */
+
+static void meet(struct visit *v, long low, long size)
+{
+    v->found |= low < v->other->low + v->other->size && v->other->low < low + size;
+}
+
+struct buffer {
+    const void *at;
+    long count;
+    MPI_Datatype type;
+};
+
+/* A run of one buffer against all runs of the other, which stands behind `record`. */
+static void meet_all(struct visit *v, long low, long size)
+{
+    const struct buffer *other = (const struct buffer *)v->record;
+    struct visit one = {.low = low, .size = size}, inner = {.each = meet, .other = &one};
+
+    walk_all(&inner, other->at, other->count, other->type);
+    v->found |= inner.found;
+}
+
 void rvmc_check_apart(const char *call, unsigned behind, const void *out, long out_count, MPI_Datatype out_type, const void *in,
                       long in_count, MPI_Datatype in_type)
 {
-    const char *from = out, *to = in;
-    long size = out_count * rvmc_type_seen(out_type).extent, room = in_count * rvmc_type_seen(in_type).extent;
+    struct buffer other = {out, out_count, out_type};
+    struct visit v = {.each = meet_all, .record = (const struct rvmc_record *)&other};
 
-    if (size <= 0 || room <= 0 || out == MPI_IN_PLACE || in == MPI_IN_PLACE || !out || !in)
+    if (out_count <= 0 || in_count <= 0 || out == MPI_IN_PLACE || in == MPI_IN_PLACE || !out || !in ||
+        !rvmc_type_seen(out_type).size || !rvmc_type_seen(in_type).size)
         return;
-    if (from < to + room && to < from + size)
+    walk_all(&v, in, in_count, in_type);
+    if (v.found)
         RVMC_TELL(behind, 0, "%s: the buffer that is sent overlaps the one that is received into", rvmc_check_call(call, behind));
 }

@@ -3,29 +3,27 @@
 #include "../mpi.h"
 #include "group.h"
 
-struct group rvmc_group(MPI_Comm c)
+struct group rvmc_group_at(const char *call, MPI_Comm c, const void *place)
 {
-    struct group g = {c, (MPI_Comm)RVMC_TWIN(c), 0, 1, RVMC_OK, 0, 0, 0};
-    rvmc_answer a;
+    struct group g = {.call = call, .place = place, .communicator = c, .of = rvmc_known(c), .tag = RVMC_TAG_COLLECTIVE + c,
+                      .size = 1, .root = -1, .count = -1};
 
     if (rvmc_idle()) {
         g.code = RVMC_NOT_BEGUN;
-        return g;
+    } else if (g.of) {
+        g.me = g.of->me;
+        g.size = g.of->size;
+    } else {
+        g.code = RVMC_BAD_COMM;
     }
-    if (c < 0 || c >= RVMC_NUMBER(rvmc_communicators))
-        g.twin = MPI_COMM_NULL;
-    a = rvmc_call(RVMC_RANK, g.twin, 0, 0, 0, 0, 0);
-    g.code = a.code;
-    g.me = (int)a.value;
-    a = rvmc_call(RVMC_SIZE, g.twin, 0, 0, 0, 0, 0);
-    g.size = a.code ? 1 : (int)a.value;
     return g;
 }
 
-struct group rvmc_rooted(MPI_Comm c, int root)
+struct group rvmc_rooted_at(const char *call, MPI_Comm c, int root, const void *place)
 {
-    struct group g = rvmc_group(c);
+    struct group g = rvmc_group_at(call, c, place);
 
+    g.root = root;
     if (root < 0 || root >= g.size)
         fault(&g, RVMC_BAD_ROOT, "root", root, 0);
     return g;
@@ -47,9 +45,14 @@ RVMC_INLINE MPI_Datatype type_of(const struct parts *p, int rank)
     return p->types ? p->types[rank] : p->type;
 }
 
+RVMC_INLINE long count_of(const struct parts *p, int rank)
+{
+    return p->counts ? p->counts[rank] : p->count;
+}
+
 RVMC_INLINE long size_of(const struct parts *p, int rank)
 {
-    return (long)(p->counts ? p->counts[rank] : p->count) * RVMC_SIZE_OF(type_of(p, rank));
+    return count_of(p, rank) * RVMC_SIZE_OF(type_of(p, rank));
 }
 
 RVMC_INLINE char *place_of(const struct parts *p, int rank)
@@ -57,6 +60,16 @@ RVMC_INLINE char *place_of(const struct parts *p, int rank)
     long place = p->places ? p->places[rank] : (long)p->count * rank;
 
     return (char *)p->buffer + (p->types ? place : place * RVMC_SIZE_OF(p->type));
+}
+
+RVMC_INLINE void give_part(struct group *g, const struct parts *p, int part, int to)
+{
+    give(g, place_of(p, part), count_of(p, part), type_of(p, part), to);
+}
+
+RVMC_INLINE void take_part(struct group *g, const struct parts *p, int part, int from)
+{
+    take(g, place_of(p, part), count_of(p, part), type_of(p, part), from);
 }
 
 /* One part: a datatype, a count, and memory where there are bytes. */
@@ -106,46 +119,44 @@ static struct parts in_parts(void *buffer, int count, MPI_Datatype type)
 /* In step k each rank tells the one 2^k behind it, and hears from the one 2^k before it. */
 int MPI_Barrier(MPI_Comm c)
 {
-    struct group g = rvmc_group(c);
+    struct group g = rvmc_group("MPI_Barrier", c);
 
     for (int step = 1; step < g.size && !g.code; step *= 2) {
-        g.code = rvmc_call(RVMC_SEND, 0, 0, (g.me + step) % g.size, RVMC_TAG_COLLECTIVE + BARRIER, g.twin, 0).code;
-        if (!g.code)
-            g.code = rvmc_call(RVMC_RECV, 0, 0, (g.me - step + g.size) % g.size,
-                               RVMC_TAG_COLLECTIVE + BARRIER, g.twin, 0).code;
+        give_word(&g, (g.me + step) % g.size);
+        take_word(&g, (g.me - step + g.size) % g.size);
     }
-    return finish("MPI_Barrier", &g);
+    return finish(&g);
 }
 
 /* A binomial tree: who stands at place v takes from v without its lowest bit. */
-RVMC_INLINE void spread(struct group *g, char *buffer, long size, int root)
+RVMC_INLINE void spread(struct group *g, const struct parts *p, int part, int root)
 {
     int place = (g->me - root + g->size) % g->size, bit = 1;
 
     while (bit < g->size && !(place & bit))
         bit *= 2;
     if (place)
-        take(g, buffer, size, (place - bit + root) % g->size, BCAST);
+        take_part(g, p, part, (place - bit + root) % g->size);
     for (bit /= 2; bit; bit /= 2)
         if (place + bit < g->size)
-            give(g, buffer, size, (place + bit + root) % g->size, BCAST);
+            give_part(g, p, part, (place + bit + root) % g->size);
 }
 
 int MPI_Bcast(void *buffer, int count, MPI_Datatype type, int root, MPI_Comm c)
 {
-    struct group g = rvmc_rooted(c, root);
+    struct group g = rvmc_rooted("MPI_Bcast", c, root);
     struct parts p = {buffer, count, type, 0, 0, 0, {"buffer", "count", "datatype", 0}};
 
     check(&g, &p, 0);
-    spread(&g, buffer, size_of(&p, 0), root);
-    return finish("MPI_Bcast", &g);
+    spread(&g, &p, 0, root);
+    return finish(&g);
 }
 
 RVMC_INLINE void gather(struct group *g, const struct parts *out, const struct parts *in, int root)
 {
     if (g->me != root) {
         check(g, out, 0);
-        give(g, out->buffer, size_of(out, 0), root, GATHER);
+        give_part(g, out, 0, root);
         return;
     }
     check_all(g, in);
@@ -153,7 +164,7 @@ RVMC_INLINE void gather(struct group *g, const struct parts *out, const struct p
         check(g, out, 0);
     for (int r = 0; r < g->size && !g->code; r++)
         if (r != g->me)
-            take(g, place_of(in, r), size_of(in, r), r, GATHER);
+            take_part(g, in, r, r);
         else if (out->buffer != MPI_IN_PLACE)
             copy(g, place_of(in, r), size_of(in, r), out->buffer, size_of(out, 0));
 }
@@ -161,30 +172,30 @@ RVMC_INLINE void gather(struct group *g, const struct parts *out, const struct p
 int MPI_Gather(const void *out, int out_count, MPI_Datatype out_type, void *in, int in_count, MPI_Datatype in_type, int root,
                MPI_Comm c)
 {
-    struct group g = rvmc_rooted(c, root);
+    struct group g = rvmc_rooted("MPI_Gather", c, root);
     struct parts from = out_parts(out, out_count, out_type), to = in_parts(in, in_count, in_type);
 
     gather(&g, &from, &to, root);
-    return finish("MPI_Gather", &g);
+    return finish(&g);
 }
 
 int MPI_Gatherv(const void *out, int out_count, MPI_Datatype out_type, void *in, const int in_counts[], const int places[],
                 MPI_Datatype in_type, int root, MPI_Comm c)
 {
-    struct group g = rvmc_rooted(c, root);
+    struct group g = rvmc_rooted("MPI_Gatherv", c, root);
     struct parts from = out_parts(out, out_count, out_type), to = in_parts(in, 0, in_type);
 
     to.counts = in_counts;
     to.places = places;
     gather(&g, &from, &to, root);
-    return finish("MPI_Gatherv", &g);
+    return finish(&g);
 }
 
 RVMC_INLINE void scatter(struct group *g, const struct parts *out, const struct parts *in, int root)
 {
     if (g->me != root) {
         check(g, in, 0);
-        take(g, (char *)in->buffer, size_of(in, 0), root, SCATTER);
+        take_part(g, in, 0, root);
         return;
     }
     check_all(g, out);
@@ -192,7 +203,7 @@ RVMC_INLINE void scatter(struct group *g, const struct parts *out, const struct 
         check(g, in, 0);
     for (int r = 0; r < g->size && !g->code; r++)
         if (r != g->me)
-            give(g, place_of(out, r), size_of(out, r), r, SCATTER);
+            give_part(g, out, r, r);
         else if (in->buffer != MPI_IN_PLACE)
             copy(g, (char *)in->buffer, size_of(in, 0), place_of(out, r), size_of(out, r));
 }
@@ -200,23 +211,23 @@ RVMC_INLINE void scatter(struct group *g, const struct parts *out, const struct 
 int MPI_Scatter(const void *out, int out_count, MPI_Datatype out_type, void *in, int in_count, MPI_Datatype in_type,
                 int root, MPI_Comm c)
 {
-    struct group g = rvmc_rooted(c, root);
+    struct group g = rvmc_rooted("MPI_Scatter", c, root);
     struct parts from = out_parts(out, out_count, out_type), to = in_parts(in, in_count, in_type);
 
     scatter(&g, &from, &to, root);
-    return finish("MPI_Scatter", &g);
+    return finish(&g);
 }
 
 int MPI_Scatterv(const void *out, const int out_counts[], const int places[], MPI_Datatype out_type, void *in, int in_count,
                  MPI_Datatype in_type, int root, MPI_Comm c)
 {
-    struct group g = rvmc_rooted(c, root);
+    struct group g = rvmc_rooted("MPI_Scatterv", c, root);
     struct parts from = out_parts(out, 0, out_type), to = in_parts(in, in_count, in_type);
 
     from.counts = out_counts;
     from.places = places;
     scatter(&g, &from, &to, root);
-    return finish("MPI_Scatterv", &g);
+    return finish(&g);
 }
 
 /* Each part is spread by its rank: so parts of any places and lengths go the same way. */
@@ -229,29 +240,29 @@ RVMC_INLINE void gather_all(struct group *g, const struct parts *out, const stru
             copy(g, place_of(in, g->me), size_of(in, g->me), out->buffer, size_of(out, 0));
     }
     for (int r = 0; r < g->size && !g->code; r++)
-        spread(g, place_of(in, r), size_of(in, r), r);
+        spread(g, in, r, r);
 }
 
 int MPI_Allgather(const void *out, int out_count, MPI_Datatype out_type, void *in, int in_count, MPI_Datatype in_type,
                   MPI_Comm c)
 {
-    struct group g = rvmc_group(c);
+    struct group g = rvmc_group("MPI_Allgather", c);
     struct parts from = out_parts(out, out_count, out_type), to = in_parts(in, in_count, in_type);
 
     gather_all(&g, &from, &to);
-    return finish("MPI_Allgather", &g);
+    return finish(&g);
 }
 
 int MPI_Allgatherv(const void *out, int out_count, MPI_Datatype out_type, void *in, const int in_counts[],
                    const int places[], MPI_Datatype in_type, MPI_Comm c)
 {
-    struct group g = rvmc_group(c);
+    struct group g = rvmc_group("MPI_Allgatherv", c);
     struct parts from = out_parts(out, out_count, out_type), to = in_parts(in, 0, in_type);
 
     to.counts = in_counts;
     to.places = places;
     gather_all(&g, &from, &to);
-    return finish("MPI_Allgatherv", &g);
+    return finish(&g);
 }
 
 /* Each rank begins with the one behind it. In place all is sent before the first part is overwritten: no send waits. */
@@ -267,31 +278,31 @@ RVMC_INLINE void exchange(struct group *g, const struct parts *out, const struct
     for (int d = 1; d < g->size && !g->code; d++) {
         int to = (g->me + d) % g->size, source = (g->me - d + g->size) % g->size;
 
-        give(g, place_of(from, to), size_of(from, to), to, ALLTOALL);
+        give_part(g, from, to, to);
         if (!in_place)
-            take(g, place_of(in, source), size_of(in, source), source, ALLTOALL);
+            take_part(g, in, source, source);
     }
     for (int d = 1; in_place && d < g->size && !g->code; d++) {
         int source = (g->me - d + g->size) % g->size;
 
-        take(g, place_of(in, source), size_of(in, source), source, ALLTOALL);
+        take_part(g, in, source, source);
     }
 }
 
 int MPI_Alltoall(const void *out, int out_count, MPI_Datatype out_type, void *in, int in_count, MPI_Datatype in_type,
                  MPI_Comm c)
 {
-    struct group g = rvmc_group(c);
+    struct group g = rvmc_group("MPI_Alltoall", c);
     struct parts from = out_parts(out, out_count, out_type), to = in_parts(in, in_count, in_type);
 
     exchange(&g, &from, &to);
-    return finish("MPI_Alltoall", &g);
+    return finish(&g);
 }
 
 int MPI_Alltoallv(const void *out, const int out_counts[], const int out_places[], MPI_Datatype out_type, void *in,
                   const int in_counts[], const int in_places[], MPI_Datatype in_type, MPI_Comm c)
 {
-    struct group g = rvmc_group(c);
+    struct group g = rvmc_group("MPI_Alltoallv", c);
     struct parts from = out_parts(out, 0, out_type), to = in_parts(in, 0, in_type);
 
     from.counts = out_counts;
@@ -299,13 +310,13 @@ int MPI_Alltoallv(const void *out, const int out_counts[], const int out_places[
     to.counts = in_counts;
     to.places = in_places;
     exchange(&g, &from, &to);
-    return finish("MPI_Alltoallv", &g);
+    return finish(&g);
 }
 
 int MPI_Alltoallw(const void *out, const int out_counts[], const int out_places[], const MPI_Datatype out_types[], void *in,
                   const int in_counts[], const int in_places[], const MPI_Datatype in_types[], MPI_Comm c)
 {
-    struct group g = rvmc_group(c);
+    struct group g = rvmc_group("MPI_Alltoallw", c);
     struct parts from = out_parts(out, 0, 0), to = in_parts(in, 0, 0);
 
     from.counts = out_counts;
@@ -315,5 +326,5 @@ int MPI_Alltoallw(const void *out, const int out_counts[], const int out_places[
     to.places = in_places;
     to.types = in_types;
     exchange(&g, &from, &to);
-    return finish("MPI_Alltoallw", &g);
+    return finish(&g);
 }

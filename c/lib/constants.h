@@ -4,7 +4,7 @@
 #define RVMC_CONSTANTS_H
 
 typedef long MPI_Request, MPI_Message, MPI_Aint, MPI_Count, MPI_Offset;
-typedef int MPI_Comm, MPI_Datatype, MPI_Op, MPI_Info, MPI_Errhandler, MPI_Fint;
+typedef int MPI_Comm, MPI_Group, MPI_Datatype, MPI_Op, MPI_Info, MPI_Errhandler, MPI_Fint;
 
 /* The three words of 8 bytes that the machine writes, low byte first. So the fields are the lower halves, and MPI_ERROR is
    the upper half of the number of bytes: 0, which is MPI_SUCCESS, in each status that the machine writes. */
@@ -27,7 +27,10 @@ typedef int MPI_Type_delete_attr_function(MPI_Datatype type, int key, void *valu
 #define MPI_VERSION 4
 #define MPI_SUBVERSION 1
 #define MPI_COMM_WORLD 0
+#define MPI_COMM_SELF 1
 #define MPI_COMM_NULL (-1)
+#define MPI_GROUP_NULL 0
+#define MPI_GROUP_EMPTY (1 << 28)
 #define MPI_ANY_SOURCE (-1)
 #define MPI_ANY_TAG (-1)
 #define MPI_PROC_NULL (-2)
@@ -60,6 +63,15 @@ typedef int MPI_Type_delete_attr_function(MPI_Datatype type, int key, void *valu
 #define MPI_THREAD_FUNNELED 1
 #define MPI_THREAD_SERIALIZED 2
 #define MPI_THREAD_MULTIPLE 3
+#define MPI_GRAPH 1
+#define MPI_CART 2
+#define MPI_DIST_GRAPH 3
+#define MPI_UNWEIGHTED ((int *)-3L)
+#define MPI_WEIGHTS_EMPTY ((int *)-4L)
+#define MPI_COMM_TYPE_SHARED 1
+#define MPI_COMM_TYPE_HW_GUIDED 2
+#define MPI_COMM_TYPE_HW_UNGUIDED 3
+#define MPI_COMM_TYPE_RESOURCE_GUIDED 4
 #define MPI_IDENT 0
 #define MPI_CONGRUENT 1
 #define MPI_SIMILAR 2
@@ -88,9 +100,11 @@ typedef int MPI_Type_delete_attr_function(MPI_Datatype type, int key, void *valu
    its extent. What a reduction does goes by kind and size alone. lib/datatypes.c has the names. */
 enum {
     RVMC_SIGNED = 1, RVMC_UNSIGNED, RVMC_BYTES, RVMC_TRUTH, RVMC_FLOATING, RVMC_COMPLEX,
-    RVMC_FLOATING_PAIR, RVMC_OPAQUE, RVMC_SIGNED_PAIR, RVMC_TWO_SIGNED, RVMC_TWO_FLOATING
+    RVMC_FLOATING_PAIR, RVMC_OPAQUE, RVMC_SIGNED_PAIR, RVMC_TWO_SIGNED, RVMC_TWO_FLOATING, RVMC_DERIVED, RVMC_MARK
 };
 #define RVMC_TYPE(number, kind, size) ((number) << 16 | (kind) << 8 | (size))
+/* One that a program made has a number of its own, and no size here. */
+#define RVMC_MADE(number) RVMC_TYPE(number, RVMC_DERIVED, 0)
 #define RVMC_SIZE_OF(type) ((type) & 255)
 #define RVMC_KIND_OF(type) ((type) >> 8 & 255)
 #define RVMC_SHAPE_OF(type) ((type) & 65535)
@@ -156,6 +170,36 @@ enum {
 #define MPI_2INTEGER RVMC_TYPE(52, 10, 8)
 #define MPI_2REAL RVMC_TYPE(53, 11, 8)
 #define MPI_2DOUBLE_PRECISION RVMC_TYPE(54, 11, 16)
+/* The bounds of MPI_Type_struct, which have no bytes. */
+#define MPI_LB RVMC_TYPE(1, RVMC_MARK, 0)
+#define MPI_UB RVMC_TYPE(2, RVMC_MARK, 0)
+
+/* How a datatype was made (5.1.13), and the arguments of arrays (5.1.3, 5.1.4). */
+#define MPI_COMBINER_NAMED 1
+#define MPI_COMBINER_DUP 2
+#define MPI_COMBINER_CONTIGUOUS 3
+#define MPI_COMBINER_VECTOR 4
+#define MPI_COMBINER_HVECTOR_INTEGER 5
+#define MPI_COMBINER_HVECTOR 6
+#define MPI_COMBINER_INDEXED 7
+#define MPI_COMBINER_HINDEXED_INTEGER 8
+#define MPI_COMBINER_HINDEXED 9
+#define MPI_COMBINER_INDEXED_BLOCK 10
+#define MPI_COMBINER_STRUCT_INTEGER 11
+#define MPI_COMBINER_STRUCT 12
+#define MPI_COMBINER_SUBARRAY 13
+#define MPI_COMBINER_DARRAY 14
+#define MPI_COMBINER_F90_REAL 15
+#define MPI_COMBINER_F90_COMPLEX 16
+#define MPI_COMBINER_F90_INTEGER 17
+#define MPI_COMBINER_RESIZED 18
+#define MPI_COMBINER_HINDEXED_BLOCK 19
+#define MPI_ORDER_C 56
+#define MPI_ORDER_FORTRAN 57
+#define MPI_DISTRIBUTE_BLOCK 121
+#define MPI_DISTRIBUTE_CYCLIC 122
+#define MPI_DISTRIBUTE_NONE 123
+#define MPI_DISTRIBUTE_DFLT_DARG (-49767)
 
 /* The operations (6.9.2). Those of a program's own have the numbers behind them. */
 #define MPI_OP_NULL 0
@@ -241,6 +285,8 @@ enum {
 /* Fortran's handles are the same numbers. */
 #define MPI_Comm_c2f(c) ((MPI_Fint)(c))
 #define MPI_Comm_f2c(c) ((MPI_Comm)(c))
+#define MPI_Group_c2f(group) ((MPI_Fint)(group))
+#define MPI_Group_f2c(group) ((MPI_Group)(group))
 #define MPI_Type_c2f(type) ((MPI_Fint)(type))
 #define MPI_Type_f2c(type) ((MPI_Datatype)(type))
 #define MPI_Op_c2f(op) ((MPI_Fint)(op))

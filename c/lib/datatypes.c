@@ -1,8 +1,10 @@
-/* datatypes.c: names and sizes of datatypes and operations, and counts of elements in statuses. */
+/* datatypes.c: names and sizes of datatypes and operations, and counts of elements in statuses. Of a datatype that a program
+   made, its layout says that. */
 #include <limits.h>
 #include <string.h>
 #include "../mpi.h"
 #include "errors.h"
+#include "layouts.h"
 
 /* In the order of their numbers. The names are those that MPICH tells. */
 static const char *const type_names[] = {
@@ -35,6 +37,11 @@ const char *rvmc_op_name(MPI_Op op)
     return op >= 0 && op < (int)(sizeof op_names / sizeof *op_names) ? op_names[op] : "this";
 }
 
+static const struct rvmc_layout *made(MPI_Datatype type)
+{
+    return rvmc_is_derived(type) ? rvmc_derived.layout(type) : 0;
+}
+
 static int is_pair(MPI_Datatype type)
 {
     int kind = RVMC_KIND_OF(type);
@@ -56,25 +63,35 @@ static long size_of(MPI_Datatype type)
 
 static int checked(const char *call, MPI_Datatype type)
 {
-    return rvmc_code(call, RVMC_SIZE_OF(type) ? RVMC_OK : RVMC_BAD_COUNT, 0, 0, 0, type, 0, 0, MPI_COMM_WORLD);
+    if (!made(type) && !RVMC_SIZE_OF(type))
+        return rvmc_code(call, RVMC_BAD_COUNT, 0, 0, 0, type, 0, 0, MPI_COMM_WORLD);
+    return MPI_SUCCESS;
+}
+
+/* The size of a datatype, or MPI_UNDEFINED where the number has no room for it (5.1.5). */
+int MPI_Type_size_x(MPI_Datatype type, MPI_Count *size)
+{
+    const struct rvmc_layout *l = made(type);
+
+    *size = l ? l->size : size_of(type);
+    return checked("MPI_Type_size", type);
 }
 
 int MPI_Type_size(MPI_Datatype type, int *size)
 {
-    *size = (int)size_of(type);
-    return checked("MPI_Type_size", type);
-}
+    MPI_Count all;
+    int error = MPI_Type_size_x(type, &all);
 
-int MPI_Type_size_x(MPI_Datatype type, MPI_Count *size)
-{
-    *size = size_of(type);
-    return checked("MPI_Type_size_x", type);
+    *size = all > INT_MAX ? MPI_UNDEFINED : (int)all;
+    return error;
 }
 
 int MPI_Type_get_extent(MPI_Datatype type, MPI_Aint *low, MPI_Aint *extent)
 {
-    *low = 0;
-    *extent = RVMC_SIZE_OF(type);
+    const struct rvmc_layout *l = made(type);
+
+    *low = l ? l->low : 0;
+    *extent = l ? l->high - l->low : RVMC_SIZE_OF(type);
     return checked("MPI_Type_get_extent", type);
 }
 
@@ -86,8 +103,10 @@ int MPI_Type_get_extent_x(MPI_Datatype type, MPI_Count *low, MPI_Count *extent)
 /* A short and an int have two bytes between them. */
 int MPI_Type_get_true_extent(MPI_Datatype type, MPI_Aint *low, MPI_Aint *extent)
 {
-    *low = 0;
-    *extent = type == MPI_SHORT_INT ? 8 : size_of(type);
+    const struct rvmc_layout *l = made(type);
+
+    *low = l ? l->true_low : 0;
+    *extent = l ? l->true_high - l->true_low : type == MPI_SHORT_INT ? 8 : size_of(type);
     return checked("MPI_Type_get_true_extent", type);
 }
 
@@ -105,33 +124,45 @@ int MPI_Type_extent(MPI_Datatype type, MPI_Aint *extent)
 
 int MPI_Type_lb(MPI_Datatype type, MPI_Aint *low)
 {
-    *low = 0;
-    return checked("MPI_Type_lb", type);
+    MPI_Aint extent;
+
+    return MPI_Type_get_extent(type, low, &extent);
 }
 
 int MPI_Type_ub(MPI_Datatype type, MPI_Aint *high)
 {
-    return MPI_Type_extent(type, high);
+    MPI_Aint low, extent;
+    int error = MPI_Type_get_extent(type, &low, &extent);
+
+    *high = low + extent;
+    return error;
 }
 
 /* 3.2.5: bytes that are no whole number of elements have no count. */
 int MPI_Get_count(const MPI_Status *status, MPI_Datatype type, int *count)
 {
-    int size = RVMC_SIZE_OF(type), error = checked("MPI_Get_count", type);
+    const struct rvmc_layout *l = made(type);
+    long size = l ? l->bytes : RVMC_SIZE_OF(type), bytes = status->rvmc_bytes;
+    int error = checked("MPI_Get_count", type);
 
-    if (!error)
-        *count = status->rvmc_bytes % size ? MPI_UNDEFINED : status->rvmc_bytes / size;
+    if (!error && !size)
+        *count = bytes ? MPI_UNDEFINED : 0;
+    else if (!error)
+        *count = bytes % size ? MPI_UNDEFINED : (int)(bytes / size);
     return error;
 }
 
 /* A pair has two elements (3.2.5), whose first may be there alone. */
 int MPI_Get_elements_x(const MPI_Status *status, MPI_Datatype type, MPI_Count *count)
 {
+    const struct rvmc_layout *l = made(type);
     long size = RVMC_SIZE_OF(type), bytes = status->rvmc_bytes, rest = size ? bytes % size : 0;
 
     if (checked("MPI_Get_elements", type))
         return MPI_ERR_TYPE;
-    if (is_pair(type))
+    if (l)
+        *count = rvmc_derived.elements(bytes, type);
+    else if (is_pair(type))
         *count = bytes / size * 2 + (rest != 0);
     else
         *count = rest ? MPI_UNDEFINED : bytes / size;
@@ -147,18 +178,36 @@ int MPI_Get_elements(const MPI_Status *status, MPI_Datatype type, int *count)
     return error;
 }
 
+/* How many bytes so many elements are, or -1 where the status has no room for the number. */
+static long bytes_of(MPI_Datatype type, long count)
+{
+    const struct rvmc_layout *l = made(type);
+    long size = is_pair(type) ? RVMC_SIZE_OF(type) / 2 : RVMC_SIZE_OF(type), whole;
+
+    if (!l)
+        return count > INT_MAX / size ? -1 : count * size;
+    if (!count || !l->elements)
+        return count ? -1 : 0;
+    whole = count / l->elements;
+    if (whole > INT_MAX / l->bytes)
+        return -1;
+    for (whole *= l->bytes; whole <= INT_MAX && rvmc_derived.elements(whole, type) != count; whole++)
+        ;
+    return whole > INT_MAX ? -1 : whole;
+}
+
 /* A status has room for as many bytes as an int tells. */
 int MPI_Status_set_elements_x(MPI_Status *status, MPI_Datatype type, MPI_Count count)
 {
     const char *call = "MPI_Status_set_elements";
     int error = checked(call, type);
-    long size = is_pair(type) ? RVMC_SIZE_OF(type) / 2 : RVMC_SIZE_OF(type);
+    long bytes = error || count < 0 ? -1 : bytes_of(type, count);
 
-    if (!error && (count < 0 || count > INT_MAX / size))
+    if (!error && bytes < 0)
         error = rvmc_trapped(rvmc_raise(call, MPI_COMM_WORLD, MPI_ERR_COUNT, "count",
                                         count < 0 ? "count %d is negative" : "count %d is too large", count));
     if (!error)
-        status->rvmc_bytes = (int)(count * size);
+        status->rvmc_bytes = (int)bytes;
     return error;
 }
 

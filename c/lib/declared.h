@@ -65,7 +65,40 @@ int MPI_Info_get_nthkey(MPI_Info info, int n, char *key);
 int MPI_Comm_set_info(MPI_Comm c, MPI_Info info);
 int MPI_Comm_get_info(MPI_Comm c, MPI_Info *info);
 
-/* --- datatypes (5.1) --- */
+/* --- datatypes (5.1, 5.2) --- */
+
+int MPI_Type_contiguous(int count, MPI_Datatype type, MPI_Datatype *made);
+int MPI_Type_vector(int count, int length, int stride, MPI_Datatype type, MPI_Datatype *made);
+int MPI_Type_create_hvector(int count, int length, MPI_Aint stride, MPI_Datatype type, MPI_Datatype *made);
+int MPI_Type_indexed(int count, const int lengths[], const int places[], MPI_Datatype type, MPI_Datatype *made);
+int MPI_Type_create_hindexed(int count, const int lengths[], const MPI_Aint places[], MPI_Datatype type,
+                             MPI_Datatype *made);
+int MPI_Type_create_indexed_block(int count, int length, const int places[], MPI_Datatype type, MPI_Datatype *made);
+int MPI_Type_create_hindexed_block(int count, int length, const MPI_Aint places[], MPI_Datatype type, MPI_Datatype *made);
+int MPI_Type_create_struct(int count, const int lengths[], const MPI_Aint places[], const MPI_Datatype types[],
+                           MPI_Datatype *made);
+int MPI_Type_create_subarray(int dimensions, const int sizes[], const int subsizes[], const int starts[], int order,
+                             MPI_Datatype type, MPI_Datatype *made);
+int MPI_Type_create_darray(int size, int rank, int dimensions, const int sizes[], const int distributions[],
+                           const int arguments[], const int processes[], int order, MPI_Datatype type, MPI_Datatype *made);
+int MPI_Type_create_resized(MPI_Datatype type, MPI_Aint low, MPI_Aint extent, MPI_Datatype *made);
+int MPI_Type_dup(MPI_Datatype type, MPI_Datatype *made);
+int MPI_Type_commit(MPI_Datatype *type);
+int MPI_Type_free(MPI_Datatype *type);
+int MPI_Type_get_envelope(MPI_Datatype type, int *integers, int *addresses, int *types, int *combiner);
+int MPI_Type_get_contents(MPI_Datatype type, int integers, int addresses, int types, int integer[], MPI_Aint address[],
+                          MPI_Datatype types_given[]);
+int MPI_Type_hvector(int count, int length, MPI_Aint stride, MPI_Datatype type, MPI_Datatype *made);
+int MPI_Type_hindexed(int count, int lengths[], MPI_Aint places[], MPI_Datatype type, MPI_Datatype *made);
+int MPI_Type_struct(int count, int lengths[], MPI_Aint places[], MPI_Datatype types[], MPI_Datatype *made);
+int MPI_Pack(const void *from, int count, MPI_Datatype type, void *packed, int size, int *position, MPI_Comm c);
+int MPI_Unpack(const void *packed, int size, int *position, void *to, int count, MPI_Datatype type, MPI_Comm c);
+int MPI_Pack_size(int count, MPI_Datatype type, MPI_Comm c, int *size);
+int MPI_Pack_external(const char form[], const void *from, int count, MPI_Datatype type, void *packed, MPI_Aint size,
+                      MPI_Aint *position);
+int MPI_Unpack_external(const char form[], const void *packed, MPI_Aint size, MPI_Aint *position, void *to, int count,
+                        MPI_Datatype type);
+int MPI_Pack_external_size(const char form[], int count, MPI_Datatype type, MPI_Aint *size);
 
 int MPI_Type_size(MPI_Datatype type, int *size);
 int MPI_Type_size_x(MPI_Datatype type, MPI_Count *size);
@@ -96,9 +129,10 @@ int MPI_Test_cancelled(const MPI_Status *status, int *flag);
 int MPI_Buffer_attach(void *buffer, int size);
 int MPI_Buffer_detach(void *buffer, int *size);
 
-enum { RVMC_SYNCHRONOUS, RVMC_BUFFERED, RVMC_READY };
+enum { RVMC_SYNCHRONOUS, RVMC_BUFFERED, RVMC_READY, RVMC_STANDARD };
 extern long rvmc_buffer_size;
 long rvmc_own_init(int mode, const void *buffer, long size, int dest, int tag, MPI_Comm c, MPI_Request *request);
+void rvmc_own_init_type(MPI_Request request, const void *buffer, long size, int count, MPI_Datatype type);
 
 /* A buffered send waits for nobody, as no send of the machine does. Its buffer has to have room for it none the less. */
 RVMC_INLINE long rvmc_buffered(const void *buffer, long size, int dest, int tag, MPI_Comm c)
@@ -122,59 +156,80 @@ RVMC_INLINE long rvmc_ready(const void *buffer, long size, int dest, int tag, MP
     return rvmc_call(RVMC_TEST, a.value, 0, 0, 0, 0, 0).value ? RVMC_OK : RVMC_NOT_READY;
 }
 /* A request that is complete: a send to no process. */
-RVMC_INLINE long rvmc_complete(long code, MPI_Comm c, MPI_Request *request)
+RVMC_INLINE long rvmc_complete(long code, MPI_Request *request)
 {
     rvmc_answer a = {code, 0};
 
     if (!code)
-        a = rvmc_call(RVMC_ISEND, 0, 0, MPI_PROC_NULL, 0, c, 0);
+        a = rvmc_call(RVMC_ISEND, 0, 0, MPI_PROC_NULL, 0, MPI_COMM_WORLD, 0);
     return rvmc_made(a, request, RVMC_SENDER);
 }
 RVMC_INLINE int MPI_Bsend(const void *buffer, int count, MPI_Datatype type, int dest, int tag, MPI_Comm c)
 {
-    long code = rvmc_buffered(buffer, rvmc_bytes(count, type), dest, tag, c);
+    long code;
 
+    if (rvmc_is_derived(type))
+        return rvmc_derived.send("MPI_Bsend", RVMC_BSEND, 0, buffer, count, type, dest, tag, c, 0);
+    code = rvmc_buffered(buffer, rvmc_bytes(count, type), dest, tag, c);
     return rvmc_code("MPI_Bsend", code, 0, buffer, count, type, dest, tag, c);
 }
 RVMC_INLINE int MPI_Rsend(const void *buffer, int count, MPI_Datatype type, int dest, int tag, MPI_Comm c)
 {
-    long code = rvmc_ready(buffer, rvmc_bytes(count, type), dest, tag, c);
+    long code;
 
+    if (rvmc_is_derived(type))
+        return rvmc_derived.send("MPI_Rsend", RVMC_RSEND, 0, buffer, count, type, dest, tag, c, 0);
+    code = rvmc_ready(buffer, rvmc_bytes(count, type), dest, tag, c);
     return rvmc_code("MPI_Rsend", code, 0, buffer, count, type, dest, tag, c);
 }
 RVMC_INLINE int MPI_Ibsend(const void *buffer, int count, MPI_Datatype type, int dest, int tag, MPI_Comm c,
                            MPI_Request *request)
 {
-    long code = rvmc_complete(rvmc_buffered(buffer, rvmc_bytes(count, type), dest, tag, c), c, request);
+    long code;
 
+    if (rvmc_is_derived(type))
+        return rvmc_derived.send("MPI_Ibsend", RVMC_IBSEND, 0, buffer, count, type, dest, tag, c, request);
+    code = rvmc_complete(rvmc_buffered(buffer, rvmc_bytes(count, type), dest, tag, c), request);
     return rvmc_code("MPI_Ibsend", code, 0, buffer, count, type, dest, tag, c);
 }
 RVMC_INLINE int MPI_Irsend(const void *buffer, int count, MPI_Datatype type, int dest, int tag, MPI_Comm c,
                            MPI_Request *request)
 {
-    long code = rvmc_complete(rvmc_ready(buffer, rvmc_bytes(count, type), dest, tag, c), c, request);
+    long code;
 
+    if (rvmc_is_derived(type))
+        return rvmc_derived.send("MPI_Irsend", RVMC_IRSEND, 0, buffer, count, type, dest, tag, c, request);
+    code = rvmc_complete(rvmc_ready(buffer, rvmc_bytes(count, type), dest, tag, c), request);
     return rvmc_code("MPI_Irsend", code, 0, buffer, count, type, dest, tag, c);
 }
 RVMC_INLINE int MPI_Ssend_init(const void *buffer, int count, MPI_Datatype type, int dest, int tag, MPI_Comm c,
                                MPI_Request *request)
 {
-    long code = rvmc_own_init(RVMC_SYNCHRONOUS, buffer, rvmc_bytes(count, type), dest, tag, c, request);
+    long code;
 
+    if (rvmc_is_derived(type))
+        return rvmc_derived.send("MPI_Ssend_init", RVMC_SSEND_INIT, 0, buffer, count, type, dest, tag, c, request);
+    code = rvmc_own_init(RVMC_SYNCHRONOUS, buffer, rvmc_bytes(count, type), dest, tag, c, request);
     return rvmc_code("MPI_Ssend_init", code, 0, buffer, count, type, dest, tag, c);
 }
 RVMC_INLINE int MPI_Bsend_init(const void *buffer, int count, MPI_Datatype type, int dest, int tag, MPI_Comm c,
                                MPI_Request *request)
 {
-    long code = rvmc_own_init(RVMC_BUFFERED, buffer, rvmc_bytes(count, type), dest, tag, c, request);
+    long code;
 
+    if (rvmc_is_derived(type))
+        return rvmc_derived.send("MPI_Bsend_init", RVMC_BSEND_INIT, 0, buffer, count, type, dest, tag, c, request);
+    code = rvmc_own_init(RVMC_BUFFERED, buffer, rvmc_bytes(count, type), dest, tag, c, request);
     return rvmc_code("MPI_Bsend_init", code, 0, buffer, count, type, dest, tag, c);
 }
 RVMC_INLINE int MPI_Rsend_init(const void *buffer, int count, MPI_Datatype type, int dest, int tag, MPI_Comm c,
                                MPI_Request *request)
 {
-    long code = rvmc_own_init(RVMC_READY, buffer, rvmc_bytes(count, type), dest, tag, c, request);
+    long code;
 
+    if (rvmc_is_derived(type))
+        return rvmc_derived.send("MPI_Rsend_init", RVMC_RSEND_INIT, 0, buffer, count, type, dest, tag, c, request);
+    code = rvmc_own_init(RVMC_READY, buffer, rvmc_bytes(count, type), dest, tag, c, request);
     return rvmc_code("MPI_Rsend_init", code, 0, buffer, count, type, dest, tag, c);
 }
 /* The send has copied its bytes and is complete, so the request is the receive's (3.10). */
@@ -189,8 +244,15 @@ RVMC_INLINE long rvmc_sent_at_once(const void *buffer, long size, int dest, int 
 RVMC_INLINE int MPI_Isendrecv(const void *out, int out_count, MPI_Datatype out_type, int dest, int out_tag, void *in,
                               int in_count, MPI_Datatype in_type, int source, int in_tag, MPI_Comm c, MPI_Request *request)
 {
-    long code = rvmc_sent_at_once(out, rvmc_bytes(out_count, out_type), dest, out_tag, c);
+    long code;
 
+    if (rvmc_is_derived(out_type) || rvmc_is_derived(in_type)) {
+        int error = rvmc_derived.send("MPI_Isendrecv", RVMC_SEND, RVMC_OUT, out, out_count, out_type, dest, out_tag, c, 0);
+
+        return error ? error : rvmc_derived.receive("MPI_Isendrecv", RVMC_IRECV, RVMC_IN, in, in_count, in_type, source,
+                                                    in_tag, c, 0, request);
+    }
+    code = rvmc_sent_at_once(out, rvmc_bytes(out_count, out_type), dest, out_tag, c);
     if (code)
         return rvmc_code("MPI_Isendrecv", code, RVMC_OUT, out, out_count, out_type, dest, out_tag, c);
     code = rvmc_posted(in, rvmc_bytes(in_count, in_type), source, in_tag, c, request);
@@ -199,8 +261,15 @@ RVMC_INLINE int MPI_Isendrecv(const void *out, int out_count, MPI_Datatype out_t
 RVMC_INLINE int MPI_Isendrecv_replace(void *buffer, int count, MPI_Datatype type, int dest, int out_tag, int source,
                                       int in_tag, MPI_Comm c, MPI_Request *request)
 {
-    long code = rvmc_sent_at_once(buffer, rvmc_bytes(count, type), dest, out_tag, c);
+    long code;
 
+    if (rvmc_is_derived(type)) {
+        int error = rvmc_derived.send("MPI_Isendrecv_replace", RVMC_SEND, 0, buffer, count, type, dest, out_tag, c, 0);
+
+        return error ? error : rvmc_derived.receive("MPI_Isendrecv_replace", RVMC_IRECV, 0, buffer, count, type, source,
+                                                    in_tag, c, 0, request);
+    }
+    code = rvmc_sent_at_once(buffer, rvmc_bytes(count, type), dest, out_tag, c);
     if (code)
         return rvmc_code("MPI_Isendrecv_replace", code, 0, buffer, count, type, dest, out_tag, c);
     code = rvmc_posted(buffer, rvmc_bytes(count, type), source, in_tag, c, request);

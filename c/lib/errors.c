@@ -11,13 +11,13 @@
 #pragma GCC optimize("Os")
 #endif
 
-MPI_Errhandler rvmc_handlers[RVMC_MOST_COMMUNICATORS];
+MPI_Errhandler rvmc_handlers[RVMC_COMMUNICATORS];
 void (*rvmc_own_handler)(MPI_Comm c, MPI_Errhandler handler, int error);
 int rvmc_state;
 
 /* The names of classes, each behind its number. */
 static const char names[] =
-    "\001BUFFER\0\002COUNT\0\003TYPE\0\004TAG\0\005COMM\0\006RANK\0\007ROOT\0\011OP\0\014ARG\0\016TRUNCATE\0\017OTHER\0"
+    "\001BUFFER\0\002COUNT\0\003TYPE\0\004TAG\0\005COMM\0\006RANK\0\007ROOT\0\010GROUP\0\011OP\0\012TOPOLOGY\0\013DIMS\0\014ARG\0\016TRUNCATE\0\017OTHER\0"
     "\021IN_STATUS\0\023REQUEST\0\034INFO\0\035INFO_KEY\0\036INFO_VALUE\0\037INFO_NOKEY\0\042NO_MEM\0"
     "\054UNSUPPORTED_OPERATION\0\060KEYVAL\0";
 
@@ -60,6 +60,15 @@ static void put_parts(const char *format, va_list values)
     }
 }
 
+void rvmc_put(const char *format, ...)
+{
+    va_list values;
+
+    va_start(values, format);
+    put_parts(format, values);
+    va_end(values);
+}
+
 void rvmc_say(const char *format, ...)
 {
     va_list values;
@@ -71,10 +80,9 @@ void rvmc_say(const char *format, ...)
     va_end(values);
 }
 
-/* What a handler makes of an error: what the call returns, or 0 for what is told and traps. */
-static int handled(MPI_Comm c, int error)
+int rvmc_handled(MPI_Comm c, int error)
 {
-    MPI_Errhandler handler = rvmc_handlers[c > 0 && c < RVMC_NUMBER(rvmc_communicators) ? c : 0];
+    MPI_Errhandler handler = rvmc_handlers[c > 0 && c < RVMC_COMMUNICATORS ? c : 0];
 
     if (rvmc_state != RVMC_BEGUN)
         return 0;
@@ -86,7 +94,7 @@ static int handled(MPI_Comm c, int error)
 int rvmc_raise(const char *call, MPI_Comm c, int error, const char *argument, const char *format, ...)
 {
     va_list values;
-    int answer = handled(c, error);
+    int answer = rvmc_handled(c, error);
 
     if (answer)
         return answer;
@@ -109,7 +117,9 @@ int rvmc_raise(const char *call, MPI_Comm c, int error, const char *argument, co
 
 static long size_of(MPI_Comm c)
 {
-    return rvmc_call(RVMC_SIZE, c, 0, 0, 0, 0, 0).value;
+    const struct rvmc_communicator *of = rvmc_known(c);
+
+    return of ? of->size : 0;
 }
 
 int rvmc_wrong_comm(const char *call, long code, MPI_Comm c)
@@ -120,8 +130,8 @@ int rvmc_wrong_comm(const char *call, long code, MPI_Comm c)
         return rvmc_raise(call, c, MPI_ERR_OTHER, 0, "MPI is initialized already");
     if (c == MPI_COMM_NULL)
         return rvmc_raise(call, c, MPI_ERR_COMM, "comm", "the communicator is MPI_COMM_NULL");
-    return rvmc_raise(call, c, MPI_ERR_COMM, "comm", c < 0 || c >= RVMC_NUMBER(rvmc_communicators)
-                      ? "%d is no communicator" : "this rank is no member of communicator %d", (long)c);
+    return rvmc_raise(call, c, MPI_ERR_COMM, "comm", c > 0 && c < RVMC_COMMUNICATORS && rvmc_table[c].size
+                      ? "this rank is no member of the communicator" : "%d is no communicator", (long)c);
 }
 
 /* A null pointer, or bytes that aren't in the memory, or that a receive would write into the program. */
@@ -183,8 +193,11 @@ int rvmc_wrong(const char *call, long code, const void *buffer, long count, MPI_
 
     code &= 255;
     switch (code) {
-    case RVMC_NOT_BEGUN:
     case RVMC_BAD_COMM:
+        if (c == MPI_COMM_SELF)
+            return rvmc_raise(call, c, MPI_ERR_OTHER, "comm", rvmc_no_context);
+        return rvmc_wrong_comm(call, code, c);
+    case RVMC_NOT_BEGUN:
         return rvmc_wrong_comm(call, code, c);
     case RVMC_BAD_RANK:
         return rvmc_raise(call, c, MPI_ERR_RANK, of & RVMC_SOURCE ? "source" : "dest",
@@ -253,8 +266,9 @@ int rvmc_wrong_parts(const char *call, long code, long parts, long size)
     return rvmc_raise(call, c, MPI_ERR_COUNT, "count", "a partition of %d bytes, but 8 to 128 in whole 8s are served", size);
 }
 
-int rvmc_wrong_collective(const char *call, const struct group *g)
+int rvmc_wrong_collective(const struct group *g)
 {
+    const char *call = g->call;
     const MPI_Comm c = g->communicator;
 
     switch (g->code) {
@@ -277,6 +291,8 @@ int rvmc_wrong_collective(const char *call, const struct group *g)
         return wrong_buffer(call, c, g->argument, (const void *)g->value, g->expected);
     case RVMC_ALIASED:
         return rvmc_raise(call, c, MPI_ERR_BUFFER, g->argument, "both buffers are at %x: MPI_IN_PLACE says that", g->value);
+    case RVMC_MISMATCH:
+        return rvmc_wrong_mismatch(g);
     case RVMC_OTHER_COUNT:
         return rvmc_raise(call, c, MPI_ERR_TRUNCATE, g->argument, "rank %d gave another count, where %d bytes are expected",
                           g->value, g->expected);

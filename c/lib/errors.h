@@ -4,9 +4,11 @@
 
 #include "say.h"
 
-enum { RVMC_MOST_COMMUNICATORS = 8 };
-extern MPI_Errhandler rvmc_handlers[RVMC_MOST_COMMUNICATORS];
+extern MPI_Errhandler rvmc_handlers[RVMC_COMMUNICATORS];
 extern void (*rvmc_own_handler)(MPI_Comm c, MPI_Errhandler handler, int error);
+
+/* What the error handler of a communicator makes of an error: what the call returns, or 0 for what is told and traps. */
+int rvmc_handled(MPI_Comm c, int error);
 
 /* An error of a call, by the handler of the communicator: what the call returns, or 0 for a trap. The format is one of
    rvmc_say. */
@@ -15,6 +17,8 @@ int rvmc_raise(const char *call, MPI_Comm c, int error, const char *argument, co
 /* No memory: in the heap, or in a table of so many things. */
 int rvmc_full_heap(const char *call);
 int rvmc_no_room(const char *call, long most, const char *things);
+
+extern const char rvmc_no_context[];              /* what is told where a seventh communicator is made */
 
 const char *rvmc_type_name(MPI_Datatype type);
 const char *rvmc_op_name(MPI_Op op);

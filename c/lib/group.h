@@ -1,32 +1,54 @@
-/* group.h: what the collectives share: who takes part, and giving and taking pieces of a buffer. Messages go in the twin of
-   the communicator, which has the same members in the same order, so a receive of any source and any tag in the program's
-   own never takes one of them. A buffer goes in pieces of 4,096 bytes; one of 0 bytes sends nothing. All members call the
-   same collectives in the same order (6.12), and nothing overtakes (3.5), so one tag for each collective is enough.
+/* group.h: what the collectives share: who takes part, and giving and taking pieces of a buffer. Messages go in the twin, by
+   one tag for all collectives of a communicator that wait, so a receive of any source and any tag in the program's own
+   communicators never takes one of them. A buffer goes in pieces of 4,096 bytes. All members call the same collectives in
+   the same order (6.12), and nothing overtakes (3.5), so one tag is enough; and the first message to a rank in each call has
+   a head, which says whether they do (mismatch.h).
    Pieces are given and taken inline: the place of a hart that waits is in the collective that it called. */
 #ifndef RVMC_GROUP_H
 #define RVMC_GROUP_H
 
-enum { BARRIER, BCAST, GATHER, SCATTER, ALLTOALL, REDUCE, SCAN, EXSCAN };
+#include "mismatch.h"
+#include "system.h"
 
-/* Who takes part; and what is wrong, with the argument's name, its value and what was expected. Behind the first fault
-   nothing more is sent or received. */
+/* Who takes part, in what call; and what is wrong, with the argument's name, its value and what was expected. Behind the first
+   fault nothing more is sent or received. */
 struct group {
-    MPI_Comm communicator, twin;
-    int me, size;
+    const char *call;
+    const void *place;                            /* behind the call, in the program */
+    MPI_Comm communicator;
+    const struct rvmc_communicator *of;
+    int tag, me, size;
     long code;
     const char *argument;
     long value, expected;
+    int root;                                     /* -1: the call has none */
+    MPI_Op op;
+    unsigned given, taken;                        /* bit r: the rank at place r has had a message of the call, or sent one */
+    int whole;                                    /* the signature is that of the call, and not of each message */
+    long count;
+    MPI_Datatype type;
+    unsigned signature;                           /* of so many elements of this datatype */
+    struct rvmc_head mine;
 };
 
-int rvmc_wrong_collective(const char *call, const struct group *g);
-struct group rvmc_group(MPI_Comm c);
-struct group rvmc_rooted(MPI_Comm c, int root);
+int rvmc_wrong_collective(const struct group *g);
+int rvmc_wrong_mismatch(const struct group *g);
+struct group rvmc_group_at(const char *call, MPI_Comm c, const void *place);
+struct group rvmc_rooted_at(const char *call, MPI_Comm c, int root, const void *place);
+#define rvmc_group(call, c) rvmc_group_at(call, c, __builtin_return_address(0))
+#define rvmc_rooted(call, c, root) rvmc_rooted_at(call, c, root, __builtin_return_address(0))
 
-RVMC_INLINE int finish(const char *call, const struct group *g)
+/* All messages of the call carry the signature of so many elements, of which each message has a part. */
+void rvmc_whole(struct group *g, long count, MPI_Datatype type);
+
+const char *rvmc_headed(struct group *g, const void *buffer, long count, MPI_Datatype type, long size);
+void rvmc_heard(struct group *g, void *buffer, long count, MPI_Datatype type, long size, int from, long bytes);
+
+RVMC_INLINE int finish(const struct group *g)
 {
     if (__builtin_expect(g->code == RVMC_OK, 1))
         return MPI_SUCCESS;
-    return rvmc_trapped(rvmc_wrong_collective(call, g));
+    return rvmc_trapped(rvmc_wrong_collective(g));
 }
 
 RVMC_INLINE void fault(struct group *g, long code, const char *argument, long value, long expected)
@@ -39,30 +61,84 @@ RVMC_INLINE void fault(struct group *g, long code, const char *argument, long va
     g->expected = expected;
 }
 
-RVMC_INLINE void give(struct group *g, const void *buffer, long size, int to, int kind)
+/* Whether a handle is a datatype, and the bytes from one of it to the next. */
+RVMC_INLINE int is_type(MPI_Datatype type)
 {
-    for (long at = 0; at < size && !g->code; at += RVMC_PIECE) {
-        long code = rvmc_call(RVMC_SEND, (long)buffer + at, rvmc_first(size - at), to, RVMC_TAG_COLLECTIVE + kind,
-                              g->twin, 0).code;
+    return RVMC_SIZE_OF(type) != 0;
+}
+
+RVMC_INLINE long extent_of(MPI_Datatype type)
+{
+    return RVMC_SIZE_OF(type);
+}
+
+/* Where a message with a head is put together: so that its data stand as the buffer does, and are copied by words. */
+RVMC_INLINE char *head_room(const void *buffer)
+{
+    return rvmc_pages[rvmc_hart].first + ((long)buffer & 4);
+}
+
+RVMC_INLINE long headed(long size)
+{
+    return size < RVMC_HEADED ? size : RVMC_HEADED;
+}
+
+/* So many elements of a datatype for the rank at a place of the communicator. */
+RVMC_INLINE void give(struct group *g, const void *buffer, long count, MPI_Datatype type, int to)
+{
+    long size = count * RVMC_SIZE_OF(type), at = 0;
+
+    if (!g->code && !(g->given >> to & 1)) {
+        const char *message = rvmc_headed(g, buffer, count, type, size);
+
+        g->given |= 1u << to;
+        if (!g->code)
+            g->code = rvmc_call(RVMC_SEND, (long)message, RVMC_HEAD + headed(size), rvmc_rank_at(g->of, to), g->tag, RVMC_TWIN,
+                                0).code;
+        at = RVMC_HEADED;
+    }
+    for (; at < size && !g->code; at += RVMC_PIECE) {
+        long code = rvmc_call(RVMC_SEND, (long)buffer + at, rvmc_first(size - at), rvmc_rank_at(g->of, to), g->tag, RVMC_TWIN,
+                              0).code;
 
         if (code)
             fault(g, code, "sendbuf", (long)buffer, size);
     }
 }
 
-RVMC_INLINE void take(struct group *g, void *buffer, long size, int from, int kind)
+RVMC_INLINE void take(struct group *g, void *buffer, long count, MPI_Datatype type, int from)
 {
+    long size = count * RVMC_SIZE_OF(type), at = 0;
     MPI_Status status;
 
-    for (long at = 0; at < size && !g->code; at += RVMC_PIECE) {
-        long code = rvmc_call(RVMC_RECV, (long)buffer + at, rvmc_first(size - at), from,
-                              RVMC_TAG_COLLECTIVE + kind, g->twin, (long)&status).code;
+    if (!g->code && !(g->taken >> from & 1)) {
+        g->code = rvmc_call(RVMC_RECV, (long)head_room(buffer), RVMC_PIECE, rvmc_rank_at(g->of, from), g->tag, RVMC_TWIN,
+                            (long)&status).code;
+        g->taken |= 1u << from;
+        if (!g->code)
+            rvmc_heard(g, buffer, count, type, size, from, status.rvmc_bytes);
+        at = RVMC_HEADED;
+    }
+    for (; at < size && !g->code; at += RVMC_PIECE) {
+        long code = rvmc_call(RVMC_RECV, (long)buffer + at, rvmc_first(size - at), rvmc_rank_at(g->of, from), g->tag, RVMC_TWIN,
+                              (long)&status).code;
 
         if (code == RVMC_TRUNCATED || (!code && status.rvmc_bytes != rvmc_first(size - at)))
             fault(g, RVMC_OTHER_COUNT, 0, from, size);
         else if (code)
             fault(g, code, "recvbuf", (long)buffer, size);
     }
+}
+
+/* A message without bytes but its head, that only says something by being there. */
+RVMC_INLINE void give_word(struct group *g, int to)
+{
+    give(g, 0, 0, MPI_BYTE, to);
+}
+
+RVMC_INLINE void take_word(struct group *g, int from)
+{
+    take(g, 0, 0, MPI_BYTE, from);
 }
 
 #endif

@@ -66,7 +66,7 @@ SECTIONS
         rvmc_locals = .;
         . = . + rvmc_harts * rvmc_locals_size;
         rvmc_pages = .;
-        . = . + rvmc_harts * (4096 + 4096 + 16);
+        . = . + rvmc_harts * (4096 + 4096 + 8 + 16);
     } :data
     __heap_start = .;
     __heap_end = rvmc_memory;

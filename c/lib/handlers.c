@@ -3,6 +3,7 @@
 #include <string.h>
 #include "../mpi.h"
 #include "errors.h"
+#include "contexts.h"
 
 enum { HANDLERS = 32, ADDED = 64, FIRST_HANDLER = MPI_ERRORS_ABORT + 1 };
 
@@ -160,6 +161,7 @@ int MPI_Comm_set_errhandler(MPI_Comm c, MPI_Errhandler handler)
     used(handler, 1);
     used(rvmc_handlers[c], -1);
     rvmc_handlers[c] = handler;
+    rvmc_hooks.used_handler = used;
     return MPI_SUCCESS;
 }
 

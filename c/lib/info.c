@@ -3,6 +3,7 @@
 #include <string.h>
 #include "../mpi.h"
 #include "errors.h"
+#include "contexts.h"
 
 enum { INFOS = 256, FIRST_INFO = MPI_INFO_ENV + 1 };
 
@@ -15,7 +16,7 @@ static struct {
     int open;
 } infos[INFOS];
 static struct pair *environment;
-static MPI_Info of_communicators[RVMC_MOST_COMMUNICATORS];
+static MPI_Info of_communicators[RVMC_COMMUNICATORS];
 
 static struct pair **pairs_of(MPI_Info info)
 {
@@ -246,6 +247,12 @@ static int wrong_comm(const char *call, MPI_Comm c)
     return rvmc_comm_code(call, rvmc_asked_of(RVMC_SIZE, c, &size), c);
 }
 
+static void free_info(MPI_Comm c)
+{
+    if (of_communicators[c] != MPI_INFO_NULL)
+        MPI_Info_free(of_communicators + c);
+}
+
 /* Hints, of which none is followed. */
 int MPI_Comm_set_info(MPI_Comm c, MPI_Info info)
 {
@@ -256,9 +263,9 @@ int MPI_Comm_set_info(MPI_Comm c, MPI_Info info)
         error = MPI_Info_dup(info, &copy);
     if (error)
         return error;
-    if (of_communicators[c] != MPI_INFO_NULL)
-        MPI_Info_free(of_communicators + c);
+    free_info(c);
     of_communicators[c] = copy;
+    rvmc_hooks.freed_info = free_info;
     return MPI_SUCCESS;
 }
 

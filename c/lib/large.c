@@ -9,7 +9,7 @@
 #include "../mpi.h"
 #include "system.h"
 
-enum { KEPT = RVMC_PIECE - 8, NUMBERS = 7900 };
+enum { KEPT = RVMC_PIECE - 8, NUMBERS = 7008 };
 
 struct header {
     int number, total;
@@ -18,7 +18,7 @@ struct header {
 /* A large message that a probe has found: its length stands in its bytes, so it is received at once and kept here. */
 struct claim {
     struct claim *next;
-    MPI_Comm communicator;
+    long context;
     int source, tag, by_tag;
     char first[RVMC_PIECE];
 };
@@ -27,9 +27,7 @@ struct claim {
 struct again {
     char first[RVMC_PIECE];
     const char *buffer;
-    long size;
-    int dest;
-    MPI_Comm communicator;
+    long size, dest;
 };
 
 void *rvmc_claims;
@@ -48,7 +46,7 @@ static int is_outside(const char *buffer, long size)
 }
 
 /* Sends the rest, and makes the first piece. Numbers are the harts' own, since harts count without a lock. */
-static long split(char *first, const char *buffer, long size, int dest, MPI_Comm c)
+static long split(char *first, const char *buffer, long size, long dest)
 {
     struct rvmc_page *page = &rvmc_pages[rvmc_hart];
     struct header header = {rvmc_hart * NUMBERS + (int)(page->count++ % NUMBERS), (int)size};
@@ -59,7 +57,7 @@ static long split(char *first, const char *buffer, long size, int dest, MPI_Comm
         return RVMC_OK;
     for (long at = KEPT; at < size; at += RVMC_PIECE) {
         long code = rvmc_call(RVMC_SEND, (long)buffer + at, least(size - at, RVMC_PIECE), dest,
-                              RVMC_TAG_REST + header.number, RVMC_TWIN(c), 0).code;
+                              RVMC_TAG_REST + header.number, RVMC_TWIN, 0).code;
 
         if (code)
             return code;
@@ -70,25 +68,25 @@ static long split(char *first, const char *buffer, long size, int dest, MPI_Comm
 }
 
 /* The rest of a message that is refused would stay for ever, so what only the first piece would show is looked at before:
-   the tag, and whether the communicator's twin is one. */
-rvmc_answer rvmc_give_rest(const void *buffer, long size, int dest, int tag, MPI_Comm c)
+   the tag, and whether there is a context. */
+rvmc_answer rvmc_give_rest(const void *buffer, long size, long dest, int tag, long context)
 {
     char *first = rvmc_pages[rvmc_hart].first;
 
-    if (c < 0 || c >= RVMC_NUMBER(rvmc_communicators))
+    if (context < 0)
         return (rvmc_answer){RVMC_BAD_COMM, 0};
     if (tag < 0 || tag > RVMC_MOST_TAG)
         return (rvmc_answer){RVMC_BAD_TAG, 0};
-    return (rvmc_answer){split(first, buffer, size, dest, c), (long)first};
+    return (rvmc_answer){split(first, buffer, size, dest), (long)first};
 }
 
 /* Receives the rest behind the first piece. What has no room is dropped, as the machine drops it. */
-static long join(char *buffer, long size, MPI_Comm c, int source, struct header header)
+static long join(char *buffer, long size, int source, struct header header)
 {
     for (long at = KEPT; at < header.total; at += RVMC_PIECE) {
         long room = least(size - at, least(header.total - at, RVMC_PIECE));
         long code = rvmc_call(RVMC_RECV, (long)buffer + at, room < 0 ? 0 : room, source,
-                              RVMC_TAG_REST + header.number, RVMC_TWIN(c), 0).code;
+                              RVMC_TAG_REST + header.number, RVMC_TWIN, 0).code;
 
         if (code != RVMC_OK && code != RVMC_TRUNCATED)
             return code;
@@ -116,12 +114,12 @@ long rvmc_take_rest(const struct rvmc_rest *rest, MPI_Status *status, long code)
         return code;
     header = header_of(rest->buffer);
     status->rvmc_bytes = (int)least(header.total, rest->size);
-    return join(rest->buffer, rest->size, rest->communicator, status->MPI_SOURCE, header);
+    return join(rest->buffer, rest->size, status->MPI_SOURCE, header);
 }
 
 /* Claims the message that a probe has found, and keeps it, to be found by the receives and probes that follow. Where a
    rank has several harts, another one may receive it meanwhile, so there only the probes that match are served (3.8.2). */
-rvmc_answer rvmc_claim(MPI_Comm c, MPI_Message message, MPI_Status *status, int keep)
+rvmc_answer rvmc_claim(long context, MPI_Message message, MPI_Status *status, int keep)
 {
     struct claim *claim, **end = (struct claim **)&rvmc_claims;
     rvmc_answer a;
@@ -132,10 +130,10 @@ rvmc_answer rvmc_claim(MPI_Comm c, MPI_Message message, MPI_Status *status, int 
     if (!claim)
         return (rvmc_answer){RVMC_NO_MEMORY, 0};
     if (keep)
-        message = rvmc_call(RVMC_IMPROBE, status->MPI_SOURCE, status->MPI_TAG, c, 0, 0, 0).value;
+        message = rvmc_call(RVMC_IMPROBE, status->MPI_SOURCE, status->MPI_TAG, context, 0, 0, 0).value;
     a = rvmc_call(RVMC_MRECV, (long)claim->first, RVMC_PIECE, message, 0, 0, 0);
     claim->next = NULL;
-    claim->communicator = c;
+    claim->context = context;
     claim->source = status->MPI_SOURCE;
     claim->tag = status->MPI_TAG;
     claim->by_tag = keep == 2;
@@ -152,7 +150,7 @@ rvmc_answer rvmc_claim(MPI_Comm c, MPI_Message message, MPI_Status *status, int 
    any more, so a receive of any tag can't be told which of them is its (3.5). */
 static void refuse_unordered(const struct claim *claim)
 {
-    rvmc_answer a = rvmc_call(RVMC_IPROBE, claim->source, MPI_ANY_TAG, claim->communicator, 0, 0, 0);
+    rvmc_answer a = rvmc_call(RVMC_IPROBE, claim->source, MPI_ANY_TAG, claim->context, 0, 0, 0);
 
     if (!a.value)
         return;
@@ -161,12 +159,12 @@ static void refuse_unordered(const struct claim *claim)
     __asm__ volatile("ebreak");
 }
 
-int rvmc_claimed(int source, int tag, MPI_Comm c, MPI_Message *message, MPI_Status *status)
+int rvmc_claimed(long source, int tag, long context, MPI_Message *message, MPI_Status *status)
 {
     struct claim **at = (struct claim **)&rvmc_claims, *claim;
 
     for (; (claim = *at); at = &claim->next)
-        if (claim->communicator == c && (source == MPI_ANY_SOURCE || source == claim->source) &&
+        if (claim->context == context && (source == MPI_ANY_SOURCE || source == claim->source) &&
             (tag == MPI_ANY_TAG || tag == claim->tag))
             break;
     if (!claim)
@@ -191,7 +189,7 @@ long rvmc_claim_received(void *buffer, long size, MPI_Message message, MPI_Statu
     if (size < 0)
         return RVMC_BAD_COUNT;
     memcpy(buffer, claim->first, least(size, KEPT));
-    code = join(buffer, size, claim->communicator, claim->source, header);
+    code = join(buffer, size, claim->source, header);
     if (status)
         *status = (MPI_Status){claim->source, 0, claim->tag, 0, (int)least(size, header.total), MPI_SUCCESS};
     free(claim);
@@ -202,22 +200,21 @@ long rvmc_claim_received(void *buffer, long size, MPI_Message message, MPI_Statu
 rvmc_answer rvmc_claim_posted(void *buffer, long size, MPI_Message message)
 {
     struct claim *claim = (struct claim *)-message;
-    long tag = RVMC_TAG_AGAIN + rvmc_hart, twin = RVMC_TWIN(0);
+    long tag = RVMC_TAG_AGAIN + rvmc_hart, twin = RVMC_TWIN;
     rvmc_answer a = rvmc_call(RVMC_IRECV, (long)buffer, rvmc_first(size), rvmc_rank, tag, twin, 0);
 
     if (a.code)
         return a;
     rvmc_call(RVMC_SEND, (long)claim->first, RVMC_PIECE, rvmc_rank, tag, twin, 0);
     if (size < RVMC_PIECE)
-        join(buffer, 0, claim->communicator, claim->source, header_of(claim->first));
+        join(buffer, 0, claim->source, header_of(claim->first));
     rvmc_kinds[a.value & 255] = RVMC_LARGE;
-    rvmc_rests[a.value & 255] =
-            (struct rvmc_rest){buffer, size, claim->communicator, 1, claim->source, claim->tag};
+    rvmc_rests[a.value & 255] = (struct rvmc_rest){buffer, size, MPI_COMM_WORLD, 1, claim->source, claim->tag};
     free(claim);
     return a;
 }
 
-rvmc_answer rvmc_large_send_init(const void *buffer, long size, int dest, int tag, MPI_Comm c)
+rvmc_answer rvmc_large_send_init(const void *buffer, long size, long dest, int tag, long context)
 {
     struct again *again;
     rvmc_answer a;
@@ -230,8 +227,7 @@ rvmc_answer rvmc_large_send_init(const void *buffer, long size, int dest, int ta
     again->buffer = buffer;
     again->size = size;
     again->dest = dest;
-    again->communicator = c;
-    a = rvmc_call(RVMC_SEND_INIT, (long)again->first, RVMC_PIECE, dest, tag, c, 0);
+    a = rvmc_call(RVMC_SEND_INIT, (long)again->first, RVMC_PIECE, dest, tag, context, 0);
     if (a.code)
         free(again);
     else
@@ -248,7 +244,7 @@ long rvmc_large_started(MPI_Request request)
     if (kind & RVMC_ACTIVE)
         return RVMC_OK;
     if ((kind & RVMC_LARGE) && (kind & RVMC_SENDER))
-        return split(again->first, again->buffer, again->size, again->dest, again->communicator);
+        return split(again->first, again->buffer, again->size, again->dest);
     return rvmc_claims && (kind & RVMC_PERSISTENT) && !(kind & RVMC_SENDER) ? RVMC_LARGE_PROBE : RVMC_OK;
 }
 

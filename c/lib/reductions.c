@@ -39,9 +39,9 @@ static int commutes(MPI_Op op)
 
 static int wrong_op(const char *call, MPI_Op op)
 {
-    struct group g = {MPI_COMM_WORLD, 0, 0, 0, RVMC_BAD_OP, "op", op, 0};
+    struct group g = {.call = call, .communicator = MPI_COMM_WORLD, .code = RVMC_BAD_OP, .argument = "op", .value = op};
 
-    return finish(call, &g);
+    return finish(&g);
 }
 
 int MPI_Op_free(MPI_Op *op)
@@ -75,7 +75,7 @@ static void fold(struct group *g, const struct folding *f, void *into, void *bef
     int length = (int)count;
     MPI_Datatype type = f->type;
 
-    if (g->code)
+    if (g->code || !count)
         return;
     if (is_own(f->op))
         own[f->op - RVMC_OWN_OPS].function(before, into, &length, &type);
@@ -84,7 +84,7 @@ static void fold(struct group *g, const struct folding *f, void *into, void *bef
 }
 
 /* Whether there is something to fold, and the operation is one of the datatype: tried on one element, for a rank that folds
-   nothing asks too. */
+   nothing asks too. All messages say what the whole call folds. */
 static struct folding folding(struct group *g, const void *from, int count, MPI_Datatype type, MPI_Op op, rvmc_fold *fold)
 {
     _Alignas(16) char into[32] = {0}, before[32] = {0};
@@ -100,6 +100,8 @@ static struct folding folding(struct group *g, const void *from, int count, MPI_
         fault(g, RVMC_BAD_OP, "op", 0, type);
     if (!g->code && !is_own(op) && (!fold || fold(into, before, 1, op)))
         fault(g, RVMC_BAD_OP, "op", op, type);
+    g->op = op;
+    rvmc_whole(g, count, type);
     return f;
 }
 
@@ -129,33 +131,34 @@ RVMC_INLINE char *climb(struct group *g, const struct folding *f, char *mine, ch
         if (place + bit < g->size) {
             char *lower = mine;
 
-            take(g, others, n * f->size, (place + bit + root) % g->size, REDUCE);
+            take(g, others, n, f->type, (place + bit + root) % g->size);
             fold(g, f, others, mine, n);
             mine = others;
             others = lower;
         }
     if (place)
-        give(g, mine, n * f->size, (place - bit + root) % g->size, REDUCE);
+        give(g, mine, n, f->type, (place - bit + root) % g->size);
     return mine;
 }
 
-/* As much at once as the stack has room for. The result is in to, of the root alone. */
+/* As much at once as the stack has room for, and nothing at all once: then messages have heads alone. The result is in to, of
+   the root alone. */
 RVMC_INLINE void reduce(struct group *g, const struct folding *f, const char *from, char *to, long count, int root)
 {
     BUFFER(mine);
     BUFFER(others);
     int top = commutes(f->op) ? root : 0;
 
-    for (long at = 0; at < count && !g->code; at += FOLDED / f->size) {
+    for (long at = 0; (at < count || !at) && !g->code; at += FOLDED / f->size) {
         long n = least(count - at, FOLDED / f->size);
         char *result;
 
         memcpy(mine, from + at * f->size, n * f->size);
         result = climb(g, f, mine, others, n, top);
         if (top != root && g->me == top)
-            give(g, result, n * f->size, root, REDUCE);
+            give(g, result, n, f->type, root);
         if (top != root && g->me == root)
-            take(g, result, n * f->size, top, REDUCE);
+            take(g, result, n, f->type, top);
         if (g->me == root && !g->code)
             memcpy(to + at * f->size, result, n * f->size);
     }
@@ -163,7 +166,7 @@ RVMC_INLINE void reduce(struct group *g, const struct folding *f, const char *fr
 
 int MPI_Reduce(const void *from, void *to, int count, MPI_Datatype type, MPI_Op op, int root, MPI_Comm c, rvmc_fold *fold)
 {
-    struct group g = rvmc_rooted(c, root);
+    struct group g = rvmc_rooted("MPI_Reduce", c, root);
     const void *mine = from == MPI_IN_PLACE ? to : from;
     struct folding f = folding(&g, mine, count, type, op, fold);
 
@@ -172,33 +175,33 @@ int MPI_Reduce(const void *from, void *to, int count, MPI_Datatype type, MPI_Op 
     else if (from == MPI_IN_PLACE)
         fault(&g, RVMC_IN_PLACE, "sendbuf", (long)from, 0);
     reduce(&g, &f, mine, to, count, root);
-    return finish("MPI_Reduce", &g);
+    return finish(&g);
 }
 
 /* A binomial tree: who stands at place v takes from v without its lowest bit. */
-RVMC_INLINE void spread(struct group *g, char *buffer, long size)
+RVMC_INLINE void spread(struct group *g, const struct folding *f, char *buffer, long count)
 {
     int bit = 1;
 
     while (bit < g->size && !(g->me & bit))
         bit *= 2;
     if (g->me)
-        take(g, buffer, size, g->me - bit, BCAST);
+        take(g, buffer, count, f->type, g->me - bit);
     for (bit /= 2; bit; bit /= 2)
         if (g->me + bit < g->size)
-            give(g, buffer, size, g->me + bit, BCAST);
+            give(g, buffer, count, f->type, g->me + bit);
 }
 
 int MPI_Allreduce(const void *from, void *to, int count, MPI_Datatype type, MPI_Op op, MPI_Comm c, rvmc_fold *fold)
 {
-    struct group g = rvmc_group(c);
+    struct group g = rvmc_group("MPI_Allreduce", c);
     const void *mine = from == MPI_IN_PLACE ? to : from;
     struct folding f = folding(&g, mine, count, type, op, fold);
 
     wanted(&g, from, to, count);
     reduce(&g, &f, mine, to, count, 0);
-    spread(&g, to, count * f.size);
-    return finish("MPI_Allreduce", &g);
+    spread(&g, &f, to, count);
+    return finish(&g);
 }
 
 /* The part of each rank goes up a tree of its own. In place, a rank's result lies before what is still to be folded. */
@@ -216,7 +219,7 @@ RVMC_INLINE void reduce_parts(struct group *g, const struct folding *f, const ch
 int MPI_Reduce_scatter(const void *from, void *to, const int counts[], MPI_Datatype type, MPI_Op op, MPI_Comm c,
                        rvmc_fold *fold)
 {
-    struct group g = rvmc_group(c);
+    struct group g = rvmc_group("MPI_Reduce_scatter", c);
     const void *mine = from == MPI_IN_PLACE ? to : from;
     int all = 0;
     struct folding f;
@@ -232,78 +235,79 @@ int MPI_Reduce_scatter(const void *from, void *to, const int counts[], MPI_Datat
     if (!g.code)
         wanted(&g, from, to, counts[g.me]);
     reduce_parts(&g, &f, mine, to, counts, 0);
-    return finish("MPI_Reduce_scatter", &g);
+    return finish(&g);
 }
 
 int MPI_Reduce_scatter_block(const void *from, void *to, int count, MPI_Datatype type, MPI_Op op, MPI_Comm c,
                              rvmc_fold *fold)
 {
-    struct group g = rvmc_group(c);
+    struct group g = rvmc_group("MPI_Reduce_scatter_block", c);
     const void *mine = from == MPI_IN_PLACE ? to : from;
     struct folding f = folding(&g, mine, count, type, op, fold);
 
     wanted(&g, from, to, count);
     reduce_parts(&g, &f, mine, to, 0, count);
-    return finish("MPI_Reduce_scatter_block", &g);
+    return finish(&g);
 }
 
 int MPI_Reduce_local(const void *from, void *to, int count, MPI_Datatype type, MPI_Op op, rvmc_fold *fold_of_type)
 {
-    struct group g = {MPI_COMM_WORLD, 0, 0, 1, rvmc_idle() ? RVMC_NOT_BEGUN : RVMC_OK, 0, 0, 0};
+    struct group g = {.call = "MPI_Reduce_local", .communicator = MPI_COMM_WORLD, .size = 1,
+                      .code = rvmc_idle() ? RVMC_NOT_BEGUN : RVMC_OK};
     struct folding f = folding(&g, from, count, type, op, fold_of_type);
 
     wanted(&g, from, to, count);
     if (count > 0)
         fold(&g, &f, to, (void *)from, count);
-    return finish("MPI_Reduce_local", &g);
+    return finish(&g);
 }
 
 /* From rank to rank. What a rank hands on is everything up to itself; exclusive, its own isn't in its result (6.11). */
-RVMC_INLINE void scan(struct group *g, const struct folding *f, const char *from, char *to, long count, int kind)
+RVMC_INLINE void scan(struct group *g, const struct folding *f, const char *from, char *to, long count, int exclusive)
 {
     BUFFER(mine);
     BUFFER(before);
     BUFFER(lower);
 
-    for (long at = 0; at < count && !g->code; at += FOLDED / f->size) {
+    for (long at = 0; (at < count || !at) && !g->code; at += FOLDED / f->size) {
         long n = least(count - at, FOLDED / f->size), size = n * f->size;
 
         memcpy(mine, from + at * f->size, size);
         if (g->me > 0) {
-            take(g, before, size, g->me - 1, kind);
-            if (kind == EXSCAN)
+            take(g, before, n, f->type, g->me - 1);
+            if (exclusive)
                 memcpy(lower, before, size);
             fold(g, f, mine, before, n);
-            if (kind == EXSCAN && !g->code)
+            if (exclusive && !g->code)
                 memcpy(to + at * f->size, lower, size);
         }
-        if (kind == SCAN && !g->code)
+        if (!exclusive && !g->code)
             memcpy(to + at * f->size, mine, size);
         if (g->me + 1 < g->size)
-            give(g, mine, size, g->me + 1, kind);
+            give(g, mine, n, f->type, g->me + 1);
     }
 }
 
 int MPI_Scan(const void *from, void *to, int count, MPI_Datatype type, MPI_Op op, MPI_Comm c, rvmc_fold *fold)
 {
-    struct group g = rvmc_group(c);
+    struct group g = rvmc_group("MPI_Scan", c);
     const void *mine = from == MPI_IN_PLACE ? to : from;
     struct folding f = folding(&g, mine, count, type, op, fold);
 
     wanted(&g, from, to, count);
-    scan(&g, &f, mine, to, count, SCAN);
-    return finish("MPI_Scan", &g);
+    scan(&g, &f, mine, to, count, 0);
+    return finish(&g);
 }
 
 /* Of rank 0 nothing comes to its buffer. */
 int MPI_Exscan(const void *from, void *to, int count, MPI_Datatype type, MPI_Op op, MPI_Comm c, rvmc_fold *fold)
 {
-    struct group g = rvmc_group(c);
+    struct group g = rvmc_group("MPI_Exscan", c);
     const void *mine = from == MPI_IN_PLACE ? to : from;
     struct folding f = folding(&g, mine, count, type, op, fold);
 
     if (g.me > 0)
         wanted(&g, from, to, count);
-    scan(&g, &f, mine, to, count, EXSCAN);
-    return finish("MPI_Exscan", &g);
+    scan(&g, &f, mine, to, count, 1);
+    return finish(&g);
 }

@@ -1,10 +1,14 @@
 /* requests.c: the calls over several requests that mpi.h doesn't have inline. */
 #include "../mpi.h"
 #include "errors.h"
+#include "layouts.h"
+#include "owners.h"
 
 unsigned char rvmc_kinds[256];
 struct rvmc_rest rvmc_rests[256];
 struct rvmc_own rvmc_own;
+struct rvmc_derived rvmc_derived;
+int (*rvmc_attributes_of_types)(MPI_Datatype from, MPI_Datatype to);
 void (*rvmc_at_the_end)(void);
 long rvmc_buffer_size = -1;                       /* of MPI_Buffer_attach */
 
@@ -19,11 +23,22 @@ int rvmc_one_by_one(int count, const MPI_Request *requests)
     return 0;
 }
 
-void rvmc_all_completed(int count, MPI_Request *requests)
+/* What the library knows of a request that was freed. */
+void rvmc_freed(MPI_Request request, int kind)
+{
+    if (kind & RVMC_OWN)
+        rvmc_own.freed(request);
+    else if ((kind & (RVMC_SENDER | RVMC_PERSISTENT)) == (RVMC_SENDER | RVMC_PERSISTENT))
+        rvmc_large_freed(request);
+}
+
+void rvmc_all_completed(int count, MPI_Request *requests, MPI_Status *statuses)
 {
     for (int i = 0; i < count; i++) {
         int kind = rvmc_kind(requests[i]);
 
+        if (kind & RVMC_ELSEWHERE)
+            rvmc_completed_elsewhere(rvmc_rests[requests[i]].communicator, kind, statuses ? statuses + i : 0);
         if (kind & RVMC_PERSISTENT)
             rvmc_kinds[requests[i]] = (unsigned char)(kind & ~RVMC_ACTIVE);
         else
@@ -87,7 +102,11 @@ int MPI_Testall(int count, MPI_Request requests[], int *flag, MPI_Status statuse
             return rvmc_request_code("MPI_Testall", RVMC_PARTS_AMONG, requests[i]);
         if (kinds[i] & (RVMC_OWN | RVMC_KEPT))
             handles[i] = rvmc_own.inner(requests[i]);
-        if (kinds[i] & RVMC_LARGE) {
+        if (handles[i] == RVMC_NOT_YET) {
+            *flag = 0;
+            return MPI_SUCCESS;
+        }
+        if (kinds[i] & (RVMC_LARGE | RVMC_ELSEWHERE | RVMC_OWN)) {
             rests[i] = rvmc_rests[requests[i]];
             where = statuses ? statuses : own;
         }

@@ -4,4 +4,7 @@
 
 void rvmc_say(const char *format, ...);
 
+/* Parts of a line, without the rank before them. */
+void rvmc_put(const char *format, ...);
+
 #endif

@@ -1,6 +1,6 @@
 # start.S: where every hart of a C guest begins, with a0 the hart's number and a1 the rank's.
 # Hart 0 puts the data where it belongs and runs main. The others wait for work from their own rank, in the twin of
-# communicator 0: so a run in which nobody will ever give them work is a deadlock that can be shown, where a loop would
+# communicator 0 (call.h): so a run in which nobody will ever give them work is a deadlock that can be shown, where a loop would
 # run on. They touch no memory before that, since the data is not in its place until hart 0 has put it there.
 # The stacks stand straight above the text, hart 0's lowest (guest.ld).
         .section .text.start, "ax"
@@ -54,7 +54,7 @@ idle_hart:
         li a1, 0
         mv a2, s2                       # from the own rank
         addi a3, s1, 104                # RVMC_TAG_WORK and the hart
-        la a4, rvmc_communicators       # the twin of communicator 0
+        li a4, 1                        # RVMC_TWIN
         li a5, 0
         li a7, 18                       # RECV
         ecall

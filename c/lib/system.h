@@ -2,11 +2,11 @@
 #ifndef RVMC_SYSTEM_H
 #define RVMC_SYSTEM_H
 
-/* What each hart has to itself outside its stack, made by guest.ld: the line that it prints, and the first piece of a
-   large message that it sends. */
+/* What each hart has to itself outside its stack, made by guest.ld: the line that it prints, and room for the first piece of a
+   large message that it sends, or for a collective's message with its head. */
 struct rvmc_page {
     char line[4096];
-    char first[4096];
+    char first[4096 + 8];
     long filled, count;
 };
 extern struct rvmc_page rvmc_pages[];

@@ -1,5 +1,5 @@
 /* threads.c: threads and mutexes over harts. There is no atomic instruction; what passes from hart to hart is a message of
-   the rank to itself, in the twin of communicator 0. A hart that waits does so in RECV, from its own rank: so where no hart of
+   the rank to itself, in the twin. A hart that waits does so in RECV, from its own rank: so where no hart of
    the rank goes on, that is seen (docs/DEBUGGING.md), where one that looks again and again would run for ever. */
 #include <setjmp.h>
 #include "../threads.h"
@@ -17,18 +17,18 @@ static struct {
 
 static long pass(long tag, const void *buffer, long size)
 {
-    return rvmc_call(RVMC_SEND, (long)buffer, size, rvmc_rank, tag, RVMC_TWIN(0), 0).code;
+    return rvmc_call(RVMC_SEND, (long)buffer, size, rvmc_rank, tag, RVMC_TWIN, 0).code;
 }
 
 RVMC_INLINE long await(long tag, void *buffer, long size)
 {
-    return rvmc_call(RVMC_RECV, (long)buffer, size, rvmc_rank, tag, RVMC_TWIN(0), 0).code;
+    return rvmc_call(RVMC_RECV, (long)buffer, size, rvmc_rank, tag, RVMC_TWIN, 0).code;
 }
 
 /* Takes a message that is there, or says that there is none. */
 static int take_now(long tag, void *buffer, long size)
 {
-    long message = rvmc_call(RVMC_IMPROBE, rvmc_rank, tag, RVMC_TWIN(0), 0, 0, 0).value;
+    long message = rvmc_call(RVMC_IMPROBE, rvmc_rank, tag, RVMC_TWIN, 0, 0, 0).value;
 
     return message && !rvmc_call(RVMC_MRECV, (long)buffer, size, message, 0, 0, 0).code;
 }
