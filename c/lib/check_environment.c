@@ -1,5 +1,6 @@
 /* check_environment.c: the beginning and the end of MPI under --check, and by which threads its calls are made. */
 #include "checked.h"
+#include "group.h"
 
 static int level = MPI_THREAD_MULTIPLE, main_hart;    /* what the program asked for, and the hart that did */
 static const char *asker = "MPI_Init_thread";
@@ -55,6 +56,18 @@ int rvmc_checked_Init_thread(int *argc, char ***argv, int required, int *provide
     return code;
 }
 
+/* A barrier by the name of MPI_Finalize: a rank that is in another collective meanwhile is told. */
+static void meet_all(unsigned behind)
+{
+    struct group g = rvmc_group_at("MPI_Finalize", MPI_COMM_WORLD, (const void *)(unsigned long)behind);
+
+    for (int step = 1; step < g.size && !g.code; step *= 2) {
+        give_word(&g, (g.me + step) % g.size);
+        take_word(&g, (g.me - step + g.size) % g.size);
+    }
+    finish(&g);
+}
+
 /* All that a rank has left behind is told before it traps. After the barrier each message that was sent is there. */
 int rvmc_checked_Finalize(void)
 {
@@ -65,7 +78,7 @@ int rvmc_checked_Finalize(void)
         rvmc_requests_at_the_end(behind);
         rvmc_heap_at_the_end(behind);
         if (!rvmc_told)
-            MPI_Barrier(MPI_COMM_WORLD);
+            meet_all(behind);
         if (!rvmc_told)
             rvmc_messages_at_the_end(behind);
     }

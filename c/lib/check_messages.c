@@ -319,17 +319,22 @@ int rvmc_checked_Irecv(void *buffer, int count, MPI_Datatype type, int source, i
 
 /* --- both at once --- */
 
-static long send_half(const struct packet *p, int dest, int tag, MPI_Comm c)
+/* A half for no process has no message, and so none with a head. Where another has none, MPI's own call says why. */
+static int have_heads(const struct packet *p, int dest, const struct rvmc_record *r)
 {
-    return rvmc_send(RVMC_SEND, p->bytes, rvmc_bytes(p->count, p->type), dest, tag, c).code;
+    return (p->room || dest == MPI_PROC_NULL) && (r->room || r->peer == MPI_PROC_NULL);
 }
 
-/* The half that receives, with a head or, where it can't have one, by MPI's own call. */
+static long send_half(const struct packet *p, int dest, int tag, MPI_Comm c)
+{
+    return rvmc_send(RVMC_SEND, p->room, p->room ? p->count : 0, dest, tag, c).code;
+}
+
 static long receive_half(struct rvmc_record *r, MPI_Status *status)
 {
     if (r->room)
         return receive(r, status);
-    return rvmc_receive(r->buffer, rvmc_bytes(r->count, r->type), r->peer, r->tag, r->communicator, status);
+    return rvmc_receive(0, 0, r->peer, r->tag, r->communicator, status);
 }
 
 int rvmc_checked_Sendrecv(const void *out, int out_count, MPI_Datatype out_type, int dest, int out_tag, void *in, int in_count,
@@ -346,6 +351,9 @@ int rvmc_checked_Sendrecv(const void *out, int out_count, MPI_Datatype out_type,
     rvmc_check_apart(call, RVMC_BEHIND, out, out_count, out_type, in, in_count, in_type);
     if (rvmc_told)
         return rvmc_check_end(MPI_SUCCESS);
+    if (!have_heads(&p, dest, &r))
+        return rvmc_check_end(MPI_Sendrecv(out, out_count, out_type, dest, out_tag, in, in_count, in_type, source, in_tag, c,
+                                           status));
     code = send_half(&p, dest, out_tag, c);
     rvmc_check_give_back(p.room);
     if (code)
@@ -367,6 +375,8 @@ int rvmc_checked_Sendrecv_replace(void *buffer, int count, MPI_Datatype type, in
     r = receive_of(call, RVMC_BEHIND, buffer, count, type, source, in_tag, c);
     if (rvmc_told)
         return rvmc_check_end(MPI_SUCCESS);
+    if (!have_heads(&p, dest, &r))
+        return rvmc_check_end(MPI_Sendrecv_replace(buffer, count, type, dest, out_tag, source, in_tag, c, status));
     code = send_half(&p, dest, out_tag, c);
     rvmc_check_give_back(p.room);
     if (code)
@@ -379,9 +389,7 @@ int rvmc_checked_Sendrecv_replace(void *buffer, int count, MPI_Datatype type, in
 static long post_half(struct rvmc_record *r, MPI_Request *request)
 {
     MPI_Request raw = MPI_REQUEST_NULL;
-    void *buffer = r->room ? r->room : r->buffer;
-    long size = r->room ? r->size + RVMC_LETTER : rvmc_bytes(r->count, r->type);
-    long code = rvmc_posted(buffer, size, r->peer, r->tag, r->communicator, &raw);
+    long code = rvmc_posted(r->room, r->room ? r->size + RVMC_LETTER : 0, r->peer, r->tag, r->communicator, &raw);
 
     if (raw == MPI_REQUEST_NULL || !open_receive(r, request, raw))
         rvmc_check_give_back(r->room);
@@ -404,6 +412,9 @@ int rvmc_checked_Isendrecv(const void *out, int out_count, MPI_Datatype out_type
     *request = MPI_REQUEST_NULL;
     if (rvmc_told)
         return rvmc_check_end(MPI_SUCCESS);
+    if (!have_heads(&p, dest, &r))
+        return rvmc_check_end(MPI_Isendrecv(out, out_count, out_type, dest, out_tag, in, in_count, in_type, source, in_tag, c,
+                                            request));
     code = send_half(&p, dest, out_tag, c);
     rvmc_check_give_back(p.room);
     if (code)
@@ -427,6 +438,8 @@ int rvmc_checked_Isendrecv_replace(void *buffer, int count, MPI_Datatype type, i
     *request = MPI_REQUEST_NULL;
     if (rvmc_told)
         return rvmc_check_end(MPI_SUCCESS);
+    if (!have_heads(&p, dest, &r))
+        return rvmc_check_end(MPI_Isendrecv_replace(buffer, count, type, dest, out_tag, source, in_tag, c, request));
     code = send_half(&p, dest, out_tag, c);
     rvmc_check_give_back(p.room);
     if (code)

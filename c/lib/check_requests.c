@@ -106,6 +106,13 @@ void rvmc_requests_at_the_end(unsigned behind)
 
 /* --- completion --- */
 
+static MPI_Request raw_of(MPI_Request request)
+{
+    const struct rvmc_record *record = rvmc_record_of(request);
+
+    return record ? record->raw : request;
+}
+
 /* Waits for a request, or tests it, and does what its completion brings. Returns what the call returns for it. */
 static int ask(const char *call, unsigned behind, long number, MPI_Request *request, int *flag, MPI_Status *status)
 {
@@ -140,12 +147,16 @@ int rvmc_record_completed(const char *call, unsigned behind, struct rvmc_record 
     rvmc_check_lock();
     rvmc_regions_drop(record);
     rvmc_check_unlock();
-    if (was_active && record->room && (record->kind & RVMC_IS_RECEIVE))
-        code = rvmc_delivered(behind, record, own, code);
+    if (was_active && record->room && (record->kind & RVMC_IS_RECEIVE)) {
+        if (record->kind & RVMC_IS_DELIVERED)
+            rvmc_without_head(own);
+        else
+            code = rvmc_delivered(behind, record, own, code);
+    }
     if (status)
         *status = *own;
     result = rvmc_request_code(call, code, record->raw);
-    record->kind &= ~RVMC_IS_ACTIVE;
+    record->kind &= ~(RVMC_IS_ACTIVE | RVMC_IS_DELIVERED);
     if (!(record->kind & RVMC_IS_PERSISTENT)) {
         rvmc_record_gone(record);
         *request = MPI_REQUEST_NULL;
@@ -176,10 +187,9 @@ int rvmc_checked_Waitall(int count, MPI_Request *requests, MPI_Status *statuses)
     rvmc_check_begin("MPI_Waitall", behind);
     for (int sends = 0; sends < 2; sends++)
         for (int i = 0; i < count; i++) {
-            const struct rvmc_record *record = rvmc_record_of(requests[i]);
             int flag, one;
 
-            if ((record && (record->kind & RVMC_IS_SEND)) != sends)
+            if (((rvmc_kind(raw_of(requests[i])) & RVMC_SENDER) != 0) != sends)
                 continue;
             one = ask("MPI_Waitall", behind, RVMC_WAIT, requests + i, &flag, statuses ? statuses + i : 0);
             if (statuses)
@@ -187,13 +197,6 @@ int rvmc_checked_Waitall(int count, MPI_Request *requests, MPI_Status *statuses)
             error = one ? MPI_ERR_IN_STATUS : error;
         }
     return rvmc_check_end(count < 0 ? MPI_Waitall(count, requests, statuses) : error);
-}
-
-static MPI_Request raw_of(MPI_Request request)
-{
-    const struct rvmc_record *record = rvmc_record_of(request);
-
-    return record ? record->raw : request;
 }
 
 int rvmc_checked_Testall(int count, MPI_Request requests[], int *flag, MPI_Status statuses[])
@@ -335,16 +338,25 @@ int rvmc_checked_Request_free(MPI_Request *request)
     return rvmc_check_end(code);
 }
 
+/* What is complete is delivered: the program may use its buffer then (3.7.6). */
 int rvmc_checked_Request_get_status(MPI_Request request, int *flag, MPI_Status *status)
 {
-    const struct rvmc_record *record = rvmc_record_of(request);
+    struct rvmc_record *record = rvmc_record_of(request);
     MPI_Status own;
     int code;
 
     rvmc_check_begin("MPI_Request_get_status", RVMC_BEHIND);
     code = MPI_Request_get_status(raw_of(request), flag, &own);
-    if (record && !code && *flag && record->room && (record->kind & (RVMC_IS_RECEIVE | RVMC_IS_ACTIVE)) > RVMC_IS_ACTIVE)
-        rvmc_without_head(&own);
+    if (record && !code && *flag && (record->kind & RVMC_IS_ACTIVE)) {
+        rvmc_check_lock();
+        rvmc_regions_drop(record);
+        rvmc_check_unlock();
+        if (record->room && (record->kind & RVMC_IS_DELIVERED))
+            rvmc_without_head(&own);
+        else if (record->room && (record->kind & RVMC_IS_RECEIVE))
+            rvmc_delivered(RVMC_BEHIND, record, &own, RVMC_OK);
+        record->kind |= RVMC_IS_DELIVERED;
+    }
     if (!code && *flag && status)
         *status = own;
     return rvmc_check_end(code);

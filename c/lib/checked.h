@@ -89,7 +89,7 @@ void rvmc_check_apart(const char *call, unsigned behind, const void *out, long o
 /* --- requests (check_requests.c) --- */
 
 enum {
-    RVMC_IS_SEND = 1, RVMC_IS_RECEIVE = 2, RVMC_IS_PERSISTENT = 4, RVMC_IS_ACTIVE = 8, RVMC_IS_PLAIN = 16
+    RVMC_IS_SEND = 1, RVMC_IS_RECEIVE = 2, RVMC_IS_PERSISTENT = 4, RVMC_IS_ACTIVE = 8, RVMC_IS_DELIVERED = 16
 };
 struct rvmc_record {
     struct rvmc_record *next;
