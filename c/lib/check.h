@@ -75,6 +75,76 @@ RVMC_CHECKED_BEFORE(Reduce_scatter_block, (const void *from, void *to, int count
                     (from, to, count, type, op, c))
 #endif
 
+/* What a program makes and has to free: the call, and the place of the handle. */
+enum { RVMC_IS_COMMUNICATOR, RVMC_IS_DATATYPE, RVMC_IS_OPERATION };
+void rvmc_check_made(const char *call, int kind, int handle);
+void rvmc_check_freed(int kind, int handle);
+#define RVMC_CHECKED_MAKER(name, kind, parameters, arguments) \
+    RVMC_INLINE int rvmc_checked_##name parameters \
+    { \
+        int code = MPI_##name arguments; \
+        \
+        if (!code) \
+            rvmc_check_made("MPI_" #name, kind, *made); \
+        return code; \
+    }
+#define RVMC_CHECKED_FREE(name, kind, type) \
+    RVMC_INLINE int rvmc_checked_##name(type *freed) \
+    { \
+        rvmc_check_freed(kind, *freed); \
+        return MPI_##name(freed); \
+    }
+
+RVMC_CHECKED_MAKER(Comm_dup, RVMC_IS_COMMUNICATOR, (MPI_Comm c, MPI_Comm *made), (c, made))
+RVMC_CHECKED_MAKER(Comm_dup_with_info, RVMC_IS_COMMUNICATOR, (MPI_Comm c, MPI_Info info, MPI_Comm *made), (c, info, made))
+RVMC_CHECKED_MAKER(Comm_create, RVMC_IS_COMMUNICATOR, (MPI_Comm c, MPI_Group group, MPI_Comm *made), (c, group, made))
+RVMC_CHECKED_MAKER(Comm_create_group, RVMC_IS_COMMUNICATOR, (MPI_Comm c, MPI_Group group, int tag, MPI_Comm *made),
+                   (c, group, tag, made))
+RVMC_CHECKED_MAKER(Comm_split, RVMC_IS_COMMUNICATOR, (MPI_Comm c, int color, int key, MPI_Comm *made), (c, color, key, made))
+RVMC_CHECKED_MAKER(Comm_split_type, RVMC_IS_COMMUNICATOR, (MPI_Comm c, int type, int key, MPI_Info info, MPI_Comm *made),
+                   (c, type, key, info, made))
+RVMC_CHECKED_MAKER(Cart_create, RVMC_IS_COMMUNICATOR, (MPI_Comm c, int dimensions, const int dims[], const int periods[],
+                                                       int reorder, MPI_Comm *made),
+                   (c, dimensions, dims, periods, reorder, made))
+RVMC_CHECKED_MAKER(Cart_sub, RVMC_IS_COMMUNICATOR, (MPI_Comm c, const int remain[], MPI_Comm *made), (c, remain, made))
+RVMC_CHECKED_MAKER(Graph_create, RVMC_IS_COMMUNICATOR, (MPI_Comm c, int count, const int index[], const int edges[],
+                                                        int reorder, MPI_Comm *made),
+                   (c, count, index, edges, reorder, made))
+RVMC_CHECKED_FREE(Comm_free, RVMC_IS_COMMUNICATOR, MPI_Comm)
+RVMC_CHECKED_FREE(Comm_disconnect, RVMC_IS_COMMUNICATOR, MPI_Comm)
+
+RVMC_CHECKED_MAKER(Type_contiguous, RVMC_IS_DATATYPE, (int count, MPI_Datatype type, MPI_Datatype *made), (count, type, made))
+RVMC_CHECKED_MAKER(Type_vector, RVMC_IS_DATATYPE, (int count, int length, int stride, MPI_Datatype type, MPI_Datatype *made),
+                   (count, length, stride, type, made))
+RVMC_CHECKED_MAKER(Type_create_hvector, RVMC_IS_DATATYPE, (int count, int length, MPI_Aint stride, MPI_Datatype type,
+                                                           MPI_Datatype *made),
+                   (count, length, stride, type, made))
+RVMC_CHECKED_MAKER(Type_indexed, RVMC_IS_DATATYPE, (int count, const int lengths[], const int places[], MPI_Datatype type,
+                                                    MPI_Datatype *made),
+                   (count, lengths, places, type, made))
+RVMC_CHECKED_MAKER(Type_create_hindexed, RVMC_IS_DATATYPE, (int count, const int lengths[], const MPI_Aint places[],
+                                                            MPI_Datatype type, MPI_Datatype *made),
+                   (count, lengths, places, type, made))
+RVMC_CHECKED_MAKER(Type_create_indexed_block, RVMC_IS_DATATYPE, (int count, int length, const int places[], MPI_Datatype type,
+                                                                 MPI_Datatype *made),
+                   (count, length, places, type, made))
+RVMC_CHECKED_MAKER(Type_create_struct, RVMC_IS_DATATYPE, (int count, const int lengths[], const MPI_Aint places[],
+                                                          const MPI_Datatype types[], MPI_Datatype *made),
+                   (count, lengths, places, types, made))
+RVMC_CHECKED_MAKER(Type_create_subarray, RVMC_IS_DATATYPE, (int dimensions, const int sizes[], const int subsizes[],
+                                                            const int starts[], int order, MPI_Datatype type,
+                                                            MPI_Datatype *made),
+                   (dimensions, sizes, subsizes, starts, order, type, made))
+RVMC_CHECKED_MAKER(Type_create_resized, RVMC_IS_DATATYPE, (MPI_Datatype type, MPI_Aint low, MPI_Aint extent,
+                                                           MPI_Datatype *made),
+                   (type, low, extent, made))
+RVMC_CHECKED_MAKER(Type_dup, RVMC_IS_DATATYPE, (MPI_Datatype type, MPI_Datatype *made), (type, made))
+RVMC_CHECKED_FREE(Type_free, RVMC_IS_DATATYPE, MPI_Datatype)
+
+RVMC_CHECKED_MAKER(Op_create, RVMC_IS_OPERATION, (MPI_User_function *function, int commutes, MPI_Op *made),
+                   (function, commutes, made))
+RVMC_CHECKED_FREE(Op_free, RVMC_IS_OPERATION, MPI_Op)
+
 #ifdef RVMC_CHECK
 #define MPI_Init rvmc_checked_Init
 #define MPI_Init_thread rvmc_checked_Init_thread
@@ -134,6 +204,30 @@ RVMC_CHECKED_BEFORE(Reduce_scatter_block, (const void *from, void *to, int count
 #define MPI_Exscan rvmc_checked_Exscan
 #define MPI_Reduce_scatter rvmc_checked_Reduce_scatter
 #define MPI_Reduce_scatter_block rvmc_checked_Reduce_scatter_block
+#define MPI_Comm_dup rvmc_checked_Comm_dup
+#define MPI_Comm_dup_with_info rvmc_checked_Comm_dup_with_info
+#define MPI_Comm_create rvmc_checked_Comm_create
+#define MPI_Comm_create_group rvmc_checked_Comm_create_group
+#define MPI_Comm_split rvmc_checked_Comm_split
+#define MPI_Comm_split_type rvmc_checked_Comm_split_type
+#define MPI_Cart_create rvmc_checked_Cart_create
+#define MPI_Cart_sub rvmc_checked_Cart_sub
+#define MPI_Graph_create rvmc_checked_Graph_create
+#define MPI_Comm_free rvmc_checked_Comm_free
+#define MPI_Comm_disconnect rvmc_checked_Comm_disconnect
+#define MPI_Type_contiguous rvmc_checked_Type_contiguous
+#define MPI_Type_vector rvmc_checked_Type_vector
+#define MPI_Type_create_hvector rvmc_checked_Type_create_hvector
+#define MPI_Type_indexed rvmc_checked_Type_indexed
+#define MPI_Type_create_hindexed rvmc_checked_Type_create_hindexed
+#define MPI_Type_create_indexed_block rvmc_checked_Type_create_indexed_block
+#define MPI_Type_create_struct rvmc_checked_Type_create_struct
+#define MPI_Type_create_subarray rvmc_checked_Type_create_subarray
+#define MPI_Type_create_resized rvmc_checked_Type_create_resized
+#define MPI_Type_dup rvmc_checked_Type_dup
+#define MPI_Type_free rvmc_checked_Type_free
+#define MPI_Op_create rvmc_checked_Op_create
+#define MPI_Op_free rvmc_checked_Op_free
 #endif
 
 #endif

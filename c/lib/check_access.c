@@ -60,12 +60,13 @@ void rvmc_region_add(const struct rvmc_record *record, const struct rvmc_region 
     watch();
 }
 
-void rvmc_regions_drop(const struct rvmc_record *record)
+/* Those of a record: its buffers, the variable that has its request, or both. */
+void rvmc_regions_drop(const struct rvmc_record *record, int buffers, int variable)
 {
     int left = 0;
 
     for (int i = 0; i < count; i++)
-        if (regions[i].of != record)
+        if (regions[i].of != record || !(regions[i].is_variable ? variable : buffers))
             regions[left++] = regions[i];
     count = left;
     watch();
@@ -128,17 +129,18 @@ static void look_at_stack(unsigned long pointer, unsigned behind)
 }
 
 /* Whether the hart shall trap for the access. While another hart changes a list, nothing can be said. */
-int rvmc_check_access(unsigned long at, unsigned long size, unsigned long behind, int is_written)
+int rvmc_check_access(unsigned long at, unsigned long size, unsigned long behind, int is_written, unsigned long stack)
 {
     unsigned changes = rvmc_check_changes;
     const struct rvmc_region *hit;
-    char here;
 
-    look_at_stack((unsigned long)&here, (unsigned)behind);
+    look_at_stack(stack, (unsigned)behind);
     if (changes & 1)
         return rvmc_told;
     hit = at < rvmc_check_watched + rvmc_check_watched_length ? rvmc_region_hit((unsigned)at, (unsigned)size, is_written) : 0;
-    if (hit && changes == rvmc_check_changes) {
+    if (hit && changes == rvmc_check_changes && hit->is_variable) {
+        rvmc_request_overwritten((unsigned)behind, hit->of, stack);
+    } else if (hit && changes == rvmc_check_changes) {
         char by[64] = "at ";
 
         tell_active(hit, strncat(by, rvmc_check_line((unsigned)behind), sizeof by - 4), (unsigned)behind, is_written);
@@ -156,7 +158,7 @@ void rvmc_check_range(const char *call, unsigned behind, const void *at, long si
     if (size <= 0 || !at)
         return;
     hit = rvmc_region_hit(low, (unsigned)size, is_written);
-    if (hit) {
+    if (hit && !hit->is_variable) {
         char by[96] = "by ";
 
         tell_active(hit, strncat(by, rvmc_check_call(call, behind), sizeof by - 4), behind, is_written);

@@ -12,6 +12,7 @@ struct call {
 static struct call begin(const char *name, unsigned behind, MPI_Comm c)
 {
     rvmc_check_begin(name, behind);
+    rvmc_check_communicator(name, behind, c);
     return (struct call){name, behind, c};
 }
 

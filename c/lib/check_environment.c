@@ -76,6 +76,7 @@ int rvmc_checked_Finalize(void)
     rvmc_check_begin("MPI_Finalize", behind);
     if (!rvmc_idle()) {
         rvmc_requests_at_the_end(behind);
+        rvmc_handles_at_the_end(behind);
         rvmc_heap_at_the_end(behind);
         if (!rvmc_told)
             meet_all(behind);

@@ -173,6 +173,21 @@ void rvmc_heap_check(const char *who, unsigned behind, unsigned at, unsigned siz
         tell_block(b, who, behind, does, at < b->at ? "before the start of" : "past the end of");
 }
 
+/* Data to be sent of which nobody has written any. */
+void rvmc_heap_check_written(const char *who, unsigned behind, unsigned at, unsigned size)
+{
+    int n = up_to(at);
+    const struct block *b = n ? blocks + n - 1 : 0;
+
+    if (!b || b->is_freed || at - b->at + size > b->size)
+        return;
+    for (unsigned i = 0; i + 4 <= size; i += 4)
+        if (!is_fresh(at + i, 4))
+            return;
+    RVMC_TELL(behind, b->given, "%s reads memory that was never written, of the %d bytes of %s", who, (long)b->size,
+              giver_of(b));
+}
+
 /* What the C library or MPI has written behind a block isn't seen as it happens. */
 static void look_at_zones(const struct block *b, const char *call, unsigned behind)
 {
@@ -260,7 +275,7 @@ static void take_back(void *memory, const char *call, unsigned behind)
         const struct rvmc_region *hit = rvmc_region_hit(b->at, b->size, 1);
 
         look_at_zones(b, call, behind);
-        if (hit)
+        if (hit && !hit->is_variable)
             RVMC_TELL(behind, hit->of->behind, "the buffer of %s is freed at %s before its MPI_Wait",
                       rvmc_check_call(hit->of->call, hit->of->behind), rvmc_check_line(behind));
         b->is_freed = 1;

@@ -53,11 +53,13 @@ static void write_head(const struct rvmc_record *r)
     rvmc_type_pack(r->room + RVMC_LETTER, r->buffer, r->count, r->type);
 }
 
-static struct packet packet_of(const char *call, unsigned behind, const void *buffer, int count, MPI_Datatype type, int dest)
+static struct packet packet_of(const char *call, unsigned behind, const void *buffer, int count, MPI_Datatype type, int dest,
+                               MPI_Comm c)
 {
     struct packet plain = {0, buffer, count, type};
     struct rvmc_record r = {.call = call, .behind = behind, .buffer = (void *)buffer, .count = count, .type = type};
 
+    rvmc_check_communicator(call, behind, c);
     if (!has_head(buffer, count, type, dest))
         return plain;
     rvmc_check_buffer(call, behind, buffer, count, type, 0);
@@ -76,7 +78,7 @@ static struct packet packet_of(const char *call, unsigned behind, const void *bu
         int code = MPI_SUCCESS; \
         \
         rvmc_check_begin("MPI_" #name, RVMC_BEHIND); \
-        p = packet_of("MPI_" #name, RVMC_BEHIND, buffer, count, type, dest); \
+        p = packet_of("MPI_" #name, RVMC_BEHIND, buffer, count, type, dest, c); \
         if (!rvmc_told) \
             code = MPI_##name(p.bytes, p.count, p.type, dest, tag, c); \
         rvmc_check_give_back(p.room); \
@@ -111,7 +113,7 @@ static void open_send(const char *call, unsigned behind, const void *buffer, int
         \
         rvmc_check_begin("MPI_" #name, RVMC_BEHIND); \
         rvmc_variable_lost("MPI_" #name, RVMC_BEHIND, request); \
-        p = packet_of("MPI_" #name, RVMC_BEHIND, buffer, count, type, dest); \
+        p = packet_of("MPI_" #name, RVMC_BEHIND, buffer, count, type, dest, c); \
         if (!rvmc_told) \
             code = MPI_##name(p.bytes, p.count, p.type, dest, tag, c, &raw); \
         rvmc_check_give_back(p.room); \
@@ -137,7 +139,7 @@ int rvmc_checked_Bsend(const void *buffer, int count, MPI_Datatype type, int des
     int code = MPI_SUCCESS, lent;
 
     rvmc_check_begin("MPI_Bsend", RVMC_BEHIND);
-    p = packet_of("MPI_Bsend", RVMC_BEHIND, buffer, count, type, dest);
+    p = packet_of("MPI_Bsend", RVMC_BEHIND, buffer, count, type, dest, c);
     lent = p.room ? RVMC_LETTER : 0;
     lend_room(lent);
     if (!rvmc_told)
@@ -155,7 +157,7 @@ int rvmc_checked_Ibsend(const void *buffer, int count, MPI_Datatype type, int de
 
     rvmc_check_begin("MPI_Ibsend", RVMC_BEHIND);
     rvmc_variable_lost("MPI_Ibsend", RVMC_BEHIND, request);
-    p = packet_of("MPI_Ibsend", RVMC_BEHIND, buffer, count, type, dest);
+    p = packet_of("MPI_Ibsend", RVMC_BEHIND, buffer, count, type, dest, c);
     lent = p.room ? RVMC_LETTER : 0;
     lend_room(lent);
     if (!rvmc_told)
@@ -249,6 +251,7 @@ static struct rvmc_record receive_of(const char *call, unsigned behind, void *bu
     struct rvmc_record r = {.call = call, .behind = behind, .kind = RVMC_IS_RECEIVE | RVMC_IS_ACTIVE, .peer = source,
                             .tag = tag, .communicator = c, .buffer = buffer, .count = count, .type = type};
 
+    rvmc_check_communicator(call, behind, c);
     if (!has_head(buffer, count, type, source))
         return r;
     rvmc_check_buffer(call, behind, buffer, count, type, 1);
@@ -346,7 +349,7 @@ int rvmc_checked_Sendrecv(const void *out, int out_count, MPI_Datatype out_type,
     long code;
 
     rvmc_check_begin(call, RVMC_BEHIND);
-    p = packet_of(call, RVMC_BEHIND, out, out_count, out_type, dest);
+    p = packet_of(call, RVMC_BEHIND, out, out_count, out_type, dest, c);
     r = receive_of(call, RVMC_BEHIND, in, in_count, in_type, source, in_tag, c);
     rvmc_check_apart(call, RVMC_BEHIND, out, out_count, out_type, in, in_count, in_type);
     if (rvmc_told)
@@ -371,7 +374,7 @@ int rvmc_checked_Sendrecv_replace(void *buffer, int count, MPI_Datatype type, in
     long code;
 
     rvmc_check_begin(call, RVMC_BEHIND);
-    p = packet_of(call, RVMC_BEHIND, buffer, count, type, dest);
+    p = packet_of(call, RVMC_BEHIND, buffer, count, type, dest, c);
     r = receive_of(call, RVMC_BEHIND, buffer, count, type, source, in_tag, c);
     if (rvmc_told)
         return rvmc_check_end(MPI_SUCCESS);
@@ -406,7 +409,7 @@ int rvmc_checked_Isendrecv(const void *out, int out_count, MPI_Datatype out_type
 
     rvmc_check_begin(call, RVMC_BEHIND);
     rvmc_variable_lost(call, RVMC_BEHIND, request);
-    p = packet_of(call, RVMC_BEHIND, out, out_count, out_type, dest);
+    p = packet_of(call, RVMC_BEHIND, out, out_count, out_type, dest, c);
     r = receive_of(call, RVMC_BEHIND, in, in_count, in_type, source, in_tag, c);
     rvmc_check_apart(call, RVMC_BEHIND, out, out_count, out_type, in, in_count, in_type);
     *request = MPI_REQUEST_NULL;
@@ -433,7 +436,7 @@ int rvmc_checked_Isendrecv_replace(void *buffer, int count, MPI_Datatype type, i
 
     rvmc_check_begin(call, RVMC_BEHIND);
     rvmc_variable_lost(call, RVMC_BEHIND, request);
-    p = packet_of(call, RVMC_BEHIND, buffer, count, type, dest);
+    p = packet_of(call, RVMC_BEHIND, buffer, count, type, dest, c);
     r = receive_of(call, RVMC_BEHIND, buffer, count, type, source, in_tag, c);
     *request = MPI_REQUEST_NULL;
     if (rvmc_told)
@@ -456,6 +459,7 @@ int rvmc_checked_Probe(int source, int tag, MPI_Comm c, MPI_Status *status)
     int code;
 
     rvmc_check_begin("MPI_Probe", RVMC_BEHIND);
+    rvmc_check_communicator("MPI_Probe", RVMC_BEHIND, c);
     code = MPI_Probe(source, tag, c, &own);
     if (!code && source != MPI_PROC_NULL)
         rvmc_without_head(&own);
@@ -470,6 +474,7 @@ int rvmc_checked_Iprobe(int source, int tag, MPI_Comm c, int *flag, MPI_Status *
     int code;
 
     rvmc_check_begin("MPI_Iprobe", RVMC_BEHIND);
+    rvmc_check_communicator("MPI_Iprobe", RVMC_BEHIND, c);
     code = MPI_Iprobe(source, tag, c, flag, &own);
     if (!code && *flag && source != MPI_PROC_NULL)
         rvmc_without_head(&own);
@@ -484,6 +489,7 @@ int rvmc_checked_Mprobe(int source, int tag, MPI_Comm c, MPI_Message *message, M
     int code;
 
     rvmc_check_begin("MPI_Mprobe", RVMC_BEHIND);
+    rvmc_check_communicator("MPI_Mprobe", RVMC_BEHIND, c);
     code = MPI_Mprobe(source, tag, c, message, &own);
     if (!code && source != MPI_PROC_NULL)
         rvmc_without_head(&own);
@@ -498,6 +504,7 @@ int rvmc_checked_Improbe(int source, int tag, MPI_Comm c, int *flag, MPI_Message
     int code;
 
     rvmc_check_begin("MPI_Improbe", RVMC_BEHIND);
+    rvmc_check_communicator("MPI_Improbe", RVMC_BEHIND, c);
     code = MPI_Improbe(source, tag, c, flag, message, &own);
     if (!code && *flag && source != MPI_PROC_NULL)
         rvmc_without_head(&own);

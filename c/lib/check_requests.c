@@ -33,10 +33,11 @@ void rvmc_record_open(struct rvmc_record *record, MPI_Request *request, MPI_Requ
     record->variable = request;
     record->next = records;
     records = record;
+    *request = record->handle;
+    rvmc_region_add(record, &(struct rvmc_region){(unsigned)(unsigned long)request, sizeof *request, 1, 1, 0, 0, 1});
     if (record->kind & RVMC_IS_ACTIVE)
         rvmc_type_regions(record, record->buffer, record->count, record->type, record->kind & RVMC_IS_RECEIVE);
     rvmc_check_unlock();
-    *request = record->handle;
 }
 
 void rvmc_record_gone(struct rvmc_record *record)
@@ -44,7 +45,7 @@ void rvmc_record_gone(struct rvmc_record *record)
     struct rvmc_record **at = &records;
 
     rvmc_check_lock();
-    rvmc_regions_drop(record);
+    rvmc_regions_drop(record, 1, 1);
     while (*at && *at != record)
         at = &(*at)->next;
     if (*at) {
@@ -96,6 +97,22 @@ void rvmc_variable_lost(const char *call, unsigned behind, const MPI_Request *re
               rvmc_check_call(record->call, record->behind), rvmc_check_call(call, behind));
 }
 
+/* The program writes to the variable. Where it has the handle elsewhere, it isn't looked at any more. */
+void rvmc_request_overwritten(unsigned behind, const struct rvmc_record *record, unsigned long stack)
+{
+    struct rvmc_record *changed = rvmc_record_of(record->handle);
+    MPI_Request *variable = changed->variable;
+
+    if (*variable == record->handle && !is_kept(record->handle, variable, stack)) {
+        RVMC_TELL(behind, record->behind, "the request of %s is overwritten at %s before its MPI_Wait",
+                  rvmc_check_call(record->call, record->behind), rvmc_check_line(behind));
+        return;
+    }
+    rvmc_check_lock();
+    rvmc_regions_drop(record, 0, 1);
+    rvmc_check_unlock();
+}
+
 void rvmc_requests_at_the_end(unsigned behind)
 {
     for (const struct rvmc_record *r = records; r; r = r->next)
@@ -145,7 +162,7 @@ int rvmc_record_completed(const char *call, unsigned behind, struct rvmc_record 
     int was_active = record->kind & RVMC_IS_ACTIVE, result;
 
     rvmc_check_lock();
-    rvmc_regions_drop(record);
+    rvmc_regions_drop(record, 1, 0);
     rvmc_check_unlock();
     if (was_active && record->room && (record->kind & RVMC_IS_RECEIVE)) {
         if (record->kind & RVMC_IS_DELIVERED)
@@ -349,7 +366,7 @@ int rvmc_checked_Request_get_status(MPI_Request request, int *flag, MPI_Status *
     code = MPI_Request_get_status(raw_of(request), flag, &own);
     if (record && !code && *flag && (record->kind & RVMC_IS_ACTIVE)) {
         rvmc_check_lock();
-        rvmc_regions_drop(record);
+        rvmc_regions_drop(record, 1, 0);
         rvmc_check_unlock();
         if (record->room && (record->kind & RVMC_IS_DELIVERED))
             rvmc_without_head(&own);

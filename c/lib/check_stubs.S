@@ -134,19 +134,32 @@
         ret
         .size __tsan_init, . - __tsan_init
 
-# a0 the address, a1 the bytes, a3 whether they are written. Goes on behind the trap, or to it.
+# a0 the address, a1 the bytes, a3 whether they are written. Goes on behind the trap, or to it. The registers that the
+# program may keep a request in are put below its stack, where they are found as what is on it is.
         .section .text.rvmc_check_slowly, "ax"
         .type rvmc_check_slowly, @function
 rvmc_check_slowly:
-        addi sp, sp, -16
-        sd ra, 8(sp)
-        sd s0, 0(sp)
-        addi s0, sp, 16
+        addi sp, sp, -112
+        sd ra, 104(sp)
+        sd s0, 96(sp)
+        addi s0, sp, 112
+        sd s1, 0(sp)
+        sd s2, 8(sp)
+        sd s3, 16(sp)
+        sd s4, 24(sp)
+        sd s5, 32(sp)
+        sd s6, 40(sp)
+        sd s7, 48(sp)
+        sd s8, 56(sp)
+        sd s9, 64(sp)
+        sd s10, 72(sp)
+        sd s11, 80(sp)
         mv a2, ra
+        mv a4, sp
         call rvmc_check_access
-        ld ra, 8(sp)
-        ld s0, 0(sp)
-        addi sp, sp, 16
+        ld ra, 104(sp)
+        ld s0, 96(sp)
+        addi sp, sp, 112
         bnez a0, 1f
         go_on
 1:      ret

@@ -194,7 +194,7 @@ static void add_to_region(struct visit *v, long low, long size)
     }
     if (r->count)
         rvmc_region_add(v->record, r);
-    *r = (struct rvmc_region){(unsigned)low, (unsigned)size, 1, 1, 0, v->is_written};
+    *r = (struct rvmc_region){(unsigned)low, (unsigned)size, 1, 1, 0, (char)v->is_written, 0};
 }
 
 void rvmc_type_regions(const struct rvmc_record *record, const void *buffer, long count, MPI_Datatype type, int is_received)
@@ -215,8 +215,12 @@ void rvmc_check_buffer(const char *call, unsigned behind, const void *buffer, lo
 {
     struct visit v = {.each = look, .call = call, .behind = behind, .is_written = is_written};
 
-    if (count > 0 && buffer != MPI_IN_PLACE && (buffer || rvmc_layout_of(type)) && rvmc_type_seen(type).size)
-        walk_all(&v, buffer, count, type);
+    if (count <= 0 || buffer == MPI_IN_PLACE || (!buffer && !rvmc_layout_of(type)) || !rvmc_type_seen(type).size)
+        return;
+    walk_all(&v, buffer, count, type);
+    if (!is_written && RVMC_SIZE_OF(type) >= 4)
+        rvmc_heap_check_written(rvmc_check_call(call, behind), behind, (unsigned)(unsigned long)buffer,
+                                (unsigned)(count * RVMC_SIZE_OF(type)));
 }
 
 /* --- two buffers of one call --- */

@@ -9,6 +9,9 @@
 #include "places.h"
 #include "say.h"
 #include "system.h"
+#ifndef __clang__
+#pragma GCC optimize("Os")
+#endif
 
 /* The address behind the call of the program that led here, which the table of places has. */
 #define RVMC_BEHIND ((unsigned)(unsigned long)__builtin_return_address(0))
@@ -46,10 +49,11 @@ struct rvmc_record;
 struct rvmc_region {
     unsigned low, length, stride, count;
     const struct rvmc_record *of;
-    int is_received;                              /* written by the request: it may not even be read */
+    char is_received;                             /* written by the request: it may not even be read */
+    char is_variable;                             /* not a buffer, but where the program has the request */
 };
 void rvmc_region_add(const struct rvmc_record *record, const struct rvmc_region *region);
-void rvmc_regions_drop(const struct rvmc_record *record);
+void rvmc_regions_drop(const struct rvmc_record *record, int buffers, int variable);
 const struct rvmc_region *rvmc_region_hit(unsigned low, unsigned length, int is_written);
 void rvmc_check_forget_block(void);
 void rvmc_check_know_block(unsigned at, unsigned size);
@@ -59,6 +63,7 @@ void rvmc_check_know_block(unsigned at, unsigned size);
 /* Says what is wrong with a range of the heap, or nothing. `who` is a line, or a call with its line. */
 enum { RVMC_IS_READ, RVMC_IS_WRITTEN };
 void rvmc_heap_check(const char *who, unsigned behind, unsigned at, unsigned size, int is_written, int is_element);
+void rvmc_heap_check_written(const char *who, unsigned behind, unsigned at, unsigned size);
 /* Memory of the library's own, outside the program's blocks. */
 void *rvmc_check_take(long size);
 void rvmc_check_give_back(void *memory);
@@ -111,6 +116,7 @@ void rvmc_record_gone(struct rvmc_record *record);
 struct rvmc_record *rvmc_record_of(MPI_Request request);
 int rvmc_record_completed(const char *call, unsigned behind, struct rvmc_record *record, MPI_Request *request,
                           MPI_Status *status, MPI_Status *own, long code);
+void rvmc_request_overwritten(unsigned behind, const struct rvmc_record *record, unsigned long stack);
 void rvmc_variable_lost(const char *call, unsigned behind, const MPI_Request *request);
 void rvmc_requests_at_the_end(unsigned behind);
 
@@ -130,6 +136,10 @@ void rvmc_messages_at_the_end(unsigned behind);
 /* Each call that --check stands around begins and ends by these: they see by which thread it is made. */
 void rvmc_check_begin(const char *call, unsigned behind);
 int rvmc_check_end(int code);
-int rvmc_check_comm(const char *call, unsigned behind, MPI_Comm c);
+
+/* --- communicators, datatypes and operations (check_handles.c) --- */
+
+void rvmc_check_communicator(const char *call, unsigned behind, MPI_Comm c);
+void rvmc_handles_at_the_end(unsigned behind);
 
 #endif
