@@ -20,59 +20,69 @@ RVMC_CHECKED_INLINE(Wait) RVMC_CHECKED_INLINE(Test) RVMC_CHECKED_INLINE(Waitall)
 RVMC_CHECKED(Testall) RVMC_CHECKED(Waitany) RVMC_CHECKED(Testany) RVMC_CHECKED(Waitsome) RVMC_CHECKED(Testsome)
 RVMC_CHECKED(Request_get_status) RVMC_CHECKED(Cancel)
 
-
-/* Before a collective a function looks at its memory; the call itself stays the program's, so that its line is. */
-#define RVMC_CHECKED_BEFORE(name, parameters, arguments) \
-    void rvmc_check_##name parameters; \
-    RVMC_INLINE int rvmc_checked_##name parameters \
+/* Before a collective a function looks at its memory; the call itself stays the program's, so that its line is. One that
+   doesn't wait opens a record first, which gets the buffers that the function looks at. */
+void rvmc_check_later(const char *call, const MPI_Request *request);
+void rvmc_check_later_opened(MPI_Request *request);
+int rvmc_check_end(int code);
+#define RVMC_ARGUMENTS(...) __VA_ARGS__
+#define RVMC_CHECKED_BOTH(name, later, arguments, ...) \
+    void rvmc_check_##name(__VA_ARGS__); \
+    RVMC_INLINE int rvmc_checked_##name(__VA_ARGS__) \
     { \
         rvmc_check_##name arguments; \
-        return MPI_##name arguments; \
+        return rvmc_check_end(MPI_##name arguments); \
+    } \
+    RVMC_INLINE int rvmc_checked_##later(__VA_ARGS__, MPI_Request *request) \
+    { \
+        int code; \
+        \
+        rvmc_check_later("MPI_" #later, request); \
+        rvmc_check_##name arguments; \
+        code = MPI_##later(RVMC_ARGUMENTS arguments, request); \
+        rvmc_check_later_opened(request); \
+        return rvmc_check_end(code); \
     }
 
-RVMC_CHECKED_BEFORE(Barrier, (MPI_Comm c), (c))
-RVMC_CHECKED_BEFORE(Bcast, (void *buffer, int count, MPI_Datatype type, int root, MPI_Comm c), (buffer, count, type, root, c))
-RVMC_CHECKED_BEFORE(Gather, (const void *out, int out_count, MPI_Datatype out_type, void *in, int in_count,
-                             MPI_Datatype in_type, int root, MPI_Comm c),
-                    (out, out_count, out_type, in, in_count, in_type, root, c))
-RVMC_CHECKED_BEFORE(Gatherv, (const void *out, int out_count, MPI_Datatype out_type, void *in, const int in_counts[],
-                              const int places[], MPI_Datatype in_type, int root, MPI_Comm c),
-                    (out, out_count, out_type, in, in_counts, places, in_type, root, c))
-RVMC_CHECKED_BEFORE(Scatter, (const void *out, int out_count, MPI_Datatype out_type, void *in, int in_count,
-                              MPI_Datatype in_type, int root, MPI_Comm c),
-                    (out, out_count, out_type, in, in_count, in_type, root, c))
-RVMC_CHECKED_BEFORE(Scatterv, (const void *out, const int out_counts[], const int places[], MPI_Datatype out_type, void *in,
-                               int in_count, MPI_Datatype in_type, int root, MPI_Comm c),
-                    (out, out_counts, places, out_type, in, in_count, in_type, root, c))
-RVMC_CHECKED_BEFORE(Allgather, (const void *out, int out_count, MPI_Datatype out_type, void *in, int in_count,
-                                MPI_Datatype in_type, MPI_Comm c),
-                    (out, out_count, out_type, in, in_count, in_type, c))
-RVMC_CHECKED_BEFORE(Allgatherv, (const void *out, int out_count, MPI_Datatype out_type, void *in, const int in_counts[],
-                                 const int places[], MPI_Datatype in_type, MPI_Comm c),
-                    (out, out_count, out_type, in, in_counts, places, in_type, c))
-RVMC_CHECKED_BEFORE(Alltoall, (const void *out, int out_count, MPI_Datatype out_type, void *in, int in_count,
-                               MPI_Datatype in_type, MPI_Comm c),
-                    (out, out_count, out_type, in, in_count, in_type, c))
-RVMC_CHECKED_BEFORE(Alltoallv, (const void *out, const int out_counts[], const int out_places[], MPI_Datatype out_type,
-                                void *in, const int in_counts[], const int in_places[], MPI_Datatype in_type, MPI_Comm c),
-                    (out, out_counts, out_places, out_type, in, in_counts, in_places, in_type, c))
-RVMC_CHECKED_BEFORE(Alltoallw, (const void *out, const int out_counts[], const int out_places[],
-                                const MPI_Datatype out_types[], void *in, const int in_counts[], const int in_places[],
-                                const MPI_Datatype in_types[], MPI_Comm c),
-                    (out, out_counts, out_places, out_types, in, in_counts, in_places, in_types, c))
+RVMC_CHECKED_BOTH(Barrier, Ibarrier, (c), MPI_Comm c)
+RVMC_CHECKED_BOTH(Bcast, Ibcast, (buffer, count, type, root, c), void *buffer, int count, MPI_Datatype type, int root,
+                  MPI_Comm c)
+RVMC_CHECKED_BOTH(Gather, Igather, (out, out_count, out_type, in, in_count, in_type, root, c), const void *out, int out_count,
+                  MPI_Datatype out_type, void *in, int in_count, MPI_Datatype in_type, int root, MPI_Comm c)
+RVMC_CHECKED_BOTH(Gatherv, Igatherv, (out, out_count, out_type, in, in_counts, places, in_type, root, c), const void *out, int
+                  out_count, MPI_Datatype out_type, void *in, const int in_counts[], const int places[], MPI_Datatype in_type,
+                  int root, MPI_Comm c)
+RVMC_CHECKED_BOTH(Scatter, Iscatter, (out, out_count, out_type, in, in_count, in_type, root, c), const void *out, int
+                  out_count, MPI_Datatype out_type, void *in, int in_count, MPI_Datatype in_type, int root, MPI_Comm c)
+RVMC_CHECKED_BOTH(Scatterv, Iscatterv, (out, out_counts, places, out_type, in, in_count, in_type, root, c), const void *out,
+                  const int out_counts[], const int places[], MPI_Datatype out_type, void *in, int in_count, MPI_Datatype
+                  in_type, int root, MPI_Comm c)
+RVMC_CHECKED_BOTH(Allgather, Iallgather, (out, out_count, out_type, in, in_count, in_type, c), const void *out, int out_count,
+                  MPI_Datatype out_type, void *in, int in_count, MPI_Datatype in_type, MPI_Comm c)
+RVMC_CHECKED_BOTH(Allgatherv, Iallgatherv, (out, out_count, out_type, in, in_counts, places, in_type, c), const void *out, int
+                  out_count, MPI_Datatype out_type, void *in, const int in_counts[], const int places[], MPI_Datatype in_type,
+                  MPI_Comm c)
+RVMC_CHECKED_BOTH(Alltoall, Ialltoall, (out, out_count, out_type, in, in_count, in_type, c), const void *out, int out_count,
+                  MPI_Datatype out_type, void *in, int in_count, MPI_Datatype in_type, MPI_Comm c)
+RVMC_CHECKED_BOTH(Alltoallv, Ialltoallv, (out, out_counts, out_places, out_type, in, in_counts, in_places, in_type, c), const
+                  void *out, const int out_counts[], const int out_places[], MPI_Datatype out_type, void *in, const int
+                  in_counts[], const int in_places[], MPI_Datatype in_type, MPI_Comm c)
+RVMC_CHECKED_BOTH(Alltoallw, Ialltoallw, (out, out_counts, out_places, out_types, in, in_counts, in_places, in_types, c),
+                  const void *out, const int out_counts[], const int out_places[], const MPI_Datatype out_types[], void *in,
+                  const int in_counts[], const int in_places[], const MPI_Datatype in_types[], MPI_Comm c)
 #ifndef RVMC_REDUCTIONS
-RVMC_CHECKED_BEFORE(Reduce, (const void *from, void *to, int count, MPI_Datatype type, MPI_Op op, int root, MPI_Comm c),
-                    (from, to, count, type, op, root, c))
-RVMC_CHECKED_BEFORE(Allreduce, (const void *from, void *to, int count, MPI_Datatype type, MPI_Op op, MPI_Comm c),
-                    (from, to, count, type, op, c))
-RVMC_CHECKED_BEFORE(Scan, (const void *from, void *to, int count, MPI_Datatype type, MPI_Op op, MPI_Comm c),
-                    (from, to, count, type, op, c))
-RVMC_CHECKED_BEFORE(Exscan, (const void *from, void *to, int count, MPI_Datatype type, MPI_Op op, MPI_Comm c),
-                    (from, to, count, type, op, c))
-RVMC_CHECKED_BEFORE(Reduce_scatter, (const void *from, void *to, const int counts[], MPI_Datatype type, MPI_Op op, MPI_Comm c),
-                    (from, to, counts, type, op, c))
-RVMC_CHECKED_BEFORE(Reduce_scatter_block, (const void *from, void *to, int count, MPI_Datatype type, MPI_Op op, MPI_Comm c),
-                    (from, to, count, type, op, c))
+RVMC_CHECKED_BOTH(Reduce, Ireduce, (from, to, count, type, op, root, c), const void *from, void *to, int count, MPI_Datatype
+                  type, MPI_Op op, int root, MPI_Comm c)
+RVMC_CHECKED_BOTH(Allreduce, Iallreduce, (from, to, count, type, op, c), const void *from, void *to, int count, MPI_Datatype
+                  type, MPI_Op op, MPI_Comm c)
+RVMC_CHECKED_BOTH(Scan, Iscan, (from, to, count, type, op, c), const void *from, void *to, int count, MPI_Datatype type,
+                  MPI_Op op, MPI_Comm c)
+RVMC_CHECKED_BOTH(Exscan, Iexscan, (from, to, count, type, op, c), const void *from, void *to, int count, MPI_Datatype type,
+                  MPI_Op op, MPI_Comm c)
+RVMC_CHECKED_BOTH(Reduce_scatter, Ireduce_scatter, (from, to, counts, type, op, c), const void *from, void *to, const int
+                  counts[], MPI_Datatype type, MPI_Op op, MPI_Comm c)
+RVMC_CHECKED_BOTH(Reduce_scatter_block, Ireduce_scatter_block, (from, to, count, type, op, c), const void *from, void *to, int
+                  count, MPI_Datatype type, MPI_Op op, MPI_Comm c)
 #endif
 
 /* What a program makes and has to free: the call, and the place of the handle. */
@@ -204,6 +214,23 @@ RVMC_CHECKED_FREE(Op_free, RVMC_IS_OPERATION, MPI_Op)
 #define MPI_Exscan rvmc_checked_Exscan
 #define MPI_Reduce_scatter rvmc_checked_Reduce_scatter
 #define MPI_Reduce_scatter_block rvmc_checked_Reduce_scatter_block
+#define MPI_Ibarrier rvmc_checked_Ibarrier
+#define MPI_Ibcast rvmc_checked_Ibcast
+#define MPI_Igather rvmc_checked_Igather
+#define MPI_Igatherv rvmc_checked_Igatherv
+#define MPI_Iscatter rvmc_checked_Iscatter
+#define MPI_Iscatterv rvmc_checked_Iscatterv
+#define MPI_Iallgather rvmc_checked_Iallgather
+#define MPI_Iallgatherv rvmc_checked_Iallgatherv
+#define MPI_Ialltoall rvmc_checked_Ialltoall
+#define MPI_Ialltoallv rvmc_checked_Ialltoallv
+#define MPI_Ialltoallw rvmc_checked_Ialltoallw
+#define MPI_Ireduce rvmc_checked_Ireduce
+#define MPI_Iallreduce rvmc_checked_Iallreduce
+#define MPI_Iscan rvmc_checked_Iscan
+#define MPI_Iexscan rvmc_checked_Iexscan
+#define MPI_Ireduce_scatter rvmc_checked_Ireduce_scatter
+#define MPI_Ireduce_scatter_block rvmc_checked_Ireduce_scatter_block
 #define MPI_Comm_dup rvmc_checked_Comm_dup
 #define MPI_Comm_dup_with_info rvmc_checked_Comm_dup_with_info
 #define MPI_Comm_create rvmc_checked_Comm_create

@@ -2,6 +2,9 @@
    agree, the library itself says so (mismatch.c). */
 #include "checked.h"
 
+/* The record of a collective that doesn't wait, whose buffers are looked at next. */
+static _Thread_local struct rvmc_record *later;
+
 /* A call with its buffers: one for the rank, or a part of one for each rank. */
 struct call {
     const char *name;
@@ -11,9 +14,39 @@ struct call {
 
 static struct call begin(const char *name, unsigned behind, MPI_Comm c)
 {
+    if (later)
+        name = later->call;
     rvmc_check_begin(name, behind);
     rvmc_check_communicator(name, behind, c);
     return (struct call){name, behind, c};
+}
+
+/* Looks at a buffer; that of a collective that doesn't wait is in use from now on. */
+static void look(const struct call *call, const void *buffer, long count, MPI_Datatype type, int is_written)
+{
+    rvmc_check_buffer(call->name, call->behind, buffer, count, type, is_written);
+    if (!later || count <= 0 || !buffer || buffer == MPI_IN_PLACE || !rvmc_type_seen(type).size)
+        return;
+    rvmc_check_lock();
+    rvmc_type_regions(later, buffer, count, type, is_written);
+    rvmc_check_unlock();
+}
+
+void rvmc_check_later(const char *call, const MPI_Request *request)
+{
+    rvmc_variable_lost(call, RVMC_BEHIND, request);
+    later = rvmc_record_new(call, RVMC_BEHIND, RVMC_IS_ACTIVE);
+}
+
+void rvmc_check_later_opened(MPI_Request *request)
+{
+    struct rvmc_record *record = later;
+
+    later = 0;
+    if (record && *request != MPI_REQUEST_NULL)
+        rvmc_record_open(record, request, *request);
+    else if (record)
+        rvmc_record_gone(record);
 }
 
 static int rank_in(MPI_Comm c)
@@ -34,12 +67,12 @@ static int size_of(MPI_Comm c)
 
 static void sends(const struct call *call, const void *buffer, long count, MPI_Datatype type)
 {
-    rvmc_check_buffer(call->name, call->behind, buffer, count, type, RVMC_IS_READ);
+    look(call, buffer, count, type, RVMC_IS_READ);
 }
 
 static void receives(const struct call *call, const void *buffer, long count, MPI_Datatype type)
 {
-    rvmc_check_buffer(call->name, call->behind, buffer, count, type, RVMC_IS_WRITTEN);
+    look(call, buffer, count, type, RVMC_IS_WRITTEN);
 }
 
 /* Parts of a buffer, at places in values. */
@@ -51,7 +84,7 @@ static void parts(const struct call *call, const void *buffer, const int *counts
     if (!buffer || buffer == MPI_IN_PLACE || !counts || !places)
         return;
     for (int r = size_of(call->communicator); r--; )
-        rvmc_check_buffer(call->name, call->behind, (const char *)buffer + places[r] * extent, counts[r], type, is_written);
+        look(call, (const char *)buffer + places[r] * extent, counts[r], type, is_written);
 }
 
 /* The same with a datatype for each, at places in bytes. */
@@ -61,7 +94,7 @@ static void typed_parts(const struct call *call, const void *buffer, const int *
     if (!buffer || buffer == MPI_IN_PLACE || !counts || !places || !types)
         return;
     for (int r = size_of(call->communicator); r--; )
-        rvmc_check_buffer(call->name, call->behind, (const char *)buffer + places[r], counts[r], types[r], is_written);
+        look(call, (const char *)buffer + places[r], counts[r], types[r], is_written);
 }
 
 void rvmc_check_Barrier(MPI_Comm c)
@@ -73,7 +106,7 @@ void rvmc_check_Bcast(void *buffer, int count, MPI_Datatype type, int root, MPI_
 {
     struct call call = begin("MPI_Bcast", RVMC_BEHIND, c);
 
-    rvmc_check_buffer(call.name, call.behind, buffer, count, type, rank_in(c) != root);
+    look(&call, buffer, count, type, rank_in(c) != root);
 }
 
 void rvmc_check_Gather(const void *out, int out_count, MPI_Datatype out_type, void *in, int in_count, MPI_Datatype in_type,

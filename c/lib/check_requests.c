@@ -35,7 +35,7 @@ void rvmc_record_open(struct rvmc_record *record, MPI_Request *request, MPI_Requ
     records = record;
     *request = record->handle;
     rvmc_region_add(record, &(struct rvmc_region){(unsigned)(unsigned long)request, sizeof *request, 1, 1, 0, 0, 1});
-    if (record->kind & RVMC_IS_ACTIVE)
+    if ((record->kind & RVMC_IS_ACTIVE) && record->type)
         rvmc_type_regions(record, record->buffer, record->count, record->type, record->kind & RVMC_IS_RECEIVE);
     rvmc_check_unlock();
 }
@@ -244,8 +244,11 @@ int rvmc_checked_Testall(int count, MPI_Request requests[], int *flag, MPI_Statu
 static int is_active(MPI_Request request)
 {
     const struct rvmc_record *record = rvmc_record_of(request);
+    int kind = rvmc_kind(request);
 
-    return request != MPI_REQUEST_NULL && (!record || (record->kind & RVMC_IS_ACTIVE));
+    if (record)
+        return record->kind & RVMC_IS_ACTIVE;
+    return request != MPI_REQUEST_NULL && (!(kind & (RVMC_PERSISTENT | RVMC_PARTITIONED)) || (kind & RVMC_ACTIVE));
 }
 
 static void empty_status(MPI_Status *status)

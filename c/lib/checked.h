@@ -135,7 +135,6 @@ void rvmc_messages_at_the_end(unsigned behind);
 
 /* Each call that --check stands around begins and ends by these: they see by which thread it is made. */
 void rvmc_check_begin(const char *call, unsigned behind);
-int rvmc_check_end(int code);
 
 /* --- communicators, datatypes and operations (check_handles.c) --- */
 

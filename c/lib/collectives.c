@@ -1,8 +1,10 @@
 /* collectives.c: MPI 4.1, chapter 6, over messages between two ranks (group.h); lib/reductions.c has the reductions. */
 #include <string.h>
 #include "../mpi.h"
+#include "derived_calls.h"
 #include "group.h"
 
+#ifndef RVMC_OF_DERIVED
 struct group rvmc_group_at(const char *call, MPI_Comm c, const void *place)
 {
     struct group g = {.call = call, .place = place, .communicator = c, .of = rvmc_known(c), .tag = RVMC_TAG_COLLECTIVE + c,
@@ -29,6 +31,19 @@ struct group rvmc_rooted_at(const char *call, MPI_Comm c, int root, const void *
     return g;
 }
 
+/* In step k each rank tells the one 2^k behind it, and hears from the one 2^k before it. */
+int MPI_Barrier(MPI_Comm c)
+{
+    struct group g = rvmc_group("MPI_Barrier", c);
+
+    for (int step = 1; step < g.size && !g.code; step *= 2) {
+        give_word(&g, (g.me + step) % g.size);
+        take_word(&g, (g.me - step + g.size) % g.size);
+    }
+    return finish(&g);
+}
+#endif
+
 /* The parts of a buffer, one for each rank. Without counts all have the same, without places they stand one behind the
    other. Each may have a datatype of its own; then places are in bytes (6.8). */
 struct parts {
@@ -50,16 +65,11 @@ RVMC_INLINE long count_of(const struct parts *p, int rank)
     return p->counts ? p->counts[rank] : p->count;
 }
 
-RVMC_INLINE long size_of(const struct parts *p, int rank)
-{
-    return count_of(p, rank) * RVMC_SIZE_OF(type_of(p, rank));
-}
-
 RVMC_INLINE char *place_of(const struct parts *p, int rank)
 {
     long place = p->places ? p->places[rank] : (long)p->count * rank;
 
-    return (char *)p->buffer + (p->types ? place : place * RVMC_SIZE_OF(p->type));
+    return (char *)p->buffer + (p->types ? place : place * extent_of(p->type));
 }
 
 RVMC_INLINE void give_part(struct group *g, const struct parts *p, int part, int to)
@@ -79,11 +89,11 @@ static void check(struct group *g, const struct parts *p, int rank)
 
     if (g->code)
         return;
-    if (!RVMC_SIZE_OF(type_of(p, rank)))
+    if (!is_type(type_of(p, rank)))
         fault(g, RVMC_BAD_TYPE, p->names[2], type_of(p, rank), 0);
     else if (count < 0)
         fault(g, RVMC_BAD_COUNT, p->names[p->counts ? 3 : 1], count, 0);
-    else if (count && (!p->buffer || p->buffer == MPI_IN_PLACE))
+    else if (count && (p->buffer == MPI_IN_PLACE || (!p->buffer && RVMC_SIZE_OF(type_of(p, rank)))))
         fault(g, RVMC_BAD_BUFFER, p->names[0], (long)p->buffer, 0);
 }
 
@@ -94,16 +104,22 @@ static void check_all(struct group *g, const struct parts *p)
 }
 
 /* A rank's own part. Buffers that begin at the same place are MPI_IN_PLACE's business. */
-static void copy(struct group *g, char *to, long room, const char *from, long size)
+static void copy(struct group *g, const struct parts *in, int to_part, const struct parts *out, int part)
 {
+    long count = count_of(out, part), room = count_of(in, to_part), size, of_room;
+    MPI_Datatype type = type_of(out, part), to_type = type_of(in, to_part);
+    char *from = place_of(out, part), *to = place_of(in, to_part);
+
     if (g->code)
         return;
-    if (size != room)
-        fault(g, RVMC_OTHER_COUNT, 0, g->me, room);
+    size = bytes_of(count, type);
+    of_room = bytes_of(room, to_type);
+    if (size != of_room)
+        fault(g, RVMC_OTHER_COUNT, 0, g->me, of_room);
     else if (size && to == from)
         fault(g, RVMC_ALIASED, "recvbuf", (long)to, 0);
     else if (size)
-        memcpy(to, from, size);
+        rvmc_copy(g, to, room, to_type, from, count, type);
 }
 
 static struct parts out_parts(const void *buffer, int count, MPI_Datatype type)
@@ -114,18 +130,6 @@ static struct parts out_parts(const void *buffer, int count, MPI_Datatype type)
 static struct parts in_parts(void *buffer, int count, MPI_Datatype type)
 {
     return (struct parts){buffer, count, type, 0, 0, 0, {"recvbuf", "recvcount", "recvtype", "recvcounts"}};
-}
-
-/* In step k each rank tells the one 2^k behind it, and hears from the one 2^k before it. */
-int MPI_Barrier(MPI_Comm c)
-{
-    struct group g = rvmc_group("MPI_Barrier", c);
-
-    for (int step = 1; step < g.size && !g.code; step *= 2) {
-        give_word(&g, (g.me + step) % g.size);
-        take_word(&g, (g.me - step + g.size) % g.size);
-    }
-    return finish(&g);
 }
 
 /* A binomial tree: who stands at place v takes from v without its lowest bit. */
@@ -144,6 +148,8 @@ RVMC_INLINE void spread(struct group *g, const struct parts *p, int part, int ro
 
 int MPI_Bcast(void *buffer, int count, MPI_Datatype type, int root, MPI_Comm c)
 {
+    RVMC_IF_DERIVED(type, type, rvmc_derived_Bcast(buffer, count, type, root, c));
+
     struct group g = rvmc_rooted("MPI_Bcast", c, root);
     struct parts p = {buffer, count, type, 0, 0, 0, {"buffer", "count", "datatype", 0}};
 
@@ -166,12 +172,14 @@ RVMC_INLINE void gather(struct group *g, const struct parts *out, const struct p
         if (r != g->me)
             take_part(g, in, r, r);
         else if (out->buffer != MPI_IN_PLACE)
-            copy(g, place_of(in, r), size_of(in, r), out->buffer, size_of(out, 0));
+            copy(g, in, r, out, 0);
 }
 
 int MPI_Gather(const void *out, int out_count, MPI_Datatype out_type, void *in, int in_count, MPI_Datatype in_type, int root,
                MPI_Comm c)
 {
+    RVMC_IF_DERIVED(out_type, in_type, rvmc_derived_Gather(out, out_count, out_type, in, in_count, in_type, root, c));
+
     struct group g = rvmc_rooted("MPI_Gather", c, root);
     struct parts from = out_parts(out, out_count, out_type), to = in_parts(in, in_count, in_type);
 
@@ -182,6 +190,8 @@ int MPI_Gather(const void *out, int out_count, MPI_Datatype out_type, void *in, 
 int MPI_Gatherv(const void *out, int out_count, MPI_Datatype out_type, void *in, const int in_counts[], const int places[],
                 MPI_Datatype in_type, int root, MPI_Comm c)
 {
+    RVMC_IF_DERIVED(out_type, in_type, rvmc_derived_Gatherv(out, out_count, out_type, in, in_counts, places, in_type, root, c));
+
     struct group g = rvmc_rooted("MPI_Gatherv", c, root);
     struct parts from = out_parts(out, out_count, out_type), to = in_parts(in, 0, in_type);
 
@@ -205,12 +215,14 @@ RVMC_INLINE void scatter(struct group *g, const struct parts *out, const struct 
         if (r != g->me)
             give_part(g, out, r, r);
         else if (in->buffer != MPI_IN_PLACE)
-            copy(g, (char *)in->buffer, size_of(in, 0), place_of(out, r), size_of(out, r));
+            copy(g, in, 0, out, r);
 }
 
 int MPI_Scatter(const void *out, int out_count, MPI_Datatype out_type, void *in, int in_count, MPI_Datatype in_type,
                 int root, MPI_Comm c)
 {
+    RVMC_IF_DERIVED(out_type, in_type, rvmc_derived_Scatter(out, out_count, out_type, in, in_count, in_type, root, c));
+
     struct group g = rvmc_rooted("MPI_Scatter", c, root);
     struct parts from = out_parts(out, out_count, out_type), to = in_parts(in, in_count, in_type);
 
@@ -221,6 +233,8 @@ int MPI_Scatter(const void *out, int out_count, MPI_Datatype out_type, void *in,
 int MPI_Scatterv(const void *out, const int out_counts[], const int places[], MPI_Datatype out_type, void *in, int in_count,
                  MPI_Datatype in_type, int root, MPI_Comm c)
 {
+    RVMC_IF_DERIVED(out_type, in_type, rvmc_derived_Scatterv(out, out_counts, places, out_type, in, in_count, in_type, root, c));
+
     struct group g = rvmc_rooted("MPI_Scatterv", c, root);
     struct parts from = out_parts(out, 0, out_type), to = in_parts(in, in_count, in_type);
 
@@ -237,7 +251,7 @@ RVMC_INLINE void gather_all(struct group *g, const struct parts *out, const stru
     if (out->buffer != MPI_IN_PLACE) {
         check(g, out, 0);
         if (!g->code)
-            copy(g, place_of(in, g->me), size_of(in, g->me), out->buffer, size_of(out, 0));
+            copy(g, in, g->me, out, 0);
     }
     for (int r = 0; r < g->size && !g->code; r++)
         spread(g, in, r, r);
@@ -246,6 +260,8 @@ RVMC_INLINE void gather_all(struct group *g, const struct parts *out, const stru
 int MPI_Allgather(const void *out, int out_count, MPI_Datatype out_type, void *in, int in_count, MPI_Datatype in_type,
                   MPI_Comm c)
 {
+    RVMC_IF_DERIVED(out_type, in_type, rvmc_derived_Allgather(out, out_count, out_type, in, in_count, in_type, c));
+
     struct group g = rvmc_group("MPI_Allgather", c);
     struct parts from = out_parts(out, out_count, out_type), to = in_parts(in, in_count, in_type);
 
@@ -256,6 +272,8 @@ int MPI_Allgather(const void *out, int out_count, MPI_Datatype out_type, void *i
 int MPI_Allgatherv(const void *out, int out_count, MPI_Datatype out_type, void *in, const int in_counts[],
                    const int places[], MPI_Datatype in_type, MPI_Comm c)
 {
+    RVMC_IF_DERIVED(out_type, in_type, rvmc_derived_Allgatherv(out, out_count, out_type, in, in_counts, places, in_type, c));
+
     struct group g = rvmc_group("MPI_Allgatherv", c);
     struct parts from = out_parts(out, out_count, out_type), to = in_parts(in, 0, in_type);
 
@@ -274,7 +292,7 @@ RVMC_INLINE void exchange(struct group *g, const struct parts *out, const struct
     check_all(g, in);
     check_all(g, from);
     if (!g->code && !in_place)
-        copy(g, place_of(in, g->me), size_of(in, g->me), place_of(out, g->me), size_of(out, g->me));
+        copy(g, in, g->me, out, g->me);
     for (int d = 1; d < g->size && !g->code; d++) {
         int to = (g->me + d) % g->size, source = (g->me - d + g->size) % g->size;
 
@@ -292,6 +310,8 @@ RVMC_INLINE void exchange(struct group *g, const struct parts *out, const struct
 int MPI_Alltoall(const void *out, int out_count, MPI_Datatype out_type, void *in, int in_count, MPI_Datatype in_type,
                  MPI_Comm c)
 {
+    RVMC_IF_DERIVED(out_type, in_type, rvmc_derived_Alltoall(out, out_count, out_type, in, in_count, in_type, c));
+
     struct group g = rvmc_group("MPI_Alltoall", c);
     struct parts from = out_parts(out, out_count, out_type), to = in_parts(in, in_count, in_type);
 
@@ -302,6 +322,8 @@ int MPI_Alltoall(const void *out, int out_count, MPI_Datatype out_type, void *in
 int MPI_Alltoallv(const void *out, const int out_counts[], const int out_places[], MPI_Datatype out_type, void *in,
                   const int in_counts[], const int in_places[], MPI_Datatype in_type, MPI_Comm c)
 {
+    RVMC_IF_DERIVED(out_type, in_type, rvmc_derived_Alltoallv(out, out_counts, out_places, out_type, in, in_counts, in_places, in_type, c));
+
     struct group g = rvmc_group("MPI_Alltoallv", c);
     struct parts from = out_parts(out, 0, out_type), to = in_parts(in, 0, in_type);
 
@@ -326,5 +348,9 @@ int MPI_Alltoallw(const void *out, const int out_counts[], const int out_places[
     to.places = in_places;
     to.types = in_types;
     exchange(&g, &from, &to);
+    /* what was refused as no datatype before anything was sent may be one that the program made */
+    if (g.code == RVMC_BAD_TYPE)
+        RVMC_IF_DERIVED((MPI_Datatype)g.value, MPI_DATATYPE_NULL,
+                        rvmc_derived_Alltoallw(out, out_counts, out_places, out_types, in, in_counts, in_places, in_types, c));
     return finish(&g);
 }

@@ -103,8 +103,10 @@ enum {
     RVMC_FLOATING_PAIR, RVMC_OPAQUE, RVMC_SIGNED_PAIR, RVMC_TWO_SIGNED, RVMC_TWO_FLOATING, RVMC_DERIVED, RVMC_MARK
 };
 #define RVMC_TYPE(number, kind, size) ((number) << 16 | (kind) << 8 | (size))
-/* One that a program made has a number of its own, and no size here. */
-#define RVMC_MADE(number) RVMC_TYPE(number, RVMC_DERIVED, 0)
+/* One that a program made has no size here, and a number of its own with a bit that no basic one has. */
+#define RVMC_MADE_SIGN 128
+#define RVMC_MADE(place) RVMC_TYPE(((place) << 1 & ~255) | RVMC_MADE_SIGN | ((place) & 127), RVMC_DERIVED, 0)
+#define RVMC_MADE_PLACE(type) (((type) >> 17 & ~127) | ((type) >> 16 & 127))
 #define RVMC_SIZE_OF(type) ((type) & 255)
 #define RVMC_KIND_OF(type) ((type) >> 8 & 255)
 #define RVMC_SHAPE_OF(type) ((type) & 65535)

@@ -6,16 +6,16 @@
 #include "errors.h"
 #include "layouts.h"
 
-enum { MOST_TYPES = 32767, ROOM = 16 };
+enum { MOST_TYPES = 16384, ROOM = 16 };
 
 static struct rvmc_layout **table;
 static int room;
 
 struct rvmc_layout *rvmc_layout_of(MPI_Datatype type)
 {
-    int number = type >> 16;
+    int place = RVMC_MADE_PLACE(type);
 
-    return (type & 65535) == RVMC_MADE(0) && number >= 0 && number < room ? table[number] : 0;
+    return RVMC_SHAPE_OF(type) == RVMC_SHAPE_OF(RVMC_MADE(0)) && place >= 0 && place < room ? table[place] : 0;
 }
 
 /* --- what counts for one of a datatype --- */
@@ -177,13 +177,13 @@ void rvmc_leave_type(MPI_Datatype type)
 
     if (!l || --l->uses)
         return;
-    table[type >> 16] = 0;
+    table[RVMC_MADE_PLACE(type)] = 0;
     change_uses(l, rvmc_leave_type);
     free(l);
 }
 
 /* Freed numbers are given again late, so that a handle that was freed is found out. */
-static int free_number(void)
+static int free_place(void)
 {
     static int next;
     struct rvmc_layout **larger;
@@ -192,7 +192,7 @@ static int free_number(void)
     for (int tried = 0; tried < room; tried++, next = (next + 1) % room)
         if (!table[next])
             return next;
-    if (more > MOST_TYPES + 1)
+    if (more > MOST_TYPES)
         return -1;
     larger = realloc(table, more * sizeof *table);
     if (!larger)
@@ -236,10 +236,10 @@ struct rvmc_layout *rvmc_new_contents(const char *call, int count, int combiner,
 
 int rvmc_made_type(const char *call, struct rvmc_layout *l, MPI_Datatype *made)
 {
-    int number = free_number();
+    int place = free_place();
 
     *made = MPI_DATATYPE_NULL;
-    if (number < 0) {
+    if (place < 0) {
         free(l);
         return rvmc_no_room(call, MOST_TYPES, "datatypes");
     }
@@ -248,8 +248,8 @@ int rvmc_made_type(const char *call, struct rvmc_layout *l, MPI_Datatype *made)
     l->solid = is_solid(l);
     l->handles = l->uses = 1;
     change_uses(l, rvmc_use_type);
-    table[number] = l;
-    *made = RVMC_MADE(number);
+    table[place] = l;
+    *made = RVMC_MADE(place);
     rvmc_derived_begin();
     return MPI_SUCCESS;
 }

@@ -173,6 +173,9 @@ static int wrong_otherwise(const char *call, long code, MPI_Comm c)
         return rvmc_raise(call, c, MPI_ERR_ARG, 0, "the other side has another total of bytes");
     case RVMC_NO_MEMORY:
         return rvmc_raise(call, c, MPI_ERR_NO_MEM, 0, "the heap is full: rvmc-cc --memory gives more");
+    case RVMC_TOO_MANY:
+        return rvmc_raise(call, c, MPI_ERR_NO_MEM, 0, "too many collectives of this communicator are open: one that was begun "
+                          "320 before, or 128 persistent ones");
     case RVMC_LARGE_PROBE:
         return rvmc_raise(call, c, MPI_ERR_UNSUPPORTED_OPERATION, 0, "a message of 4096 bytes or more was probed for: with "
                           "several harts use MPI_Mprobe, and no persistent receive");
@@ -220,6 +223,9 @@ int rvmc_wrong(const char *call, long code, const void *buffer, long count, MPI_
     }
 }
 
+/* What the error handler made of a collective that didn't wait, when it was told. */
+int rvmc_later_error;
+
 int rvmc_wrong_request(const char *call, long code, MPI_Request request)
 {
     const MPI_Comm c = MPI_COMM_WORLD;
@@ -231,6 +237,8 @@ int rvmc_wrong_request(const char *call, long code, MPI_Request request)
         if (request == MPI_REQUEST_NULL)
             return rvmc_raise(call, c, MPI_ERR_REQUEST, "request", "no open request, or one that this call doesn't take");
         return rvmc_raise(call, c, MPI_ERR_REQUEST, "request", "%d is no open request, or none that this call takes", request);
+    case RVMC_LATER_FAILED:
+        return rvmc_later_error;
     case RVMC_STILL_ACTIVE:
         return rvmc_raise(call, c, MPI_ERR_REQUEST, "request", "the request is active");
     case RVMC_NOT_ACTIVE:
@@ -280,7 +288,8 @@ int rvmc_wrong_collective(const struct group *g)
     case RVMC_BAD_COUNT:
         return rvmc_raise(call, c, MPI_ERR_COUNT, g->argument, "count %d is negative", g->value);
     case RVMC_BAD_TYPE:
-        return rvmc_raise(call, c, MPI_ERR_TYPE, g->argument, "the datatype is MPI_DATATYPE_NULL, or none");
+        return rvmc_raise(call, c, MPI_ERR_TYPE, g->argument, RVMC_KIND_OF(g->value) == RVMC_DERIVED
+                          ? "the datatype isn't committed, or was freed" : "the datatype is MPI_DATATYPE_NULL, or none");
     case RVMC_BAD_OP:
         if (!g->value)
             return rvmc_raise(call, c, MPI_ERR_OP, "op", "the operation is MPI_OP_NULL, or none");

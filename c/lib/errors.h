@@ -14,6 +14,8 @@ int rvmc_handled(MPI_Comm c, int error);
    rvmc_say. */
 int rvmc_raise(const char *call, MPI_Comm c, int error, const char *argument, const char *format, ...);
 
+extern int rvmc_later_error;
+
 /* No memory: in the heap, or in a table of so many things. */
 int rvmc_full_heap(const char *call);
 int rvmc_no_room(const char *call, long most, const char *things);

@@ -7,6 +7,7 @@
 #ifndef RVMC_GROUP_H
 #define RVMC_GROUP_H
 
+#include <string.h>
 #include "mismatch.h"
 #include "system.h"
 
@@ -61,7 +62,25 @@ RVMC_INLINE void fault(struct group *g, long code, const char *argument, long va
     g->expected = expected;
 }
 
-/* Whether a handle is a datatype, and the bytes from one of it to the next. */
+/* Whether a handle is a datatype, the bytes from one of it to the next, and those of so many in a message. Collectives are
+   compiled twice: for basic datatypes, and for those that a program makes too (lib/derived_collectives.c). */
+#ifdef RVMC_OF_DERIVED
+RVMC_INLINE int is_type(MPI_Datatype type)
+{
+    return RVMC_SIZE_OF(type) || (rvmc_is_derived(type) && rvmc_derived.usable(type));
+}
+
+RVMC_INLINE long extent_of(MPI_Datatype type)
+{
+    return rvmc_is_derived(type) ? rvmc_derived.extent(type) : RVMC_SIZE_OF(type);
+}
+
+RVMC_INLINE long bytes_of(long count, MPI_Datatype type)
+{
+    return count * (rvmc_is_derived(type) ? rvmc_derived.bytes(type) : RVMC_SIZE_OF(type));
+}
+#define RVMC_IF_DERIVED(type, other, call) (void)0
+#else
 RVMC_INLINE int is_type(MPI_Datatype type)
 {
     return RVMC_SIZE_OF(type) != 0;
@@ -71,6 +90,17 @@ RVMC_INLINE long extent_of(MPI_Datatype type)
 {
     return RVMC_SIZE_OF(type);
 }
+
+RVMC_INLINE long bytes_of(long count, MPI_Datatype type)
+{
+    return count * RVMC_SIZE_OF(type);
+}
+#define RVMC_IF_DERIVED(type, other, call) \
+    do \
+        if (rvmc_is_derived(type) || rvmc_is_derived(other)) \
+            return call; \
+    while (0)
+#endif
 
 /* Where a message with a head is put together: so that its data stand as the buffer does, and are copied by words. */
 RVMC_INLINE char *head_room(const void *buffer)
@@ -83,10 +113,10 @@ RVMC_INLINE long headed(long size)
     return size < RVMC_HEADED ? size : RVMC_HEADED;
 }
 
-/* So many elements of a datatype for the rank at a place of the communicator. */
-RVMC_INLINE void give(struct group *g, const void *buffer, long count, MPI_Datatype type, int to)
+/* Bytes for the rank at a place of the communicator: so many elements of a datatype, as they stand in a message. */
+RVMC_INLINE void give_bytes(struct group *g, const void *buffer, long size, long count, MPI_Datatype type, int to)
 {
-    long size = count * RVMC_SIZE_OF(type), at = 0;
+    long at = 0;
 
     if (!g->code && !(g->given >> to & 1)) {
         const char *message = rvmc_headed(g, buffer, count, type, size);
@@ -106,9 +136,9 @@ RVMC_INLINE void give(struct group *g, const void *buffer, long count, MPI_Datat
     }
 }
 
-RVMC_INLINE void take(struct group *g, void *buffer, long count, MPI_Datatype type, int from)
+RVMC_INLINE void take_bytes(struct group *g, void *buffer, long size, long count, MPI_Datatype type, int from)
 {
-    long size = count * RVMC_SIZE_OF(type), at = 0;
+    long at = 0;
     MPI_Status status;
 
     if (!g->code && !(g->taken >> from & 1)) {
@@ -129,6 +159,34 @@ RVMC_INLINE void take(struct group *g, void *buffer, long count, MPI_Datatype ty
             fault(g, code, "recvbuf", (long)buffer, size);
     }
 }
+
+/* So many elements of a datatype. */
+#ifdef RVMC_OF_DERIVED
+void rvmc_give(struct group *g, const void *buffer, long count, MPI_Datatype type, int to);
+void rvmc_take(struct group *g, void *buffer, long count, MPI_Datatype type, int from);
+void rvmc_copy(struct group *g, void *to, long to_count, MPI_Datatype to_type, const void *from, long count, MPI_Datatype type);
+#define give rvmc_give
+#define take rvmc_take
+#else
+RVMC_INLINE void give(struct group *g, const void *buffer, long count, MPI_Datatype type, int to)
+{
+    give_bytes(g, buffer, count * RVMC_SIZE_OF(type), count, type, to);
+}
+
+RVMC_INLINE void take(struct group *g, void *buffer, long count, MPI_Datatype type, int from)
+{
+    take_bytes(g, buffer, count * RVMC_SIZE_OF(type), count, type, from);
+}
+
+RVMC_INLINE void rvmc_copy(struct group *g, void *to, long to_count, MPI_Datatype to_type, const void *from, long count,
+                           MPI_Datatype type)
+{
+    (void)g;
+    (void)to_count;
+    (void)to_type;
+    memcpy(to, from, count * RVMC_SIZE_OF(type));
+}
+#endif
 
 /* A message without bytes but its head, that only says something by being there. */
 RVMC_INLINE void give_word(struct group *g, int to)

@@ -50,7 +50,7 @@ struct rvmc_layout *rvmc_new_contents(const char *call, int count, int combiner,
                                       const MPI_Aint *address, int types, const MPI_Datatype *type);
 int rvmc_made_type(const char *call, struct rvmc_layout *layout, MPI_Datatype *made);
 
-/* Lets the inline calls know of such datatypes. */
+/* Lets the inline calls and the collectives know of such datatypes. */
 void rvmc_derived_begin(void);
 
 /* Attributes of a datatype are copied to another one, or deleted where that is null; an error of the program's function. */

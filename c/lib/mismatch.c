@@ -103,10 +103,19 @@ const char *rvmc_headed(struct group *g, const void *buffer, long count, MPI_Dat
     return message;
 }
 
+/* A call for basic datatypes and the same for others may have a copy of its name each. */
+static int __attribute__((noinline, cold)) is_other_name(const char *theirs, const char *mine)
+{
+    for (; *theirs == *mine; theirs++, mine++)
+        if (!*mine)
+            return 0;
+    return 1;
+}
+
 /* Whether the head of another rank is that of the same call, with the same root, operation and data. */
 static int differs(const struct rvmc_head *mine, const struct rvmc_head *theirs)
 {
-    if (theirs->call != mine->call)
+    if (theirs->call != mine->call && is_other_name((const char *)(long)theirs->call, (const char *)(long)mine->call))
         return MPI_ERR_OTHER;
     if (theirs->root != mine->root)
         return MPI_ERR_ROOT;
@@ -144,7 +153,7 @@ void rvmc_heard(struct group *g, void *buffer, long count, MPI_Datatype type, lo
 static void put_call(const struct rvmc_head *head, int error)
 {
     const struct rvmc_place *place = rvmc_place_of((const void *)(unsigned long)head->place);
-    MPI_Datatype type = head->type << 16;
+    MPI_Datatype type = head->type & RVMC_MADE_SIGN ? 0 : head->type << 16;
 
     rvmc_put("%s", (const char *)(unsigned long)head->call);
     if (error == MPI_ERR_ROOT)

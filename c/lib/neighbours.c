@@ -2,6 +2,7 @@
    The sends go in the order of the destinations backwards: where two ranks are neighbors in both directions of a dimension,
    what goes to the one before comes from the one behind (8.6). */
 #include "../mpi.h"
+#include "derived_calls.h"
 #include "errors.h"
 #include "group.h"
 #include "topologies.h"
@@ -43,7 +44,8 @@ static void check(struct group *g, const struct side *s, int neighbors)
             fault(g, RVMC_BAD_TYPE, s->names[2], type_of(s, i), 0);
         else if (count_of(s, i) < 0)
             fault(g, RVMC_BAD_COUNT, s->names[s->counts ? 3 : 1], count_of(s, i), 0);
-        else if (count_of(s, i) && (!s->buffer || s->buffer == MPI_IN_PLACE) && !s->bytes && neighbors)
+        else if (count_of(s, i) && (s->buffer == MPI_IN_PLACE || (!s->buffer && RVMC_SIZE_OF(type_of(s, i)))) && !s->bytes &&
+                 neighbors)
             fault(g, RVMC_BAD_BUFFER, s->names[0], (long)s->buffer, 0);
 }
 
@@ -61,6 +63,10 @@ RVMC_INLINE int talk(const char *call, const struct side *from, const struct sid
     n = rvmc_neighbors_of(t, g.of, room);
     check(&g, from, n.out);
     check(&g, to, n.in);
+    if (g.code == RVMC_BAD_TYPE && from->types)
+        RVMC_IF_DERIVED((MPI_Datatype)g.value, MPI_DATATYPE_NULL,
+                        rvmc_derived_Neighbor_alltoallw(from->buffer, from->counts, from->bytes, from->types,
+                                                        (void *)to->buffer, to->counts, to->bytes, to->types, c));
     for (int i = n.out - 1; i >= 0; i--)
         if (n.destinations[i] != MPI_PROC_NULL)
             give(&g, place_of(from, i), count_of(from, i), type_of(from, i), n.destinations[i]);
@@ -76,6 +82,8 @@ RVMC_INLINE int talk(const char *call, const struct side *from, const struct sid
 int MPI_Neighbor_allgather(const void *out, int out_count, MPI_Datatype out_type, void *in, int in_count,
                            MPI_Datatype in_type, MPI_Comm c)
 {
+    RVMC_IF_DERIVED(out_type, in_type, rvmc_derived_Neighbor_allgather(out, out_count, out_type, in, in_count, in_type, c));
+
     struct side from = {out, 1, out_count, out_type, 0, 0, 0, 0, OUT}, to = {in, 0, in_count, in_type, 0, 0, 0, 0, IN};
 
     return talk("MPI_Neighbor_allgather", &from, &to, c);
@@ -84,6 +92,8 @@ int MPI_Neighbor_allgather(const void *out, int out_count, MPI_Datatype out_type
 int MPI_Neighbor_allgatherv(const void *out, int out_count, MPI_Datatype out_type, void *in, const int in_counts[],
                             const int places[], MPI_Datatype in_type, MPI_Comm c)
 {
+    RVMC_IF_DERIVED(out_type, in_type, rvmc_derived_Neighbor_allgatherv(out, out_count, out_type, in, in_counts, places, in_type, c));
+
     struct side from = {out, 1, out_count, out_type, 0, 0, 0, 0, OUT}, to = {in, 0, 0, in_type, in_counts, places, 0, 0, IN};
 
     return talk("MPI_Neighbor_allgatherv", &from, &to, c);
@@ -92,6 +102,8 @@ int MPI_Neighbor_allgatherv(const void *out, int out_count, MPI_Datatype out_typ
 int MPI_Neighbor_alltoall(const void *out, int out_count, MPI_Datatype out_type, void *in, int in_count,
                           MPI_Datatype in_type, MPI_Comm c)
 {
+    RVMC_IF_DERIVED(out_type, in_type, rvmc_derived_Neighbor_alltoall(out, out_count, out_type, in, in_count, in_type, c));
+
     struct side from = {out, 0, out_count, out_type, 0, 0, 0, 0, OUT}, to = {in, 0, in_count, in_type, 0, 0, 0, 0, IN};
 
     return talk("MPI_Neighbor_alltoall", &from, &to, c);
@@ -100,6 +112,8 @@ int MPI_Neighbor_alltoall(const void *out, int out_count, MPI_Datatype out_type,
 int MPI_Neighbor_alltoallv(const void *out, const int out_counts[], const int out_places[], MPI_Datatype out_type, void *in,
                            const int in_counts[], const int in_places[], MPI_Datatype in_type, MPI_Comm c)
 {
+    RVMC_IF_DERIVED(out_type, in_type, rvmc_derived_Neighbor_alltoallv(out, out_counts, out_places, out_type, in, in_counts, in_places, in_type, c));
+
     struct side from = {out, 0, 0, out_type, out_counts, out_places, 0, 0, OUT};
     struct side to = {in, 0, 0, in_type, in_counts, in_places, 0, 0, IN};
 

@@ -4,6 +4,7 @@
 #include <string.h>
 #include "../mpi.h"
 #include "errors.h"
+#include "folding.h"
 #include "group.h"
 
 enum { FOLDED = 1024, OWN_OPS = 64 };             /* bytes that a reduction carries at once, on the stack */
@@ -30,6 +31,11 @@ int MPI_Op_create(MPI_User_function *function, int commutes, MPI_Op *op)
 static int is_own(MPI_Op op)
 {
     return op >= RVMC_OWN_OPS && op < RVMC_OWN_OPS + OWN_OPS && own[op - RVMC_OWN_OPS].function;
+}
+
+MPI_User_function *rvmc_own_op(MPI_Op op)
+{
+    return is_own(op) ? own[op - RVMC_OWN_OPS].function : 0;
 }
 
 static int commutes(MPI_Op op)
@@ -166,6 +172,8 @@ RVMC_INLINE void reduce(struct group *g, const struct folding *f, const char *fr
 
 int MPI_Reduce(const void *from, void *to, int count, MPI_Datatype type, MPI_Op op, int root, MPI_Comm c, rvmc_fold *fold)
 {
+    RVMC_IF_DERIVED(type, MPI_DATATYPE_NULL, rvmc_derived_Reduce(from, to, count, type, op, root, c));
+
     struct group g = rvmc_rooted("MPI_Reduce", c, root);
     const void *mine = from == MPI_IN_PLACE ? to : from;
     struct folding f = folding(&g, mine, count, type, op, fold);
@@ -194,6 +202,8 @@ RVMC_INLINE void spread(struct group *g, const struct folding *f, char *buffer, 
 
 int MPI_Allreduce(const void *from, void *to, int count, MPI_Datatype type, MPI_Op op, MPI_Comm c, rvmc_fold *fold)
 {
+    RVMC_IF_DERIVED(type, MPI_DATATYPE_NULL, rvmc_derived_Allreduce(from, to, count, type, op, c));
+
     struct group g = rvmc_group("MPI_Allreduce", c);
     const void *mine = from == MPI_IN_PLACE ? to : from;
     struct folding f = folding(&g, mine, count, type, op, fold);
@@ -219,6 +229,8 @@ RVMC_INLINE void reduce_parts(struct group *g, const struct folding *f, const ch
 int MPI_Reduce_scatter(const void *from, void *to, const int counts[], MPI_Datatype type, MPI_Op op, MPI_Comm c,
                        rvmc_fold *fold)
 {
+    RVMC_IF_DERIVED(type, MPI_DATATYPE_NULL, rvmc_derived_Reduce_scatter(from, to, counts, type, op, c));
+
     struct group g = rvmc_group("MPI_Reduce_scatter", c);
     const void *mine = from == MPI_IN_PLACE ? to : from;
     int all = 0;
@@ -241,6 +253,8 @@ int MPI_Reduce_scatter(const void *from, void *to, const int counts[], MPI_Datat
 int MPI_Reduce_scatter_block(const void *from, void *to, int count, MPI_Datatype type, MPI_Op op, MPI_Comm c,
                              rvmc_fold *fold)
 {
+    RVMC_IF_DERIVED(type, MPI_DATATYPE_NULL, rvmc_derived_Reduce_scatter_block(from, to, count, type, op, c));
+
     struct group g = rvmc_group("MPI_Reduce_scatter_block", c);
     const void *mine = from == MPI_IN_PLACE ? to : from;
     struct folding f = folding(&g, mine, count, type, op, fold);
@@ -252,6 +266,8 @@ int MPI_Reduce_scatter_block(const void *from, void *to, int count, MPI_Datatype
 
 int MPI_Reduce_local(const void *from, void *to, int count, MPI_Datatype type, MPI_Op op, rvmc_fold *fold_of_type)
 {
+    RVMC_IF_DERIVED(type, MPI_DATATYPE_NULL, rvmc_derived_Reduce_local(from, to, count, type, op));
+
     struct group g = {.call = "MPI_Reduce_local", .communicator = MPI_COMM_WORLD, .size = 1,
                       .code = rvmc_idle() ? RVMC_NOT_BEGUN : RVMC_OK};
     struct folding f = folding(&g, from, count, type, op, fold_of_type);
@@ -290,6 +306,8 @@ RVMC_INLINE void scan(struct group *g, const struct folding *f, const char *from
 
 int MPI_Scan(const void *from, void *to, int count, MPI_Datatype type, MPI_Op op, MPI_Comm c, rvmc_fold *fold)
 {
+    RVMC_IF_DERIVED(type, MPI_DATATYPE_NULL, rvmc_derived_Scan(from, to, count, type, op, c));
+
     struct group g = rvmc_group("MPI_Scan", c);
     const void *mine = from == MPI_IN_PLACE ? to : from;
     struct folding f = folding(&g, mine, count, type, op, fold);
@@ -302,6 +320,8 @@ int MPI_Scan(const void *from, void *to, int count, MPI_Datatype type, MPI_Op op
 /* Of rank 0 nothing comes to its buffer. */
 int MPI_Exscan(const void *from, void *to, int count, MPI_Datatype type, MPI_Op op, MPI_Comm c, rvmc_fold *fold)
 {
+    RVMC_IF_DERIVED(type, MPI_DATATYPE_NULL, rvmc_derived_Exscan(from, to, count, type, op, c));
+
     struct group g = rvmc_group("MPI_Exscan", c);
     const void *mine = from == MPI_IN_PLACE ? to : from;
     struct folding f = folding(&g, mine, count, type, op, fold);

@@ -107,7 +107,7 @@ static int wrong_grid(const struct group *g, int dimensions, const int dims[])
     for (int i = 0; i < dimensions; i++)
         if (dims[i] <= 0)
             return wrong(g->call, g->communicator, MPI_ERR_DIMS, "dims", "a dimension of %d", dims[i]);
-    return wrong(g->call, g->communicator, MPI_ERR_DIMS, "dims", "the grid has more places than the communicator, which has %d",
+    return wrong(g->call, g->communicator, MPI_ERR_ARG, "dims", "the grid has more places than the communicator, which has %d",
                  g->size);
 }
 
@@ -253,7 +253,8 @@ int MPI_Cart_shift(MPI_Comm c, int dimension, int by, int *source, int *dest)
     return MPI_SUCCESS;
 }
 
-/* Those stay together that differ in the remaining dimensions alone. */
+/* Those stay together that differ in the remaining dimensions alone. Where none remains, rank 0 alone gets a communicator, as
+   by MPICH. */
 int MPI_Cart_sub(MPI_Comm c, const int remain[], MPI_Comm *made)
 {
     const struct rvmc_topology *t = of_kind(c, MPI_CART);
@@ -272,8 +273,8 @@ int MPI_Cart_sub(MPI_Comm c, const int remain[], MPI_Comm *made)
         dims[n] = t->numbers[i];
         periods[n++] = t->numbers[t->count + i];
     }
-    error = rvmc_split(&g, color, key, made);
-    if (error)
+    error = rvmc_split(&g, n || !g.me ? color : MPI_UNDEFINED, key, made);
+    if (error || *made == MPI_COMM_NULL)
         return error;
     rvmc_table[*made].topology = new_grid(n, dims, periods);
     return rvmc_table[*made].topology ? MPI_SUCCESS : rvmc_full_heap(g.call);

@@ -4,6 +4,7 @@
 #include "../mpi.h"
 #include "errors.h"
 #include "layouts.h"
+#include "mismatch.h"
 #include "owners.h"
 
 /* A receive that isn't complete, or a persistent one. */
@@ -257,7 +258,44 @@ static void changed_uses(MPI_Datatype type, int change)
         rvmc_leave_type(type);
 }
 
+/* The basic elements, block by block. */
+static struct rvmc_signature signature(MPI_Datatype type)
+{
+    struct rvmc_layout *l = rvmc_layout_of(type);
+    struct rvmc_signature once = {1, 0};
+
+    for (int i = 0; l && i < l->count; i++)
+        once = rvmc_signature_then(once, rvmc_signature_times(rvmc_signature_of(l->blocks[i].type), l->blocks[i].length));
+    return l ? rvmc_signature_times(once, l->times) : once;
+}
+
+static int usable(MPI_Datatype type)
+{
+    struct rvmc_layout *l = rvmc_layout_of(type);
+
+    return l && l->handles && l->committed;
+}
+
+static long extent(MPI_Datatype type)
+{
+    struct rvmc_layout *l = rvmc_layout_of(type);
+
+    return l ? l->high - l->low : 0;
+}
+
+static long bytes(MPI_Datatype type)
+{
+    struct rvmc_layout *l = rvmc_layout_of(type);
+
+    return l ? l->bytes : 0;
+}
+
 void rvmc_derived_begin(void)
 {
-    rvmc_derived = (struct rvmc_derived){send, receive, in_parts, packed_data, changed_uses, rvmc_layout_of, rvmc_elements_in};
+    rvmc_derived = (struct rvmc_derived){
+        .send = send, .receive = receive, .in_parts = in_parts, .packed = packed_data, .unpacked = rvmc_unpack,
+        .changed_uses = changed_uses,
+        .layout = rvmc_layout_of, .elements = rvmc_elements_in, .usable = usable, .extent = extent, .bytes = bytes,
+    };
+    rvmc_signature_of_derived = signature;
 }

@@ -1,0 +1,7 @@
+/* derived_neighbours.c: the neighborhood collectives for datatypes that a program makes (derived_calls.h). */
+#ifndef __clang__
+#pragma GCC optimize("Os")
+#endif
+#define RVMC_OF_DERIVED
+#include "derived_calls.h"
+#include "neighbours.c"
