@@ -4,12 +4,11 @@
 
 static int work(void *argument)
 {
-    int number = 3;
+    int number = 3, got = 0;
 
     (void)argument;
-    MPI_Send(&number, 1, MPI_INT, 0, 7, MPI_COMM_SELF); /* A */
-    MPI_Recv(&number, 1, MPI_INT, 0, 7, MPI_COMM_SELF, MPI_STATUS_IGNORE);
-    return number;
+    MPI_Sendrecv(&number, 1, MPI_INT, 0, 7, &got, 1, MPI_INT, 0, 7, MPI_COMM_SELF, MPI_STATUS_IGNORE); /* A */
+    return got;
 }
 
 int main(int argc, char **argv)

@@ -22,8 +22,8 @@ int main(int argc, char **argv)
     thrd_create(&thread, work, 0);
     thrd_join(thread, &result);
     MPI_Isend(&shared, 1, MPI_INT, 0, 7, MPI_COMM_SELF, &request); /* A */
-    MPI_Wait(&request, MPI_STATUS_IGNORE);
     MPI_Recv(&result, 1, MPI_INT, 0, 7, MPI_COMM_SELF, MPI_STATUS_IGNORE);
+    MPI_Wait(&request, MPI_STATUS_IGNORE);
     printf("the thread says %d\n", result);
     MPI_Finalize();
     return 0;
