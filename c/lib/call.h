@@ -34,6 +34,7 @@ enum {
 /* The tags of the twin. A rank sends itself those of harts and mutexes. */
 enum {
     RVMC_TAG_COLLECTIVE = 0,                  /* and the communicator, below 8: of collectives that wait */
+    RVMC_TAG_IDUP = 8,                        /* and the communicator: MPI_Comm_idup */
     RVMC_TAG_FREE = 96,                       /* a hart that has no thread */
     RVMC_TAG_HEAP = 97,                       /* the heap, which no hart is at work on */
     RVMC_TAG_WORK = 104,                      /* and the hart: there is work for it, or the end; start.S has it too */

@@ -1,6 +1,7 @@
 /* communicators.c: the table of communicators (communicators.h), and what stands between MPI's ranks and the machine's. */
 #include "../mpi.h"
 #include "errors.h"
+#include "contexts.h"
 
 enum { CONTEXTS = 0xfc };                         /* 2 to 7 */
 
@@ -61,6 +62,40 @@ __attribute__((noinline)) int rvmc_take_context(int context)
     return context;
 }
 
+/* Up to the choice of a context, another hart of the rank can't take one. Who waits is woken by a message, and has the turn
+   then. */
+static int busy, waiting;
+
+void rvmc_begin_context(void)
+{
+    int wait;
+
+    if (RVMC_NUMBER(rvmc_harts) == 1)
+        return;
+    rvmc_lock();
+    wait = busy;
+    waiting += wait;
+    busy = 1;
+    rvmc_unlock();
+    if (wait)
+        rvmc_call(RVMC_RECV, 0, 0, rvmc_rank, RVMC_TAG_CONTEXT, RVMC_TWIN, 0);
+}
+
+void rvmc_end_context(void)
+{
+    int wake;
+
+    if (RVMC_NUMBER(rvmc_harts) == 1)
+        return;
+    rvmc_lock();
+    wake = waiting > 0;
+    waiting -= wake;
+    busy = wake;
+    rvmc_unlock();
+    if (wake)
+        rvmc_call(RVMC_SEND, 0, 0, rvmc_rank, RVMC_TAG_CONTEXT, RVMC_TWIN, 0);
+}
+
 long rvmc_context_of(MPI_Comm c)
 {
     const struct rvmc_communicator *of = rvmc_known(c);
@@ -68,10 +103,12 @@ long rvmc_context_of(MPI_Comm c)
     if (!of)
         return -1;
     if (of->context < 0) {
-        rvmc_lock();
+        if (rvmc_hooks.settled)
+            rvmc_hooks.settled(MPI_COMM_NULL);
+        rvmc_begin_context();
         if (of->context < 0)
             rvmc_table[c].context = (signed char)rvmc_take_context(-1);
-        rvmc_unlock();
+        rvmc_end_context();
     }
     return of->context;
 }

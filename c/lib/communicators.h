@@ -72,6 +72,8 @@ void rvmc_completed_elsewhere(MPI_Comm c, int kind, MPI_Status *status);
 /* The contexts that this rank has free: bit k is context k. */
 extern unsigned char rvmc_contexts;
 int rvmc_take_context(int context);
+void rvmc_begin_context(void);
+void rvmc_end_context(void);
 void rvmc_lock(void);
 void rvmc_unlock(void);
 

@@ -1,5 +1,7 @@
 /* contexts.c: making and freeing communicators (MPI 4.1, 7.4). The members tell each other which contexts they have free, and
-   take the first that all have. */
+   take the first that all have. Where ranks have several harts, two of a rank may do so at the same time, for communicators
+   of other ranks each. So there all members are waited for first, and then each in turn, in the order of MPI_COMM_WORLD,
+   keeps other harts from its contexts until one is chosen: since all go in the same order, nobody waits for ever. */
 #include "../mpi.h"
 #include "errors.h"
 #include "group.h"
@@ -38,42 +40,6 @@ void rvmc_declare(void)
     }
 }
 
-/* --- one at a time --- */
-
-/* From telling which contexts are free up to taking one, another hart of the rank can't do the same. Who waits is woken by a
-   message, and has the turn then. */
-static int busy, waiting;
-
-RVMC_INLINE void begin(void)
-{
-    int wait;
-
-    if (RVMC_NUMBER(rvmc_harts) == 1)
-        return;
-    rvmc_lock();
-    wait = busy;
-    waiting += wait;
-    busy = 1;
-    rvmc_unlock();
-    if (wait)
-        rvmc_call(RVMC_RECV, 0, 0, rvmc_rank, RVMC_TAG_CONTEXT, RVMC_TWIN, 0);
-}
-
-static void end(void)
-{
-    int wake;
-
-    if (RVMC_NUMBER(rvmc_harts) == 1)
-        return;
-    rvmc_lock();
-    wake = waiting > 0;
-    waiting -= wake;
-    busy = wake;
-    rvmc_unlock();
-    if (wake)
-        rvmc_call(RVMC_SEND, 0, 0, rvmc_rank, RVMC_TAG_CONTEXT, RVMC_TWIN, 0);
-}
-
 /* --- telling, and making --- */
 
 enum { MOST = 8, WORDS = 3 };
@@ -104,19 +70,59 @@ static void inherit(MPI_Comm from, MPI_Comm to)
         rvmc_hooks.used_handler(rvmc_handlers[to], 1);
 }
 
-/* Takes the first context that is free for all members, and ends what begin began. */
-static int make(struct group *g, MPI_Group members, int free, MPI_Comm *made)
+/* The places of g, as bits, that a new communicator is for, and the contexts that all of these have free. */
+struct choice {
+    unsigned places;
+    int free;
+};
+
+/* Makes a choice where ranks have several harts; by rvmc_end_context the contexts are let go. */
+RVMC_INLINE void choose_in_turn(struct group *g, struct choice *choice)
 {
-    int context = -1, mine = rvmc_group_place(members, rvmc_rank) >= 0;
+    int before = -1, behind = -1, last = -1;
+
+    for (int rank = 0; rank < MOST; rank++) {
+        int place = rvmc_position(g->of, rank);
+
+        if (place < 0 || !(choice->places >> place & 1))
+            continue;
+        if (rank < rvmc_rank)
+            before = place;
+        if (rank > rvmc_rank && behind < 0)
+            behind = place;
+        last = place;
+    }
+    choice->free = ~0;
+    if (before >= 0)
+        take(g, &choice->free, 1, MPI_INT, before);
+    rvmc_begin_context();
+    choice->free &= rvmc_contexts;
+    if (behind >= 0) {
+        give(g, &choice->free, 1, MPI_INT, behind);
+        take(g, &choice->free, 1, MPI_INT, last);
+        return;
+    }
+    for (int place = 0; place < g->size; place++)
+        if ((choice->places >> place & 1) && place != g->me)
+            give(g, &choice->free, 1, MPI_INT, place);
+}
+
+/* Takes the first context that is free for all members, of which this rank is one or not. */
+RVMC_INLINE int make(struct group *g, MPI_Group members, struct choice choice, MPI_Comm *made)
+{
+    int context = -1, mine = g->of && !g->code && (choice.places >> g->me & 1), in_turn = mine && RVMC_NUMBER(rvmc_harts) > 1;
 
     *made = MPI_COMM_NULL;
-    if (!g->code && mine && free) {
+    if (in_turn)
+        choose_in_turn(g, &choice);
+    if (mine && !g->code && choice.free) {
         rvmc_lock();
-        context = rvmc_take_context(__builtin_ctz((unsigned)free));
+        context = rvmc_take_context(__builtin_ctz((unsigned)choice.free));
         rvmc_table[context] = of_group(members, context);
         rvmc_unlock();
     }
-    end();
+    if (in_turn)
+        rvmc_end_context();
     if (g->code)
         return finish(g);
     if (context < 0)
@@ -150,14 +156,18 @@ static MPI_Group colored(const struct group *g, const struct told *all, int colo
 int rvmc_split(struct group *g, int color, int key, MPI_Comm *made)
 {
     struct told all[MOST];
-    int free = ~0;
+    struct choice choice = {0, ~0};
 
-    begin();
-    tell_all(g, (struct told){rvmc_contexts, color, key}, all);
+    if (rvmc_hooks.settled)
+        rvmc_hooks.settled(MPI_COMM_NULL);
+    if (!g->code)
+        tell_all(g, (struct told){rvmc_contexts, color, key}, all);
     for (int r = 0; r < g->size && !g->code; r++)
-        if (all[r].color != MPI_UNDEFINED)
-            free &= all[r].free;
-    return make(g, g->code || color == MPI_UNDEFINED ? MPI_GROUP_EMPTY : colored(g, all, color), free, made);
+        if (all[r].color != MPI_UNDEFINED) {
+            choice.places |= 1u << r;
+            choice.free &= all[r].free;
+        }
+    return make(g, g->code || color == MPI_UNDEFINED ? MPI_GROUP_EMPTY : colored(g, all, color), choice, made);
 }
 
 int MPI_Comm_split(MPI_Comm c, int color, int key, MPI_Comm *made)
@@ -184,14 +194,20 @@ int MPI_Comm_split_type(MPI_Comm c, int type, int key, MPI_Info info, MPI_Comm *
 static int create(struct group *g, MPI_Group group, MPI_Comm *made)
 {
     struct told all[MOST];
-    int free = ~0;
+    struct choice choice = {0, ~0};
 
-    begin();
-    tell_all(g, (struct told){rvmc_contexts, group, 0}, all);
+    if (rvmc_hooks.settled)
+        rvmc_hooks.settled(MPI_COMM_NULL);
+    if (!g->code)
+        tell_all(g, (struct told){rvmc_contexts, group, 0}, all);
     for (int r = 0; r < g->size && !g->code; r++)
-        if (rvmc_group_place(group, rvmc_rank_at(g->of, r)) >= 0)
-            free &= all[r].free;
-    return make(g, group, free, made);
+        if (rvmc_group_place(group, rvmc_rank_at(g->of, r)) >= 0) {
+            choice.places |= 1u << r;
+            choice.free &= all[r].free;
+        }
+    if (!g->code && !(choice.places >> g->me & 1))
+        choice.places = 0;
+    return make(g, group, choice, made);
 }
 
 /* The first rank of a group that isn't in the communicator is told. */
@@ -234,11 +250,9 @@ int MPI_Comm_create_group(MPI_Comm c, MPI_Group group, int tag, MPI_Comm *made)
     return create(&g, group, made);
 }
 
-int MPI_Comm_dup(MPI_Comm c, MPI_Comm *made)
+/* What a copy has beside its ranks. */
+static int copied(MPI_Comm c, int error, MPI_Comm *made)
 {
-    struct group g = rvmc_group("MPI_Comm_dup", c);
-    int error = create(&g, g.of ? rvmc_group_of(g.of) : MPI_GROUP_EMPTY, made);
-
     if (!error && rvmc_hooks.copied_topology)
         error = rvmc_hooks.copied_topology(c, *made);
     if (!error && rvmc_hooks.copied_attributes)
@@ -246,6 +260,18 @@ int MPI_Comm_dup(MPI_Comm c, MPI_Comm *made)
     if (error && *made != MPI_COMM_NULL)
         MPI_Comm_free(made);
     return error;
+}
+
+int MPI_Comm_dup(MPI_Comm c, MPI_Comm *made)
+{
+    struct group g = rvmc_group("MPI_Comm_dup", c);
+
+    return copied(c, create(&g, g.of ? rvmc_group_of(g.of) : MPI_GROUP_EMPTY, made), made);
+}
+
+int rvmc_make_copy(struct group *g, int free, MPI_Comm *made)
+{
+    return copied(g->communicator, make(g, rvmc_group_of(g->of), (struct choice){~0u, free}, made), made);
 }
 
 int MPI_Comm_dup_with_info(MPI_Comm c, MPI_Info info, MPI_Comm *made)

@@ -32,6 +32,9 @@ struct group;
 /* Makes a communicator of the places of g that have the same color, in the order of their keys. Returns the call's error. */
 int rvmc_split(struct group *g, int color, int key, MPI_Comm *made);
 
+/* Makes a communicator of all ranks of g, with the first of the contexts that all have free, where ranks have one hart. */
+int rvmc_make_copy(struct group *g, int free, MPI_Comm *made);
+
 /* What else a communicator has, where a program has linked it: each does what is to be done when one is made of another one,
    or freed. */
 extern struct rvmc_hooks {
@@ -42,6 +45,7 @@ extern struct rvmc_hooks {
     void (*used_handler)(MPI_Errhandler handler, int change);
     int (*copied_topology)(MPI_Comm from, MPI_Comm to);
     void (*freed_topology)(MPI_Comm c);
+    void (*settled)(MPI_Comm except);             /* waits for communicators that are being made, but for copies of one */
 } rvmc_hooks;
 
 #endif

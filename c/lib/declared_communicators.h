@@ -23,6 +23,8 @@ int MPI_Group_free(MPI_Group *group);
 int MPI_Comm_compare(MPI_Comm c, MPI_Comm other, int *result);
 int MPI_Comm_dup(MPI_Comm c, MPI_Comm *made);
 int MPI_Comm_dup_with_info(MPI_Comm c, MPI_Info info, MPI_Comm *made);
+int MPI_Comm_idup(MPI_Comm c, MPI_Comm *made, MPI_Request *request);
+int MPI_Comm_idup_with_info(MPI_Comm c, MPI_Info info, MPI_Comm *made, MPI_Request *request);
 int MPI_Comm_create(MPI_Comm c, MPI_Group group, MPI_Comm *made);
 int MPI_Comm_create_group(MPI_Comm c, MPI_Group group, int tag, MPI_Comm *made);
 int MPI_Comm_split(MPI_Comm c, int color, int key, MPI_Comm *made);

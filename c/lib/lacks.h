@@ -19,7 +19,6 @@
 #define RVMC_WHY_INTERCOMM "there are no intercommunicators"
 #define RVMC_WHY_COUNT "counts are int: a rank has 1 MiB at most"
 #define RVMC_WHY_TOPOLOGY "neighborhood collectives are served that wait, and are called each time: MPI_Neighbor_alltoall and its kin"
-#define RVMC_WHY_COMM "communicators are made of others, by calls that wait: MPI_Comm_dup, MPI_Comm_split, MPI_Comm_create and its kin"
 #define RVMC_WHY_NONBLOCKING "collectives that don't wait aren't served: name the call without I"
 #define RVMC_WHY_PERSISTENT "persistent collectives aren't served: call the collective each time"
 #define RVMC_WHY_FORTRAN "Fortran's handles, types and statuses aren't served"
@@ -429,6 +428,7 @@ RVMC_CALL(MPI_T_pvar_readreset, TOOLS) RVMC_CALL(MPI_T_pvar_reset, TOOLS) RVMC_C
 RVMC_CALL(MPI_T_pvar_session_free, TOOLS) RVMC_CALL(MPI_T_pvar_start, TOOLS) RVMC_CALL(MPI_T_pvar_stop, TOOLS)
 RVMC_CALL(MPI_T_pvar_write, TOOLS) RVMC_CALL(MPI_T_source_get_info, TOOLS) RVMC_CALL(MPI_T_source_get_num, TOOLS)
 RVMC_CALL(MPI_T_source_get_timestamp, TOOLS)
+RVMC_CALL(MPI_Comm_create_from_group, SESSION) RVMC_CALL(MPI_Group_from_session_pset, SESSION)
 RVMC_CALL(MPI_Session_attach_buffer, SESSION) RVMC_CALL(MPI_Session_call_errhandler, SESSION)
 RVMC_CALL(MPI_Session_create_errhandler, SESSION) RVMC_CALL(MPI_Session_detach_buffer, SESSION)
 RVMC_CALL(MPI_Session_finalize, SESSION) RVMC_CALL(MPI_Session_flush_buffer, SESSION)
@@ -546,8 +546,6 @@ RVMC_CALL(MPI_Ineighbor_alltoall, TOPOLOGY) RVMC_CALL(MPI_Ineighbor_alltoallv, T
 RVMC_CALL(MPI_Ineighbor_alltoallw, TOPOLOGY) RVMC_CALL(MPI_Neighbor_allgather_init, TOPOLOGY)
 RVMC_CALL(MPI_Neighbor_allgatherv_init, TOPOLOGY) RVMC_CALL(MPI_Neighbor_alltoall_init, TOPOLOGY)
 RVMC_CALL(MPI_Neighbor_alltoallv_init, TOPOLOGY) RVMC_CALL(MPI_Neighbor_alltoallw_init, TOPOLOGY)
-RVMC_CALL(MPI_Comm_create_from_group, COMM) RVMC_CALL(MPI_Comm_idup, COMM) RVMC_CALL(MPI_Comm_idup_with_info, COMM)
-RVMC_CALL(MPI_Group_from_session_pset, COMM)
 RVMC_CALL(MPI_Status_c2f08, FORTRAN) RVMC_CALL(MPI_Status_f082c, FORTRAN) RVMC_CALL(MPI_Status_f082f, FORTRAN)
 RVMC_CALL(MPI_Status_f2f08, FORTRAN) RVMC_CALL(MPI_Type_create_f90_complex, FORTRAN)
 RVMC_CALL(MPI_Type_create_f90_integer, FORTRAN) RVMC_CALL(MPI_Type_create_f90_real, FORTRAN)

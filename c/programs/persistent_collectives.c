@@ -72,7 +72,7 @@ int main(int argc, char *argv[])
         fill(turn);
         if (turn == 1)
             for (int i = 0; i < ALL; i++)
-                MPI_Start(&requests[i * 7 % ALL]);
+                MPI_Start(&requests[i]);
         else
             MPI_Startall(ALL, requests);
         if (turn == 2)
