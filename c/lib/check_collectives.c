@@ -196,45 +196,50 @@ void rvmc_check_Alltoallw(const void *out, const int out_counts[], const int out
 
 /* --- reductions (6.9 to 6.11) --- */
 
-void rvmc_check_Reduce(const void *from, void *to, int count, MPI_Datatype type, MPI_Op op __attribute__((unused)), int root, MPI_Comm c)
+void rvmc_check_Reduce(const void *from, void *to, int count, MPI_Datatype type, MPI_Op op, int root, MPI_Comm c)
 {
     struct call call = begin("MPI_Reduce", RVMC_BEHIND, c);
 
+    (void)op;
     sends(&call, from, count, type);
     if (rank_in(c) == root)
         receives(&call, to, count, type);
 }
 
-void rvmc_check_Allreduce(const void *from, void *to, int count, MPI_Datatype type, MPI_Op op __attribute__((unused)), MPI_Comm c)
+void rvmc_check_Allreduce(const void *from, void *to, int count, MPI_Datatype type, MPI_Op op, MPI_Comm c)
 {
     struct call call = begin("MPI_Allreduce", RVMC_BEHIND, c);
 
+    (void)op;
     sends(&call, from, count, type);
     receives(&call, to, count, type);
 }
 
-void rvmc_check_Scan(const void *from, void *to, int count, MPI_Datatype type, MPI_Op op __attribute__((unused)), MPI_Comm c)
+void rvmc_check_Scan(const void *from, void *to, int count, MPI_Datatype type, MPI_Op op, MPI_Comm c)
 {
     struct call call = begin("MPI_Scan", RVMC_BEHIND, c);
 
+    (void)op;
     sends(&call, from, count, type);
     receives(&call, to, count, type);
 }
 
-void rvmc_check_Exscan(const void *from, void *to, int count, MPI_Datatype type, MPI_Op op __attribute__((unused)), MPI_Comm c)
+void rvmc_check_Exscan(const void *from, void *to, int count, MPI_Datatype type, MPI_Op op, MPI_Comm c)
 {
     struct call call = begin("MPI_Exscan", RVMC_BEHIND, c);
 
+    (void)op;
     sends(&call, from, count, type);
     if (rank_in(c) > 0)
         receives(&call, to, count, type);
 }
 
-void rvmc_check_Reduce_scatter(const void *from, void *to, const int counts[], MPI_Datatype type, MPI_Op op __attribute__((unused)), MPI_Comm c)
+void rvmc_check_Reduce_scatter(const void *from, void *to, const int counts[], MPI_Datatype type, MPI_Op op, MPI_Comm c)
 {
     struct call call = begin("MPI_Reduce_scatter", RVMC_BEHIND, c);
     long all = 0;
 
+    (void)op;
     for (int r = counts ? size_of(c) : 0; r--; )
         all += counts[r];
     sends(&call, from, all, type);
@@ -242,11 +247,12 @@ void rvmc_check_Reduce_scatter(const void *from, void *to, const int counts[], M
         receives(&call, to, from == MPI_IN_PLACE ? all : counts[rank_in(c)], type);
 }
 
-void rvmc_check_Reduce_scatter_block(const void *from, void *to, int count, MPI_Datatype type, MPI_Op op __attribute__((unused)), MPI_Comm c)
+void rvmc_check_Reduce_scatter_block(const void *from, void *to, int count, MPI_Datatype type, MPI_Op op, MPI_Comm c)
 {
     struct call call = begin("MPI_Reduce_scatter_block", RVMC_BEHIND, c);
     long all = (long)count * size_of(c);
 
+    (void)op;
     sends(&call, from, all, type);
     receives(&call, to, from == MPI_IN_PLACE ? all : count, type);
 }

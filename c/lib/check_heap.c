@@ -13,8 +13,8 @@ enum { ZONE = 32, KEPT_BLOCKS = 256, KEPT_BYTES = 65536, BLOCKS_AT_FIRST = 64 };
 #define WORD 0xfbf1f9fdU
 const unsigned long rvmc_check_fresh = (unsigned long)WORD << 32 | WORD;
 
-enum { MALLOC, CALLOC, REALLOC, OTHER };
-static const char *const givers[] = {"malloc", "calloc", "realloc", "aligned_alloc"};
+enum { MALLOC, CALLOC, REALLOC, STRDUP, OTHER };
+static const char *const givers[] = {"malloc", "calloc", "realloc", "strdup", "aligned_alloc"};
 
 struct block {
     unsigned at, size, given, freed;              /* where it is; the calls that gave it and took it back */
@@ -327,6 +327,14 @@ void *__wrap_realloc(void *old, size_t size)
         take_back(old, "realloc", behind);
     }
     return memory;
+}
+
+char *rvmc_heap_copy(const char *text, unsigned behind)
+{
+    size_t size = strlen(text) + 1;
+    char *copy = give(size, 16, STRDUP, behind);
+
+    return copy ? memcpy(copy, text, size) : 0;
 }
 
 void *__wrap_aligned_alloc(size_t align, size_t size)

@@ -130,7 +130,7 @@ char *rvmc_checked_strstr(const char *text, const char *part)
 char *rvmc_checked_strdup(const char *text)
 {
     READS_TEXT("strdup", text);
-    return rvmc_told ? 0 : strdup(text);
+    return rvmc_told ? 0 : rvmc_heap_copy(text, RVMC_BEHIND);
 }
 
 char *rvmc_checked_fgets(char *to, int size, FILE *file)

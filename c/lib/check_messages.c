@@ -20,7 +20,7 @@ static int number_of(const char *call)
 }
 
 /* Whether a message can have a head: else the call is MPI's own business, which tells what is wrong with the arguments. */
-static int has_head(const void *buffer, int count, MPI_Datatype type, int peer)
+int rvmc_has_letter(const void *buffer, int count, MPI_Datatype type, int peer)
 {
     struct rvmc_layout one = rvmc_measures(type);
     long all = count > 1 ? (count - 1) * (one.high - one.low) : 0, memory = RVMC_NUMBER(rvmc_memory);
@@ -43,7 +43,7 @@ struct packet {
     MPI_Datatype type;
 };
 
-static void write_head(const struct rvmc_record *r)
+void rvmc_write_letter(const struct rvmc_record *r)
 {
     long elements = rvmc_type_elements(r->type, r->count);
     struct rvmc_letter head = {RVMC_LETTER_MARK, rvmc_type_hash(r->type, r->count, elements), (unsigned)elements,
@@ -60,14 +60,14 @@ static struct packet packet_of(const char *call, unsigned behind, const void *bu
     struct rvmc_record r = {.call = call, .behind = behind, .buffer = (void *)buffer, .count = count, .type = type};
 
     rvmc_check_communicator(call, behind, c);
-    if (!has_head(buffer, count, type, dest))
+    if (!rvmc_has_letter(buffer, count, type, dest))
         return plain;
     rvmc_check_buffer(call, behind, buffer, count, type, 0);
     r.size = count * rvmc_type_seen(type).size;
     r.room = rvmc_check_take(r.size + RVMC_LETTER);
     if (!r.room)
         return plain;
-    write_head(&r);
+    rvmc_write_letter(&r);
     return (struct packet){r.room, r.room, (int)r.size + RVMC_LETTER, MPI_BYTE};
 }
 
@@ -127,7 +127,7 @@ STARTS_SEND(Issend)
 STARTS_SEND(Irsend)
 
 /* The attached buffer needs no room for a head. */
-static void lend_room(int bytes)
+void rvmc_lend_room(int bytes)
 {
     if (rvmc_buffer_size >= 0)
         rvmc_buffer_size += bytes;
@@ -141,10 +141,10 @@ int rvmc_checked_Bsend(const void *buffer, int count, MPI_Datatype type, int des
     rvmc_check_begin("MPI_Bsend", RVMC_BEHIND);
     p = packet_of("MPI_Bsend", RVMC_BEHIND, buffer, count, type, dest, c);
     lent = p.room ? RVMC_LETTER : 0;
-    lend_room(lent);
+    rvmc_lend_room(lent);
     if (!rvmc_told)
         code = MPI_Bsend(p.bytes, p.count, p.type, dest, tag, c);
-    lend_room(-lent);
+    rvmc_lend_room(-lent);
     rvmc_check_give_back(p.room);
     return rvmc_check_end(code);
 }
@@ -159,10 +159,10 @@ int rvmc_checked_Ibsend(const void *buffer, int count, MPI_Datatype type, int de
     rvmc_variable_lost("MPI_Ibsend", RVMC_BEHIND, request);
     p = packet_of("MPI_Ibsend", RVMC_BEHIND, buffer, count, type, dest, c);
     lent = p.room ? RVMC_LETTER : 0;
-    lend_room(lent);
+    rvmc_lend_room(lent);
     if (!rvmc_told)
         code = MPI_Ibsend(p.bytes, p.count, p.type, dest, tag, c, &raw);
-    lend_room(-lent);
+    rvmc_lend_room(-lent);
     rvmc_check_give_back(p.room);
     *request = MPI_REQUEST_NULL;
     if (raw != MPI_REQUEST_NULL)
@@ -252,7 +252,7 @@ static struct rvmc_record receive_of(const char *call, unsigned behind, void *bu
                             .tag = tag, .communicator = c, .buffer = buffer, .count = count, .type = type};
 
     rvmc_check_communicator(call, behind, c);
-    if (!has_head(buffer, count, type, source))
+    if (!rvmc_has_letter(buffer, count, type, source))
         return r;
     rvmc_check_buffer(call, behind, buffer, count, type, 1);
     r.size = count * rvmc_type_seen(type).size;
@@ -550,89 +550,6 @@ int rvmc_checked_Imrecv(void *buffer, int count, MPI_Datatype type, MPI_Message 
     *request = MPI_REQUEST_NULL;
     if (raw == MPI_REQUEST_NULL || !open_receive(&r, request, raw))
         rvmc_check_give_back(r.room);
-    return rvmc_check_end(code);
-}
-
-/* --- persistent requests (3.9) --- */
-
-/* The machine's request sends and receives the room with the head. */
-static struct rvmc_record *lasting(const char *call, unsigned behind, const void *buffer, int count, MPI_Datatype type,
-                                   int peer, MPI_Comm c, int kind)
-{
-    struct rvmc_record *r = rvmc_record_new(call, behind, kind | RVMC_IS_PERSISTENT);
-
-    if (!r)
-        return 0;
-    r->buffer = (void *)buffer;
-    r->count = count;
-    r->type = type;
-    r->communicator = c;
-    if (has_head(buffer, count, type, peer)) {
-        r->size = count * rvmc_type_seen(type).size;
-        r->room = rvmc_check_take(r->size + RVMC_LETTER);
-    }
-    return r;
-}
-
-static void open_lasting(struct rvmc_record *r, MPI_Request *request, MPI_Request raw)
-{
-    *request = raw;
-    if (r && raw != MPI_REQUEST_NULL)
-        rvmc_record_open(r, request, raw);
-    else if (r)
-        rvmc_record_gone(r);
-}
-
-#define LASTS(name, qualifier, kind)     int rvmc_checked_##name(qualifier void *buffer, int count, MPI_Datatype type, int peer, int tag, MPI_Comm c,                             MPI_Request *request)     {         MPI_Request raw = MPI_REQUEST_NULL;         struct rvmc_record *r;         int code, has_room;                 rvmc_check_begin("MPI_" #name, RVMC_BEHIND);         rvmc_variable_lost("MPI_" #name, RVMC_BEHIND, request);         r = lasting("MPI_" #name, RVMC_BEHIND, buffer, count, type, peer, c, kind);         has_room = r && r->room;         code = MPI_##name(has_room ? r->room : buffer, has_room ? (int)r->size + RVMC_LETTER : count,                           has_room ? MPI_BYTE : type, peer, tag, c, &raw);         open_lasting(r, request, raw);         return rvmc_check_end(code);     }
-LASTS(Send_init, const, RVMC_IS_SEND)
-LASTS(Ssend_init, const, RVMC_IS_SEND)
-LASTS(Bsend_init, const, RVMC_IS_SEND)
-LASTS(Rsend_init, const, RVMC_IS_SEND)
-LASTS(Recv_init, , RVMC_IS_RECEIVE)
-
-/* A request that starts: what it sends is looked at and put behind its head. */
-static int start(const char *call, unsigned behind, MPI_Request *request)
-{
-    struct rvmc_record *r = rvmc_record_of(*request);
-    MPI_Request raw = r ? r->raw : *request;
-    int lent, code;
-
-    if (!r || (r->kind & RVMC_IS_ACTIVE) || !(r->kind & RVMC_IS_PERSISTENT))
-        return MPI_Start(&raw);
-    if (r->room)
-        rvmc_check_buffer(call, behind, r->buffer, r->count, r->type, (r->kind & RVMC_IS_RECEIVE) != 0);
-    if (rvmc_told)
-        return MPI_SUCCESS;
-    if (r->room && (r->kind & RVMC_IS_SEND))
-        write_head(r);
-    lent = r->room ? RVMC_LETTER : 0;
-    lend_room(lent);
-    code = MPI_Start(&raw);
-    lend_room(-lent);
-    if (!code) {
-        rvmc_check_lock();
-        r->kind |= RVMC_IS_ACTIVE;
-        rvmc_type_regions(r, r->buffer, r->count, r->type, (r->kind & RVMC_IS_RECEIVE) != 0);
-        rvmc_check_unlock();
-    }
-    return code;
-}
-
-int rvmc_checked_Start(MPI_Request *request)
-{
-    rvmc_check_begin("MPI_Start", RVMC_BEHIND);
-    return rvmc_check_end(start("MPI_Start", RVMC_BEHIND, request));
-}
-
-int rvmc_checked_Startall(int count, MPI_Request *requests)
-{
-    int code = MPI_SUCCESS;
-
-    rvmc_check_begin("MPI_Startall", RVMC_BEHIND);
-    if (count < 0)
-        code = MPI_Startall(count, requests);
-    for (int i = 0; i < count && !code && !rvmc_told; i++)
-        code = start("MPI_Startall", RVMC_BEHIND, requests + i);
     return rvmc_check_end(code);
 }
 

@@ -257,5 +257,6 @@ void rvmc_check_apart(const char *call, unsigned behind, const void *out, long o
         return;
     walk_all(&v, in, in_count, in_type);
     if (v.found)
-        RVMC_TELL(behind, 0, "%s: the buffer that is sent overlaps the one that is received into", rvmc_check_call(call, behind));
+        RVMC_TELL(behind, 0, "%s: the buffer that is sent overlaps the one that is received into",
+                  rvmc_check_call(call, behind));
 }

@@ -69,6 +69,7 @@ void *rvmc_check_take(long size);
 void rvmc_check_give_back(void *memory);
 void rvmc_heap_at_the_end(unsigned behind);
 int rvmc_heap_has(long word, const void *but);
+char *rvmc_heap_copy(const char *text, unsigned behind);
 
 /* Looks at memory that a call reads or writes. */
 void rvmc_check_range(const char *call, unsigned behind, const void *at, long size, int is_written);
@@ -120,13 +121,16 @@ void rvmc_request_overwritten(unsigned behind, const struct rvmc_record *record,
 void rvmc_variable_lost(const char *call, unsigned behind, const MPI_Request *request);
 void rvmc_requests_at_the_end(unsigned behind);
 
-/* --- messages (check_messages.c) --- */
+/* --- messages (check_messages.c, check_persistent.c) --- */
 
 /* What stands before the data of each message. */
 struct rvmc_letter {
     unsigned mark, hash, elements, bytes, behind, call, type, count;
 };
 enum { RVMC_LETTER = sizeof(struct rvmc_letter), RVMC_LETTER_MARK = 0x4d454843 };
+int rvmc_has_letter(const void *buffer, int count, MPI_Datatype type, int peer);
+void rvmc_write_letter(const struct rvmc_record *r);
+void rvmc_lend_room(int bytes);
 long rvmc_delivered(unsigned behind, const struct rvmc_record *r, MPI_Status *status, long code);
 void rvmc_without_head(MPI_Status *status);
 void rvmc_messages_at_the_end(unsigned behind);
