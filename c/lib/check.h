@@ -87,15 +87,14 @@ RVMC_CHECKED_BOTH(Reduce_scatter_block, Ireduce_scatter_block, (from, to, count,
 
 /* What a program makes and has to free: the call, and the place of the handle. */
 enum { RVMC_IS_COMMUNICATOR, RVMC_IS_DATATYPE, RVMC_IS_OPERATION };
-void rvmc_check_made(const char *call, int kind, int handle);
+void rvmc_check_made(const char *call, int kind, int code, const int *handle);
 void rvmc_check_freed(int kind, int handle);
 #define RVMC_CHECKED_MAKER(name, kind, parameters, arguments) \
     RVMC_INLINE int rvmc_checked_##name parameters \
     { \
         int code = MPI_##name arguments; \
         \
-        if (!code) \
-            rvmc_check_made("MPI_" #name, kind, *made); \
+        rvmc_check_made("MPI_" #name, kind, code, made); \
         return code; \
     }
 #define RVMC_CHECKED_FREE(name, kind, type) \

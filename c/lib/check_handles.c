@@ -21,15 +21,15 @@ static struct handle *handle_of(int kind, int handle)
     return found;
 }
 
-/* The program has made a handle. One that was freed may be given again. */
-void rvmc_check_made(const char *call, int kind, int handle)
+/* The program has made a handle, where there is no error. One that was freed may be given again. */
+void rvmc_check_made(const char *call, int kind, int code, const int *handle)
 {
     struct handle *made;
 
-    if (kind == RVMC_IS_COMMUNICATOR && handle == MPI_COMM_NULL)
+    if (code || (kind == RVMC_IS_COMMUNICATOR && *handle == MPI_COMM_NULL))
         return;
     rvmc_check_lock();
-    made = handle_of(kind, handle);
+    made = handle_of(kind, *handle);
     if (!made) {
         made = rvmc_check_take(sizeof *made);
         if (made)
@@ -38,7 +38,7 @@ void rvmc_check_made(const char *call, int kind, int handle)
             handles = made;
     }
     if (made) {
-        made->handle = handle;
+        made->handle = *handle;
         made->kind = kind;
         made->call = call;
         made->behind = RVMC_BEHIND;

@@ -4,11 +4,12 @@
 int main(int argc, char **argv)
 {
     int rank;
-    int numbers[3] = {rank, rank, rank}, first = 0;
+    int numbers[2], first = 0;
     MPI_Request requests[2];
 
     MPI_Init(&argc, &argv);
     MPI_Comm_rank(MPI_COMM_WORLD, &rank);
+    numbers[0] = rank;
     if (rank > 0) {
         MPI_Send(numbers, 1, MPI_INT, 0, 7, MPI_COMM_WORLD);
     } else {

@@ -4,10 +4,11 @@
 int main(int argc, char **argv)
 {
     int rank;
-    int number = rank, all = 0;
+    int number, all = 0;
 
     MPI_Init(&argc, &argv);
     MPI_Comm_rank(MPI_COMM_WORLD, &rank);
+    number = rank;
     if (rank > 0) {
         MPI_Send(&number, 1, MPI_INT, 0, 7, MPI_COMM_WORLD);
     } else {

@@ -4,7 +4,7 @@
 int main(int argc, char **argv)
 {
     int rank;
-    int numbers[2] = {rank, rank}, count;
+    int numbers[2] = {5, 6}, count;
     MPI_Status status;
 
     MPI_Init(&argc, &argv);
