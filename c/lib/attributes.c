@@ -88,11 +88,21 @@ static int create_key(enum object object, MPI_Comm_copy_attr_function *copy, MPI
     return MPI_SUCCESS;
 }
 
+static int is_used(int key)
+{
+    struct attribute *at = attributes;
+
+    while (at && at->key != key)
+        at = at->next;
+    return at != 0;
+}
+
+/* A program may free it again by another copy of its number, as long as it stays. */
 static int free_key(const char *call, enum object object, int *key)
 {
     struct key *found = key_of(object, *key);
 
-    if (!found || found->freed)
+    if (!found || (found->freed && !is_used(*key)))
         return wrong_key(call, *key);
     found->freed = 1;
     *key = MPI_KEYVAL_INVALID;

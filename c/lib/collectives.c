@@ -350,7 +350,7 @@ int MPI_Alltoallw(const void *out, const int out_counts[], const int out_places[
     exchange(&g, &from, &to);
     /* what was refused as no datatype before anything was sent may be one that the program made */
     if (g.code == RVMC_BAD_TYPE)
-        RVMC_IF_DERIVED((MPI_Datatype)g.value, MPI_DATATYPE_NULL,
+        RVMC_IF_DERIVED((MPI_Datatype)g.value, (MPI_Datatype)g.value,
                         rvmc_derived_Alltoallw(out, out_counts, out_places, out_types, in, in_counts, in_places, in_types, c));
     return finish(&g);
 }

@@ -64,7 +64,7 @@ RVMC_INLINE int talk(const char *call, const struct side *from, const struct sid
     check(&g, from, n.out);
     check(&g, to, n.in);
     if (g.code == RVMC_BAD_TYPE && from->types)
-        RVMC_IF_DERIVED((MPI_Datatype)g.value, MPI_DATATYPE_NULL,
+        RVMC_IF_DERIVED((MPI_Datatype)g.value, (MPI_Datatype)g.value,
                         rvmc_derived_Neighbor_alltoallw(from->buffer, from->counts, from->bytes, from->types,
                                                         (void *)to->buffer, to->counts, to->bytes, to->types, c));
     for (int i = n.out - 1; i >= 0; i--)

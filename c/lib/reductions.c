@@ -172,7 +172,7 @@ RVMC_INLINE void reduce(struct group *g, const struct folding *f, const char *fr
 
 int MPI_Reduce(const void *from, void *to, int count, MPI_Datatype type, MPI_Op op, int root, MPI_Comm c, rvmc_fold *fold)
 {
-    RVMC_IF_DERIVED(type, MPI_DATATYPE_NULL, rvmc_derived_Reduce(from, to, count, type, op, root, c));
+    RVMC_IF_DERIVED(type, type, rvmc_derived_Reduce(from, to, count, type, op, root, c));
 
     struct group g = rvmc_rooted("MPI_Reduce", c, root);
     const void *mine = from == MPI_IN_PLACE ? to : from;
@@ -202,7 +202,7 @@ RVMC_INLINE void spread(struct group *g, const struct folding *f, char *buffer, 
 
 int MPI_Allreduce(const void *from, void *to, int count, MPI_Datatype type, MPI_Op op, MPI_Comm c, rvmc_fold *fold)
 {
-    RVMC_IF_DERIVED(type, MPI_DATATYPE_NULL, rvmc_derived_Allreduce(from, to, count, type, op, c));
+    RVMC_IF_DERIVED(type, type, rvmc_derived_Allreduce(from, to, count, type, op, c));
 
     struct group g = rvmc_group("MPI_Allreduce", c);
     const void *mine = from == MPI_IN_PLACE ? to : from;
@@ -229,7 +229,7 @@ RVMC_INLINE void reduce_parts(struct group *g, const struct folding *f, const ch
 int MPI_Reduce_scatter(const void *from, void *to, const int counts[], MPI_Datatype type, MPI_Op op, MPI_Comm c,
                        rvmc_fold *fold)
 {
-    RVMC_IF_DERIVED(type, MPI_DATATYPE_NULL, rvmc_derived_Reduce_scatter(from, to, counts, type, op, c));
+    RVMC_IF_DERIVED(type, type, rvmc_derived_Reduce_scatter(from, to, counts, type, op, c));
 
     struct group g = rvmc_group("MPI_Reduce_scatter", c);
     const void *mine = from == MPI_IN_PLACE ? to : from;
@@ -253,7 +253,7 @@ int MPI_Reduce_scatter(const void *from, void *to, const int counts[], MPI_Datat
 int MPI_Reduce_scatter_block(const void *from, void *to, int count, MPI_Datatype type, MPI_Op op, MPI_Comm c,
                              rvmc_fold *fold)
 {
-    RVMC_IF_DERIVED(type, MPI_DATATYPE_NULL, rvmc_derived_Reduce_scatter_block(from, to, count, type, op, c));
+    RVMC_IF_DERIVED(type, type, rvmc_derived_Reduce_scatter_block(from, to, count, type, op, c));
 
     struct group g = rvmc_group("MPI_Reduce_scatter_block", c);
     const void *mine = from == MPI_IN_PLACE ? to : from;
@@ -266,7 +266,7 @@ int MPI_Reduce_scatter_block(const void *from, void *to, int count, MPI_Datatype
 
 int MPI_Reduce_local(const void *from, void *to, int count, MPI_Datatype type, MPI_Op op, rvmc_fold *fold_of_type)
 {
-    RVMC_IF_DERIVED(type, MPI_DATATYPE_NULL, rvmc_derived_Reduce_local(from, to, count, type, op));
+    RVMC_IF_DERIVED(type, type, rvmc_derived_Reduce_local(from, to, count, type, op));
 
     struct group g = {.call = "MPI_Reduce_local", .communicator = MPI_COMM_WORLD, .size = 1,
                       .code = rvmc_idle() ? RVMC_NOT_BEGUN : RVMC_OK};
@@ -306,7 +306,7 @@ RVMC_INLINE void scan(struct group *g, const struct folding *f, const char *from
 
 int MPI_Scan(const void *from, void *to, int count, MPI_Datatype type, MPI_Op op, MPI_Comm c, rvmc_fold *fold)
 {
-    RVMC_IF_DERIVED(type, MPI_DATATYPE_NULL, rvmc_derived_Scan(from, to, count, type, op, c));
+    RVMC_IF_DERIVED(type, type, rvmc_derived_Scan(from, to, count, type, op, c));
 
     struct group g = rvmc_group("MPI_Scan", c);
     const void *mine = from == MPI_IN_PLACE ? to : from;
@@ -320,7 +320,7 @@ int MPI_Scan(const void *from, void *to, int count, MPI_Datatype type, MPI_Op op
 /* Of rank 0 nothing comes to its buffer. */
 int MPI_Exscan(const void *from, void *to, int count, MPI_Datatype type, MPI_Op op, MPI_Comm c, rvmc_fold *fold)
 {
-    RVMC_IF_DERIVED(type, MPI_DATATYPE_NULL, rvmc_derived_Exscan(from, to, count, type, op, c));
+    RVMC_IF_DERIVED(type, type, rvmc_derived_Exscan(from, to, count, type, op, c));
 
     struct group g = rvmc_group("MPI_Exscan", c);
     const void *mine = from == MPI_IN_PLACE ? to : from;

@@ -1,9 +1,49 @@
 /* collectives.c: each collective with each root, some lengths, each datatype and each operation, against the same worked
    out by each rank alone. Any number of ranks. With -DCOUNT=N those that move bytes move N numbers; without it a few, with
-   each root, and the reductions are tried. A rank that waits uses up its calls, so one run isn't enough for all. */
+   each root, and the reductions are tried. A rank that waits uses up its calls, so one run isn't enough for all. With
+   -DLATER=1 each is the one that doesn't wait, which is waited for; with -DLATER=2 that is tested until it is complete; with
+   -DLATER=3 it is a persistent one, which is started twice where that gives the same. */
 #include <mpi.h>
 #include <stdio.h>
 #include <string.h>
+
+#ifdef LATER
+static MPI_Request request;
+
+static int completed(int again)
+{
+    int flag = 0;
+
+    for (int turn = 0; turn <= again; turn++) {
+        if (LATER == 3)
+            MPI_Start(&request);
+        while (LATER == 2 && !flag)
+            MPI_Test(&request, &flag, MPI_STATUS_IGNORE);
+        MPI_Wait(&request, MPI_STATUS_IGNORE);
+    }
+    return LATER == 3 ? MPI_Request_free(&request) : MPI_SUCCESS;
+}
+#if LATER == 3
+#define CALL(doesnt_wait, persistent, first, ...) \
+    (persistent(first, __VA_ARGS__, MPI_INFO_NULL, &request), completed((first) != MPI_IN_PLACE))
+#define MPI_Barrier(c) (MPI_Barrier_init(c, MPI_INFO_NULL, &request), completed(1))
+#else
+#define CALL(doesnt_wait, persistent, first, ...) (doesnt_wait(first, __VA_ARGS__, &request), completed(0))
+#define MPI_Barrier(c) (MPI_Ibarrier(c, &request), completed(0))
+#endif
+#define MPI_Bcast(...) CALL(MPI_Ibcast, MPI_Bcast_init, __VA_ARGS__)
+#define MPI_Gather(...) CALL(MPI_Igather, MPI_Gather_init, __VA_ARGS__)
+#define MPI_Gatherv(...) CALL(MPI_Igatherv, MPI_Gatherv_init, __VA_ARGS__)
+#define MPI_Scatter(...) CALL(MPI_Iscatter, MPI_Scatter_init, __VA_ARGS__)
+#define MPI_Scatterv(...) CALL(MPI_Iscatterv, MPI_Scatterv_init, __VA_ARGS__)
+#define MPI_Allgather(...) CALL(MPI_Iallgather, MPI_Allgather_init, __VA_ARGS__)
+#define MPI_Allgatherv(...) CALL(MPI_Iallgatherv, MPI_Allgatherv_init, __VA_ARGS__)
+#define MPI_Alltoall(...) CALL(MPI_Ialltoall, MPI_Alltoall_init, __VA_ARGS__)
+#define MPI_Reduce(...) CALL(MPI_Ireduce, MPI_Reduce_init, __VA_ARGS__)
+#define MPI_Allreduce(...) CALL(MPI_Iallreduce, MPI_Allreduce_init, __VA_ARGS__)
+#define MPI_Scan(...) CALL(MPI_Iscan, MPI_Scan_init, __VA_ARGS__)
+#define MPI_Exscan(...) CALL(MPI_Iexscan, MPI_Exscan_init, __VA_ARGS__)
+#endif
 
 #ifndef COUNT
 #define COUNT (-1)
