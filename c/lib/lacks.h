@@ -16,7 +16,7 @@
 #define RVMC_WHY_WINDOW "one-sided communication isn't served: use MPI_Send and MPI_Recv"
 #define RVMC_WHY_GREQUEST "there are no generalized requests"
 #define RVMC_WHY_SPAWN "the ranks of an image are all there are: none is spawned, and none joins"
-#define RVMC_WHY_INTERCOMM "there are no intercommunicators"
+#define RVMC_WHY_INTERCOMM "intercommunicators aren't served: make one communicator of both groups"
 #define RVMC_WHY_COUNT "counts are int: a rank has 1 MiB at most"
 #define RVMC_WHY_TOPOLOGY "neighborhood collectives are served that wait, and are called each time: MPI_Neighbor_alltoall and its kin"
 #define RVMC_WHY_NONBLOCKING "collectives that don't wait aren't served: name the call without I"
