@@ -142,8 +142,11 @@ long rvmc_asked_elsewhere(long number, MPI_Comm c, int *value)
 
 void rvmc_opened(MPI_Comm c)
 {
-    if (c > 0 && c < RVMC_COMMUNICATORS)
-        rvmc_table[c].open++;
+    if (c <= 0 || c >= RVMC_COMMUNICATORS)
+        return;
+    rvmc_lock();
+    rvmc_table[c].open++;
+    rvmc_unlock();
 }
 
 /* Behind the last request of a communicator that was freed its context is free. */
@@ -151,12 +154,14 @@ void rvmc_closed(MPI_Comm c)
 {
     struct rvmc_communicator *of = rvmc_table + c;
 
-    if (c <= 0 || c >= RVMC_COMMUNICATORS || --of->open || !of->freed)
+    if (c <= 0 || c >= RVMC_COMMUNICATORS)
         return;
     rvmc_lock();
-    rvmc_contexts |= (unsigned char)(1 << of->context);
-    of->freed = 0;
-    of->size = 0;
+    if (!--of->open && of->freed) {
+        rvmc_contexts |= (unsigned char)(1 << of->context);
+        of->freed = 0;
+        of->size = 0;
+    }
     rvmc_unlock();
 }
 
