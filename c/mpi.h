@@ -49,6 +49,7 @@ extern struct rvmc_derived {
     int (*in_parts)(const char *call, long number, const void *buffer, int partitions, MPI_Count count, MPI_Datatype type,
                     int peer, int tag, MPI_Comm c, MPI_Request *request);
     char *(*packed)(const void *buffer, int count, MPI_Datatype type);
+    long (*unpacked)(const char *packed, long size, void *place, long count, MPI_Datatype type);
     void (*changed_uses)(MPI_Datatype type, int change);
     struct rvmc_layout *(*layout)(MPI_Datatype type);
     long (*elements)(long bytes, MPI_Datatype type);
@@ -793,6 +794,7 @@ RVMC_INLINE int MPI_Parrived(MPI_Request request, int partition, int *flag)
 }
 
 #include "lib/declared.h"
+#include "lib/declared_later.h"
 #include "lib/declared_communicators.h"
 #include "lib/lacks.h"
 #endif

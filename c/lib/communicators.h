@@ -18,7 +18,7 @@ struct rvmc_communicator {
     signed char context;                          /* the machine's communicator, or -1: none yet */
     unsigned char freed;                          /* by MPI_Comm_free, with requests that are still open */
     unsigned short open;                          /* receives that aren't complete, and inactive ones */
-    unsigned short later;                         /* collectives that don't wait: how many were begun */
+    unsigned short later, lasting;                /* collectives that don't wait, and persistent ones: how many were begun */
     struct rvmc_topology *topology;
 };
 extern struct rvmc_communicator rvmc_table[RVMC_COMMUNICATORS];

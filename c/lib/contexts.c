@@ -21,7 +21,7 @@ static struct rvmc_communicator of_group(MPI_Group group, int context)
         places ^= (unsigned)(place ^ RVMC_NOWHERE) << 4 * rank;
     }
     return (struct rvmc_communicator){ranks, places, (signed char)rvmc_group_size(group),
-                                      (signed char)rvmc_group_place(group, rvmc_rank), (signed char)context, 0, 0, 0, 0};
+                                      (signed char)rvmc_group_place(group, rvmc_rank), (signed char)context, 0, 0, 0, 0, 0};
 }
 
 /* The communicators of rvmc-cc --comm, before main: for each how many ranks, and these. Every rank takes the context. */

@@ -7,7 +7,6 @@
 #include "derived_calls.h"
 #include "../mpi.h"
 #include "group.h"
-#include "layouts.h"
 
 void rvmc_give(struct group *g, const void *buffer, long count, MPI_Datatype type, int to)
 {
@@ -40,17 +39,24 @@ void rvmc_take(struct group *g, void *buffer, long count, MPI_Datatype type, int
     if (!rvmc_is_derived(type))
         return;
     if (!g->code)
-        rvmc_unpack(packed, size, buffer, count, type);
+        rvmc_derived.unpacked(packed, size, buffer, count, type);
     free(packed);
 }
 
 /* From a place to another one of the same rank, by either's datatype. */
 void rvmc_copy(struct group *g, void *to, long to_count, MPI_Datatype to_type, const void *from, long count, MPI_Datatype type)
 {
-    char *packed = rvmc_derived.packed(from, (int)count, type);
+    char *packed;
 
+    if (g->code)
+        return;
+    if (!rvmc_is_derived(type) && !rvmc_is_derived(to_type)) {
+        memcpy(to, from, bytes_of(count, type));
+        return;
+    }
+    packed = rvmc_derived.packed(from, (int)count, type);
     if (packed)
-        rvmc_unpack(packed, bytes_of(count, type), to, to_count, to_type);
+        rvmc_derived.unpacked(packed, bytes_of(count, type), to, to_count, to_type);
     else
         fault(g, RVMC_NO_MEMORY, 0, 0, 0);
     free(packed);

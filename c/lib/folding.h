@@ -10,9 +10,9 @@ MPI_User_function *rvmc_own_op(MPI_Op op);
 struct rvmc_values {
     char *memory, *base;
 };
-struct rvmc_values rvmc_new_values(long count, MPI_Datatype type);
-
 #define RVMC_WEAK __attribute__((weak))
+RVMC_WEAK struct rvmc_values rvmc_new_values(long count, MPI_Datatype type);
+
 RVMC_WEAK int rvmc_derived_Reduce(const void *from, void *to, int count, MPI_Datatype type, MPI_Op op, int root, MPI_Comm c);
 RVMC_WEAK int rvmc_derived_Allreduce(const void *from, void *to, int count, MPI_Datatype type, MPI_Op op, MPI_Comm c);
 RVMC_WEAK int rvmc_derived_Reduce_scatter(const void *from, void *to, const int counts[], MPI_Datatype type, MPI_Op op,

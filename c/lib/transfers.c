@@ -293,7 +293,8 @@ static long bytes(MPI_Datatype type)
 void rvmc_derived_begin(void)
 {
     rvmc_derived = (struct rvmc_derived){
-        .send = send, .receive = receive, .in_parts = in_parts, .packed = packed_data, .changed_uses = changed_uses,
+        .send = send, .receive = receive, .in_parts = in_parts, .packed = packed_data, .unpacked = rvmc_unpack,
+        .changed_uses = changed_uses,
         .layout = rvmc_layout_of, .elements = rvmc_elements_in, .usable = usable, .extent = extent, .bytes = bytes,
     };
     rvmc_signature_of_derived = signature;
