@@ -158,6 +158,8 @@ void rvmc_closed(MPI_Comm c)
         return;
     rvmc_lock();
     if (!--of->open && of->freed) {
+        if (rvmc_hooks.freed_topology)
+            rvmc_hooks.freed_topology(c);
         rvmc_contexts |= (unsigned char)(1 << of->context);
         of->freed = 0;
         of->size = 0;

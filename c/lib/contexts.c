@@ -300,8 +300,6 @@ static void release(MPI_Comm c)
         rvmc_hooks.freed_name(c);
     if (rvmc_hooks.freed_info)
         rvmc_hooks.freed_info(c);
-    if (rvmc_hooks.freed_topology)
-        rvmc_hooks.freed_topology(c);
     if (rvmc_hooks.used_handler)
         rvmc_hooks.used_handler(rvmc_handlers[c], -1);
     rvmc_handlers[c] = MPI_ERRORS_ARE_FATAL;
