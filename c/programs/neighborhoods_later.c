@@ -48,7 +48,7 @@ static void five_at_a_time(MPI_Comm ring, int rank)
 /* The same request twice. */
 static void again(MPI_Comm ring, int rank)
 {
-    int mine[2], got[2];
+    int mine[2] = {0, 0}, got[2];
     MPI_Request request;
 
     MPI_Neighbor_alltoall_init(mine, 1, MPI_INT, got, 1, MPI_INT, ring, MPI_INFO_NULL, &request);
