@@ -797,4 +797,7 @@ RVMC_INLINE int MPI_Parrived(MPI_Request request, int partition, int *flag)
 #include "lib/declared_later.h"
 #include "lib/declared_communicators.h"
 #include "lib/lacks.h"
+#ifdef RVMC_CHECK
+#include "lib/check.h"
+#endif
 #endif

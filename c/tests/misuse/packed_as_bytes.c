@@ -1,0 +1,21 @@
+#include <mpi.h>
+#include <stdio.h>
+
+int main(int argc, char **argv)
+{
+    int rank;
+    int number = 5, place = 0;
+    char packed[16];
+
+    MPI_Init(&argc, &argv);
+    MPI_Comm_rank(MPI_COMM_WORLD, &rank);
+    if (rank == 0) {
+        MPI_Pack(&number, 1, MPI_INT, packed, 16, &place, MPI_COMM_WORLD);
+        MPI_Send(packed, place, MPI_BYTE, 1, 7, MPI_COMM_WORLD); /* A */
+    } else {
+        MPI_Recv(&number, 1, MPI_INT, 0, 7, MPI_COMM_WORLD, MPI_STATUS_IGNORE); /* B */
+    }
+    printf("rank %d has %d\n", rank, number);
+    MPI_Finalize();
+    return 0;
+}

@@ -1,0 +1,19 @@
+#include <mpi.h>
+#include <stdio.h>
+
+int main(int argc, char **argv)
+{
+    int rank;
+    int number = 5;
+
+    MPI_Init(&argc, &argv);
+    MPI_Comm_rank(MPI_COMM_WORLD, &rank);
+    if (rank == 0)
+        MPI_Send(&number, 1, MPI_INT, 1, 7, MPI_COMM_WORLD); /* A */
+    MPI_Barrier(MPI_COMM_WORLD); /* B */
+    if (rank == 1)
+        MPI_Recv(&number, 1, MPI_INT, 0, 7, MPI_COMM_WORLD, MPI_STATUS_IGNORE);
+    printf("rank %d has %d\n", rank, number);
+    MPI_Finalize();
+    return 0;
+}

@@ -1,0 +1,18 @@
+#include <mpi.h>
+#include <stdio.h>
+
+int main(int argc, char **argv)
+{
+    int rank;
+    int number = 5;
+
+    MPI_Init(&argc, &argv);
+    MPI_Comm_rank(MPI_COMM_WORLD, &rank);
+    if (rank == 0)
+        MPI_Ssend(&number, 1, MPI_INT, 1, 7, MPI_COMM_WORLD); /* A */
+    else
+        MPI_Recv(&number, sizeof number, MPI_BYTE, 0, 7, MPI_COMM_WORLD, MPI_STATUS_IGNORE); /* B */
+    printf("rank %d has %d\n", rank, number);
+    MPI_Finalize();
+    return 0;
+}

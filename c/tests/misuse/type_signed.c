@@ -1,0 +1,20 @@
+#include <mpi.h>
+#include <stdio.h>
+
+int main(int argc, char **argv)
+{
+    int rank;
+    int number = -1;
+    unsigned got = 0;
+
+    MPI_Init(&argc, &argv);
+    MPI_Comm_rank(MPI_COMM_WORLD, &rank);
+    if (rank == 0)
+        MPI_Send(&number, 1, MPI_INT, 1, 7, MPI_COMM_WORLD); /* A */
+    else
+        MPI_Recv(&got, 1, MPI_UNSIGNED, 0, 7, MPI_COMM_WORLD, MPI_STATUS_IGNORE); /* B */
+    if (rank == 1)
+        printf("rank 1 got %u\n", got);
+    MPI_Finalize();
+    return 0;
+}
