@@ -50,12 +50,29 @@ void rvmc_unlock(void)
     __retarget_lock_release_recursive(&__lock___libc_recursive_mutex);
 }
 
+/* What a copy that is being made may get isn't free for another communicator. */
+int rvmc_free_contexts(void)
+{
+    int free = rvmc_contexts;
+
+    if (rvmc_hooks.reserved)
+        free &= ~rvmc_hooks.reserved(MPI_COMM_NULL);
+    if (!free && rvmc_hooks.settled) {
+        rvmc_hooks.settled();
+        free = rvmc_contexts;
+    }
+    return free;
+}
+
 /* Takes one of the free contexts, or the first of them for -1. Returns -1 where it isn't free. rvmc-cc writes the contexts into
    an image that has this function. */
 __attribute__((noinline)) int rvmc_take_context(int context)
 {
-    if (context < 0)
-        context = rvmc_contexts ? __builtin_ctz(rvmc_contexts) : 0;
+    if (context < 0) {
+        int free = rvmc_free_contexts();
+
+        context = free ? __builtin_ctz((unsigned)free) : 0;
+    }
     if (!(rvmc_contexts >> context & 1))
         return -1;
     rvmc_contexts &= (unsigned char)~(1 << context);
@@ -103,8 +120,6 @@ long rvmc_context_of(MPI_Comm c)
     if (!of)
         return -1;
     if (of->context < 0) {
-        if (rvmc_hooks.settled)
-            rvmc_hooks.settled(MPI_COMM_NULL);
         rvmc_begin_context();
         if (of->context < 0)
             rvmc_table[c].context = (signed char)rvmc_take_context(-1);
@@ -142,8 +157,11 @@ long rvmc_asked_elsewhere(long number, MPI_Comm c, int *value)
 
 void rvmc_opened(MPI_Comm c)
 {
-    if (c > 0 && c < RVMC_COMMUNICATORS)
-        rvmc_table[c].open++;
+    if (c <= 0 || c >= RVMC_COMMUNICATORS)
+        return;
+    rvmc_lock();
+    rvmc_table[c].open++;
+    rvmc_unlock();
 }
 
 /* Behind the last request of a communicator that was freed its context is free. */
@@ -151,12 +169,16 @@ void rvmc_closed(MPI_Comm c)
 {
     struct rvmc_communicator *of = rvmc_table + c;
 
-    if (c <= 0 || c >= RVMC_COMMUNICATORS || --of->open || !of->freed)
+    if (c <= 0 || c >= RVMC_COMMUNICATORS)
         return;
     rvmc_lock();
-    rvmc_contexts |= (unsigned char)(1 << of->context);
-    of->freed = 0;
-    of->size = 0;
+    if (!--of->open && of->freed) {
+        if (rvmc_hooks.freed_topology)
+            rvmc_hooks.freed_topology(c);
+        rvmc_contexts |= (unsigned char)(1 << of->context);
+        of->freed = 0;
+        of->size = 0;
+    }
     rvmc_unlock();
 }
 

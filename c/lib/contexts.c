@@ -96,7 +96,7 @@ RVMC_INLINE void choose_in_turn(struct group *g, struct choice *choice)
     if (before >= 0)
         take(g, &choice->free, 1, MPI_INT, before);
     rvmc_begin_context();
-    choice->free &= rvmc_contexts;
+    choice->free &= rvmc_free_contexts();
     if (behind >= 0) {
         give(g, &choice->free, 1, MPI_INT, behind);
         take(g, &choice->free, 1, MPI_INT, last);
@@ -158,10 +158,8 @@ int rvmc_split(struct group *g, int color, int key, MPI_Comm *made)
     struct told all[MOST];
     struct choice choice = {0, ~0};
 
-    if (rvmc_hooks.settled)
-        rvmc_hooks.settled(MPI_COMM_NULL);
     if (!g->code)
-        tell_all(g, (struct told){rvmc_contexts, color, key}, all);
+        tell_all(g, (struct told){rvmc_free_contexts(), color, key}, all);
     for (int r = 0; r < g->size && !g->code; r++)
         if (all[r].color != MPI_UNDEFINED) {
             choice.places |= 1u << r;
@@ -196,10 +194,8 @@ static int create(struct group *g, MPI_Group group, MPI_Comm *made)
     struct told all[MOST];
     struct choice choice = {0, ~0};
 
-    if (rvmc_hooks.settled)
-        rvmc_hooks.settled(MPI_COMM_NULL);
     if (!g->code)
-        tell_all(g, (struct told){rvmc_contexts, group, 0}, all);
+        tell_all(g, (struct told){rvmc_free_contexts(), group, 0}, all);
     for (int r = 0; r < g->size && !g->code; r++)
         if (rvmc_group_place(group, rvmc_rank_at(g->of, r)) >= 0) {
             choice.places |= 1u << r;
@@ -300,8 +296,6 @@ static void release(MPI_Comm c)
         rvmc_hooks.freed_name(c);
     if (rvmc_hooks.freed_info)
         rvmc_hooks.freed_info(c);
-    if (rvmc_hooks.freed_topology)
-        rvmc_hooks.freed_topology(c);
     if (rvmc_hooks.used_handler)
         rvmc_hooks.used_handler(rvmc_handlers[c], -1);
     rvmc_handlers[c] = MPI_ERRORS_ARE_FATAL;

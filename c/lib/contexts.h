@@ -29,6 +29,9 @@ int rvmc_group_like(MPI_Group group, MPI_Group other);
 int rvmc_wrong_group(const char *call, MPI_Group group);
 
 struct group;
+/* The contexts that this rank can offer for a new communicator. */
+int rvmc_free_contexts(void);
+
 /* Makes a communicator of the places of g that have the same color, in the order of their keys. Returns the call's error. */
 int rvmc_split(struct group *g, int color, int key, MPI_Comm *made);
 
@@ -45,7 +48,8 @@ extern struct rvmc_hooks {
     void (*used_handler)(MPI_Errhandler handler, int change);
     int (*copied_topology)(MPI_Comm from, MPI_Comm to);
     void (*freed_topology)(MPI_Comm c);
-    void (*settled)(MPI_Comm except);             /* waits for communicators that are being made, but for copies of one */
+    int (*reserved)(MPI_Comm except);             /* the contexts that open copies may get, but for those of one communicator */
+    void (*settled)(void);                        /* waits for them */
 } rvmc_hooks;
 
 #endif

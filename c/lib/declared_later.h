@@ -28,6 +28,18 @@ RVMC_BOTH(Ialltoallw, Alltoallw_init, const void *out, const int out_counts[], c
           const MPI_Datatype out_types[], void *in, const int in_counts[], const int in_places[],
           const MPI_Datatype in_types[], MPI_Comm c);
 
+RVMC_BOTH(Ineighbor_allgather, Neighbor_allgather_init, const void *out, int out_count, MPI_Datatype out_type, void *in,
+          int in_count, MPI_Datatype in_type, MPI_Comm c);
+RVMC_BOTH(Ineighbor_allgatherv, Neighbor_allgatherv_init, const void *out, int out_count, MPI_Datatype out_type, void *in,
+          const int in_counts[], const int places[], MPI_Datatype in_type, MPI_Comm c);
+RVMC_BOTH(Ineighbor_alltoall, Neighbor_alltoall_init, const void *out, int out_count, MPI_Datatype out_type, void *in,
+          int in_count, MPI_Datatype in_type, MPI_Comm c);
+RVMC_BOTH(Ineighbor_alltoallv, Neighbor_alltoallv_init, const void *out, const int out_counts[], const int out_places[],
+          MPI_Datatype out_type, void *in, const int in_counts[], const int in_places[], MPI_Datatype in_type, MPI_Comm c);
+RVMC_BOTH(Ineighbor_alltoallw, Neighbor_alltoallw_init, const void *out, const int out_counts[], const MPI_Aint out_places[],
+          const MPI_Datatype out_types[], void *in, const int in_counts[], const MPI_Aint in_places[],
+          const MPI_Datatype in_types[], MPI_Comm c);
+
 /* As the reductions that wait, these have the function for their datatype behind MPI's arguments. */
 #ifndef RVMC_REDUCTIONS
 #define RVMC_FOLDING(name, arguments, ...) \

@@ -17,7 +17,7 @@ SECTIONS
 {
     .text 0 :
     {
-        KEEP(*(.text.start))
+        KEEP(*(.text.rvmc.start))
         *(.text .text.*)
         . = ALIGN(8);
         __init_array_start = .;

@@ -1,7 +1,8 @@
-/* idup.c: copies of communicators by calls that don't wait (MPI 4.1, 7.4.2). At the call a rank tells the others which contexts
-   it has free, and when the request completes it hears the same of them. Copies of one communicator are made in the order in
-   which they were begun, so all members choose the same. Whatever else needs a context waits for those that are open first,
-   since they may get any of those that are free. */
+/* idup.c: copies of communicators by calls that don't wait (MPI 4.1, 7.4.2). At the call a rank offers the others contexts, and
+   when the request completes it hears what they offer: the first that all offer is taken. Copies of one communicator are made
+   in the order in which they were begun, so all members choose the same. For copies of two communicators that are open at the
+   same time a rank offers different contexts: of those with even numbers for one with an even number, as long as it has any,
+   and of the others for the others, so that what several ranks offer goes together. */
 #include <stdlib.h>
 #include "../mpi.h"
 #include "errors.h"
@@ -9,16 +10,18 @@
 #include "owners.h"
 #include "contexts.h"
 
+enum { EVEN = 0x54, ODD = 0xa8 };
+
 static struct copy {
     struct copy *next;
     struct group g;
     MPI_Comm *made;
     MPI_Info info;
     int (*set_info)(MPI_Comm c, MPI_Info info);
-    int free;                                     /* the contexts that this rank has free, and all that it has heard of */
+    int offered, free;                            /* by this rank, and by all that it has heard of */
     unsigned heard;
     int error, done;
-} *open;                                          /* all of one communicator */
+} *open;                                          /* in the order in which they were begun */
 
 static int has_arrived(const struct group *g, int place)
 {
@@ -44,13 +47,24 @@ RVMC_INLINE int hear(struct copy *copy, int wait)
     return 1;
 }
 
-/* Makes the communicator of the copy that was begun first. */
-static void make_first(void)
+/* The copy of a communicator that was begun first. */
+static struct copy *first_of(MPI_Comm c)
 {
     struct copy *copy = open;
-    MPI_Comm from = copy->g.communicator;
 
-    open = copy->next;
+    while (copy->g.communicator != c)
+        copy = copy->next;
+    return copy;
+}
+
+static void make(struct copy *copy)
+{
+    MPI_Comm from = copy->g.communicator;
+    struct copy **at = &open;
+
+    while (*at != copy)
+        at = &(*at)->next;
+    *at = copy->next;
     copy->done = 1;
     copy->error = rvmc_make_copy(&copy->g, copy->free, copy->made);
     if (!copy->error && copy->info != MPI_INFO_NULL)
@@ -60,21 +74,45 @@ static void make_first(void)
     rvmc_closed(from);
 }
 
-/* Waits for all that are open, but for those of one communicator. */
-static void settle(MPI_Comm except)
+/* The contexts that a rank has offered, but for copies of one communicator. */
+static int reserved(MPI_Comm except)
 {
-    while (open && open->g.communicator != except) {
+    int all = 0;
+
+    for (struct copy *copy = open; copy; copy = copy->next)
+        if (copy->g.communicator != except)
+            all |= copy->offered;
+    return all;
+}
+
+/* Waits for all that are open. */
+static void settle(void)
+{
+    while (open) {
         hear(open, 1);
-        make_first();
+        make(open);
     }
+}
+
+static int offer(MPI_Comm c)
+{
+    int free = rvmc_contexts & ~reserved(c), alike = c & 1 ? ODD : EVEN;
+
+    if (!free) {
+        settle();
+        free = rvmc_contexts;
+    }
+    return free & alike ? free & alike : free;
 }
 
 static int go_on(struct copy *copy, int wait)
 {
     while (!copy->done) {
-        if (!hear(open, wait))
+        struct copy *first = first_of(copy->g.communicator);
+
+        if (!hear(first, wait))
             return 0;
-        make_first();
+        make(first);
     }
     return 1;
 }
@@ -116,6 +154,7 @@ static int begin(struct group *g, MPI_Comm *made, MPI_Info info, int (*set_info)
 {
     static const struct rvmc_owner owner = {asked, started, inner, freed};
     struct copy *copy = g->code ? 0 : malloc(sizeof *copy), **end = &open;
+    int offered;
     rvmc_answer a = {g->code ? g->code : copy ? RVMC_OK : RVMC_NO_MEMORY, 0};
 
     *made = MPI_COMM_NULL;
@@ -129,12 +168,13 @@ static int begin(struct group *g, MPI_Comm *made, MPI_Info info, int (*set_info)
         return finish(g);
     }
     rvmc_hooks.settled = settle;
-    settle(g->communicator);
+    rvmc_hooks.reserved = reserved;
+    offered = offer(g->communicator);
     g->tag = RVMC_TAG_IDUP + g->communicator;
-    *copy = (struct copy){0, *g, made, info, set_info, rvmc_contexts, 0, 0, 0};
+    *copy = (struct copy){0, *g, made, info, set_info, offered, offered, 0, 0, 0};
     for (int r = 0; r < g->size; r++)
         if (r != g->me)
-            give(&copy->g, &copy->free, 1, MPI_INT, r);
+            give(&copy->g, &offered, 1, MPI_INT, r);
     while (*end)
         end = &(*end)->next;
     *end = copy;

@@ -16,9 +16,8 @@
 #define RVMC_WHY_WINDOW "one-sided communication isn't served: use MPI_Send and MPI_Recv"
 #define RVMC_WHY_GREQUEST "there are no generalized requests"
 #define RVMC_WHY_SPAWN "the ranks of an image are all there are: none is spawned, and none joins"
-#define RVMC_WHY_INTERCOMM "there are no intercommunicators"
+#define RVMC_WHY_INTERCOMM "intercommunicators aren't served: make one communicator of both groups"
 #define RVMC_WHY_COUNT "counts are int: a rank has 1 MiB at most"
-#define RVMC_WHY_TOPOLOGY "neighborhood collectives are served that wait, and are called each time: MPI_Neighbor_alltoall and its kin"
 #define RVMC_WHY_NONBLOCKING "collectives that don't wait aren't served: name the call without I"
 #define RVMC_WHY_PERSISTENT "persistent collectives aren't served: call the collective each time"
 #define RVMC_WHY_FORTRAN "Fortran's handles, types and statuses aren't served"
@@ -541,11 +540,6 @@ RVMC_CALL(MPI_Type_create_subarray_c, COUNT) RVMC_CALL(MPI_Type_get_contents_c, 
 RVMC_CALL(MPI_Type_get_envelope_c, COUNT) RVMC_CALL(MPI_Type_get_extent_c, COUNT)
 RVMC_CALL(MPI_Type_get_true_extent_c, COUNT) RVMC_CALL(MPI_Type_indexed_c, COUNT) RVMC_CALL(MPI_Type_size_c, COUNT)
 RVMC_CALL(MPI_Type_vector_c, COUNT) RVMC_CALL(MPI_Unpack_c, COUNT) RVMC_CALL(MPI_Unpack_external_c, COUNT)
-RVMC_CALL(MPI_Ineighbor_allgather, TOPOLOGY) RVMC_CALL(MPI_Ineighbor_allgatherv, TOPOLOGY)
-RVMC_CALL(MPI_Ineighbor_alltoall, TOPOLOGY) RVMC_CALL(MPI_Ineighbor_alltoallv, TOPOLOGY)
-RVMC_CALL(MPI_Ineighbor_alltoallw, TOPOLOGY) RVMC_CALL(MPI_Neighbor_allgather_init, TOPOLOGY)
-RVMC_CALL(MPI_Neighbor_allgatherv_init, TOPOLOGY) RVMC_CALL(MPI_Neighbor_alltoall_init, TOPOLOGY)
-RVMC_CALL(MPI_Neighbor_alltoallv_init, TOPOLOGY) RVMC_CALL(MPI_Neighbor_alltoallw_init, TOPOLOGY)
 RVMC_CALL(MPI_Status_c2f08, FORTRAN) RVMC_CALL(MPI_Status_f082c, FORTRAN) RVMC_CALL(MPI_Status_f082f, FORTRAN)
 RVMC_CALL(MPI_Status_f2f08, FORTRAN) RVMC_CALL(MPI_Type_create_f90_complex, FORTRAN)
 RVMC_CALL(MPI_Type_create_f90_integer, FORTRAN) RVMC_CALL(MPI_Type_create_f90_real, FORTRAN)

@@ -42,6 +42,10 @@ static void start(struct later *l)
     for (int r = 0; r < g->size && !g->code; r++)
         if (l->to & bit(r))
             give(g, rvmc_side_place(&l->out, r), side_count(&l->out, r), side_type(&l->out, r), r);
+    /* backwards, as those that wait do (neighbours.c) */
+    for (int i = l->neighbors.out - 1; i >= 0 && !g->code; i--)
+        if (l->neighbors.destinations[i] != MPI_PROC_NULL)
+            give(g, rvmc_side_place(&l->out, i), side_count(&l->out, i), side_type(&l->out, i), l->neighbors.destinations[i]);
     if (l->own && !g->code)
         rvmc_copy(g, rvmc_side_place(&l->in, g->me), side_count(&l->in, g->me), side_type(&l->in, g->me),
                   rvmc_side_place(&l->out, g->me), side_count(&l->out, g->me), side_type(&l->out, g->me));
@@ -107,7 +111,16 @@ static int go_on(struct later *l, int wait)
     struct group *g = &l->g;
     unsigned wanted = l->from | l->folded;
 
-    for (; l->next < g->size && !g->code; l->next++) {
+    for (; l->next < l->neighbors.in && !g->code; l->next++) {
+        int i = l->next, r = l->neighbors.sources[i];
+
+        if (r == MPI_PROC_NULL)
+            continue;
+        if (!wait && !has_arrived(g, r))
+            return 0;
+        take(g, rvmc_side_place(&l->in, i), side_count(&l->in, i), side_type(&l->in, i), r);
+    }
+    for (; wanted && l->next < g->size && !g->code; l->next++) {
         int r = l->next;
 
         if (!(wanted & bit(r)))
@@ -141,8 +154,8 @@ static void use_side(const struct side *s, int parts, int change)
 
 static void use_types(const struct later *l, int change)
 {
-    use_side(&l->out, l->g.size, change);
-    use_side(&l->in, l->g.size, change);
+    use_side(&l->out, l->neighbors.destinations ? l->neighbors.out : l->g.size, change);
+    use_side(&l->in, l->neighbors.sources ? l->neighbors.in : l->g.size, change);
 }
 
 static void freed(void *thing)

@@ -5,6 +5,8 @@
 #ifndef RVMC_LATER_H
 #define RVMC_LATER_H
 
+#include "topologies.h"
+
 /* A buffer: a part for each rank, or the same for all. */
 struct side {
     const char *buffer;
@@ -22,7 +24,8 @@ struct later {
     struct side out, in;
     unsigned to, from;                            /* bit r: this rank sends to the one at place r, or receives from it */
     int own;                                      /* what this rank has for itself is copied at the start */
-    int next;                                     /* the place from which it receives next */
+    int next;                                     /* the place from which it receives next, or which of its neighbors */
+    struct rvmc_neighbors neighbors;              /* of neighborhood collectives, which have no bits above */
     /* of reductions: which ranks' data are folded, and by what */
     unsigned folded;
     MPI_User_function *function;

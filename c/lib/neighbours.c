@@ -53,14 +53,13 @@ RVMC_INLINE int talk(const char *call, const struct side *from, const struct sid
 {
     struct group g = rvmc_group(call, c);
     const struct rvmc_topology *t = rvmc_topology_of(c);
-    int room[t && t->kind == MPI_CART ? 2 * t->count + 1 : 1];
     struct rvmc_neighbors n;
 
     if (g.code)
         return finish(&g);
     if (!t)
         return rvmc_wrong_topology(call, c);
-    n = rvmc_neighbors_of(t, g.of, room);
+    n = rvmc_neighbors_of(t, g.of);
     check(&g, from, n.out);
     check(&g, to, n.in);
     if (g.code == RVMC_BAD_TYPE && from->types)

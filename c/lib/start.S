@@ -2,8 +2,8 @@
 # Hart 0 puts the data where it belongs and runs main. The others wait for work from their own rank, in the twin of
 # communicator 0 (call.h): so a run in which nobody will ever give them work is a deadlock that can be shown, where a loop would
 # run on. They touch no memory before that, since the data is not in its place until hart 0 has put it there.
-# The stacks stand straight above the text, hart 0's lowest (guest.ld).
-        .section .text.start, "ax"
+# The stacks stand straight above the text, hart 0's lowest (guest.ld). No function of C has a section of this name.
+        .section .text.rvmc.start, "ax"
 # Where a call through a null pointer leads: address 0. It tells so, and traps with the caller's frame and ra as they were.
         .globl null_call
         .type null_call, @function

@@ -39,7 +39,7 @@ static void freed(MPI_Comm c)
 
 static size_t size_of(const struct rvmc_topology *t)
 {
-    int numbers = t->kind == MPI_DIST_GRAPH ? 2 * (t->count + t->more) : t->kind == MPI_CART ? 2 * t->count : t->count + t->more;
+    int numbers = t->kind == MPI_DIST_GRAPH ? 2 * (t->count + t->more) : t->kind == MPI_CART ? 4 * t->count : t->count + t->more;
 
     return sizeof *t + sizeof(int) * (size_t)numbers;
 }
@@ -111,50 +111,6 @@ static int wrong_grid(const struct group *g, int dimensions, const int dims[])
                  g->size);
 }
 
-static struct rvmc_topology *new_grid(int dimensions, const int dims[], const int periods[])
-{
-    struct rvmc_topology *t = new_topology(MPI_CART, dimensions, 0, 0);
-
-    for (int i = 0; i < dimensions && t; i++) {
-        t->numbers[i] = dims[i];
-        t->numbers[dimensions + i] = periods[i] != 0;
-    }
-    return t;
-}
-
-int MPI_Cart_create(MPI_Comm c, int dimensions, const int dims[], const int periods[], int reorder, MPI_Comm *made)
-{
-    struct group g = rvmc_group("MPI_Cart_create", c);
-    int size = dimensions < 0 ? -1 : grid(dimensions, dims, g.size);
-
-    (void)reorder;
-    if (!g.code && size < 0)
-        return wrong_grid(&g, dimensions, dims);
-    return made_with(&g, size, new_grid(dimensions, dims, periods), made);
-}
-
-int MPI_Cart_map(MPI_Comm c, int dimensions, const int dims[], const int periods[], int *rank)
-{
-    struct group g = rvmc_group("MPI_Cart_map", c);
-    int size = dimensions < 0 ? -1 : grid(dimensions, dims, g.size);
-
-    (void)periods;
-    if (!g.code && size < 0)
-        return wrong_grid(&g, dimensions, dims);
-    *rank = g.me < size ? g.me : MPI_UNDEFINED;
-    return finish(&g);
-}
-
-int MPI_Cartdim_get(MPI_Comm c, int *dimensions)
-{
-    const struct rvmc_topology *t = of_kind(c, MPI_CART);
-
-    if (!t)
-        return lacks("MPI_Cartdim_get", c, "Cartesian");
-    *dimensions = t->count;
-    return MPI_SUCCESS;
-}
-
 /* The last dimension counts fastest. */
 static void place(const struct rvmc_topology *t, int rank, int most, int coordinates[])
 {
@@ -178,6 +134,63 @@ static int rank_at(const struct rvmc_topology *t, const int coordinates[])
         rank = rank * dim + (at % dim + dim) % dim;
     }
     return rank;
+}
+
+/* The rank so many places on in a dimension, or MPI_PROC_NULL. */
+static int shifted(const struct rvmc_topology *t, int me, int dimension, int by)
+{
+    int coordinates[t->count + 1], rank;
+
+    place(t, me, t->count, coordinates);
+    coordinates[dimension] += by;
+    rank = rank_at(t, coordinates);
+    return rank < 0 ? MPI_PROC_NULL : rank;
+}
+
+static struct rvmc_topology *new_grid(int dimensions, const int dims[], const int periods[], int me)
+{
+    struct rvmc_topology *t = new_topology(MPI_CART, dimensions, 0, 0);
+
+    for (int i = 0; i < dimensions && t; i++) {
+        t->numbers[i] = dims[i];
+        t->numbers[dimensions + i] = periods[i] != 0;
+    }
+    for (int i = 0; i < 2 * dimensions && t; i++)
+        t->numbers[2 * dimensions + i] = shifted(t, me, i / 2, i % 2 ? 1 : -1);
+    return t;
+}
+
+int MPI_Cart_create(MPI_Comm c, int dimensions, const int dims[], const int periods[], int reorder, MPI_Comm *made)
+{
+    struct group g = rvmc_group("MPI_Cart_create", c);
+    int size = dimensions < 0 ? -1 : grid(dimensions, dims, g.size);
+
+    (void)reorder;
+    if (!g.code && size < 0)
+        return wrong_grid(&g, dimensions, dims);
+    return made_with(&g, size, g.me < size ? new_grid(dimensions, dims, periods, g.me) : 0, made);
+}
+
+int MPI_Cart_map(MPI_Comm c, int dimensions, const int dims[], const int periods[], int *rank)
+{
+    struct group g = rvmc_group("MPI_Cart_map", c);
+    int size = dimensions < 0 ? -1 : grid(dimensions, dims, g.size);
+
+    (void)periods;
+    if (!g.code && size < 0)
+        return wrong_grid(&g, dimensions, dims);
+    *rank = g.me < size ? g.me : MPI_UNDEFINED;
+    return finish(&g);
+}
+
+int MPI_Cartdim_get(MPI_Comm c, int *dimensions)
+{
+    const struct rvmc_topology *t = of_kind(c, MPI_CART);
+
+    if (!t)
+        return lacks("MPI_Cartdim_get", c, "Cartesian");
+    *dimensions = t->count;
+    return MPI_SUCCESS;
 }
 
 int MPI_Cart_get(MPI_Comm c, int most, int dims[], int periods[], int coordinates[])
@@ -229,17 +242,6 @@ int MPI_Cart_coords(MPI_Comm c, int rank, int most, int coordinates[])
     return error;
 }
 
-/* The rank so many places on in a dimension, or MPI_PROC_NULL. */
-static int shifted(const struct rvmc_topology *t, int me, int dimension, int by)
-{
-    int coordinates[t->count + 1], rank;
-
-    place(t, me, t->count, coordinates);
-    coordinates[dimension] += by;
-    rank = rank_at(t, coordinates);
-    return rank < 0 ? MPI_PROC_NULL : rank;
-}
-
 int MPI_Cart_shift(MPI_Comm c, int dimension, int by, int *source, int *dest)
 {
     const struct rvmc_topology *t = of_kind(c, MPI_CART);
@@ -276,7 +278,7 @@ int MPI_Cart_sub(MPI_Comm c, const int remain[], MPI_Comm *made)
     error = rvmc_split(&g, n || !g.me ? color : MPI_UNDEFINED, key, made);
     if (error || *made == MPI_COMM_NULL)
         return error;
-    rvmc_table[*made].topology = new_grid(n, dims, periods);
+    rvmc_table[*made].topology = new_grid(n, dims, periods, key);
     return rvmc_table[*made].topology ? MPI_SUCCESS : rvmc_full_heap(g.call);
 }
 
@@ -624,7 +626,7 @@ int rvmc_wrong_topology(const char *call, MPI_Comm c)
     return lacks(call, c, "");
 }
 
-struct rvmc_neighbors rvmc_neighbors_of(const struct rvmc_topology *t, const struct rvmc_communicator *of, int *room)
+struct rvmc_neighbors rvmc_neighbors_of(const struct rvmc_topology *t, const struct rvmc_communicator *of)
 {
     int count = 2 * t->count;
     const int *edges;
@@ -635,7 +637,5 @@ struct rvmc_neighbors rvmc_neighbors_of(const struct rvmc_topology *t, const str
         edges = edges_of(t, of->me, &count);
         return (struct rvmc_neighbors){count, count, edges, edges};
     }
-    for (int i = 0; i < count; i++)
-        room[i] = shifted(t, of->me, i / 2, i % 2 ? 1 : -1);
-    return (struct rvmc_neighbors){count, count, room, room};
+    return (struct rvmc_neighbors){count, count, t->numbers + count, t->numbers + count};
 }

@@ -82,37 +82,15 @@ void MTestSleep(int seconds)
 
 /* --- communicators --- */
 
-/* The world, then its ranks the other way round, and then, if that will do, each half of them. */
-enum { WORLD, BACKWARDS, HALVES, KINDS };
-
-static MPI_Comm of_kind(int kind, int smaller)
-{
-    int rank, size;
-    MPI_Comm comm = MPI_COMM_NULL;
-
-    MPI_Comm_rank(MPI_COMM_WORLD, &rank);
-    MPI_Comm_size(MPI_COMM_WORLD, &size);
-    if (kind == WORLD)
-        return MPI_COMM_WORLD;
-    if (kind == BACKWARDS)
-        MPI_Comm_split(MPI_COMM_WORLD, 0, -rank, &comm);
-    else if (smaller)
-        MPI_Comm_split(MPI_COMM_WORLD, rank < size / 2, rank, &comm);
-    return comm;
-}
-
 int MTestGetIntracommGeneral(MPI_Comm *comm, int least, int smaller)
 {
     int size;
 
-    while (communicators < KINDS) {
-        *comm = of_kind(communicators++, smaller);
-        if (*comm == MPI_COMM_NULL)
-            continue;
-        MPI_Comm_size(*comm, &size);
-        if (size >= least)
-            return 1;
-        MTestFreeComm(comm);
+    (void)smaller;
+    MPI_Comm_size(MPI_COMM_WORLD, &size);
+    if (communicators++ == 0 && size >= least) {
+        *comm = MPI_COMM_WORLD;
+        return 1;
     }
     communicators = 0;
     *comm = MPI_COMM_NULL;
@@ -126,9 +104,7 @@ int MTestGetIntracomm(MPI_Comm *comm, int least)
 
 const char *MTestGetIntracommName(void)
 {
-    static const char *const names[] = {"MPI_COMM_NULL", "MPI_COMM_WORLD", "the world backwards", "half of the world"};
-
-    return names[communicators];
+    return communicators ? "MPI_COMM_WORLD" : "MPI_COMM_NULL";
 }
 
 int MTestTestComm(MPI_Comm comm)
@@ -149,8 +125,6 @@ int MTestTestIntracomm(MPI_Comm comm)
 
 void MTestFreeComm(MPI_Comm *comm)
 {
-    if (*comm != MPI_COMM_NULL && *comm != MPI_COMM_WORLD)
-        MPI_Comm_free(comm);
     *comm = MPI_COMM_NULL;
 }
 

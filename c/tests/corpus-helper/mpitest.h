@@ -1,7 +1,6 @@
 /* mpitest.h: a small helper of this repository's own, under the names that MPICH's tests call, for c/tests/corpus. It runs
-   a test on MPI_COMM_WORLD, on its ranks the other way round and, where that will do, on halves of them, with memory of the
-   host alone. What MPICH's helper makes of communicators between groups, and of generated datatypes, isn't here: a test that
-   wants it doesn't compile. */
+   a test on MPI_COMM_WORLD alone, with memory of the host alone. What MPICH's helper makes of communicators between groups,
+   and of generated datatypes, isn't here: a test that wants it doesn't compile. */
 #ifndef CORPUS_MPITEST_H
 #define CORPUS_MPITEST_H
 #include "mpitestconf.h"
