@@ -9,8 +9,8 @@
 #include "lib/constants.h"
 #include "lib/communicators.h"
 
-/* What the library knows of a handle beside what the machine does: OWN is a persistent send that the library starts by
-   itself, KEPT a complete request whose status was asked for (lib/own.c), ELSEWHERE a receive in another communicator than
+/* What the library knows of a handle beside what the machine does: OWN is a request that the library completes by itself, KEPT
+   a complete one whose status was asked for (lib/owners.c), ELSEWHERE a receive in another communicator than
    MPI_COMM_WORLD. */
 enum {
     RVMC_PERSISTENT = 1, RVMC_PARTITIONED = 2, RVMC_LARGE = 4, RVMC_SENDER = 8, RVMC_ACTIVE = 16, RVMC_OWN = 32,
@@ -28,36 +28,7 @@ extern unsigned char rvmc_kinds[256];
 extern struct rvmc_rest rvmc_rests[256];
 extern void *rvmc_claims;
 
-/* What a program that uses them has linked: requests of the library's own (lib/owners.h), datatypes that it made
-   (lib/transfers.c), and what there is to do at the end. Of the ways to send and to receive, those of the machine have its
-   numbers, and others one behind them. */
-extern struct rvmc_own {
-    long (*asked)(long number, MPI_Request *request, int *flag, MPI_Status *status);
-    long (*started)(MPI_Request request);
-    MPI_Request (*inner)(MPI_Request request);
-    void (*freed)(MPI_Request request);
-} rvmc_own;
-enum {
-    RVMC_BSEND = 64, RVMC_RSEND, RVMC_IBSEND, RVMC_IRSEND, RVMC_SSEND_INIT, RVMC_BSEND_INIT, RVMC_RSEND_INIT
-};
-struct rvmc_layout;
-extern struct rvmc_derived {
-    int (*send)(const char *call, int how, int of, const void *buffer, int count, MPI_Datatype type, int dest, int tag,
-                MPI_Comm c, MPI_Request *request);
-    int (*receive)(const char *call, int how, int of, void *buffer, int count, MPI_Datatype type, int source, int tag,
-                   MPI_Comm c, MPI_Status *status, MPI_Request *request);
-    int (*in_parts)(const char *call, long number, const void *buffer, int partitions, MPI_Count count, MPI_Datatype type,
-                    int peer, int tag, MPI_Comm c, MPI_Request *request);
-    char *(*packed)(const void *buffer, int count, MPI_Datatype type);
-    long (*unpacked)(const char *packed, long size, void *place, long count, MPI_Datatype type);
-    void (*changed_uses)(MPI_Datatype type, int change);
-    struct rvmc_layout *(*layout)(MPI_Datatype type);
-    long (*elements)(long bytes, MPI_Datatype type);
-    int (*usable)(MPI_Datatype type);
-    long (*extent)(MPI_Datatype type);
-    long (*bytes)(MPI_Datatype type);
-} rvmc_derived;
-extern void (*rvmc_at_the_end)(void);
+#include "lib/linked.h"
 
 /* docs/C.md, Large messages: a message of 4,096 bytes or more is a first piece of 4,096 bytes and its rest. These speak of
    ranks of MPI_COMM_WORLD and of contexts (lib/communicators.h). */

@@ -294,7 +294,8 @@ int rvmc_wrong_collective(const struct group *g)
         if (!g->value)
             return rvmc_raise(call, c, MPI_ERR_OP, "op", "the operation is MPI_OP_NULL, or none");
         return rvmc_raise(call, c, MPI_ERR_OP, "op", "%s isn't an operation of %s", rvmc_op_name((MPI_Op)g->value),
-                          rvmc_type_name((MPI_Datatype)g->expected));
+                          RVMC_KIND_OF(g->expected) == RVMC_DERIVED ? "a derived datatype"
+                                                                    : rvmc_type_name((MPI_Datatype)g->expected));
     case RVMC_BAD_BUFFER:
     case RVMC_IN_PLACE:
         return wrong_buffer(call, c, g->argument, (const void *)g->value, g->expected);
