@@ -1,8 +1,9 @@
 /* idup.c: copies of communicators by calls that don't wait (MPI 4.1, 7.4.2). At the call a rank offers the others contexts, and
    when the request completes it hears what they offer: the first that all offer is taken. Copies of one communicator are made
    in the order in which they were begun, so all members choose the same. For copies of two communicators that are open at the
-   same time a rank offers different contexts: of those with even numbers for one with an even number, as long as it has any,
-   and of the others for the others, so that what several ranks offer goes together. */
+   same time a rank offers different contexts: those with even numbers for a communicator with an even number, as long as it
+   has any, those with odd ones for one with an odd number, and the lowest for MPI_COMM_WORLD. So what several ranks offer
+   goes together as a rule, in whatever order they begin. */
 #include <stdlib.h>
 #include "../mpi.h"
 #include "errors.h"
@@ -10,7 +11,7 @@
 #include "owners.h"
 #include "contexts.h"
 
-enum { EVEN = 0x54, ODD = 0xa8 };
+enum { LOW = 0x1c, EVEN = 0x54, ODD = 0xa8 };
 
 static struct copy {
     struct copy *next;
@@ -94,15 +95,20 @@ static void settle(void)
     }
 }
 
+/* There have to be enough for all copies of the communicator that are open. */
 static int offer(MPI_Comm c)
 {
-    int free = rvmc_contexts & ~reserved(c), alike = c & 1 ? ODD : EVEN;
+    int free = rvmc_contexts & ~reserved(c), alike = c == MPI_COMM_WORLD ? LOW : c & 1 ? ODD : EVEN, left;
 
     if (!free) {
         settle();
         free = rvmc_contexts;
     }
-    return free & alike ? free & alike : free;
+    left = free & alike;
+    for (struct copy *copy = open; copy; copy = copy->next)
+        if (copy->g.communicator == c)
+            left &= left - 1;
+    return left ? free & alike : free;
 }
 
 static int go_on(struct copy *copy, int wait)

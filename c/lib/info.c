@@ -253,6 +253,25 @@ static void free_info(MPI_Comm c)
         MPI_Info_free(of_communicators + c);
 }
 
+/* A hint that MPI doesn't know is ignored (7.4.4): all that it knows begin so. */
+static void forget_others(MPI_Info info)
+{
+    struct pair **at = info == MPI_INFO_NULL ? 0 : pairs_of(info);
+
+    while (at && *at) {
+        struct pair *pair = *at;
+
+        if (!strncmp(pair->key, "mpi_assert_", sizeof "mpi_assert_" - 1)) {
+            at = &pair->next;
+            continue;
+        }
+        *at = pair->next;
+        free(pair->key);
+        free(pair->value);
+        free(pair);
+    }
+}
+
 /* Hints, of which none is followed. */
 int MPI_Comm_set_info(MPI_Comm c, MPI_Info info)
 {
@@ -263,6 +282,7 @@ int MPI_Comm_set_info(MPI_Comm c, MPI_Info info)
         error = MPI_Info_dup(info, &copy);
     if (error)
         return error;
+    forget_others(copy);
     free_info(c);
     of_communicators[c] = copy;
     rvmc_hooks.freed_info = free_info;
