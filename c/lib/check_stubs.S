@@ -1,4 +1,5 @@
-# check_stubs.S: what gcc's -fsanitize=thread calls before each access of a program that rvmc-cc --check builds.
+# check_stubs.S: what gcc's -fsanitize=thread calls before each access of a program that rvmc-cc --check builds, and
+# at the start of each function.
 # Most accesses are right, and cost about ten turns here: below the heap nothing but the buffers of active requests is
 # looked at, and in the heap the block that was found last. All others go to rvmc_check_access. Behind the call is a trap:
 # a right access goes on four bytes further. Only t0 and t1 are touched.
@@ -128,6 +129,18 @@
         unaligned __tsan_unaligned_write4, 4, 1
         unaligned __tsan_unaligned_write8, 8, 1
         unaligned __tsan_unaligned_write16, 16, 1
+
+        # The start of a function, where the stack may be full.
+        begins __tsan_func_entry
+        lui t0, %tprel_hi(rvmc_check_stack_end)
+        add t0, t0, tp, %tprel_add(rvmc_check_stack_end)
+        ld t0, %tprel_lo(rvmc_check_stack_end)(t0)
+        bltu sp, t0, 2f
+        go_on
+2:      li a1, 0
+        li a3, 0
+        j rvmc_check_slowly
+        .size __tsan_func_entry, . - __tsan_func_entry
 
         # Each source calls this before main.
         begins __tsan_init

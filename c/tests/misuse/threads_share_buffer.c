@@ -7,8 +7,7 @@ static int shared = 1;
 static int work(void *argument)
 {
     (void)argument;
-    for (int i = 0; i < 50; i++)
-        shared = 1; /* B */
+    shared = 2; /* B */
     return 0;
 }
 
@@ -19,8 +18,8 @@ int main(int argc, char **argv)
     MPI_Request request;
 
     MPI_Init_thread(&argc, &argv, MPI_THREAD_MULTIPLE, &provided); /* I */
-    thrd_create(&thread, work, 0);
     MPI_Isend(&shared, 1, MPI_INT, 0, 7, MPI_COMM_SELF, &request); /* A */
+    thrd_create(&thread, work, 0);
     thrd_join(thread, &result);
     MPI_Recv(&result, 1, MPI_INT, 0, 7, MPI_COMM_SELF, MPI_STATUS_IGNORE);
     MPI_Wait(&request, MPI_STATUS_IGNORE);

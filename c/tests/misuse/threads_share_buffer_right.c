@@ -7,8 +7,7 @@ static int shared = 1;
 static int work(void *argument)
 {
     (void)argument;
-    for (int i = 0; i < 50; i++)
-        shared = 1; /* B */
+    shared = 2; /* B */
     return 0;
 }
 
