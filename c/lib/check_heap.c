@@ -231,7 +231,16 @@ static void *real_block(size_t size)
     return real;
 }
 
-/* A block between two red zones, at a multiple of what is asked for. */
+/* Whether the program itself has made a call: its text stands below all of the library's, of which this is linked first. */
+static int is_programs(unsigned behind)
+{
+    extern char rvmc_check_slowly[];
+
+    return behind < (unsigned long)rvmc_check_slowly;
+}
+
+/* A block between two red zones, at a multiple of what is asked for. What the library hands to a function of the program, as
+   to an operation, may have gaps that nobody has written. */
 static void *give(size_t size, size_t align, int giver, unsigned behind)
 {
     static int told_no_room;
@@ -243,7 +252,9 @@ static void *give(size_t size, size_t align, int giver, unsigned behind)
     if (real) {
         at = (at + align - 1) & ~(align - 1);
         fill((char *)at - ZONE, ZONE);
-        if (giver != CALLOC)
+        if (giver == CALLOC || !is_programs(behind))
+            memset((char *)at, 0, size);
+        else
             fill((char *)at, size);
         fill((char *)at + size, ZONE);
         insert((struct block){(unsigned)at, (unsigned)size, behind, 0, (unsigned)real, (unsigned char)giver, 0, 0});
@@ -303,11 +314,8 @@ void __wrap_free(void *memory)
 void *__wrap_calloc(size_t number, size_t size)
 {
     size_t all = number * size;
-    void *memory = size && all / size != number ? 0 : give(all, 16, CALLOC, RVMC_BEHIND);
 
-    if (memory)
-        memset(memory, 0, all);
-    return memory;
+    return size && all / size != number ? 0 : give(all, 16, CALLOC, RVMC_BEHIND);
 }
 
 void *__wrap_realloc(void *old, size_t size)

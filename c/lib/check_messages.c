@@ -133,13 +133,22 @@ void rvmc_lend_room(int bytes)
         rvmc_buffer_size += bytes;
 }
 
+/* Where it has no room for the data, MPI's own call says so. */
+static struct packet with_room(struct packet p, const void *buffer, int count, MPI_Datatype type)
+{
+    if (!p.room || p.count - RVMC_LETTER + MPI_BSEND_OVERHEAD <= rvmc_buffer_size)
+        return p;
+    rvmc_check_give_back(p.room);
+    return (struct packet){0, buffer, count, type};
+}
+
 int rvmc_checked_Bsend(const void *buffer, int count, MPI_Datatype type, int dest, int tag, MPI_Comm c)
 {
     struct packet p;
     int code = MPI_SUCCESS, lent;
 
     rvmc_check_begin("MPI_Bsend", RVMC_BEHIND);
-    p = packet_of("MPI_Bsend", RVMC_BEHIND, buffer, count, type, dest, c);
+    p = with_room(packet_of("MPI_Bsend", RVMC_BEHIND, buffer, count, type, dest, c), buffer, count, type);
     lent = p.room ? RVMC_LETTER : 0;
     rvmc_lend_room(lent);
     if (!rvmc_told)
@@ -157,7 +166,7 @@ int rvmc_checked_Ibsend(const void *buffer, int count, MPI_Datatype type, int de
 
     rvmc_check_begin("MPI_Ibsend", RVMC_BEHIND);
     rvmc_variable_lost("MPI_Ibsend", RVMC_BEHIND, request);
-    p = packet_of("MPI_Ibsend", RVMC_BEHIND, buffer, count, type, dest, c);
+    p = with_room(packet_of("MPI_Ibsend", RVMC_BEHIND, buffer, count, type, dest, c), buffer, count, type);
     lent = p.room ? RVMC_LETTER : 0;
     rvmc_lend_room(lent);
     if (!rvmc_told)

@@ -150,6 +150,7 @@
 # a0 the address, a1 the bytes, a3 whether they are written. Goes on behind the trap, or to it. The registers that the
 # program may keep a request in are put below its stack, where they are found as what is on it is.
         .section .text.rvmc_check_slowly, "ax"
+        .globl rvmc_check_slowly
         .type rvmc_check_slowly, @function
 rvmc_check_slowly:
         addi sp, sp, -112
