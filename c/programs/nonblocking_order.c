@@ -51,9 +51,9 @@ int main(int argc, char *argv[])
     MPI_Ibcast(many, MANY, MPI_LONG, 4, copy, &requests[3]);
     MPI_Iexscan(&mine, &before, 1, MPI_LONG, join, copy, &requests[4]);
     if (rank == 1) {
-        MPI_Recv(&mine, 1, MPI_LONG, 2, 0, MPI_COMM_WORLD, &status);
-        printf("rank 2 has %ld\n", mine);
-        mine = 2;
+        long theirs;
+        MPI_Recv(&theirs, 1, MPI_LONG, 2, 0, MPI_COMM_WORLD, &status);
+        printf("rank 2 has %ld\n", theirs);
     }
     do
         MPI_Test(&requests[3], &flag, &status);
