@@ -7,7 +7,7 @@ mod writing;
 use crate::reading::{Source, opened};
 use crate::writing::{Output, Sink, created};
 use rvmc_cli::{Named, named_in, parse};
-use rvmc_line::{CommandLine, RecordCommand};
+use rvmc_line::{CommandLine, ParseFault, RecordCommand};
 use rvmc_tool::{tell_wait, tool};
 use std::alloc::{AllocError, Global};
 use std::io::{self, BufWriter, IsTerminal};
@@ -126,6 +126,8 @@ fn run<R: Threads + Wait + Sync>(rt: &HostRuntime, threads: &R) -> io::Result<u8
     let named = named_in(rt.alloc(), &texts)?;
     match parse(rt.alloc(), named.words.as_slice()) {
         Ok(line) => run_line(rt, threads, &named, &line),
+        // without memory it isn't known what the words are, and nothing may be read in place of a file
+        Err(ParseFault::Memory) => Err(io::Error::from(io::ErrorKind::OutOfMemory)),
         Err(_) => answered(
             rt,
             threads,
