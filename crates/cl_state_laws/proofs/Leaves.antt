@@ -395,7 +395,7 @@ left_seen i side box asked bytes part =
 
 -- ---- a row
 
-abbrev IsNoStepRow : Row → Type 0
+abbrev pub IsNoStepRow : Row → Type 0
 IsNoStepRow (AtOnce outcome.Steps) = ⊥
 IsNoStepRow row = Unit {0}
 
@@ -585,7 +585,7 @@ call_no_step site hart memory table phases (call.Parrived handle part) =
     arrived_no_step phases part (receiving_side (request_at table handle))
 call_no_step site hart memory table phases _ = tt
 
-turn_no_step : (site : Site) (hart : ℕ) (memory : Memory) (table : Table) (phases : List Phase) (d : Doing) → IsNoStep d
+pub turn_no_step : (site : Site) (hart : ℕ) (memory : Memory) (table : Table) (phases : List Phase) (d : Doing) → IsNoStep d
     → IsNoStepRow (row_in site hart memory table phases d)
 turn_no_step site hart memory table phases Step call = absurd call
 turn_no_step site hart memory table phases (Refused c) call = tt

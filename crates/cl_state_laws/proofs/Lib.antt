@@ -11,3 +11,4 @@ pub mod Delays
 pub mod Vain
 pub mod Members
 pub mod Registers
+pub mod Wakes

@@ -9,3 +9,5 @@ pub mod RequestRows
 pub mod SeveralRows
 pub mod VainLaws
 pub mod Registers
+pub mod Awake
+pub mod WakeLaws

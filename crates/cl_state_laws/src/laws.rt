@@ -6,6 +6,7 @@ ghost use Rattle.cl_state_laws.specs.Leaves.{BytesLaw, DelayLaw, HartLaw};
 ghost use Rattle.cl_state_laws.specs.Members.{MembersLaw};
 ghost use Rattle.cl_state_laws.specs.Registers.{RegistersLaw};
 ghost use Rattle.cl_state_laws.specs.VainLaws.{VainLaw};
+ghost use Rattle.cl_state_laws.specs.WakeLaws.{WakeLaw};
 ghost use Rattle.cl_state_laws.specs.Laws.{HubRefusalLaw, MissLaw, NotYetLaw, PostsLaw, RefusalLaw, ReturnLaw};
 
 /// A told rank has the event's stamp as its clock, and keeps what the image fixes and its number of harts.
@@ -89,4 +90,10 @@ pub fn vain_law()
 /// for each start of it.
 pub fn members_law()
     ensures { MembersLaw }
+{}
+
+/// A hart that makes its call anew asks and is told what one that makes it for the first time is. So a rank that waits in
+/// vain is as it was before it waited.
+pub fn wake_law()
+    ensures { WakeLaw }
 {}
