@@ -20,6 +20,7 @@ use Rattle.cl_state.specs.declared.asking.Ask.{Ask}
 use Rattle.cl_state.specs.Asked.{asked}
 use Rattle.cl_state.specs.Rank.{Rank}
 use Rattle.cl_state.specs.Told.{told}
+use Rattle.cl_state_laws.specs.Vain.{mode_of}
 use Rattle.cl_state_laws.specs.VainLaws.{at_clock}
 use Rattle.cl_names_laws.specs.Named.{rank_by}
 use Rattle.cl_post_laws.proofs.Renamed.{renamed}
@@ -39,7 +40,7 @@ use Rattle.cl_order_laws.proofs.Walks.{hub_entry}
 use Rattle.cl_source_laws.specs.Alike.{AlikeClusters, AreAlike}
 use Rattle.cl_source_laws.proofs.Likeness.{likeness_law}
 use Rattle.cl_post_laws.proofs.Later as later_source
-use Rattle.cl_first_laws.specs.Laws.{ExchangeLaw, IsCalm, IsExchanged, Turn, at_once, r_polls, s_polls}
+use Rattle.cl_first_laws.specs.Laws.{ExchangeLaw, IsCalm, IsExchanged, Polls, Turn, at_once, r_polls, s_polls}
 
 -- ---- a call of a hart
 
@@ -139,7 +140,7 @@ module _ (wild : Wild) (c : Cluster) (calm : IsCalm wild c) (names : Renaming) (
 -- ---- behind two calls
 
 -- first a call of s, then one of r
-record Both (s theirs : ℕ) (x : Rank) (p : Request) (r mine : ℕ) (y : Rank) (q : Request) (old new : Cluster)
+pub record Both (s theirs : ℕ) (x : Rank) (p : Request) (r mine : ℕ) (y : Rank) (q : Request) (old new : Cluster)
     : Type 0 where
   early : ℕ
   late : ℕ
@@ -161,7 +162,7 @@ module _ (s theirs : ℕ) (x : Rank) (p : Request) (r mine : ℕ) (y : Rank) (q 
       ∙ get-set_other old.ranks s r (told x theirs (Answer.Reply (outcome (hub_of old.journal) s p).0) first_call.stamp) apart
       ∙ hy
 
-  both : Turn r mine mid new → Both s theirs x p r mine y q old new
+  pub both : Turn r mine mid new → Both s theirs x p r mine y q old new
   both two =
       let c = first_call in
       let d = call_of r mine mid new y q still ay two in
@@ -199,7 +200,7 @@ module _ (wild : Wild) (r mine s theirs : ℕ) (x y : Rank) (q p : Request) (old
   )
 
   -- both are told the same
-  plain : (k : MayExchange wild h r q s p) (new second : Cluster) → Both s theirs x p r mine y q old new
+  pub plain : (k : MayExchange wild h r q s p) (new second : Cluster) → Both s theirs x p r mine y q old new
       → Both r mine y q s theirs x p old second
       → AreAlike wild new second
   plain k new second b c =
@@ -210,17 +211,29 @@ module _ (wild : Wild) (r mine s theirs : ℕ) (x y : Rank) (q p : Request) (old
       b.hubs c.hubs k.hubs b.boxes c.boxes
 
   -- the receive of r is polled behind both
-  record Polls (new second : Cluster) : Type 0 where
+  record Polled (new second : Cluster) : Type 0 where
     last : Cluster
+    polls : Polls r mine second
     turn : Turn r mine second last
     alike : AreAlike wild new last
 
   polled : (k : CollectsLater wild h r q s p) (new second : Cluster) → Both s theirs x p r mine y q old new
       → Both r mine y q s theirs x p old second
-      → Polls new second
+      → Polled new second
   polled k new second b c =
       record {
         last = next second r mine waiting (request.Collect (next_of h));
+        polls = record {
+          rank = waiting;
+          there = here;
+          post = next_of h;
+          waits = ap (λ z. mode_of z mine) waiting_is
+              ∙ later_source.waits y mine k.comm k.source k.tag there now (next_of h) c.early;
+          asks = asks;
+          message = k.message;
+          gets = reply_is second.journal r (request.Collect (next_of h))
+              ∙ ap (λ j. (outcome j r (request.Collect (next_of h))).0) c.hubs ∙ k.later;
+        };
         turn = then;
         alike = alike_of k.names k.old new (next second r mine waiting (request.Collect (next_of h))) _ _ _ _ b.ranks
             ranks_last
@@ -305,10 +318,10 @@ exchange_law wild r mine s theirs old mid new x y q p calm apart hy ay posts hx 
             | inr more ↦ elim more [
               | inl k ↦
                   let l = polled wild r mine s theirs x y q p old calm apart hy ay hx ax k new second b c in
-                  r_polls l.last l.turn l.alike
+                  r_polls l.last l.polls l.turn l.alike
               | inr k ↦
                   let l = polled wild s theirs r mine y x p q old calm (λ e. apart (sym e)) hx ax hy ay k second new c b in
-                  s_polls l.last l.turn (likeness_law.back wild second l.last l.alike)
+                  s_polls l.last l.polls l.turn (likeness_law.back wild second l.last l.alike)
             ]
           ];
     }

@@ -136,7 +136,7 @@ alone_case old new e x Kind.Take is c = absurd is
 alone_case old new e x Kind.Miss is c = absurd is
 alone_case old new e x Kind.Freed is c = absurd is
 
-first_alone : (old mid new : Cluster) (e f : Step) → e.rank ≢ f.rank → IsAlone e.kind → Leads old e mid
+pub first_alone : (old mid new : Cluster) (e f : Step) → e.rank ≢ f.rank → IsAlone e.kind → Leads old e mid
     → Leads mid f new → (other : Cluster) × Leads old f other × Leads other e new
 first_alone old mid new e f apart is one two =
     let x = one.0 in

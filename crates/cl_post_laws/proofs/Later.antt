@@ -280,6 +280,13 @@ module _ (rank : Rank) (hart : ℕ) (comm : ℕ) (source tag : Option ℕ) (ther
       → asked (told rank hart (answer.Reply (reply.Posted post false)) before) hart ≡ ask.Hub (request.Collect post)
   polls post before = ap (λ x. asked x hart) (posted_is post before) ∙ asks_posted post before
 
+  -- and it waits for that post
+  pub waits : (post before : ℕ)
+      → (part_of (told rank hart (answer.Reply (reply.Posted post false)) before) hart).hart.mode ≡ Waiting (Post post)
+  waits post before =
+      ap (λ x. (part_of x hart).hart.mode) (posted_is post before)
+      ∙ ap (λ (p : Part). p.hart.mode) (part_is post before)
+
   pub later : (post before stamp : ℕ) (m : Message)
       → told (told rank hart (answer.Reply (reply.Posted post false)) before) hart (answer.Reply (reply.Got m)) stamp
       ≡ told rank hart (answer.Reply (reply.Got m)) stamp
