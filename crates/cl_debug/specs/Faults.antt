@@ -6,7 +6,7 @@ use Rattle.cl_machine.specs.Cluster.{Cluster}
 use Rattle.cl_machine.specs.declared.steps.Step.{Step}
 use Rattle.cl_replay.specs.InnerReplaying.{BreaksAt}
 use Rattle.cl_replay.specs.Steps.{KindTakesMemory}
-use Rattle.cl_replay.specs.Turns.{LacksPages}
+use Rattle.cl_rank.specs.Memory.{LacksPages}
 use Rattle.cl_debug.specs.Debugging.{Debugging}
 use Rattle.cl_debug.specs.Places.{IsAt}
 use Rattle.cl_debug.specs.declared.faults.DebugFault.{DebugFault}

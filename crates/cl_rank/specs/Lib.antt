@@ -11,6 +11,7 @@ pub mod Fitting
 pub mod Follows
 pub mod Laws
 pub mod Turns
+pub mod Memory
 pub mod Turning
 pub mod Plains
 pub mod Views

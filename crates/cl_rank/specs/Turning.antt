@@ -16,6 +16,7 @@ use Rattle.cl_rank.specs.Sides.{box_id_of}
 use Rattle.cl_rank.specs.declared.stops.Stop.{Stop}
 use Rattle.cl_rank.specs.declared.stops.Stop.TheVariants as stop
 use Rattle.cl_rank.specs.Turns.{AllStopped, IsActive}
+use Rattle.cl_rank.specs.Memory.{TurnTakesMemory}
 
 -- what a desk may do in a call: the desk before, the rank, the hart, the
 -- rank's clock, the request, what was answered with its stamp, the desk after
@@ -73,19 +74,20 @@ Refuses gives hart rank before after f =
     (request : Request) × (asked rank hart ≡ Ask.Hub request)
     × gives before rank.site.number hart rank.clock request (Err f) after
 
--- why a rank stops of itself. All harts being stopped is asked first, then the budget, then its clock, then memory
-abbrev pub IsCause : Rank → ℕ → ℕ → Stop → Type 0
-IsCause rank turns budget stop.AllEnded = AllStopped rank
-IsCause rank turns budget stop.Budget = (¬ (AllStopped rank)) × (turns ≡ budget)
-IsCause rank turns budget (stop.ClockFull c) =
+-- why a rank stops of itself before a turn of a hart, whose trace has room for so many events more. All harts being
+-- stopped is asked first, then the budget, then its clock; memory is refused only to a turn that takes some
+abbrev pub IsCause : ℕ → Rank → ℕ → ℕ → ℕ → Stop → Type 0
+IsCause hart rank room turns budget stop.AllEnded = AllStopped rank
+IsCause hart rank room turns budget stop.Budget = (¬ (AllStopped rank)) × (turns ≡ budget)
+IsCause hart rank room turns budget (stop.ClockFull c) =
     (¬ (AllStopped rank)) × (turns < budget) × (rank.clock ≡ c) × (c + 1 ≡ 2 ^ 62)
-IsCause rank turns budget stop.Memory = IsActive rank turns budget
-IsCause rank turns budget (stop.Calls n) = ⊥
+IsCause hart rank room turns budget stop.Memory = IsActive rank turns budget × TurnTakesMemory rank room hart
+IsCause hart rank room turns budget (stop.Calls n) = ⊥
 
 -- why a rank stops before a turn of a hart: of itself, the desk being told nothing, or else by the desk's refusal
-abbrev pub StopHolds : {D : Type 0} → DeskRule D → ℕ → Rank → ℕ → ℕ → D → D → Stop → Type 0
-StopHolds gives hart rank turns budget before after s =
-    (IsCause rank turns budget s × (after ≡ before))
+abbrev pub StopHolds : {D : Type 0} → DeskRule D → ℕ → Rank → ℕ → ℕ → ℕ → D → D → Stop → Type 0
+StopHolds gives hart rank room turns budget before after s =
+    (IsCause hart rank room turns budget s × (after ≡ before))
     ⊎
     (IsActive rank turns budget × ((f : HubFault) × (s
     ≡ stop_of f) × IsFault f × Refuses gives hart rank before after f))

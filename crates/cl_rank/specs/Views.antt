@@ -125,7 +125,7 @@ pub record TurnEnds {D : Type 0} (gives : DeskRule D) (hart : ℕ) (channels : L
   pub turned : OnOk result (IsTurn gives hart (view_of old) (view_of new) desk left)
   pub active : OnOk result (IsActive (rank_of old.state) (length old.trace.events) old.budget)
   pub stop : IfErr result
-      (λ stop. StopHolds gives hart (rank_of old.state) (length old.trace.events) old.budget desk left stop)
+      (λ stop. StopHolds gives hart (rank_of old.state) old.trace.room (length old.trace.events) old.budget desk left stop)
   pub unchanged : OnErr result (view_of new ≡ view_of old)
   pub own : IsOver new channels
   pub budget : new.budget ≡ old.budget

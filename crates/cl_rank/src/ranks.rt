@@ -1,6 +1,6 @@
 //! A rank with its trace and the sides of its links, and its turns.
 
-ghost use Rattle.std.specs.Prelude.{◌≡◌, ◌<◌, ◌≤◌, ◌+◌, ◌^◌, [], None, length, vec_len, IfOk, IfErr, OnOk, OnErr};
+ghost use Rattle.std.specs.Prelude.{ℕ, ◌≡◌, ◌<◌, ◌≤◌, ◌+◌, ◌^◌, [], None, length, vec_len, IfOk, IfErr, OnOk, OnErr};
 ghost use Rattle.cl_state.specs.Rank.{loaded};
 ghost use Rattle.cl_state.specs.Room.{rank_of};
 ghost use Rattle.cl_trace.specs.Rising.{last_stamp};
@@ -106,10 +106,10 @@ impl Rank {
         requires own { IsOver self.old channels.now }
         ensures { TurnEnds D.gives hart channels.now self.old desk.old result self.new desk.new }
     {
-        if self.trace.len() >= self.budget
-            || self.state.clock >= CLOCK_MAX
-            || self.trace.reserve().is_err()
-        {
+        if self.trace.len() >= self.budget || self.state.clock >= CLOCK_MAX {
+            return Err(self.why_stopped());
+        }
+        if self.trace.reserve().is_err() {
             return Err(self.why_stopped());
         }
         let stamp = self.state.clock + 1;
@@ -131,7 +131,7 @@ impl Rank {
             (length self.old.trace.events) self.old.budget) }
         ensures stop { IfErr result
             (λ stop. StopHolds Answered hart (rank_of self.old.state)
-            (length self.old.trace.events) self.old.budget hub.old hub.new stop) }
+            self.old.trace.room (length self.old.trace.events) self.old.budget hub.old hub.new stop) }
         ensures unchanged { OnErr result (view_of self.new ≡ view_of self.old) }
         ensures hub { OnErr result (hub.new ≡ hub.old) }
         ensures own { IsOver self.new channels.now }
@@ -164,10 +164,12 @@ impl Rank {
         (state, trace, sends, recvs)
     }
 
-    /// Why there is no turn, of a rank that is at an end or found no memory.
+    /// Why there is no turn, of a rank that is at an end or whose trace found no memory.
     #[inline(never)]
     fn why_stopped(&self) -> Stop
-        ensures { IsCause (rank_of self.now.state) (length self.now.trace.events) self.now.budget result }
+        ensures { (hart room : ℕ)
+            → (IsActive (rank_of self.now.state) (length self.now.trace.events) self.now.budget → room ≡ 0)
+            → IsCause hart (rank_of self.now.state) room (length self.now.trace.events) self.now.budget result }
     {
         if all_stopped(&self.state) {
             Stop::AllEnded

@@ -404,7 +404,7 @@ impl Rank {
         ensures gives { IfOk result (λ told. D.gives desk.old self.now.state.site.number hart self.now.state.clock
             told.0 (Ok (told.1, told.2)) desk.new) }
         ensures stop { IfErr result (λ stop. StopHolds D.gives hart (rank_of self.now.state)
-            (length self.now.trace.events) self.now.budget desk.old desk.new stop) }
+            self.now.trace.room (length self.now.trace.events) self.now.budget desk.old desk.new stop) }
     {
         // made before the call, so that nothing can fail once the hub has answered
         let Ok(copy) = request.try_copy(self.alloc) else {

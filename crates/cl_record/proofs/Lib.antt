@@ -9,3 +9,4 @@ pub mod Loads
 pub mod Wires
 pub mod Merged
 pub mod Plains
+mod RunsOut

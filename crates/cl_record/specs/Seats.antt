@@ -4,11 +4,15 @@ use Rattle.std.specs.Prelude.{Option, None, Some}
 use Rattle.rv_image.specs.declared.images.ImageParts.{ImageParts}
 use Rattle.part_channel.specs.Channels.{ChannelView}
 use Rattle.cl_trace.specs.declared.events.Event.{Event}
+use Rattle.mp_types.specs.declared.requests.Request.{Request}
+use Rattle.cl_state.specs.declared.asking.Ask.{Ask}
+use Rattle.cl_state.specs.Asked.{asked}
 use Rattle.cl_state.specs.Rank.{Rank, loaded}
 use Rattle.cl_state.specs.Room.{rank_of}
 use Rattle.cl_rank.specs.Deeds.{Deed, RankMoves, event_of}
 use Rattle.cl_rank.specs.RankSides.{KeysMove, Sides}
 use Rattle.cl_rank.specs.Sides.{box_id_of}
+use Rattle.cl_rank.specs.Memory.{TurnTakesMemory}
 use Rattle.cl_rank.specs.Plains.{IsPlainTurn}
 use Rattle.cl_rank.specs.Turning.{DeskRule, RankView, StopHolds, Tells}
 use Rattle.cl_rank.specs.Turns.{AllStopped}
@@ -68,13 +72,15 @@ pub record TakesPlainTurn (plan : Plan) (old new : Station) : Type 0 where
   pub budget_stays : new.budget ≡ old.budget
   pub goes_on : new.stop ≡ None
 
--- a running rank takes no turn from now on, for a cause that held before a turn of the hart that its plan names
+-- a running rank takes no turn from now on, for a cause that held before a turn of the hart that its plan names, where
+-- its trace had room for so many events more
 pub record Stops {D : Type 0} (gives : DeskRule D) (plan : Plan) (old : Station) (before : D) (new : Station) (after : D)
     : Type 0 where
   pub hart : ℕ
   pub hart_is : hart ≡ slice_index plan.order.items old.next
   pub stop : Stop
-  pub holds : StopHolds gives hart old.rank (length old.events) old.budget before after stop
+  pub room : ℕ
+  pub holds : StopHolds gives hart old.rank room (length old.events) old.budget before after stop
   pub rank_stays : new.rank ≡ old.rank
   pub events_stay : new.events ≡ old.events
   pub sides_stay : new.sides ≡ old.sides
@@ -82,6 +88,13 @@ pub record Stops {D : Type 0} (gives : DeskRule D) (plan : Plan) (old : Station)
   pub next_stays : new.next ≡ old.next
   pub budget_stays : new.budget ≡ old.budget
   pub stops : new.stop ≡ Some stop
+
+-- the turn of the hart that its plan names takes memory, where its trace has room for so many events more, or it calls
+-- the hub
+abbrev pub MayRunOut : Plan → Station → ℕ → Type 0
+MayRunOut plan s room =
+    let hart = slice_index plan.order.items s.next in
+    TurnTakesMemory s.rank room hart ⊎ ((request : Request) × (asked s.rank hart ≡ Ask.Hub request))
 
 -- a running rank takes a turn or stops
 abbrev pub GoesOn : {D : Type 0} → DeskRule D → Plan → Station → D → Station → D → Type 0

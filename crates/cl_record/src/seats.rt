@@ -6,6 +6,7 @@ ghost use Rattle.part_channel.specs.Channels.{ChannelView};
 ghost use Rattle.cl_state.specs.Rank.{loaded};
 ghost use Rattle.cl_rank.specs.RankSides.{AreChannelsOf, AreNewSides};
 ghost use Rattle.cl_rank.specs.Views.{view_of};
+ghost use Rattle.cl_rank.specs.declared.stops.Stop.TheVariants.{Memory};
 ghost use Rattle.cl_record.specs.Plans.{IsPlan};
 ghost use Rattle.cl_record.specs.Wiring.{AreNewEnds, sides_in};
 
@@ -75,7 +76,7 @@ fn load_rank(
 
 impl<'a> Seat<'a> {
     ghost use Rattle.cl_rank.specs.Plains.{Repeats};
-    ghost use Rattle.cl_record.specs.Seats.{GoesOn, IsFresh, TakesPlainTurn, station};
+    ghost use Rattle.cl_record.specs.Seats.{GoesOn, IsFresh, MayRunOut, TakesPlainTurn, station};
 
     /// A rank as it is loaded, with its plan and its ends of the links. It took no turn. The words of its text stand for
     /// what they were decoded to in another rank of the image.
@@ -112,6 +113,8 @@ impl<'a> Seat<'a> {
         requires running { self.old.stop ≡ None }
         requires channels { AreChannelsOf (station self.old).rank.site.version channels.now (station self.old).sides }
         ensures goes { GoesOn D.gives self.old.plan.now (station self.old) desk.old (station self.new) desk.new }
+        ensures memory { self.new.stop ≡ Some Memory
+            → MayRunOut self.old.plan.now (station self.old) self.old.rank.trace.room }
         ensures on { IsTrue result → self.new.stop ≡ None }
         ensures end { IsFalse result → IsTrue (is_some self.new.stop) }
         ensures plan { self.new.plan.now ≡ self.old.plan.now }

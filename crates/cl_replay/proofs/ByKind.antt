@@ -35,7 +35,8 @@ use Rattle.cl_replay.specs.Boxes.{ChangesBox, filled, vacant}
 use Rattle.cl_replay.specs.States.{ClusterStandsFor}
 use Rattle.cl_replay.specs.Steps.{KindTakesMemory, Leads, LeadsNowhere, StepFaultHolds, TakesMemory}
 use Rattle.cl_replay.specs.Turns.{AsksNext, CallFault, Calls, HasCalls, IsFreed, IsLook, IsMiss, IsQuiet, IsReady}
-use Rattle.cl_replay.specs.Turns.{AloneFault, LacksPages, QuietFault}
+use Rattle.cl_rank.specs.Memory.{LacksPages}
+use Rattle.cl_replay.specs.Turns.{AloneFault, QuietFault}
 use Rattle.cl_replay.specs.Turns.{IsTake, IsTold, Readies, Takes, quiet_ask}
 use Rattle.cl_replay.proofs.Boxed.{empty_is, held_is, shown_of_box, shown_of_settled, shows_made, shows_taken}
 use Rattle.cl_replay.proofs.Lifts.{case_of, lead_alone, lead_boxed, lead_called, rank_there}

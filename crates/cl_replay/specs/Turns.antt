@@ -15,8 +15,8 @@ use Rattle.cl_state.specs.Asked.{asked, doing, part_of}
 use Rattle.cl_state.specs.Right.{growth_of}
 use Rattle.cl_state.specs.Rank.{Rank}
 use Rattle.cl_state.specs.Told.{told}
-use Rattle.cl_state.specs.Writes.{missing_for, writes_in}
 use Rattle.cl_trace.specs.declared.events.Kind.{Kind}
+use Rattle.cl_rank.specs.Memory.{LacksPages}
 use Rattle.cl_record.specs.Keys.{bytes_in}
 use Rattle.cl_machine.specs.Boxes.{box_number}
 use Rattle.cl_machine.specs.declared.steps.Step.{Step}
@@ -108,12 +108,6 @@ pub record Calls (old : Rank) (before : HubView) (clock : ℕ) (e : Step) (reply
   pub call : IsCall old before clock e reply links calls
   pub told : IsTold old e (Answer.Reply reply) new
   pub stands : StandsFor after links (calls ++ (e.rank, call.request) ∷ [])
-
--- a page that the hart's turn may write isn't there
-abbrev pub LacksPages : Rank → ℕ → Type 0
-LacksPages rank hart =
-    let part = part_of rank hart in
-    0 < missing_for rank.memory.pages (writes_in rank.site hart (doing rank.site part) part)
 
 -- why a step wasn't done that puts nothing out and asks nothing of the hub: there is none, or a page was refused
 abbrev pub AloneFault : Rank → Step → Type 0 → StepFault → Type 0

@@ -9,8 +9,9 @@ ghost use Rattle.cl_state.specs.Room.{rank_of};
 ghost use Rattle.cl_state.specs.TurnRoom.{HasRoom, IsNext};
 ghost use Rattle.cl_state.specs.Told.{told};
 ghost use Rattle.cl_trace.specs.Traces.{kind_of_bare};
+ghost use Rattle.cl_rank.specs.Memory.{LacksPages};
 ghost use Rattle.cl_replay.specs.Turns.{AloneFault, AsksNext, IsFreed, IsLook, IsMiss, IsQuiet, IsReady, IsTake};
-ghost use Rattle.cl_replay.specs.Turns.{IsTold, LacksPages, QuietFault, Readies, Takes, quiet_ask};
+ghost use Rattle.cl_replay.specs.Turns.{IsTold, QuietFault, Readies, Takes, quiet_ask};
 
 use crate::boxes::{get, number_of, set};
 use crate::faults::StepFault;

@@ -1,6 +1,7 @@
 pub mod BoxSteps
 pub mod Rounds
 pub mod Hubs
+mod Desks
 pub mod Stations
 pub mod UnderWay
 pub mod Seats

@@ -200,13 +200,13 @@ module _ (steps : List Step) (before : HubHistory) (r : ℕ) (plan : Plan) (s t 
   has_turn : IsActive s.rank (length s.events) s.budget → HasTurn plan s.rank s.events
   has_turn active = record { runs = active.runs; left = omega (arith, active.left, so.budget_is); low = active.low }
 
-  own_cause : (stop : Stop) → IsCause s.rank (length s.events) s.budget stop
+  own_cause : (hart room : ℕ) (stop : Stop) → IsCause hart s.rank room (length s.events) s.budget stop
       → HasCause plan s.rank s.events before.entries stop
-  own_cause Stop.AllEnded h = h
-  own_cause Stop.Budget h = (h.0, h.1 ∙ so.budget_is)
-  own_cause Stop.Memory h = has_turn h
-  own_cause (Stop.ClockFull c) h = (omega (arith, h.3), inl (sym h.2, h.0, omega (arith, h.1, so.budget_is)))
-  own_cause (Stop.Calls n) h = absurd h
+  own_cause hart room Stop.AllEnded h = h
+  own_cause hart room Stop.Budget h = (h.0, h.1 ∙ so.budget_is)
+  own_cause hart room Stop.Memory h = has_turn h.0
+  own_cause hart room (Stop.ClockFull c) h = (omega (arith, h.3), inl (sym h.2, h.0, omega (arith, h.1, so.budget_is)))
+  own_cause hart room (Stop.Calls n) h = absurd h
 
   refused_cause : (f : HubFault) → HasTurn plan s.rank s.events → AsksHub plan s.rank s.events
       → IsRefusal before s.rank.site.number s.rank.clock f → HasCause plan s.rank s.events before.entries (stop_of f)
@@ -217,11 +217,11 @@ module _ (steps : List Step) (before : HubHistory) (r : ℕ) (plan : Plan) (s t 
       let many = subst (λ q. 1048576 ≤ length (entries_by q before.entries)) so.number_is h.1 in
       (h.0, omega (arith, h.0, many, so.calls_are, so.few_calls), turn, asks)
 
-  cause : (hart : ℕ) (stop : Stop) (after : HubHistory) → hart ≡ slice_index plan.order.items s.next
-      → StopHolds Answered hart s.rank (length s.events) s.budget before after stop
+  cause : (hart room : ℕ) (stop : Stop) (after : HubHistory) → hart ≡ slice_index plan.order.items s.next
+      → StopHolds Answered hart s.rank room (length s.events) s.budget before after stop
       → HasCause plan s.rank s.events before.entries stop
-  cause hart stop after is h = elim h [
-    | inl own ↦ own_cause stop own.0
+  cause hart room stop after is h = elim h [
+    | inl own ↦ own_cause hart room stop own.0
     | inr refused ↦
         let f = refused.1.0 in
         subst (HasCause plan s.rank s.events before.entries) (sym refused.1.1)
@@ -252,5 +252,5 @@ module _ (steps : List Step) (before : HubHistory) (r : ℕ) (plan : Plan) (s t 
         follows_plan = so.follows_plan;
         calls_are = so.calls_are;
         few_calls = so.few_calls;
-        has_cause = cause h.hart h.stop after h.hart_is h.holds;
+        has_cause = cause h.hart h.room h.stop after h.hart_is h.holds;
       })

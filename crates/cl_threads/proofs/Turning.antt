@@ -146,12 +146,13 @@ module _ (plan : Plan) (rank : Rank) (events : List Event) (hart budget : ℕ)
   has_turn : IsActive rank (length events) budget → HasTurn plan rank events
   has_turn active = record { runs = active.runs; left = omega (arith, active.left, budget_is); low = active.low }
 
-  own_cause : (stop : Stop) → IsCause rank (length events) budget stop → StopsFor plan rank events stop
-  own_cause Stop.AllEnded h = h
-  own_cause Stop.Budget h = (h.0, h.1 ∙ budget_is)
-  own_cause Stop.Memory h = has_turn h
-  own_cause (Stop.ClockFull c) h = (omega (arith, h.3), inl (sym h.2, h.0, omega (arith, h.1, budget_is)))
-  own_cause (Stop.Calls n) h = absurd h
+  own_cause : (room : ℕ) (stop : Stop) → IsCause hart rank room (length events) budget stop
+      → StopsFor plan rank events stop
+  own_cause room Stop.AllEnded h = h
+  own_cause room Stop.Budget h = (h.0, h.1 ∙ budget_is)
+  own_cause room Stop.Memory h = has_turn h.0
+  own_cause room (Stop.ClockFull c) h = (omega (arith, h.3), inl (sym h.2, h.0, omega (arith, h.1, budget_is)))
+  own_cause room (Stop.Calls n) h = absurd h
 
   refused_cause : (f : HubFault) → HasTurn plan rank events → AsksHub plan rank events → IsFault f
       → StopsFor plan rank events (stop_of f)
@@ -160,14 +161,14 @@ module _ (plan : Plan) (rank : Rank) (events : List Event) (hart budget : ℕ)
   refused_cause (fault.Calls n) turn asks h = (h, turn, asks)
 
   -- whatever else is known of a refusal
-  pub stops_for : (A : Type 0) (B : HubFault → Request → Type 0) (stop : Stop)
-      → (IsCause rank (length events) budget stop × A)
+  pub stops_for : (A : Type 0) (B : HubFault → Request → Type 0) (room : ℕ) (stop : Stop)
+      → (IsCause hart rank room (length events) budget stop × A)
       ⊎ (IsActive rank (length events) budget
       × ((f : HubFault) × (stop ≡ stop_of f) × IsFault f
       × ((request : Request) × (asked rank hart ≡ Ask.Hub request) × B f request)))
       → StopsFor plan rank events stop
-  stops_for A B stop h = elim h [
-    | inl own ↦ own_cause stop own.0
+  stops_for A B room stop h = elim h [
+    | inl own ↦ own_cause room stop own.0
     | inr refused ↦
         let f = refused.1.0 in
         let asks = refused.1.3 in
@@ -183,7 +184,7 @@ pub went_by : {D : Type 0} (gives : DeskRule D) (plan : Plan) (old : RankView) (
 went_by gives plan old now seat desk left deeds so place budget_is h =
     let hart : h.hart ≡ in_slot plan.order.items (length now.events) =
     h.hart_is ∙ ap (slice_index plan.order.items) place in
-    let stops = stops_for plan now.rank now.events h.hart now.budget hart budget_is _ _ h.stop h.holds in
+    let stops = stops_for plan now.rank now.events h.hart now.budget hart budget_is _ _ h.room h.stop h.holds in
     record {
       own = so.own;
       alone = subst (IsAlone old.rank deeds) (sym h.rank_stays) so.alone;

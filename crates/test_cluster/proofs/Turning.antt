@@ -28,48 +28,48 @@ pub on_ok : {X E P Q : Type 0} (r : Result X E) → (P → Q) → OnOk r P → O
 on_ok (Ok x) f p = f p
 on_ok (Err e) f p = tt
 
-module _ {D : Type 0} (gives : DeskRule D) (hart : ℕ) (rank : Rank) (turns budget : ℕ) (before after : D) where
+module _ {D : Type 0} (gives : DeskRule D) (hart : ℕ) (rank : Rank) (room turns budget : ℕ) (before after : D) where
   -- the causes exclude one another
   budget_told : (s : Stop) → ¬ (AllStopped rank) → turns ≡ budget
-      → StopHolds gives hart rank turns budget before after s → s ≡ Stop.Budget
+      → StopHolds gives hart rank room turns budget before after s → s ≡ Stop.Budget
   budget_told s runs used (inr h) = absurd (omega (arith, used, h.0.left))
   budget_told Stop.AllEnded runs used (inl h) = absurd (runs h.0)
   budget_told Stop.Budget runs used (inl h) = refl
-  budget_told Stop.Memory runs used (inl h) = absurd (omega (arith, used, h.0.left))
+  budget_told Stop.Memory runs used (inl h) = absurd (omega (arith, used, h.0.0.left))
   budget_told (Stop.ClockFull c) runs used (inl h) = absurd (omega (arith, used, h.0.1))
   budget_told (Stop.Calls n) runs used (inl h) = absurd h.0
 
-  end_told : (s : Stop) → AllStopped rank → StopHolds gives hart rank turns budget before after s → s ≡ Stop.AllEnded
+  end_told : (s : Stop) → AllStopped rank → StopHolds gives hart rank room turns budget before after s → s ≡ Stop.AllEnded
   end_told s stopped (inr h) = absurd (h.0.runs stopped)
   end_told Stop.AllEnded stopped (inl h) = refl
   end_told Stop.Budget stopped (inl h) = absurd (h.0.0 stopped)
-  end_told Stop.Memory stopped (inl h) = absurd (h.0.runs stopped)
+  end_told Stop.Memory stopped (inl h) = absurd (h.0.0.runs stopped)
   end_told (Stop.ClockFull c) stopped (inl h) = absurd (h.0.0 stopped)
   end_told (Stop.Calls n) stopped (inl h) = absurd h.0
 
   full_told : (s : Stop) → ¬ (AllStopped rank) → turns < budget → rank.clock + 1 ≡ 2 ^ 62
-      → StopHolds gives hart rank turns budget before after s → s ≡ Stop.ClockFull rank.clock
+      → StopHolds gives hart rank room turns budget before after s → s ≡ Stop.ClockFull rank.clock
   full_told s runs left full (inr h) = absurd (omega (arith, full, h.0.low))
   full_told Stop.AllEnded runs left full (inl h) = absurd (runs h.0)
   full_told Stop.Budget runs left full (inl h) = absurd (omega (arith, left, h.0.1))
-  full_told Stop.Memory runs left full (inl h) = absurd (omega (arith, full, h.0.low))
+  full_told Stop.Memory runs left full (inl h) = absurd (omega (arith, full, h.0.0.low))
   full_told (Stop.ClockFull c) runs left full (inl h) = ap Stop.ClockFull (sym h.0.2)
   full_told (Stop.Calls n) runs left full (inl h) = absurd h.0
 
   pub used_budget : {X : Type 0} (r : Result X Stop) → ¬ (AllStopped rank) → turns ≡ budget
       → OnOk r (IsActive rank turns budget)
-      → IfErr r (λ s. StopHolds gives hart rank turns budget before after s) → r ≡ Err Stop.Budget
+      → IfErr r (λ s. StopHolds gives hart rank room turns budget before after s) → r ≡ Err Stop.Budget
   used_budget (Ok x) runs used active holds = absurd (omega (arith, used, active.left))
   used_budget (Err s) runs used active holds = ap Err (budget_told s runs used holds)
 
   pub all_stopped : {X : Type 0} (r : Result X Stop) → AllStopped rank → OnOk r (IsActive rank turns budget)
-      → IfErr r (λ s. StopHolds gives hart rank turns budget before after s) → r ≡ Err Stop.AllEnded
+      → IfErr r (λ s. StopHolds gives hart rank room turns budget before after s) → r ≡ Err Stop.AllEnded
   all_stopped (Ok x) stopped active holds = absurd (active.runs stopped)
   all_stopped (Err s) stopped active holds = ap Err (end_told s stopped holds)
 
   pub full_clock : {X : Type 0} (r : Result X Stop) → ¬ (AllStopped rank) → turns < budget → rank.clock + 1 ≡ 2 ^ 62
       → OnOk r (IsActive rank turns budget)
-      → IfErr r (λ s. StopHolds gives hart rank turns budget before after s) → r ≡ Err (Stop.ClockFull rank.clock)
+      → IfErr r (λ s. StopHolds gives hart rank room turns budget before after s) → r ≡ Err (Stop.ClockFull rank.clock)
   full_clock (Ok x) runs left full active holds = absurd (omega (arith, full, active.low))
   full_clock (Err s) runs left full active holds = ap Err (full_told s runs left full holds)
 

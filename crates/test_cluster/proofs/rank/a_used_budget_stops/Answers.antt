@@ -6,5 +6,5 @@ use Rattle.test_cluster.proofs.rank.a_used_budget_stops.Goals as goal
 
 pub returns : goal.returns
 returns c =
-    used_budget Answered c.args.seat.now.hart (rank_of c.args.seat.now.rank.state) _ _ _ _ c.turn_plain.result c.requires.runs
+    used_budget Answered c.args.seat.now.hart (rank_of c.args.seat.now.rank.state) _ _ _ _ _ c.turn_plain.result c.requires.runs
     (sym c.requires.used) c.turn_plain.ensures.active c.turn_plain.ensures.stop

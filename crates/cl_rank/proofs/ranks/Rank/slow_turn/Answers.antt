@@ -23,14 +23,14 @@ receive-requires-clause-may g c =
 pub returns-in-Some : goal.returns-in-Some
 returns-in-Some g c =
     same_ends g.D.Desk.gives c.args.hart c.args.self.now c.args.channels.now _ refl refl refl c.send.result
-    c.send.new.self c.args.desk.now c.send.new.desk (c.send.ensures c.args.channels.now c.requires.own)
+    c.send.new.self c.args.desk.now c.send.new.desk (λ none. none) (c.send.ensures c.args.channels.now c.requires.own)
 
 pub returns-in-Some-received : goal.returns-in-Some-received
 returns-in-Some-received g c =
     same_ends g.D.Desk.gives c.args.hart c.args.self.now c.args.channels.now _ refl refl refl c.receive.result
-    c.receive.new.self c.args.desk.now c.receive.new.desk (c.receive.ensures c.args.channels.now c.requires.own)
+    c.receive.new.self c.args.desk.now c.receive.new.desk (λ none. none) (c.receive.ensures c.args.channels.now c.requires.own)
 
 pub returns : goal.returns
 returns g c =
     same_ends g.D.Desk.gives c.args.hart c.args.self.now c.args.channels.now _ refl refl refl c.worked_turn.result
-    c.worked_turn.new.self c.args.desk.now c.worked_turn.new.desk c.worked_turn.ensures
+    c.worked_turn.new.self c.args.desk.now c.worked_turn.new.desk (λ none. none) c.worked_turn.ensures

@@ -1,10 +1,12 @@
-use Rattle.std.proofs.Common.{◌≡◌, ◌∙◌, ◌+◌, ◌++◌, ◌∷◌, [], List, None, ap, refl, arith, subst, sym}
+use Rattle.std.proofs.Common.{length, ◌<◌, ◌≡◌, rules, ◌∙◌, ◌+◌, ◌++◌, ◌∷◌, [], List, None, ap, refl, arith, subst, sym}
+use mathlib.Core.Logic.{inl}
 use Rattle.cl_state.specs.Room.{rank_of}
 use Rattle.cl_state.specs.declared.state.RankState.{RankState}
 use Rattle.cl_trace.specs.declared.events.Event.{Event}
 use Rattle.cl_trace.specs.declared.events.Kind.TheVariants as kind
 use Rattle.cl_trace.specs.Rising.{last_stamp}
 use Rattle.cl_rank.specs.RankSides.{AreChannelsOf, sides_in}
+use Rattle.cl_rank.specs.Turning.{IsCause}
 use Rattle.cl_rank.specs.Views.{place_in}
 use Rattle.cl_rank.proofs.Ends.{turn_ends}
 use Rattle.cl_rank.proofs.Plain.{went_plain}
@@ -13,6 +15,7 @@ use Rattle.cl_rank.proofs.Same.{as_it_was}
 use Rattle.cl_rank.proofs.SameEnds.{same_ends}
 use Rattle.cl_rank.proofs.Went.{event, keeps, leaves}
 use Rattle.cl_rank.proofs.ranks.Rank.turn.Goals as goal
+use Rattle.cl_rank.proofs.ranks.Rank.turn.Goals.{then-len-self-via-then-len-self, then-len-self-via-else-len-self+then-self-ge-CLOCK_MAX}
 
 pub push_plain-requires-clause-rises : goal.push_plain-requires-clause-rises
 push_plain-requires-clause-rises g c =
@@ -68,4 +71,49 @@ returns g c =
     (c.step_plain.ensures.none c.if-step_plain.false)
     ∙ ap (λ es. seen (rank_of r.state) es r.sends.items r.recvs.items (place_in r.asked_box)) c.reserve.ensures.events)
     refl c.step_plain.ensures.harts c.other_turn.result c.other_turn.new.self c.args.desk.now c.other_turn.new.desk
+    (λ none. let space : 0 < c.reserve.new.self.room = search rules in absurd (omega (arith, none, space)))
     c.other_turn.ensures
+
+pub returns-then-len-self : goal.returns-then-len-self
+returns-then-len-self g c =
+    let r = c.args.self.now in
+    record {
+      turned = tt;
+      active = tt;
+      stop = inl (
+        c.why_stopped.ensures c.args.hart r.trace.room (λ active. elim c.then-len-self.branch [
+          | then-len-self-via-then-len-self w ↦ absurd (omega (arith, active.left, c.len.ensures, w.if-len-self.true))
+          | then-len-self-via-else-len-self+then-self-ge-CLOCK_MAX w ↦
+              absurd (omega (arith, active.low, w.if-self-ge-CLOCK_MAX.true))
+        ]),
+        refl,
+      );
+      unchanged = refl;
+      own = c.requires.own;
+      budget = refl;
+      harts = refl;
+    }
+
+pub returns-then-is_err : goal.returns-then-is_err
+returns-then-is_err g c =
+    let r = c.args.self.now in
+    let none : ¬ (0 < r.trace.room) =
+    (λ some.
+    let ok = c.reserve.ensures.there some in
+    let full = c.if-is_err.ensures.value in absurd (search (rules, ok, full))) in
+    record {
+      turned = tt;
+      active = tt;
+      stop = inl (
+        subst (λ (es : List Event).
+            IsCause c.args.hart (rank_of r.state) r.trace.room (length es) r.budget c.why_stopped-then-is_err.result)
+            c.reserve.ensures.events
+            (c.why_stopped-then-is_err.ensures c.args.hart r.trace.room (λ active. omega (arith, none))),
+        refl,
+      );
+      unchanged = ap (λ es. seen (rank_of r.state) es r.sends.items r.recvs.items (place_in r.asked_box))
+          c.reserve.ensures.events;
+      own = c.requires.own;
+      budget = refl;
+      harts = refl;
+    }

@@ -73,7 +73,7 @@ pub returns-in-Hub : goal.returns-in-Hub
 returns-in-Hub g c =
     same_ends g.D.Desk.gives c.args.hart c.args.self.now c.args.channels.now _
     (ap (seen c.args.self.now) c.in-Ok-room_next.ensures.same) refl c.in-Ok-room_next.ensures.harts
-    c.call_hub.result _ c.args.desk.now c.call_hub.new.desk
+    c.call_hub.result _ c.args.desk.now c.call_hub.new.desk (λ none. none)
     (c.call_hub.ensures c.args.channels.now
     (subst (λ (r : RankAlone). AreChannelsOf r.site.version c.args.channels.now (view_of c.args.self.now).sides)
     (sym c.in-Ok-room_next.ensures.same) c.requires.own))

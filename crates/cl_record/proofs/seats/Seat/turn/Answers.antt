@@ -1,7 +1,10 @@
 use Rattle.std.proofs.Common.{refl, ◌∙◌, ap, ◌%◌, ◌+◌}
 use Rattle.std.proofs.lemmas.List.{get_or_read}
+use Rattle.std.proofs.lemmas.Option.{same_Some}
 use mathlib.Core.Logic.{inl, inr}
 use Rattle.cl_rank.specs.Turning.{RankView}
+use Rattle.cl_record.specs.Seats.{station}
+use Rattle.cl_record.proofs.RunsOut.{runs_out}
 use Rattle.cl_record.proofs.seats.Seat.turn.Goals as goal
 
 pub returns-in-Ok-clause-goes : goal.returns-in-Ok-clause-goes
@@ -33,6 +36,7 @@ returns-in-Err-clause-goes g c =
       hart = c.index-hart.result.now;
       hart_is = get_or_read order.items seat.next c.index-hart.result.now seat.next_there c.index-hart.ensures 0;
       stop = c.in-Err.stop;
+      room = seat.rank.trace.room;
       holds = c.in-Err.ensures.stop;
       rank_stays = ap (λ (v : RankView). v.rank) c.in-Err.ensures.unchanged;
       events_stay = ap (λ (v : RankView). v.events) c.in-Err.ensures.unchanged;
@@ -42,3 +46,11 @@ returns-in-Err-clause-goes g c =
       budget_stays = c.turn.ensures.budget;
       stops = refl;
     })
+
+pub returns-in-Err-clause-memory : goal.returns-in-Err-clause-memory
+returns-in-Err-clause-memory g c = λ memory.
+    let seat = c.args.self.now in
+    let order = seat.plan.now.order in
+    runs_out g.D.Desk.gives seat.plan.now (station seat) c.index-hart.result.now seat.rank.trace.room _ _ c.in-Err.stop
+    (get_or_read order.items seat.next c.index-hart.result.now seat.next_there c.index-hart.ensures 0)
+    (same_Some _ _ memory) c.in-Err.ensures.stop
