@@ -1,8 +1,7 @@
 -- Two turns that post, exchanged.
-use Rattle.std.proofs.Common.{◌≡◌, ℕ, ◌+◌, ◌<◌, ◌≤◌, ◌⊎◌, inl, inr, List, [], ◌∷◌, length, true, false, Option, Some, None, refl, sym, ap, ◌∙◌, subst, arith}
+use Rattle.std.proofs.Common.{◌≡◌, ℕ, ◌+◌, ◌<◌, inl, inr, List, length, true, false, Some, refl, sym, ap, ◌∙◌, subst}
 use Rattle.std.specs.Prelude.{◌≢◌, max}
 use Rattle.std.specs.List.{slice_get, slice_set}
-use Rattle.std.proofs.lemmas.Option.{same_Some}
 use Rattle.mp_types.specs.declared.replies.Reply.{Reply}
 use Rattle.mp_types.specs.declared.replies.Reply.TheVariants as reply
 use Rattle.mp_types.specs.declared.requests.Request.{Request}
@@ -11,7 +10,7 @@ use Rattle.mp_hub.specs.Hub.{HubView, outcome}
 use Rattle.mp_wait_laws.proofs.Sets.{get-set_other}
 use Rattle.mp_alike_laws.specs.Renaming.{Renaming}
 use Rattle.mp_source_laws.specs.Alike.{AlikeHubs, Wild}
-use Rattle.mp_clash_laws.specs.Exchanges.{CollectsLater, IsPosting, KeepsOld, MayExchange, NoRace, NoSync, behind, next_of, reply_by}
+use Rattle.mp_clash_laws.specs.Exchanges.{CollectsLater, KeepsOld, MayExchange, behind, next_of, reply_by}
 use Rattle.mp_clash_laws.proofs.Later.{posts_law}
 use Rattle.cl_journal.specs.Journal.{calls_of}
 use Rattle.cl_journal.specs.declared.entries.Entry.{Entry}
@@ -26,9 +25,9 @@ use Rattle.cl_names_laws.specs.Named.{rank_by}
 use Rattle.cl_post_laws.proofs.Renamed.{renamed}
 use Rattle.cl_trace.specs.declared.events.Kind.{Kind}
 use Rattle.cl_machine.specs.declared.steps.Step.{Step}
-use Rattle.cl_machine.specs.Cluster.{CaseOf, Cluster}
-use Rattle.cl_machine.specs.Journal.{Journal, reply_in}
-use Rattle.cl_order_laws.specs.Alike.{AlikeBoxes, AlikeRanks, AreEach, Leads, hub_of}
+use Rattle.cl_machine.specs.Cluster.{Cluster}
+use Rattle.cl_machine.specs.Journal.{reply_in}
+use Rattle.cl_order_laws.specs.Alike.{AlikeBoxes, AlikeRanks, AreEach, hub_of}
 use Rattle.cl_order_laws.specs.Turns.{IsTurn, called}
 use Rattle.cl_order_laws.proofs.Commuting.{set_apart}
 use Rattle.cl_order_laws.proofs.Each.{each_set, set_here, set_set}
@@ -37,10 +36,10 @@ use Rattle.cl_order_laws.proofs.SureAlone.{IsLive, has_hart}
 use Rattle.cl_order_laws.proofs.SureHub.{reply_is}
 use Rattle.cl_order_laws.proofs.Turns.{turns_law}
 use Rattle.cl_order_laws.proofs.Walks.{hub_entry}
-use Rattle.cl_source_laws.specs.Alike.{AlikeClusters, AreAlike}
+use Rattle.cl_source_laws.specs.Alike.{AreAlike}
 use Rattle.cl_source_laws.proofs.Likeness.{likeness_law}
 use Rattle.cl_post_laws.proofs.Later as later_source
-use Rattle.cl_first_laws.specs.Laws.{ExchangeLaw, IsCalm, IsExchanged, Polls, Turn, at_once, r_polls, s_polls}
+use Rattle.cl_first_laws.specs.Laws.{ExchangeLaw, IsCalm, Polls, Turn, at_once, r_polls, s_polls}
 
 -- ---- a call of a hart
 

@@ -1,15 +1,14 @@
 -- A receive that is posted first, and given its message later.
 use Rattle.std.proofs.Common.{◌≡◌, ◌∙◌, ℕ, ◌<◌, refl, sym, ap, subst, Bool, true, false, List, [], ◌∷◌, length, Option, Some, None}
-use Rattle.std.specs.Prelude.{◌==◌, if◌then◌else◌, get_or, set}
+use Rattle.std.specs.Prelude.{◌==◌, if◌then◌else◌}
 use Rattle.std.proofs.lemmas.List.{get_or-set_same, set-set}
 use Rattle.rv_memory.specs.Memory.{Memory}
 use Rattle.rv_memory.specs.Access.{word_at}
-use Rattle.rv_hart.specs.State.{State, in_mode}
+use Rattle.rv_hart.specs.State.{in_mode}
 use Rattle.rv_hart.specs.declared.state.Mode.{Mode}
 use Rattle.rv_hart.specs.declared.state.Mode.TheVariants.{Running, Waiting, Ended, Trapped}
 use Rattle.rv_hart.specs.declared.state.Wait.TheVariants.{Post, Again}
 use Rattle.mp_types.specs.declared.codes.Code.{Code}
-use Rattle.mp_types.specs.declared.codes.Code.TheVariants as code
 use Rattle.mp_types.specs.declared.messages.Message.{Message}
 use Rattle.mp_types.specs.declared.replies.Reply.TheVariants as reply
 use Rattle.mp_types.specs.declared.requests.Request.TheVariants as request
@@ -25,9 +24,9 @@ use Rattle.cl_calls.specs.declared.calls.Call.TheVariants as call
 use Rattle.cl_calls.specs.declared.calls.Receiving.{Receiving}
 use Rattle.cl_calls.specs.declared.sites.Site.{Site}
 use Rattle.cl_calls.specs.Calls.{call_named, no_message, no_rank}
-use Rattle.cl_calls.specs.Checks.{checks, first_fault, receiving_side, sending_side}
+use Rattle.cl_calls.specs.Checks.{receiving_side, sending_side}
 use Rattle.cl_calls.specs.Handles.{handles_in}
-use Rattle.cl_calls.specs.Needs.{array_at, needs_of}
+use Rattle.cl_calls.specs.Needs.{array_at}
 use Rattle.cl_calls.specs.Site.{members, position_of}
 use Rattle.cl_state.specs.declared.asking.Answer.TheVariants as answer
 use Rattle.cl_state.specs.declared.asking.Ask.{Ask}
@@ -37,21 +36,20 @@ use Rattle.cl_state.specs.declared.asking.Doing.TheVariants.{Step, Refused, Go, 
 use Rattle.cl_state.specs.declared.partitions.Awaited.{Awaited}
 use Rattle.cl_state.specs.declared.partitions.Awaited.TheVariants as awaited_word
 use Rattle.cl_state.specs.declared.pending.Manner.{Manner}
-use Rattle.cl_state.specs.declared.pending.Manner.TheVariants.{Immediate, Blocking, Posting, Polling}
+use Rattle.cl_state.specs.declared.pending.Manner.TheVariants.{Immediate, Blocking, Posting}
 use Rattle.cl_state.specs.declared.pending.Pending.{Pending}
 use Rattle.cl_state.specs.declared.pending.Pending.TheVariants as pending
 use Rattle.cl_state.specs.declared.pending.Target.{Target}
-use Rattle.cl_state.specs.declared.row.Row.{Row}
-use Rattle.cl_state.specs.declared.row.Row.TheVariants.{AtOnce, OnReply}
+use Rattle.cl_state.specs.declared.row.Row.TheVariants.{OnReply}
 use Rattle.cl_state.specs.declared.row.Wanted.TheVariants as wanted
-use Rattle.cl_state.specs.Asked.{Part, asked, asked_by, asked_completing, asked_in, asked_probe, asked_claim, asked_start, asked_several, checked, doing, doing_in, go_or_refuse, is_ecall, no_hart, part_of}
+use Rattle.cl_state.specs.Asked.{Part, asked, asked_by, asked_completing, asked_in, asked_start, checked, doing, doing_in, go_or_refuse, is_ecall, no_hart, part_of}
 use Rattle.cl_state.specs.Partitions.{asked_arrived, asked_awaited, asked_ready, awaited, awaited_of_part}
 use Rattle.cl_state.specs.Pending.{asked_pending, pending_of}
 use Rattle.cl_state.specs.Rank.{Rank}
 use Rattle.cl_state.specs.Several.{asked_all, pendings, posts_pending}
 use Rattle.cl_state.specs.Table.{comes, into, nothing_comes, row_in}
-use Rattle.cl_state.specs.Told.{ended, received, received_from, received_message, returned, told, told_row, waiting, with_part}
-use Rattle.cl_state.specs.Transfers.{asked_claimed, asked_transfer, receive_of, send_of}
+use Rattle.cl_state.specs.Told.{received, received_from, received_message, returned, told, told_row, waiting, with_part}
+use Rattle.cl_state.specs.Transfers.{asked_transfer, receive_of, send_of}
 use Rattle.cl_post_laws.proofs.Renamed.{by_row, row_at}
 
 -- ---- who asks for a message now

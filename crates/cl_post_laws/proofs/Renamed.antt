@@ -1,12 +1,9 @@
 -- What a rank is told of a post by another number.
-use Rattle.std.proofs.Common.{◌≡◌, ◌∙◌, ℕ, zero, suc, ◌<◌, ◌≤◌, refl, sym, ap, subst, arith, Bool, true, false, List, length, Option, Some, None}
-use Rattle.std.specs.Prelude.{◌&&◌, not}
+use Rattle.std.proofs.Common.{◌≡◌, ◌∙◌, ℕ, zero, suc, ◌≤◌, refl, sym, ap, arith, Bool, true, false, List, Option, Some, None}
 use Rattle.std.specs.Option.{option_map}
 use Rattle.std.proofs.lemmas.List.{map-set}
 use Rattle.rv_memory.specs.Memory.{Memory}
-use Rattle.rv_hart.specs.State.{State, in_mode}
-use Rattle.rv_hart.specs.declared.state.Mode.TheVariants.{Waiting}
-use Rattle.rv_hart.specs.declared.state.Wait.TheVariants.{Post}
+use Rattle.rv_hart.specs.State.{State}
 use Rattle.mp_types.specs.declared.codes.Code.{Code}
 use Rattle.mp_types.specs.declared.codes.Code.TheVariants as code
 use Rattle.mp_types.specs.declared.replies.Reply.{Reply}
@@ -23,8 +20,6 @@ use Rattle.part_phase.specs.declared.phases.Phase.{Phase}
 use Rattle.cl_calls.specs.declared.sites.Site.{Site}
 use Rattle.cl_state.specs.declared.asking.Answer.{Answer}
 use Rattle.cl_state.specs.declared.asking.Answer.TheVariants as answer
-use Rattle.cl_state.specs.declared.asking.Doing.{Doing}
-use Rattle.cl_state.specs.declared.pending.Manner.{Manner}
 use Rattle.cl_state.specs.declared.row.Purpose.{Purpose}
 use Rattle.cl_state.specs.declared.row.Purpose.TheVariants as purpose
 use Rattle.cl_state.specs.declared.row.Row.{Row}
@@ -36,7 +31,7 @@ use Rattle.cl_state.specs.declared.row.Wanted.TheVariants as wanted
 use Rattle.cl_state.specs.Asked.{Part, doing, part_of}
 use Rattle.cl_state.specs.Rank.{Rank}
 use Rattle.cl_state.specs.Table.{begun_outcome, row_in}
-use Rattle.cl_state.specs.Told.{done, ended, opened, opened_at, replied, returned, told, told_in, told_row, visited, waiting, with_part}
+use Rattle.cl_state.specs.Told.{done, ended, opened, opened_at, replied, returned, told, told_row, visited, waiting, with_part}
 use Rattle.cl_state.specs.Transfers.{posted}
 use Rattle.mp_alike_laws.specs.Renaming.{Renaming, number_by}
 use Rattle.mp_clash_laws.specs.Exchanges.{reply_by}

@@ -1,6 +1,6 @@
 -- A hart that makes its call anew, and one that makes it for the first time.
-use Rattle.std.proofs.Common.{◌≡◌, ◌∙◌, ℕ, zero, suc, refl, sym, ap, subst, ◌⊎◌, inl, inr, Bool, true, false, List, [], ◌∷◌, Option, Some, None}
-use Rattle.std.specs.Prelude.{◌==◌, slice_get, ◌%◌, ◌*◌, if◌then◌else◌, get_or, map, set, length, is_some}
+use Rattle.std.proofs.Common.{◌≡◌, ◌∙◌, ℕ, zero, suc, refl, sym, ap, ◌⊎◌, inl, inr, Bool, true, false, List, [], ◌∷◌, Option, Some, None}
+use Rattle.std.specs.Prelude.{◌==◌, slice_get, ◌%◌, if◌then◌else◌, get_or, map, set}
 use Rattle.std.proofs.lemmas.List.{map-set, set-get_or}
 use Rattle.std.proofs.Math.ListN.{get_or-map as maps}
 use Rattle.rv_decode.specs.Decoded.{decoded}
@@ -65,10 +65,9 @@ use Rattle.cl_state.specs.declared.row.Wanted.{Wanted}
 use Rattle.cl_state.specs.declared.row.Wanted.TheVariants as wanted
 use Rattle.cl_state.specs.Asked.{Part, asked, asked_in, checked, doing, doing_in, go_or_refuse, is_ecall, no_hart, part_of}
 use Rattle.cl_state.specs.Rank.{Rank}
-use Rattle.cl_state.specs.Several.{are_fit, pendings}
 use Rattle.cl_state.specs.Table.{begun_outcome, polled, row_in}
 use Rattle.cl_state.specs.Transfers.{posted}
-use Rattle.cl_state.specs.Told.{arrived, arrived_from, completed_all, cut_known, done, ended, found, found_at, found_nothing, freed, freed_one, gathered, gathered_if, made_receiving, made_sending, made_side_at, not_yet, opened, opened_at, part_readied, phase_begun, received, received_from, received_message, replied, returned, seen_one, taken_one, told, told_in, told_row, visited, waiting, with_part, with_taken_box}
+use Rattle.cl_state.specs.Told.{arrived, arrived_from, completed_all, cut_known, done, ended, found, found_at, found_nothing, freed, freed_one, gathered_if, made_receiving, made_sending, made_side_at, not_yet, opened_at, part_readied, phase_begun, received, received_from, received_message, replied, returned, seen_one, taken_one, told, told_in, told_row, visited, with_part, with_taken_box}
 use Rattle.cl_state_laws.specs.Leaves.{IsNoStep, delayed}
 use Rattle.cl_state_laws.specs.Vain.{waits_on}
 use Rattle.cl_state_laws.proofs.Delays.{turn_delayed}
@@ -445,7 +444,7 @@ doing_awake site p at = go p.hart.mode at
 get_or_map : {A : Type 0} (f : A → A) (xs : List A) (i : ℕ) (d : A) → f d ≡ d → get_or (map f xs) i d ≡ f (get_or xs i d)
 get_or_map f xs i d same = ap (get_or (map f xs) i) (sym same) ∙ maps f xs i d
 
-part_awake : (rank : Rank) (hart : ℕ) → part_of (awake rank) hart ≡ awake_part (part_of rank hart)
+pub part_awake : (rank : Rank) (hart : ℕ) → part_of (awake rank) hart ≡ awake_part (part_of rank hart)
 part_awake rank hart = (λ k. record {
   hart = get_or_map awake_hart rank.harts hart no_hart refl k;
   memory = rank.memory;
@@ -454,7 +453,7 @@ part_awake rank hart = (λ k. record {
   out = rank.out;
 })
 
-does_awake : (rank : Rank) (hart : ℕ) → StandsAtCall rank hart
+pub does_awake : (rank : Rank) (hart : ℕ) → StandsAtCall rank hart
     → doing rank.site (part_of (awake rank) hart) ≡ doing rank.site (part_of rank hart)
 does_awake rank hart stands =
     ap (doing rank.site) (part_awake rank hart) ∙ doing_awake rank.site (part_of rank hart) stands
@@ -464,7 +463,7 @@ unfolding asked
 asks_awake rank hart stands =
     ap (asked_in rank.site rank.memory rank.requests rank.phases) (does_awake rank hart stands)
 
-harts_awake : (harts : List State) → map awake_hart (map awake_hart harts) ≡ map awake_hart harts
+pub harts_awake : (harts : List State) → map awake_hart (map awake_hart harts) ≡ map awake_hart harts
 harts_awake [] = refl
 harts_awake (h ∷ hs) = (λ i. twice_at h.regs h.pc h.mode i ∷ harts_awake hs i)
 
