@@ -1,4 +1,4 @@
-"""Random command lines, and what they mean: README.md, docs/MACHINE.md ("What a run tells") and docs/DECISIONS.md ("The
+"""Random command lines, and what they mean: README.md, docs/MACHINE.md ("What a run prints") and docs/DECISIONS.md ("The
 command line") say it."""
 
 import re
