@@ -1,4 +1,4 @@
-/* As overlap.c, but rank 1 waits first and works behind that.
+/* Like overlap.c, but rank 1 waits first and works afterwards.
 
    c/rvmc-cc -n 2 -o blocking.image c/course/blocking.c */
 #include <mpi.h>
@@ -6,7 +6,7 @@
 
 enum { TAG = 1 };
 
-/* the sum of the squares of 1 to n, worked out the long way */
+/* the sum of the squares of 1 to n, computed the long way */
 static int work(int n)
 {
     int sum = 0;

@@ -6,7 +6,7 @@
 
 enum { TAG = 1 };
 
-/* the sum of the squares of 1 to n, worked out the long way */
+/* the sum of the squares of 1 to n, computed the long way */
 static int work(int n)
 {
     int sum = 0;

@@ -1,4 +1,4 @@
-/* Heat goes along a rod of 12 cells, four in each rank. Two of its neighbours' cells are a rank's halo, and four
+/* Heat spreads along a rod of 12 cells, four in each rank. Two cells of its neighbours are a rank's halo, and four
    requests, described once, bring them in each step.
 
    c/rvmc-cc -n 3 -o heat.image c/course/heat.c */

@@ -1,4 +1,4 @@
-/* A solution of lesson 6: the rod is bent to a ring, so each rank has two neighbours.
+/* A solution of lesson 6: the rod is bent into a ring, so each rank has two neighbours.
 
    c/rvmc-cc -n 3 -o heat_ring.image c/course/heat_ring.c */
 #include <mpi.h>

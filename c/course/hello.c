@@ -1,4 +1,4 @@
-/* Four processes run this same text. What they do differs only by the number that MPI_Comm_rank gives.
+/* Four processes run this same program. What they do differs only by the number that MPI_Comm_rank returns.
 
    c/rvmc-cc -n 4 -o hello.image c/course/hello.c */
 #include <mpi.h>

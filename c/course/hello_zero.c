@@ -1,4 +1,4 @@
-/* A solution of lesson 1: rank 0 alone tells how many ranks there are.
+/* A solution of lesson 1: only rank 0 says how many ranks there are.
 
    c/rvmc-cc -n 4 -o hello_zero.image c/course/hello_zero.c */
 #include <mpi.h>

@@ -1,4 +1,4 @@
-/* Wrong, and seldom seen: rank 2 works long before it sends, so its word is nearly always the last.
+/* Wrong, but rarely seen: rank 2 works for a long time before it sends, so its word is nearly always last.
 
    c/rvmc-cc -n 3 -o hidden.image c/course/hidden.c */
 #include <mpi.h>
@@ -8,7 +8,7 @@ enum { TAG = 1, LENGTH = 8 };
 
 static const char words[][LENGTH] = {"", "good", "morning"};
 
-/* works for so many rounds */
+/* works for this many rounds */
 static void work(int rounds)
 {
     for (volatile int i = 0; i < rounds; i++)

@@ -1,4 +1,4 @@
-/* hidden.c, mended: rank 0 names the rank whose word it wants.
+/* hidden.c, fixed: rank 0 names the rank whose word it needs.
 
    c/rvmc-cc -n 3 -o hidden_mended.image c/course/hidden_mended.c */
 #include <mpi.h>
@@ -8,7 +8,7 @@ enum { TAG = 1, LENGTH = 8 };
 
 static const char words[][LENGTH] = {"", "good", "morning"};
 
-/* works for so many rounds */
+/* works for this many rounds */
 static void work(int rounds)
 {
     for (volatile int i = 0; i < rounds; i++)

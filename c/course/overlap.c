@@ -1,4 +1,4 @@
-/* Rank 1 wants a number that rank 0 works long for. It says so first, works out its own, and only then waits.
+/* Rank 1 needs a number that takes rank 0 a long time. It says so first, computes its own, and only then waits.
 
    c/rvmc-cc -n 2 -o overlap.image c/course/overlap.c */
 #include <mpi.h>
@@ -6,7 +6,7 @@
 
 enum { TAG = 1 };
 
-/* the sum of the squares of 1 to n, worked out the long way */
+/* the sum of the squares of 1 to n, computed the long way */
 static int work(int n)
 {
     int sum = 0;

@@ -1,4 +1,4 @@
-/* Wrong: rank 0 counts the rows that it got, and tells a count that can't be.
+/* Wrong: rank 0 counts the rows that it received, and prints an impossible count.
 
    c/rvmc-cc -n 2 -O0 -o overrun.image c/course/overrun.c */
 #include <mpi.h>

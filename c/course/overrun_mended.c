@@ -1,4 +1,4 @@
-/* A solution of lesson 7: the row has room for all that is received.
+/* A solution of lesson 7: the row has room for everything that is received.
 
    c/rvmc-cc -n 2 -O0 -o overrun_mended.image c/course/overrun_mended.c */
 #include <mpi.h>

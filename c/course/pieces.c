@@ -1,4 +1,4 @@
-/* Rank 0 hands a row over in four pieces, each as soon as it is there, and then a second row by the same request.
+/* Rank 0 hands over a row in four pieces, each as soon as it is ready, and then a second row with the same request.
 
    c/rvmc-cc -n 2 --link 0,1 -o pieces.image c/course/pieces.c */
 #include <mpi.h>

@@ -27,7 +27,7 @@ static void give_out(int size, int *answers)
         MPI_Send(&next, 0, MPI_INT, rank, STOP, MPI_COMM_WORLD);
 }
 
-/* the sum of the squares of 1 to 10 * job: a job of the double number takes twice as long */
+/* the sum of the squares of 1 to 10 * job: a job with twice the number takes twice as long */
 static int work(int job)
 {
     int sum = 0;

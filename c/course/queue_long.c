@@ -1,4 +1,4 @@
-/* A solution of lesson 8: the longest jobs are given out first, so the last ones are short.
+/* A solution of lesson 8: the longest jobs go out first, so the last ones are short.
 
    c/rvmc-cc -n 3 -o queue_long.image c/course/queue_long.c */
 #include <mpi.h>
@@ -27,7 +27,7 @@ static void give_out(int size, int *answers)
         MPI_Send(&next, 0, MPI_INT, rank, STOP, MPI_COMM_WORLD);
 }
 
-/* the sum of the squares of 1 to 10 * job: a job of the double number takes twice as long */
+/* the sum of the squares of 1 to 10 * job: a job with twice the number takes twice as long */
 static int work(int job)
 {
     int sum = 0;

@@ -1,4 +1,4 @@
-/* Wrong: rank 0 stops when all jobs are given out, and so loses the last answers.
+/* Wrong: rank 0 stops when all jobs are given out, so it loses the last answers.
 
    c/rvmc-cc -n 3 -o queue_lost.image c/course/queue_lost.c */
 #include <mpi.h>
@@ -23,7 +23,7 @@ static void give_out(int size, int *answers)
         MPI_Send(&next, 0, MPI_INT, rank, STOP, MPI_COMM_WORLD);
 }
 
-/* the sum of the squares of 1 to 10 * job: a job of the double number takes twice as long */
+/* the sum of the squares of 1 to 10 * job: a job with twice the number takes twice as long */
 static int work(int job)
 {
     int sum = 0;

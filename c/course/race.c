@@ -1,4 +1,4 @@
-/* Wrong: rank 0 joins two words, and takes the first that comes for that of rank 1.
+/* Wrong: rank 0 joins two words, and assumes that the first to come is that of rank 1.
 
    c/rvmc-cc -n 3 -o race.image c/course/race.c */
 #include <mpi.h>

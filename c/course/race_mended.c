@@ -1,4 +1,4 @@
-/* The mend of race.c: each receive names its source.
+/* race.c, fixed: each receive names its source.
 
    c/rvmc-cc -n 3 -o race_mended.image c/course/race_mended.c */
 #include <mpi.h>

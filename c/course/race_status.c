@@ -1,4 +1,4 @@
-/* A solution of lesson 4: rank 0 still takes whichever word comes first, and puts it where its sender belongs.
+/* A solution of lesson 4: rank 0 still receives whichever word comes first, and puts it where it belongs.
 
    c/rvmc-cc -n 3 -o race_status.image c/course/race_status.c */
 #include <mpi.h>

@@ -1,4 +1,4 @@
-/* A solution of lesson 2: two rounds. The first finds the greatest number, the second tells it to all.
+/* A solution of lesson 2: two rounds. The first finds the greatest number, the second passes it on to all.
 
    c/rvmc-cc -n 4 -o ring_most.image c/course/ring_most.c */
 #include <mpi.h>

@@ -1,4 +1,4 @@
-/* Wrong, and seldom seen: rank 0 takes a word from anybody, and then waits for that of rank 2, which it may have already.
+/* Wrong, but rarely seen: rank 0 receives a word from any rank, and then waits for rank 2's, which it may have already.
 
    c/rvmc-cc -n 3 -o seldom.image c/course/seldom.c */
 #include <mpi.h>
@@ -6,7 +6,7 @@
 
 enum { TAG = 1 };
 
-/* works for so many rounds */
+/* works for this many rounds */
 static void work(int rounds)
 {
     for (volatile int i = 0; i < rounds; i++)

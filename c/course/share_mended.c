@@ -1,4 +1,4 @@
-/* The mend of share.c: the first `rest` ranks have one number more, and they begin at 0.
+/* share.c, fixed: the first `rest` ranks have one number more, and they begin at 0.
 
    c/rvmc-cc -n 4 -O0 -o share_mended.image c/course/share_mended.c */
 #include <mpi.h>

@@ -1,4 +1,4 @@
-/* Wrong: three ranks in a ring, and each receives before it sends. None gets to its send.
+/* Wrong: three ranks in a ring, and each receives before it sends. None comes to its send.
 
    c/rvmc-cc -n 3 -o shift.image c/course/shift.c */
 #include <mpi.h>

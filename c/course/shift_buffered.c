@@ -1,4 +1,4 @@
-/* Each rank sends before it receives. This goes right only as long as MPI_Send buffers.
+/* Each rank sends before it receives. This works only as long as MPI_Send buffers.
 
    c/rvmc-cc -n 3 -o shift_buffered.image c/course/shift_buffered.c */
 #include <mpi.h>

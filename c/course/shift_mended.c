@@ -1,4 +1,4 @@
-/* The mend of shift.c: rank 0 sends first, so the ring is open there.
+/* shift.c, fixed: rank 0 sends first, so the cycle is broken there.
 
    c/rvmc-cc -n 3 -o shift_mended.image c/course/shift_mended.c */
 #include <mpi.h>

@@ -1,4 +1,4 @@
-/* A solution of lesson 3: all sends are synchronous, which nothing buffers. So it shows that shift_buffered.c isn't safe.
+/* A solution of lesson 3: all sends are synchronous, so nothing is buffered. It shows that shift_buffered.c isn't safe.
 
    c/rvmc-cc -n 3 -o shift_safe.image c/course/shift_safe.c */
 #include <mpi.h>
