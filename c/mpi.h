@@ -187,6 +187,15 @@ RVMC_INLINE int MPI_Pcontrol(const int level, ...) { (void)level; return MPI_SUC
 
 /* --- sending and receiving (3.2, 3.4) --- */
 
+/* What MPI_Send, MPI_Isend and MPI_Send_init ask the machine for: a send that copies its bytes and returns. With rvmc-cc
+   --unbuffered they wait for their receive, as MPI lets a standard send do. What else sends, in this file or in the library,
+   asks for RVMC_SEND or RVMC_ISEND itself and never waits. */
+#ifdef RVMC_UNBUFFERED
+enum { RVMC_STANDARD_SEND = RVMC_SSEND, RVMC_STANDARD_ISEND = RVMC_ISSEND };
+#else
+enum { RVMC_STANDARD_SEND = RVMC_SEND, RVMC_STANDARD_ISEND = RVMC_ISEND };
+#endif
+
 /* Behind a null pointer the machine finds text, and would send that. */
 RVMC_INLINE rvmc_answer rvmc_send_small(long number, const void *buffer, long size, long dest, int tag, long context)
 {
@@ -229,8 +238,8 @@ RVMC_INLINE int MPI_Send(const void *buffer, int count, MPI_Datatype type, int d
     long code;
 
     if (rvmc_is_derived(type))
-        return rvmc_derived.send("MPI_Send", RVMC_SEND, 0, buffer, count, type, dest, tag, c, 0);
-    code = rvmc_send(RVMC_SEND, buffer, rvmc_bytes(count, type), dest, tag, c).code;
+        return rvmc_derived.send("MPI_Send", RVMC_STANDARD_SEND, 0, buffer, count, type, dest, tag, c, 0);
+    code = rvmc_send(RVMC_STANDARD_SEND, buffer, rvmc_bytes(count, type), dest, tag, c).code;
     return rvmc_code("MPI_Send", code, 0, buffer, count, type, dest, tag, c);
 }
 RVMC_INLINE int MPI_Ssend(const void *buffer, int count, MPI_Datatype type, int dest, int tag, MPI_Comm c)
@@ -251,7 +260,7 @@ RVMC_INLINE int MPI_Recv(void *buffer, int count, MPI_Datatype type, int source,
     code = rvmc_receive(buffer, rvmc_bytes(count, type), source, tag, c, status);
     return rvmc_code("MPI_Recv", code, RVMC_SOURCE, buffer, count, type, source, tag, c);
 }
-/* A standard send always copies its bytes and returns, so sending first and receiving then waits for nobody (3.10). */
+/* A send of the machine copies its bytes and returns, so sending first and receiving then waits for nobody (3.10). */
 RVMC_INLINE int MPI_Sendrecv(const void *out, int out_count, MPI_Datatype out_type, int dest, int out_tag, void *in,
                              int in_count, MPI_Datatype in_type, int source, int in_tag, MPI_Comm c, MPI_Status *status)
 {
@@ -319,8 +328,8 @@ RVMC_INLINE int MPI_Isend(const void *buffer, int count, MPI_Datatype type, int 
     long code;
 
     if (rvmc_is_derived(type))
-        return rvmc_derived.send("MPI_Isend", RVMC_ISEND, 0, buffer, count, type, dest, tag, c, request);
-    code = rvmc_made(rvmc_send(RVMC_ISEND, buffer, rvmc_bytes(count, type), dest, tag, c), request, RVMC_SENDER);
+        return rvmc_derived.send("MPI_Isend", RVMC_STANDARD_ISEND, 0, buffer, count, type, dest, tag, c, request);
+    code = rvmc_made(rvmc_send(RVMC_STANDARD_ISEND, buffer, rvmc_bytes(count, type), dest, tag, c), request, RVMC_SENDER);
     return rvmc_code("MPI_Isend", code, 0, buffer, count, type, dest, tag, c);
 }
 RVMC_INLINE int MPI_Issend(const void *buffer, int count, MPI_Datatype type, int dest, int tag, MPI_Comm c,
@@ -594,6 +603,7 @@ RVMC_INLINE int MPI_Imrecv(void *buffer, int count, MPI_Datatype type, MPI_Messa
 
 /* --- persistent requests (3.9) --- */
 
+#ifndef RVMC_UNBUFFERED
 RVMC_INLINE int MPI_Send_init(const void *buffer, int count, MPI_Datatype type, int dest, int tag, MPI_Comm c,
                               MPI_Request *request)
 {
@@ -611,6 +621,7 @@ RVMC_INLINE int MPI_Send_init(const void *buffer, int count, MPI_Datatype type, 
                          RVMC_PERSISTENT | RVMC_SENDER);
     return rvmc_code("MPI_Send_init", code, 0, buffer, count, type, dest, tag, c);
 }
+#endif
 RVMC_INLINE long rvmc_init_receive(void *buffer, long size, int source, int tag, MPI_Comm c, MPI_Request *request)
 {
     rvmc_answer a = {RVMC_NOT_BEGUN, 0};

@@ -19,14 +19,18 @@ RVMC_CHECKED_INLINE(Rsend_init) RVMC_CHECKED_INLINE(Recv_init) RVMC_CHECKED_INLI
 RVMC_CHECKED_INLINE(Wait) RVMC_CHECKED_INLINE(Test) RVMC_CHECKED_INLINE(Waitall) RVMC_CHECKED_INLINE(Request_free)
 RVMC_CHECKED(Testall) RVMC_CHECKED(Waitany) RVMC_CHECKED(Testany) RVMC_CHECKED(Waitsome) RVMC_CHECKED(Testsome)
 RVMC_CHECKED(Request_get_status) RVMC_CHECKED(Cancel)
+RVMC_CHECKED_INLINE(Psend_init) RVMC_CHECKED_INLINE(Precv_init) RVMC_CHECKED_INLINE(Pready)
+RVMC_CHECKED_INLINE(Pready_range) RVMC_CHECKED_INLINE(Pready_list) RVMC_CHECKED_INLINE(Parrived)
 
 /* Before a collective a function looks at its memory; the call itself stays the program's, so that its line is. One that
-   doesn't wait opens a record first, which gets the buffers that the function looks at. */
+   doesn't wait opens a record first, which gets the buffers that the function looks at; that of a persistent one keeps them
+   for each start. */
 void rvmc_check_later(const char *call, const MPI_Request *request);
+void rvmc_check_lasting(const char *call, const MPI_Request *request);
 void rvmc_check_later_opened(MPI_Request *request);
 int rvmc_check_end(int code);
 #define RVMC_ARGUMENTS(...) __VA_ARGS__
-#define RVMC_CHECKED_BOTH(name, later, arguments, ...) \
+#define RVMC_CHECKED_ALL(name, later, lasting, arguments, ...) \
     void rvmc_check_##name(__VA_ARGS__); \
     RVMC_INLINE int rvmc_checked_##name(__VA_ARGS__) \
     { \
@@ -42,47 +46,75 @@ int rvmc_check_end(int code);
         code = MPI_##later(RVMC_ARGUMENTS arguments, request); \
         rvmc_check_later_opened(request); \
         return rvmc_check_end(code); \
+    } \
+    RVMC_INLINE int rvmc_checked_##lasting(__VA_ARGS__, MPI_Info info, MPI_Request *request) \
+    { \
+        int code; \
+        \
+        rvmc_check_lasting("MPI_" #lasting, request); \
+        rvmc_check_##name arguments; \
+        code = MPI_##lasting(RVMC_ARGUMENTS arguments, info, request); \
+        rvmc_check_later_opened(request); \
+        return rvmc_check_end(code); \
     }
 
-RVMC_CHECKED_BOTH(Barrier, Ibarrier, (c), MPI_Comm c)
-RVMC_CHECKED_BOTH(Bcast, Ibcast, (buffer, count, type, root, c), void *buffer, int count, MPI_Datatype type, int root,
-                  MPI_Comm c)
-RVMC_CHECKED_BOTH(Gather, Igather, (out, out_count, out_type, in, in_count, in_type, root, c), const void *out, int out_count,
-                  MPI_Datatype out_type, void *in, int in_count, MPI_Datatype in_type, int root, MPI_Comm c)
-RVMC_CHECKED_BOTH(Gatherv, Igatherv, (out, out_count, out_type, in, in_counts, places, in_type, root, c), const void *out, int
-                  out_count, MPI_Datatype out_type, void *in, const int in_counts[], const int places[], MPI_Datatype in_type,
-                  int root, MPI_Comm c)
-RVMC_CHECKED_BOTH(Scatter, Iscatter, (out, out_count, out_type, in, in_count, in_type, root, c), const void *out, int
-                  out_count, MPI_Datatype out_type, void *in, int in_count, MPI_Datatype in_type, int root, MPI_Comm c)
-RVMC_CHECKED_BOTH(Scatterv, Iscatterv, (out, out_counts, places, out_type, in, in_count, in_type, root, c), const void *out,
-                  const int out_counts[], const int places[], MPI_Datatype out_type, void *in, int in_count, MPI_Datatype
-                  in_type, int root, MPI_Comm c)
-RVMC_CHECKED_BOTH(Allgather, Iallgather, (out, out_count, out_type, in, in_count, in_type, c), const void *out, int out_count,
-                  MPI_Datatype out_type, void *in, int in_count, MPI_Datatype in_type, MPI_Comm c)
-RVMC_CHECKED_BOTH(Allgatherv, Iallgatherv, (out, out_count, out_type, in, in_counts, places, in_type, c), const void *out, int
-                  out_count, MPI_Datatype out_type, void *in, const int in_counts[], const int places[], MPI_Datatype in_type,
-                  MPI_Comm c)
-RVMC_CHECKED_BOTH(Alltoall, Ialltoall, (out, out_count, out_type, in, in_count, in_type, c), const void *out, int out_count,
-                  MPI_Datatype out_type, void *in, int in_count, MPI_Datatype in_type, MPI_Comm c)
-RVMC_CHECKED_BOTH(Alltoallv, Ialltoallv, (out, out_counts, out_places, out_type, in, in_counts, in_places, in_type, c), const
-                  void *out, const int out_counts[], const int out_places[], MPI_Datatype out_type, void *in, const int
-                  in_counts[], const int in_places[], MPI_Datatype in_type, MPI_Comm c)
-RVMC_CHECKED_BOTH(Alltoallw, Ialltoallw, (out, out_counts, out_places, out_types, in, in_counts, in_places, in_types, c),
-                  const void *out, const int out_counts[], const int out_places[], const MPI_Datatype out_types[], void *in,
-                  const int in_counts[], const int in_places[], const MPI_Datatype in_types[], MPI_Comm c)
+RVMC_CHECKED_ALL(Barrier, Ibarrier, Barrier_init, (c), MPI_Comm c)
+RVMC_CHECKED_ALL(Bcast, Ibcast, Bcast_init, (buffer, count, type, root, c), void *buffer, int count, MPI_Datatype type, int
+                 root, MPI_Comm c)
+RVMC_CHECKED_ALL(Gather, Igather, Gather_init, (out, out_count, out_type, in, in_count, in_type, root, c), const void *out,
+                 int out_count, MPI_Datatype out_type, void *in, int in_count, MPI_Datatype in_type, int root, MPI_Comm c)
+RVMC_CHECKED_ALL(Gatherv, Igatherv, Gatherv_init, (out, out_count, out_type, in, in_counts, places, in_type, root, c), const
+                 void *out, int out_count, MPI_Datatype out_type, void *in, const int in_counts[], const int places[],
+                 MPI_Datatype in_type, int root, MPI_Comm c)
+RVMC_CHECKED_ALL(Scatter, Iscatter, Scatter_init, (out, out_count, out_type, in, in_count, in_type, root, c), const void *out,
+                 int out_count, MPI_Datatype out_type, void *in, int in_count, MPI_Datatype in_type, int root, MPI_Comm c)
+RVMC_CHECKED_ALL(Scatterv, Iscatterv, Scatterv_init, (out, out_counts, places, out_type, in, in_count, in_type, root, c),
+                 const void *out, const int out_counts[], const int places[], MPI_Datatype out_type, void *in, int in_count,
+                 MPI_Datatype in_type, int root, MPI_Comm c)
+RVMC_CHECKED_ALL(Allgather, Iallgather, Allgather_init, (out, out_count, out_type, in, in_count, in_type, c), const void *out,
+                 int out_count, MPI_Datatype out_type, void *in, int in_count, MPI_Datatype in_type, MPI_Comm c)
+RVMC_CHECKED_ALL(Allgatherv, Iallgatherv, Allgatherv_init, (out, out_count, out_type, in, in_counts, places, in_type, c),
+                 const void *out, int out_count, MPI_Datatype out_type, void *in, const int in_counts[], const int places[],
+                 MPI_Datatype in_type, MPI_Comm c)
+RVMC_CHECKED_ALL(Alltoall, Ialltoall, Alltoall_init, (out, out_count, out_type, in, in_count, in_type, c), const void *out,
+                 int out_count, MPI_Datatype out_type, void *in, int in_count, MPI_Datatype in_type, MPI_Comm c)
+RVMC_CHECKED_ALL(Alltoallv, Ialltoallv, Alltoallv_init, (out, out_counts, out_places, out_type, in, in_counts, in_places,
+                 in_type, c), const void *out, const int out_counts[], const int out_places[], MPI_Datatype out_type, void
+                 *in, const int in_counts[], const int in_places[], MPI_Datatype in_type, MPI_Comm c)
+RVMC_CHECKED_ALL(Alltoallw, Ialltoallw, Alltoallw_init, (out, out_counts, out_places, out_types, in, in_counts, in_places,
+                 in_types, c), const void *out, const int out_counts[], const int out_places[], const MPI_Datatype
+                 out_types[], void *in, const int in_counts[], const int in_places[], const MPI_Datatype in_types[], MPI_Comm
+                 c)
+RVMC_CHECKED_ALL(Neighbor_allgather, Ineighbor_allgather, Neighbor_allgather_init, (out, out_count, out_type, in, in_count,
+                 in_type, c), const void *out, int out_count, MPI_Datatype out_type, void *in, int in_count, MPI_Datatype
+                 in_type, MPI_Comm c)
+RVMC_CHECKED_ALL(Neighbor_allgatherv, Ineighbor_allgatherv, Neighbor_allgatherv_init, (out, out_count, out_type, in, in_counts,
+                 places, in_type, c), const void *out, int out_count, MPI_Datatype out_type, void *in, const int in_counts[],
+                 const int places[], MPI_Datatype in_type, MPI_Comm c)
+RVMC_CHECKED_ALL(Neighbor_alltoall, Ineighbor_alltoall, Neighbor_alltoall_init, (out, out_count, out_type, in, in_count,
+                 in_type, c), const void *out, int out_count, MPI_Datatype out_type, void *in, int in_count, MPI_Datatype
+                 in_type, MPI_Comm c)
+RVMC_CHECKED_ALL(Neighbor_alltoallv, Ineighbor_alltoallv, Neighbor_alltoallv_init, (out, out_counts, out_places, out_type, in,
+                 in_counts, in_places, in_type, c), const void *out, const int out_counts[], const int out_places[],
+                 MPI_Datatype out_type, void *in, const int in_counts[], const int in_places[], MPI_Datatype in_type,
+                 MPI_Comm c)
+RVMC_CHECKED_ALL(Neighbor_alltoallw, Ineighbor_alltoallw, Neighbor_alltoallw_init, (out, out_counts, out_places, out_types, in,
+                 in_counts, in_places, in_types, c), const void *out, const int out_counts[], const MPI_Aint out_places[],
+                 const MPI_Datatype out_types[], void *in, const int in_counts[], const MPI_Aint in_places[],
+                 const MPI_Datatype in_types[], MPI_Comm c)
 #ifndef RVMC_REDUCTIONS
-RVMC_CHECKED_BOTH(Reduce, Ireduce, (from, to, count, type, op, root, c), const void *from, void *to, int count, MPI_Datatype
-                  type, MPI_Op op, int root, MPI_Comm c)
-RVMC_CHECKED_BOTH(Allreduce, Iallreduce, (from, to, count, type, op, c), const void *from, void *to, int count, MPI_Datatype
-                  type, MPI_Op op, MPI_Comm c)
-RVMC_CHECKED_BOTH(Scan, Iscan, (from, to, count, type, op, c), const void *from, void *to, int count, MPI_Datatype type,
-                  MPI_Op op, MPI_Comm c)
-RVMC_CHECKED_BOTH(Exscan, Iexscan, (from, to, count, type, op, c), const void *from, void *to, int count, MPI_Datatype type,
-                  MPI_Op op, MPI_Comm c)
-RVMC_CHECKED_BOTH(Reduce_scatter, Ireduce_scatter, (from, to, counts, type, op, c), const void *from, void *to, const int
-                  counts[], MPI_Datatype type, MPI_Op op, MPI_Comm c)
-RVMC_CHECKED_BOTH(Reduce_scatter_block, Ireduce_scatter_block, (from, to, count, type, op, c), const void *from, void *to, int
-                  count, MPI_Datatype type, MPI_Op op, MPI_Comm c)
+RVMC_CHECKED_ALL(Reduce, Ireduce, Reduce_init, (from, to, count, type, op, root, c), const void *from, void *to, int count,
+                 MPI_Datatype type, MPI_Op op, int root, MPI_Comm c)
+RVMC_CHECKED_ALL(Allreduce, Iallreduce, Allreduce_init, (from, to, count, type, op, c), const void *from, void *to, int count,
+                 MPI_Datatype type, MPI_Op op, MPI_Comm c)
+RVMC_CHECKED_ALL(Scan, Iscan, Scan_init, (from, to, count, type, op, c), const void *from, void *to, int count, MPI_Datatype
+                 type, MPI_Op op, MPI_Comm c)
+RVMC_CHECKED_ALL(Exscan, Iexscan, Exscan_init, (from, to, count, type, op, c), const void *from, void *to, int count,
+                 MPI_Datatype type, MPI_Op op, MPI_Comm c)
+RVMC_CHECKED_ALL(Reduce_scatter, Ireduce_scatter, Reduce_scatter_init, (from, to, counts, type, op, c), const void *from, void
+                 *to, const int counts[], MPI_Datatype type, MPI_Op op, MPI_Comm c)
+RVMC_CHECKED_ALL(Reduce_scatter_block, Ireduce_scatter_block, Reduce_scatter_block_init, (from, to, count, type, op, c), const
+                 void *from, void *to, int count, MPI_Datatype type, MPI_Op op, MPI_Comm c)
 #endif
 
 /* What a program makes and has to free: the call, and the place of the handle. */
@@ -230,6 +262,44 @@ RVMC_CHECKED_FREE(Op_free, RVMC_IS_OPERATION, MPI_Op)
 #define MPI_Iexscan rvmc_checked_Iexscan
 #define MPI_Ireduce_scatter rvmc_checked_Ireduce_scatter
 #define MPI_Ireduce_scatter_block rvmc_checked_Ireduce_scatter_block
+#define MPI_Barrier_init rvmc_checked_Barrier_init
+#define MPI_Bcast_init rvmc_checked_Bcast_init
+#define MPI_Gather_init rvmc_checked_Gather_init
+#define MPI_Gatherv_init rvmc_checked_Gatherv_init
+#define MPI_Scatter_init rvmc_checked_Scatter_init
+#define MPI_Scatterv_init rvmc_checked_Scatterv_init
+#define MPI_Allgather_init rvmc_checked_Allgather_init
+#define MPI_Allgatherv_init rvmc_checked_Allgatherv_init
+#define MPI_Alltoall_init rvmc_checked_Alltoall_init
+#define MPI_Alltoallv_init rvmc_checked_Alltoallv_init
+#define MPI_Alltoallw_init rvmc_checked_Alltoallw_init
+#define MPI_Reduce_init rvmc_checked_Reduce_init
+#define MPI_Allreduce_init rvmc_checked_Allreduce_init
+#define MPI_Scan_init rvmc_checked_Scan_init
+#define MPI_Exscan_init rvmc_checked_Exscan_init
+#define MPI_Reduce_scatter_init rvmc_checked_Reduce_scatter_init
+#define MPI_Reduce_scatter_block_init rvmc_checked_Reduce_scatter_block_init
+#define MPI_Neighbor_allgather rvmc_checked_Neighbor_allgather
+#define MPI_Neighbor_allgatherv rvmc_checked_Neighbor_allgatherv
+#define MPI_Neighbor_alltoall rvmc_checked_Neighbor_alltoall
+#define MPI_Neighbor_alltoallv rvmc_checked_Neighbor_alltoallv
+#define MPI_Neighbor_alltoallw rvmc_checked_Neighbor_alltoallw
+#define MPI_Ineighbor_allgather rvmc_checked_Ineighbor_allgather
+#define MPI_Ineighbor_allgatherv rvmc_checked_Ineighbor_allgatherv
+#define MPI_Ineighbor_alltoall rvmc_checked_Ineighbor_alltoall
+#define MPI_Ineighbor_alltoallv rvmc_checked_Ineighbor_alltoallv
+#define MPI_Ineighbor_alltoallw rvmc_checked_Ineighbor_alltoallw
+#define MPI_Neighbor_allgather_init rvmc_checked_Neighbor_allgather_init
+#define MPI_Neighbor_allgatherv_init rvmc_checked_Neighbor_allgatherv_init
+#define MPI_Neighbor_alltoall_init rvmc_checked_Neighbor_alltoall_init
+#define MPI_Neighbor_alltoallv_init rvmc_checked_Neighbor_alltoallv_init
+#define MPI_Neighbor_alltoallw_init rvmc_checked_Neighbor_alltoallw_init
+#define MPI_Psend_init rvmc_checked_Psend_init
+#define MPI_Precv_init rvmc_checked_Precv_init
+#define MPI_Pready rvmc_checked_Pready
+#define MPI_Pready_range rvmc_checked_Pready_range
+#define MPI_Pready_list rvmc_checked_Pready_list
+#define MPI_Parrived rvmc_checked_Parrived
 #define MPI_Comm_dup rvmc_checked_Comm_dup
 #define MPI_Comm_dup_with_info rvmc_checked_Comm_dup_with_info
 #define MPI_Comm_create rvmc_checked_Comm_create

@@ -72,6 +72,18 @@ void rvmc_regions_drop(const struct rvmc_record *record, int buffers, int variab
     watch();
 }
 
+/* A partition that has arrived is the program's again. */
+void rvmc_region_drop_partition(const struct rvmc_record *record, int partition)
+{
+    int left = 0;
+
+    for (int i = 0; i < count; i++)
+        if (regions[i].of != record || regions[i].partition != partition)
+            regions[left++] = regions[i];
+    count = left;
+    watch();
+}
+
 /* Whether bytes of a piece are among those of an access. */
 static int meets(const struct rvmc_region *r, unsigned low, unsigned length)
 {
@@ -97,8 +109,17 @@ const struct rvmc_region *rvmc_region_hit(unsigned low, unsigned length, int is_
 
 static void tell_active(const struct rvmc_region *hit, const char *by, unsigned behind, int is_written)
 {
-    RVMC_TELL(behind, hit->of->behind, "the buffer of %s is %s %s before its MPI_Wait",
-              rvmc_check_call(hit->of->call, hit->of->behind), is_written ? "written" : "read", by);
+    const char *call = rvmc_check_call(hit->of->call, hit->of->behind), *done = is_written ? "written" : "read";
+    int partition = hit->partition - 1;
+
+    if (partition < 0)
+        RVMC_TELL(behind, hit->of->behind, "the buffer of %s is %s %s before its MPI_Wait", call, done, by);
+    else if (hit->is_received)
+        RVMC_TELL(behind, hit->of->behind, "partition %d of the buffer of %s is %s %s before its MPI_Parrived or MPI_Wait",
+                  partition, call, done, by);
+    else
+        RVMC_TELL(behind, hit->of->behind, "partition %d of the buffer of %s, ready since %s, is %s %s before its MPI_Wait",
+                  partition, call, rvmc_check_line(hit->ready), done, by);
 }
 
 /* --- accesses --- */

@@ -34,7 +34,7 @@ void rvmc_record_open(struct rvmc_record *record, MPI_Request *request, MPI_Requ
     record->next = records;
     records = record;
     *request = record->handle;
-    rvmc_region_add(record, &(struct rvmc_region){(unsigned)(unsigned long)request, sizeof *request, 1, 1, 0, 0, 1});
+    rvmc_region_add(record, &(struct rvmc_region){(unsigned)(unsigned long)request, sizeof *request, 1, 1, 0, 0, 1, 0, 0});
     if ((record->kind & RVMC_IS_ACTIVE) && record->type)
         rvmc_type_regions(record, record->buffer, record->count, record->type, record->kind & RVMC_IS_RECEIVE);
     rvmc_check_unlock();
@@ -51,6 +51,12 @@ void rvmc_record_gone(struct rvmc_record *record)
     if (*at) {
         *at = record->next;
         rvmc_leave_type(record->type);
+    }
+    while (record->parts) {
+        struct rvmc_kept *part = record->parts;
+
+        record->parts = part->next;
+        rvmc_check_give_back(part);
     }
     rvmc_check_give_back(record->room);
     rvmc_check_give_back(record);

@@ -194,7 +194,7 @@ static void add_to_region(struct visit *v, long low, long size)
     }
     if (r->count)
         rvmc_region_add(v->record, r);
-    *r = (struct rvmc_region){(unsigned)low, (unsigned)size, 1, 1, 0, (char)v->is_written, 0};
+    *r = (struct rvmc_region){(unsigned)low, (unsigned)size, 1, 1, 0, (char)v->is_written, 0, 0, 0};
 }
 
 void rvmc_type_regions(const struct rvmc_record *record, const void *buffer, long count, MPI_Datatype type, int is_received)

@@ -51,9 +51,12 @@ struct rvmc_region {
     const struct rvmc_record *of;
     char is_received;                             /* written by the request: it may not even be read */
     char is_variable;                             /* not a buffer, but where the program has the request */
+    short partition;                              /* of a partitioned transfer, counted from 1; else 0 */
+    unsigned ready;                               /* behind the MPI_Pready of a partition that is sent */
 };
 void rvmc_region_add(const struct rvmc_record *record, const struct rvmc_region *region);
 void rvmc_regions_drop(const struct rvmc_record *record, int buffers, int variable);
+void rvmc_region_drop_partition(const struct rvmc_record *record, int partition);
 const struct rvmc_region *rvmc_region_hit(unsigned low, unsigned length, int is_written);
 void rvmc_check_forget_block(void);
 void rvmc_check_know_block(unsigned at, unsigned size);
@@ -97,6 +100,14 @@ void rvmc_check_apart(const char *call, unsigned behind, const void *out, long o
 enum {
     RVMC_IS_SEND = 1, RVMC_IS_RECEIVE = 2, RVMC_IS_PERSISTENT = 4, RVMC_IS_ACTIVE = 8, RVMC_IS_DELIVERED = 16
 };
+/* A buffer of a persistent collective, which is active from each start to its completion. */
+struct rvmc_kept {
+    struct rvmc_kept *next;
+    void *buffer;
+    long count;
+    MPI_Datatype type;
+    int is_written;
+};
 struct rvmc_record {
     struct rvmc_record *next;
     MPI_Request handle, raw;
@@ -110,6 +121,8 @@ struct rvmc_record {
     MPI_Datatype type;
     char *room;                                   /* the message with its head */
     long size;
+    int partitions;                               /* of a partitioned transfer: of each of them is `count` */
+    struct rvmc_kept *parts;                      /* of a persistent collective */
 };
 struct rvmc_record *rvmc_record_new(const char *call, unsigned behind, int kind);
 void rvmc_record_open(struct rvmc_record *record, MPI_Request *request, MPI_Request raw);

@@ -212,6 +212,19 @@ RVMC_INLINE int MPI_Ssend_init(const void *buffer, int count, MPI_Datatype type,
     code = rvmc_own_init(RVMC_SYNCHRONOUS, buffer, rvmc_bytes(count, type), dest, tag, c, request);
     return rvmc_code("MPI_Ssend_init", code, 0, buffer, count, type, dest, tag, c);
 }
+#ifdef RVMC_UNBUFFERED
+/* A standard send that waits for its receive: at each start a synchronous one (3.9). */
+RVMC_INLINE int MPI_Send_init(const void *buffer, int count, MPI_Datatype type, int dest, int tag, MPI_Comm c,
+                              MPI_Request *request)
+{
+    long code;
+
+    if (rvmc_is_derived(type))
+        return rvmc_derived.send("MPI_Send_init", RVMC_SSEND_INIT, 0, buffer, count, type, dest, tag, c, request);
+    code = rvmc_own_init(RVMC_SYNCHRONOUS, buffer, rvmc_bytes(count, type), dest, tag, c, request);
+    return rvmc_code("MPI_Send_init", code, 0, buffer, count, type, dest, tag, c);
+}
+#endif
 RVMC_INLINE int MPI_Bsend_init(const void *buffer, int count, MPI_Datatype type, int dest, int tag, MPI_Comm c,
                                MPI_Request *request)
 {

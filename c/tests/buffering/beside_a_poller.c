@@ -1,0 +1,29 @@
+#include <mpi.h>
+
+/* ints of a message: 200,000 bytes, which MPICH doesn't buffer */
+#ifndef COUNT
+#define COUNT 50000
+#endif
+
+static int out[COUNT], in[COUNT];
+
+int main(int argc, char **argv)
+{
+    int rank, there = 0;
+
+    MPI_Init(&argc, &argv);
+    MPI_Comm_rank(MPI_COMM_WORLD, &rank);
+    out[COUNT - 1] = rank;
+    if (rank == 2) {
+        while (!there)
+            MPI_Iprobe(0, 8, MPI_COMM_WORLD, &there, MPI_STATUS_IGNORE);
+        MPI_Recv(in, 1, MPI_INT, 0, 8, MPI_COMM_WORLD, MPI_STATUS_IGNORE);
+    } else {
+        MPI_Send(out, COUNT, MPI_INT, 1 - rank, 7, MPI_COMM_WORLD);
+        MPI_Recv(in, COUNT, MPI_INT, 1 - rank, 7, MPI_COMM_WORLD, MPI_STATUS_IGNORE);
+        if (rank == 0)
+            MPI_Send(out, 1, MPI_INT, 2, 8, MPI_COMM_WORLD);
+    }
+    MPI_Finalize();
+    return in[COUNT - 1] != (rank == 2 ? 0 : 1 - rank);
+}

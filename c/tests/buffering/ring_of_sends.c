@@ -1,0 +1,24 @@
+#include <mpi.h>
+
+/* ints of a message: 200,000 bytes, which MPICH doesn't buffer */
+#ifndef COUNT
+#define COUNT 50000
+#endif
+
+static int out[COUNT], in[COUNT];
+
+int main(int argc, char **argv)
+{
+    int rank, size, next, last;
+
+    MPI_Init(&argc, &argv);
+    MPI_Comm_rank(MPI_COMM_WORLD, &rank);
+    MPI_Comm_size(MPI_COMM_WORLD, &size);
+    next = (rank + 1) % size;
+    last = (rank + size - 1) % size;
+    out[COUNT - 1] = rank;
+    MPI_Send(out, COUNT, MPI_INT, next, 7, MPI_COMM_WORLD);
+    MPI_Recv(in, COUNT, MPI_INT, last, 7, MPI_COMM_WORLD, MPI_STATUS_IGNORE);
+    MPI_Finalize();
+    return in[COUNT - 1] != last;
+}

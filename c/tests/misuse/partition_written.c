@@ -1,0 +1,28 @@
+#include <mpi.h>
+#include <stdio.h>
+
+int main(int argc, char **argv)
+{
+    double parts[4] = {0, 0, 0, 0};
+    int rank;
+    MPI_Request request;
+
+    MPI_Init(&argc, &argv);
+    MPI_Comm_rank(MPI_COMM_WORLD, &rank);
+    if (rank == 0) {
+        MPI_Psend_init(parts, 4, 1, MPI_DOUBLE, 1, 7, MPI_COMM_WORLD, MPI_INFO_NULL, &request); /* A */
+        MPI_Start(&request);
+        for (int i = 0; i < 4; i++) {
+            MPI_Pready(i, request); /* C */
+            parts[i] = i + 10; /* B */
+        }
+    } else {
+        MPI_Precv_init(parts, 4, 1, MPI_DOUBLE, 0, 7, MPI_COMM_WORLD, MPI_INFO_NULL, &request);
+        MPI_Start(&request);
+    }
+    MPI_Wait(&request, MPI_STATUS_IGNORE);
+    printf("rank %d has %d\n", rank, (int)parts[3]);
+    MPI_Request_free(&request);
+    MPI_Finalize();
+    return 0;
+}
