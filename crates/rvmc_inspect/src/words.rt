@@ -9,6 +9,7 @@ ghost use Rattle.rvmc_places.specs.Places.{line_start, line_starts};
 
 use crate::word_texts::{bytes_text, frames_text, output_text, place_text, regs_text};
 use cl_debug::{DebugFault, Debugger};
+use rv_image::Symbol;
 use rvmc_places::{line_start, line_starts};
 use rvmc_words::{DebugWord, Name, Spot};
 use std::alloc::{AllocError, Global};
@@ -65,11 +66,18 @@ fn run(alloc: Global, debugger: &mut Debugger) -> Result<Vec<u8>, DebugFault>
     Ok(tell_place(alloc, debugger)?)
 }
 
+/// The symbols of the image.
+fn symbols_of(debugger: &Debugger) -> &[Symbol]
+    ensures { result.now ≡ debugger.now.image.symbols }
+{
+    debugger.image().parts().symbols.as_slice()
+}
+
 /// The address at which a line begins, or the first of several.
 fn line_start_of(debugger: &Debugger, file: &Name, number: &Name) -> Option<u64>
     ensures { result ≡ line_start file.now number.now debugger.now.image.symbols }
 {
-    let symbols = debugger.image().parts().symbols.as_slice();
+    let symbols = symbols_of(debugger);
     line_start(symbols, file.as_str().as_bytes(), number.as_str().as_bytes())
 }
 
@@ -98,13 +106,9 @@ fn line_starts_of(
 ) -> Result<Vec<u64>, AllocError>
     ensures { IfOk result (λ found. found.items ≡ line_starts file.now number.now debugger.now.image.symbols) }
 {
-    let symbols = debugger.image().parts().symbols.as_slice();
-    line_starts(
-        alloc,
-        symbols,
-        file.as_str().as_bytes(),
-        number.as_str().as_bytes(),
-    )
+    let symbols = symbols_of(debugger);
+    let (file, number) = (file.as_str().as_bytes(), number.as_str().as_bytes());
+    line_starts(alloc, symbols, file, number)
 }
 
 /// Sets a break of a hart at each of these addresses. The only fault is want of memory.
