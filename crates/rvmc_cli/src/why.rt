@@ -45,7 +45,7 @@ receive has taken. The last line is the verdict:
 If the record has fewer than N steps, that is an error, as
 `rvmc: why: PastEnd 10`, and so are steps that aren't a run of the image, as
 `rvmc: why: NotARun 3`. `run` and `one` print the same text about the end of
-their run, with --why.
+their run, with --why or --frames.
 
 At most 67,108,864 bytes are read, from FILE or else from standard input. With -o
 the output goes to a file, which is in its place once it is whole.
