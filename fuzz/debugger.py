@@ -4,18 +4,21 @@
 import re
 
 import frames
+import places
 from cluster import Walk
 
 MOST, MOST_SMALL = (1 << 64) - 1, 255
 
 NUMBER = re.compile(r"0x[0-9a-fA-F]+|[0-9]+")
 NAME = re.compile(r"[A-Za-z_.$][A-Za-z0-9_.$]*")
+LINE = re.compile(rf"({NAME.pattern}):([1-9][0-9]*)")
 
 # texts that are no words, beside those with a wrong number of arguments
 NO_WORDS = ["", "fly", "Step", " step", "step=1", "place=", "go", "go=", "go=x", "go=0x", "go=0X1", "go=+1", "go=1 "]
 NO_WORDS += ["go=18446744073709551616", "regs=0", "regs=0,256", "regs=0x100,0", "regs=0,0,", "bytes=0,1", "go=1=1"]
 NO_WORDS += ["output", "output=", "output=0,0", "output=256", "output=x", "frames", "frames=0", "frames=0,0,0"]
 NO_WORDS += ["bytes=0,1a,1", "bytes=0,,1", "bytes=0,a-b,1", "break=0,0", "break=a,0,0", "break=0,0,", "go=\u0661"]
+NO_WORDS += ["break=0,0,:1", "break=0,0,a.c:", "break=0,0,a.c:01", "break=0,0,a.c:0x1", "break=0,0,a.c:1:2", "bytes=0,1:1,1"]
 
 
 class Refused(Exception):
@@ -29,7 +32,9 @@ def number(text, most):
 
 
 def spot(text):
-    """What stands for an address: a number or a name, or None."""
+    """What stands for an address: a number, a name, or a file and the number of a line; or None."""
+    if line := LINE.fullmatch(text):
+        return line.groups()
     return text if NAME.fullmatch(text) else number(text, MOST)
 
 
@@ -79,14 +84,15 @@ class Debugger:
             walk.takes(step)
         return walk.cluster.ranks[rank]
 
-    def address(self, at):
-        """The address that a number or a name stands for."""
+    def addresses(self, at):
+        """The addresses that a number, a name or a line stands for."""
         if isinstance(at, int):
-            return at
-        found = [address for address, name in self.image.symbols if name == at.encode()]
+            return [at]
+        is_meant = (lambda name: places.line(name) == at) if isinstance(at, tuple) else (lambda name: name == at)
+        found = [address for address, name in self.image.symbols if is_meant(name.decode())]
         if not found:
             raise Refused("NoSymbol")
-        return found[0]
+        return found
 
     def does(self, name, values):
         """Does a word: what it prints."""
@@ -107,13 +113,13 @@ class Debugger:
         return f"at {self.place} of {last}\n".encode()
 
     def does_break(self, rank, hart, at):
-        """Sets a break."""
-        at = self.address(at)
+        """Sets a break, of a line several perhaps."""
+        found = self.addresses(at)
         if rank >= self.image.ranks:
             raise Refused("NoRank")
         if hart >= self.image.harts:
             raise Refused("NoHart")
-        self.breaks.append((rank, hart, at))
+        self.breaks += [(rank, hart, at) for at in found]
         return b""
 
     def does_regs(self, rank, hart):
@@ -141,7 +147,7 @@ class Debugger:
 
     def does_bytes(self, rank, at, count):
         """Shows bytes."""
-        at = self.address(at)
+        at = self.addresses(at)[0]
         memory = self.rank(rank).memory
         if not memory.can_read(at, count):
             raise Refused("Range")
@@ -193,7 +199,8 @@ class Words:
     def name(self):
         """A name, of a symbol or of none."""
         names = [name.decode() for _, name in self.image.symbols]
-        return self.random.choice([*names, *names, "nobody", "_" * 32])
+        lines = [":".join(places.line(name)) for name in names if places.line(name)]
+        return self.random.choice([*names, *names, *lines, "nobody", "_" * 32, "a.c:1"])
 
     def word(self):
         """A word."""

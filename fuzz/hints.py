@@ -3,7 +3,9 @@
 import re
 
 import assembler
+import debugger
 import formats
+import places
 
 # a hint's line: printable bytes, and what stands in a string of the source as it is, a tab or a carriage return
 LINE = re.compile(rb"hint: [ -~\t\r]+\n")
@@ -121,16 +123,21 @@ def near(one, other):
 
 
 def of_symbols(words, given):
-    """Returns which name of the words of `debug` is no symbol."""
+    """Returns which name of the words of `debug` is no symbol, or which line of theirs has no code."""
     image, _ = formats.read_record(given)
     symbols = [name for _, name in image.symbols]
+    lines = [line for line in (places.line(name.decode()) for name in symbols) if line]
     for word in words[1:]:
-        found = re.fullmatch(r"(?:break=[^,]*,[^,]*,|bytes=[^,]*,)([A-Za-z_.$][A-Za-z0-9_.$]*)(?:,[^,]*)?", word)
-        name = found and found.group(1).encode()
-        if name and name not in symbols:
-            meant = [symbol for symbol in symbols if near(symbol, name)]
+        kind, values = debugger.meaning(word) or ("", [])
+        at = values[{"break": 2, "bytes": 1}[kind]] if kind in ("break", "bytes") else 0
+        if isinstance(at, str) and at.encode() not in symbols:
+            meant = [symbol for symbol in symbols if near(symbol, at.encode())]
             behind = f"; is {meant[0].decode()} meant?" if meant else ""
-            return f"the image has no symbol {name.decode()}{behind}"
+            return f"the image has no symbol {at}{behind}"
+        if isinstance(at, tuple) and at not in lines:
+            later = [int(number) for file, number in lines if file == at[0] and int(number) > int(at[1])]
+            behind = f"; the next line with code is {at[0]}:{min(later)}" if later else ""
+            return f"the image has no code of {':'.join(at)}{behind}"
     return ""
 
 
@@ -147,8 +154,9 @@ def of_budget(words, out):
 def of_report(words, out):
     """Returns what is told beside the report of a run that was cut short while a hart waited."""
     waits = out.startswith(b"rank 0 output ") and b" waiting at 0x" in out and b" stop budget turns " in out
-    # with --why, and where --until-stuck ended the run, it stands behind the report what each hart waits for
-    alone = not words or words[0] in ("one", "run") and "--why" not in words and b" waits at 0x" not in out
+    # with --why or --frames, and where --until-stuck ended the run, it stands behind the report what each hart waits for
+    asked = {"--why", "--frames"} & set(words)
+    alone = not words or words[0] in ("one", "run") and not asked and b" waits at 0x" not in out
     larger = of_budget(words, out)
     if alone and waits:
         return "a hart waits; --why says for what" + (f", and {larger}" if larger else "")

@@ -31,8 +31,8 @@ COMMANDS = {
     "dis": ((), ()),
     "check": ((), ()),
     "report": ((), ()),
-    "one": (("--source", "--record", "--why"), (BUDGET, PLAN, ("--order", listed))),
-    "run": (("--source", "--record", "--why"), (BUDGET, PLAN, ("--lead", lambda text: bounded(text, MOST_LEAD)))),
+    "one": (("--source", "--record", "--why", "--frames"), (BUDGET, PLAN, ("--order", listed))),
+    "run": (("--source", "--record", "--why", "--frames"), (BUDGET, PLAN, ("--lead", lambda text: bounded(text, MOST_LEAD)))),
     "list": (("--calls", "--stats"), (("--from", PLACE), ("--to", PLACE), ("--rank", lambda text: bounded(text, 255, 0)))),
     "draw": ((), (("--from", PLACE), ("--to", PLACE))),
     "page": ((), (("--from", PLACE), ("--to", PLACE))),
@@ -40,7 +40,7 @@ COMMANDS = {
 }
 
 # flags that don't go together
-APART = ({"--record", "--why"}, {"--calls", "--stats"})
+APART = ({"--record", "--why"}, {"--record", "--frames"}, {"--calls", "--stats"})
 
 # options whose values are numbers
 NUMBERED = ("--budget", "--lead", "--at", "--from", "--to", "--rank")

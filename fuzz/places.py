@@ -15,21 +15,27 @@ def nearest(symbols, at):
     return found
 
 
+def line(name):
+    """The file and the number of the line that a symbol is of, or None."""
+    found = LINE.fullmatch(name)
+    return found and found.group(1, 2)
+
+
 def near(image, at):
     """The line that an address belongs to, as a file and a number, and the nearest label; each may be missing."""
     named = [(address, name.decode()) for address, name in image.symbols]
-    label = nearest([one for one in named if not LINE.fullmatch(one[1])], at)
-    line = nearest([one for one in named if LINE.fullmatch(one[1])], at)
-    if line and (not label or label[0] <= line[0]):
-        return LINE.fullmatch(line[1]).group(1, 2), label
+    label = nearest([one for one in named if not line(one[1])], at)
+    begun = nearest([one for one in named if line(one[1])], at)
+    if begun and (not label or label[0] <= begun[0]):
+        return line(begun[1]), label
     return None, label
 
 
 def name(image, at):
     """`farm.c:46 in worker`, `worker+0x24`, or `0x344`."""
-    line, label = near(image, at)
-    if line:
-        return ":".join(line) + (f" in {label[1]}" if label else "")
+    found, label = near(image, at)
+    if found:
+        return ":".join(found) + (f" in {label[1]}" if label else "")
     return f"{label[1]}+{at - label[0]:#x}" if label else f"{at:#x}"
 
 

@@ -28,8 +28,10 @@ STORE_ACCESS = 7
 class Wait:
     """One thing that a hart waits for, as text, and which ranks could bring it."""
 
-    def __init__(self, text, could):
+    def __init__(self, text, could, short=None):
         self.text, self.could = text, set(could)
+        # inside the library: the second communicator is its own, and so are the tags there
+        self.short = text if short is None else short
 
 
 class Tried:
@@ -85,7 +87,8 @@ class Tried:
         who = "any rank" if source is None else f"rank {source}"
         what = "any tag" if tag is None else f"tag {tag}"
         could = self.cluster.comms[comm] if source is None else [source]
-        return Wait(f"a message from {who} {what} comm {comm}", could)
+        text = f"a message from {who}"
+        return Wait(f"{text} {what} comm {comm}", could, text if comm == 1 else None)
 
     def of_post(self, number):
         """The other side of a post."""
@@ -130,29 +133,32 @@ def cause(image, hart):
     return f"{hart.why} ({CAUSES[hart.why]})"
 
 
-def waiting_place(image, hart, memory):
-    """Where a hart waits: in the library at the program's own call, with the function of the library."""
-    call = frames.own_call(image, hart, memory)
-    if not call:
-        return places.place(image, hart.pc)
-    function = places.function(image, call[1])
-    return places.place(image, call[0]) + (f", in {function}," if function else "")
+def waiting_text(image, hart, memory, waits, framed):
+    """Where a hart waits, and for what: in the library at the program's own call, with the function of the library. With
+    frames it is where it is itself."""
+    call = None if framed else frames.own_call(image, hart, memory)
+    things = "; ".join(wait.short if call else wait.text for wait in waits) or "nothing more"
+    if call:
+        function = places.function(image, call[1])
+        return f"{places.name(image, call[0])}{f', in {function}' if function else ''}, for {things}"
+    if places.has_line(image, hart.pc):
+        return f"{places.name(image, hart.pc)}, for {things}"
+    return f"{places.place(image, hart.pc)} in {CALLS[hart.regs[17]]} for {things}"
 
 
 def hart_line(image, rank, number, waits, framed):
-    """How a hart is, perhaps with the calls that led there."""
+    """How a hart is, perhaps with the calls that led there, each in a line."""
     hart = rank.harts[number]
-    at = " ".join([places.place(image, hart.pc), *(frames.calls(image, hart, rank.memory) if framed else [])])
+    at = places.place(image, hart.pc)
+    calls = frames.calls(image, hart, rank.memory) if framed else []
     told = f"runs at {at}"
     if hart.mode == ENDED:
-        told = f"ended {hart.why}"
+        told, calls = f"ended {hart.why}", []
     elif hart.mode == TRAPPED:
         told = f"trapped {cause(image, hart)} at {at}"
     elif hart.mode == WAITING:
-        at = at if framed else waiting_place(image, hart, rank.memory)
-        things = "; ".join(wait.text for wait in waits) or "nothing more"
-        told = f"waits at {at} in {CALLS[hart.regs[17]]} for {things}"
-    return f"rank {rank.number} hart {number} {told}\n"
+        told = f"waits at {waiting_text(image, hart, rank.memory, waits, framed)}"
+    return f"rank {rank.number} hart {number} {told}\n" + "".join(f"  {call}\n" for call in calls)
 
 
 def unreceived(hub, rank):

@@ -1,5 +1,5 @@
 -- The commands, one row each: its name, what clap reads for it, and what it asks for.
-use Rattle.std.specs.Prelude.{ℕ, ⊤, Bool, false, true, List, [], ◌∷◌, ◌++◌, Option, Some, None, if◌then◌else◌, codes, map, not, option_map}
+use Rattle.std.specs.Prelude.{ℕ, ⊤, Bool, false, true, List, [], ◌∷◌, ◌++◌, ◌||◌, Option, Some, None, if◌then◌else◌, codes, map, not, option_map}
 use Rattle.std.specs.Prelude.{option_and_then}
 use Rattle.std.specs.Option.{option_map_or, unwrap_or}
 use Rattle.std.specs.Str.{bytes_eq}
@@ -47,22 +47,26 @@ dis_row =
       meaning = λ rows. Some (OfImage false Dis);
     }
 
--- what `run` and `one` share: `[--source] [--budget N] [--plan HARTS] [--record] [--why]`
+-- what `run` and `one` share: `[--source] [--budget N] [--plan HARTS] [--record] [--why] [--frames]`
 abbrev pub runner_rules : List Rule
 runner_rules =
     flag (codes "source") ∷ option (codes "budget") ∷ option (codes "plan") ∷ flag (codes "record")
-    ∷ flag (codes "why") ∷ []
+    ∷ flag (codes "why") ∷ flag (codes "frames") ∷ []
 
 -- `--budget N`, from 1 to 2^24; without it 1,000,000
 abbrev pub budget_in : List Row → Option ℕ
 budget_in rows = number_option (codes "budget") 1 16777216 1000000 rows
 
--- `--record` or `--why`, without both the report alone; they don't go together
+-- `--frames` asks for what `--why` does, and for more
+abbrev pub asks_why : List Row → Bool
+asks_why rows = flag_in (codes "frames") rows || flag_in (codes "why") rows
+
+-- `--record`, or `--why` or `--frames`, without all three the report alone; `--record` goes with neither of the others
 abbrev pub written_in : List Row → Option Written
 written_in rows =
     if flag_in (codes "record") rows
-    then (if flag_in (codes "why") rows then None else Some written.Record)
-    else (if flag_in (codes "why") rows then Some written.Why else Some written.Report)
+    then (if asks_why rows then None else Some written.Record)
+    else (if asks_why rows then Some (written.Why (flag_in (codes "frames") rows)) else Some written.Report)
 
 -- `--lead N`, from 1 to 2^16; without it 64
 abbrev pub lead_in : List Row → Option ℕ
@@ -79,7 +83,7 @@ run_with budget lead rows =
     option_and_then (λ written. option_map (λ plan. run_by (flag_in (codes "until-stuck") rows) budget plan lead written)
     (list_option (codes "plan") rows)) (written_in rows)
 
--- `run [--source] [--budget N] [--plan HARTS] [--record] [--why] [--lead N] [--until-stuck]`
+-- `run [--source] [--budget N] [--plan HARTS] [--record] [--why] [--frames] [--lead N] [--until-stuck]`
 abbrev pub run_row : CommandRow
 run_row =
     record {
@@ -102,7 +106,7 @@ one_with budget written rows =
     option_and_then (λ plan. option_map (λ order. one_by (flag_in (codes "until-stuck") rows) budget plan order written)
     (list_option (codes "order") rows)) (list_option (codes "plan") rows)
 
--- `one [--source] [--budget N] [--plan HARTS] [--record] [--why] [--order RANKS] [--until-stuck]`
+-- `one [--source] [--budget N] [--plan HARTS] [--record] [--why] [--frames] [--order RANKS] [--until-stuck]`
 abbrev pub one_row : CommandRow
 one_row =
     record {

@@ -28,12 +28,16 @@ after the other, each where the one before it stopped:
   place            stay
   break=R,H,PC     make `run` stop where hart H of rank R is about to do PC
   break=R,H,NAME   the same for the address of a symbol of the image, as
-                   break=0,0,main or break=0,0,farm.c.12
+                   break=0,0,main
+  break=R,H,FILE:LINE
+                   the same for each address at which that line of a source
+                   begins, as break=0,0,farm.c:12
   regs=R,H         print how the hart is, and its registers
   frames=R,H       print how the hart is, and the calls that led there
   output=R         print what rank R has printed so far
   bytes=R,A,N      print N bytes of rank R's memory, from address A
-  bytes=R,NAME,N   the same from the address of a symbol
+  bytes=R,NAME,N   the same from the address of a symbol, or with FILE:LINE
+                   from the first address at which that line begins
 
 The first five print the place, as `at 2 of 10`. R and H are from 0 to 255, the
 other numbers up to 2^64-1; all are decimal, or hexadecimal after `0x`.
@@ -52,7 +56,7 @@ Status:
 Examples:
   rvmc one --record hi.image -o hi.record
   rvmc debug hi.record go=2 regs=0,0
-  rvmc debug farm.record break=0,0,farm.c.12 run frames=0,0
+  rvmc debug farm.record break=0,0,farm.c:12 run frames=0,0
   rvmc debug hi.record break=0,0,0x18 run run
   rvmc debug hi.record go=3 bytes=0,0xfff8,4 back bytes=0,0xfff8,4";
 

@@ -1,4 +1,4 @@
-//! `one [--source] [--budget N] [--plan HARTS] [--record] [--why] [--order RANKS] [--until-stuck]`.
+//! `one [--source] [--budget N] [--plan HARTS] [--record] [--why] [--frames] [--order RANKS] [--until-stuck]`.
 
 ghost use Rattle.std.specs.Prelude.{◌≡◌, IfOk};
 ghost use Rattle.clap.specs.Walk.{rows_of};
@@ -29,8 +29,9 @@ stopped. `rvmc-mpi run` prints the output alone, line by line.
 
 --record writes a record instead: the image and every step, for `rvmc check`,
 `list`, `draw`, `page`, `debug`, `gdb` and `why`. --why adds to the report what
-each hart is waiting for. --until-stuck ends the run as soon as every rank that
-hasn't ended is in a deadlock, and adds the same text.
+each hart is waiting for, and --frames also which calls led there. --until-stuck
+ends the run as soon as every rank that hasn't ended is in a deadlock, and adds
+the text of --why.
 
 The turns of a rank go to its harts in the order that --plan lists, round and
 round. RANKS and HARTS are numbers from 0 to 255 with a comma between them. Each

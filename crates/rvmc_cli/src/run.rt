@@ -1,4 +1,4 @@
-//! `run [--source] [--budget N] [--plan HARTS] [--record] [--why] [--lead N] [--until-stuck]`.
+//! `run [--source] [--budget N] [--plan HARTS] [--record] [--why] [--frames] [--lead N] [--until-stuck]`.
 
 ghost use Rattle.std.specs.Prelude.{◌≡◌, IfOk};
 ghost use Rattle.clap.specs.Walk.{rows_of};
@@ -28,8 +28,9 @@ stopped. `rvmc-mpi run` prints the output alone, line by line.
 
 --record writes a record instead: the image and every step of every rank, for
 `rvmc check`, `list`, `draw`, `page`, `debug`, `gdb` and `why`. --why adds to the
-report what each hart is waiting for. --until-stuck ends the run as soon as
-every rank that hasn't ended is in a deadlock, and adds the same text.
+report what each hart is waiting for, and --frames also which calls led there.
+--until-stuck ends the run as soon as every rank that hasn't ended is in a
+deadlock, and adds the text of --why.
 
 A rank that gets more than --lead turns ahead of the slowest one is held back.
 The turns of a rank go to its harts in the order that --plan lists, round and

@@ -33,6 +33,10 @@ static PARTS: &[Part] = &[
         "why",
         "After the report, print what each hart is waiting for",
     ),
+    Part::Flag(
+        "frames",
+        "The same, and print also which calls led to where each hart is",
+    ),
 ];
 
 /// A command that runs an image: with the shared options, and behind them these.
@@ -60,15 +64,14 @@ pub fn budget<'a>(matches: &ArgMatches<'a>) -> Result<u64, Wrong<'a>>
 pub fn written<'a>(matches: &ArgMatches<'a>) -> Result<Written, Wrong<'a>>
     ensures { Reads (written_in (rows_of (found_of matches.now))) result }
 {
-    match (
-        values::flag(matches, "record"),
-        values::flag(matches, "why"),
-    ) {
+    let frames = values::flag(matches, "frames");
+    let why = frames || values::flag(matches, "why");
+    match (values::flag(matches, "record"), why) {
         (false, false) => Ok(Written::Report),
         (true, false) => Ok(Written::Record),
-        (false, true) => Ok(Written::Why),
+        (false, true) => Ok(Written::Why { frames }),
         (true, true) => Err(Wrong::Both {
-            flag: "why",
+            flag: if frames { "frames" } else { "why" },
             other: "record",
         }),
     }

@@ -25,13 +25,17 @@ printed for each hart:
   rank 0 hart 0 waits at 0x2c in RECV for a message from rank 1 tag 7 comm 0
 
 Places are written as `farm.c:46 in worker [0x344]`, as `loop+0x8 [0x2c]` where
-no line is known, or as the address alone. A hart that waits inside a library is
-shown at the program's own call, with the library's function behind it, as
-`life.c:41 in step [0xdc], in MPI_Barrier,`. With --frames it is shown where it
-is, and then the calls that led there, the last one first, as
-`MPI_Barrier+0x94 [0x1a4] called from life.c:41 in step`; they are found by the
-frame pointers on the hart's stack. If a hart waits for several things, `; `
-separates them. After the harts come, by sender and tag, the messages that no
+no line is known, or as the address alone. Where the line of a wait is known, it
+stands for the address and the call. A hart that waits inside a library is shown
+at the program's own call, with the library's function behind it:
+
+  rank 0 hart 0 waits at farm.c:12 in main, for rank 1 to receive
+  .. waits at life.c:41 in step, in MPI_Barrier, for a message from rank 2
+
+With --frames it is shown where it is, and below it the calls that led there, the
+last one first, as `  called from life.c:41 in step`; they are found by the frame
+pointers on the hart's stack. If a hart waits for several things, `; ` separates
+them. After the harts come, by sender and tag, the messages that no
 receive has taken. The last line is the verdict:
 
   deadlock: ranks 0 1   whatever happens from here on, no hart of these ranks
@@ -41,7 +45,7 @@ receive has taken. The last line is the verdict:
 If the record has fewer than N steps, that is an error, as
 `rvmc: why: PastEnd 10`, and so are steps that aren't a run of the image, as
 `rvmc: why: NotARun 3`. `run` and `one` print the same text about the end of
-their run, with --why.
+their run, with --why or --frames.
 
 At most 67,108,864 bytes are read, from FILE or else from standard input. With -o
 the output goes to a file, which is in its place once it is whole.

@@ -67,8 +67,8 @@ impl fmt::Display for Wrong<'_> {
             ),
             Wrong::Word(text) => write!(
                 f,
-                "a CMD is go=N, step, back, run, place, break=R,H,PC, break=R,H,NAME, regs=R,H, frames=R,H, \
-                 output=R, bytes=R,A,N or bytes=R,NAME,N, with R and H from 0 to 255, not '{text}'"
+                "a CMD is go=N, step, back, run, place, break=R,H,AT, regs=R,H, frames=R,H, output=R or \
+                 bytes=R,AT,N, with R and H from 0 to 255, and AT an address, a symbol or FILE:LINE, not '{text}'"
             ),
             Wrong::Start { option, text } => write!(
                 f,

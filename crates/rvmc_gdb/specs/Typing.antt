@@ -26,7 +26,7 @@ help_text =
     ++ codes "why           tells what each hart waits for there" ++ newline
     ++ codes "rank R        shows rank R from now on" ++ newline
     ++ codes "regs R H      shows the registers of hart H of rank R" ++ newline
-    ++ codes "bytes R A N   shows N bytes of rank R from address A, or a symbol, on" ++ newline
+    ++ codes "bytes R A N   shows N bytes of rank R from A on: an address, a symbol or FILE:LINE" ++ newline
     ++ codes "help          tells this" ++ newline
 
 abbrev pub unknown_text : List ℕ

@@ -3,13 +3,13 @@
 ghost use Rattle.std.specs.Prelude.{◌≡◌, ◌≢◌, ◌<◌, IfErr, IfOk, OnOk, length};
 ghost use Rattle.cl_debug.specs.declared.faults.DebugFault.TheVariants as faults;
 ghost use Rattle.rvmc_words.specs.declared.debug.DebugWord.TheVariants as word;
-ghost use Rattle.rvmc_inspect.specs.Words.{IsSpot, IsUnknown, Refuses, TellsBytes, WantsMemory};
+ghost use Rattle.rvmc_inspect.specs.Words.{Refuses, TellsBytes, WantsMemory};
 ghost use Rattle.rvmc_gdb.specs.Typing.{fault_text, flush_text, help_text, printed_text, unknown_text};
 
 use crate::session::{Session, text_of};
 use crate::shown::digits_of;
 use cl_debug::{DebugFault, Debugger};
-use rvmc_inspect::{bytes_text, place_text, regs_text, why};
+use rvmc_inspect::{address_of, bytes_text, place_text, regs_text, why};
 use rvmc_monitor::{Typed, typed_word};
 use rvmc_words::Spot;
 use std::alloc::{AllocError, Global};
@@ -19,7 +19,7 @@ go N          goes to the place with N steps done
 why           tells what each hart waits for there
 rank R        shows rank R from now on
 regs R H      shows the registers of hart H of rank R
-bytes R A N   shows N bytes of rank R from address A, or a symbol, on
+bytes R A N   shows N bytes of rank R from A on: an address, a symbol or FILE:LINE
 help          tells this
 ";
 
@@ -62,20 +62,6 @@ fn refusal(alloc: Global, fault: DebugFault) -> Result<Vec<u8>, AllocError>
     match fault {
         DebugFault::Memory => Err(AllocError),
         _ => fault_text(alloc, fault),
-    }
-}
-
-/// The address that a word names.
-fn address_of(debugger: &Debugger, at: &Spot) -> Result<u64, DebugFault>
-    ensures found { IfOk result (IsSpot debugger.now.image at.now) }
-    ensures unknown { IfErr result (λ fault. (fault ≡ faults.NoSymbol) × IsUnknown debugger.now.image at.now) }
-{
-    match at {
-        Spot::Address(address) => Ok(*address),
-        Spot::Name(name) => match debugger.symbol(name.as_str()) {
-            Some(address) => Ok(address),
-            None => Err(DebugFault::NoSymbol),
-        },
     }
 }
 

@@ -36,11 +36,11 @@ forms =
     (codes "back", codes "back stands alone") ∷
     (codes "run", codes "run stands alone") ∷
     (codes "place", codes "place stands alone") ∷
-    (codes "break", codes "break=R,H,PC or break=R,H,NAME, as break=0,0,0x18") ∷
+    (codes "break", codes "break=R,H,PC, break=R,H,NAME or break=R,H,FILE:LINE, as break=0,0,0x18") ∷
     (codes "regs", codes "regs=R,H, as regs=0,0") ∷
     (codes "frames", codes "frames=R,H, as frames=0,0") ∷
     (codes "output", codes "output=R, as output=0") ∷
-    (codes "bytes", codes "bytes=R,A,N or bytes=R,NAME,N, as bytes=0,0xfff8,4") ∷
+    (codes "bytes", codes "bytes=R,A,N, bytes=R,NAME,N or bytes=R,FILE:LINE,N, as bytes=0,0xfff8,4") ∷
     []
 
 abbrev pub form_of : List ℕ → Option (List ℕ)

@@ -125,6 +125,12 @@ pub enum Hint<'a> {
         word: &'a str,
         near: Option<&'a [u8]>,
     },
+    /// A line of a source at which no code of the image begins, and the next line with code.
+    NoLine {
+        file: &'a str,
+        number: &'a str,
+        next: Option<&'a [u8]>,
+    },
     /// A record that begins so has so many bytes at least.
     Least(usize),
     /// Another version of the record.
@@ -383,6 +389,7 @@ impl fmt::Display for Hint<'_> {
             Hint::NoSymbol { word, near } => {
                 put_missing(f, "the image has no symbol", word.as_bytes(), near)
             }
+            Hint::NoLine { file, number, next } => put_no_line(f, file, number, next),
             Hint::Least(bytes) => { write!(f, "a record that begins so has {bytes} bytes or more") }
             Hint::Version => f.write_str("a record begins with RVMR and version 2"),
         }
@@ -394,6 +401,20 @@ fn put_character<W: fmt::Write>(f: &mut fmt::Formatter<W>, byte: u8) -> fmt::Res
     match byte {
         33..=126 => write!(f, "nothing begins with {}", char::from(byte)),
         _ => write!(f, "nothing begins with the byte {byte}"),
+    }
+}
+
+/// A line without code, and perhaps the next one with code.
+fn put_no_line<W: fmt::Write>(
+    f: &mut fmt::Formatter<W>,
+    file: &str,
+    number: &str,
+    next: Option<&[u8]>,
+) -> fmt::Result {
+    write!(f, "the image has no code of {file}:{number}")?;
+    match next {
+        Some(next) => write!(f, "; the next line with code is {file}:{}", Shown(next)),
+        None => Ok(()),
     }
 }
 

@@ -62,11 +62,11 @@ static FORMS: [WordForm; 10] = forms! {
     b"back" "back stands alone";
     b"run" "run stands alone";
     b"place" "place stands alone";
-    b"break" "break=R,H,PC or break=R,H,NAME, as break=0,0,0x18";
+    b"break" "break=R,H,PC, break=R,H,NAME or break=R,H,FILE:LINE, as break=0,0,0x18";
     b"regs" "regs=R,H, as regs=0,0";
     b"frames" "frames=R,H, as frames=0,0";
     b"output" "output=R, as output=0";
-    b"bytes" "bytes=R,A,N or bytes=R,NAME,N, as bytes=0,0xfff8,4";
+    b"bytes" "bytes=R,A,N, bytes=R,NAME,N or bytes=R,FILE:LINE,N, as bytes=0,0xfff8,4";
 };
 
 fn form_in(table: &[WordForm], head: &[u8]) -> Option<&'static str>

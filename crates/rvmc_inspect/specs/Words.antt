@@ -13,18 +13,27 @@ use Rattle.rvmc_words.specs.declared.debug.DebugWord.TheVariants.{Back, Break, B
 use Rattle.rvmc_words.specs.declared.debug.Spot.{Spot}
 use Rattle.rvmc_words.specs.declared.debug.Spot.TheVariants as spot
 use Rattle.cl_state.specs.Rank.{Rank}
+use Rattle.rvmc_places.specs.Places.{line_start, line_starts}
 use Rattle.rvmc_report.specs.Report.{output_text}
 use Rattle.rvmc_inspect.specs.WordTexts.{bytes_text, frames_text, place_text, regs_text}
 
--- the address that a word names, as a number or as a symbol of the image
+-- the address that a word names, as a number, as a symbol of the image, or as a line, which may begin at several: then the
+-- first
 abbrev pub IsSpot : ImageParts → Spot → ℕ → Type 0
 IsSpot image (spot.Address number) address = address ≡ number
 IsSpot image (spot.Name name) address = IsSymbolOf image name address
+IsSpot image (spot.Line file number) address = line_start file number image.symbols ≡ Some address
 
--- a word names what is no symbol of the image
+-- a word names what is no symbol of the image, or a line that begins at none
 abbrev pub IsUnknown : ImageParts → Spot → Type 0
 IsUnknown image (spot.Address number) = ⊥
 IsUnknown image (spot.Name name) = HasNoSymbol image name
+IsUnknown image (spot.Line file number) = line_start file number image.symbols ≡ None
+
+-- the addresses at which a break stops: that which the word names, or each at which the line begins
+abbrev pub AreStops : ImageParts → Spot → List ℕ → Type 0
+AreStops image (spot.Line file number) pcs = pcs ≡ line_starts file number image.symbols
+AreStops image at pcs = (pc : ℕ) × IsSpot image at pc × (pcs ≡ pc ∷ [])
 
 -- ---- one word
 
@@ -32,11 +41,17 @@ IsUnknown image (spot.Name name) = HasNoSymbol image name
 abbrev pub TellsPlace : Debugging → List ℕ → Type 0
 TellsPlace debugging text = text ≡ place_text debugging.place (length debugging.steps)
 
--- a break is added, and nothing printed
+-- the same with a break more at each of these addresses
+abbrev pub with_breaks : Debugging → ℕ → ℕ → List ℕ → Debugging
+with_breaks old rank hart [] = old
+with_breaks old rank hart (pc ∷ pcs) =
+    with_breaks (with_break old (record { rank = rank; hart = hart; pc = pc })) rank hart pcs
+
+-- a break is added, of a line at each address at which it begins, and nothing printed
 abbrev pub AddsBreak : Debugging → ℕ → ℕ → Spot → Debugging → List ℕ → Type 0
 AddsBreak old rank hart at new text =
     (pc : ℕ) × IsSpot old.image at pc × (rank < old.image.ranks) × (hart < old.image.harts)
-    × (new ≡ with_break old (record { rank = rank; hart = hart; pc = pc })) × (text ≡ [])
+    × (pcs : List ℕ) × AreStops old.image at pcs × (new ≡ with_breaks old rank hart pcs) × (text ≡ [])
 
 -- the debugger stays, and a hart is shown as it is at the place
 abbrev pub TellsRegs : Debugging → ℕ → ℕ → Debugging → List ℕ → Type 0

@@ -1,9 +1,12 @@
 //! What a hart may wait for, and its text.
 
 ghost use Rattle.std.specs.Prelude.{◌≡◌, ◌++◌, IfOk, OnOk, string_bytes};
-ghost use Rattle.rvmc_inspect.specs.Texts.{more_text, source_text, tag_text, wait_text, waits_text};
+ghost use Rattle.rvmc_inspect.specs.Texts.{envelope_text, more_text, source_text, tag_text, wait_text, waits_text};
 
 use std::alloc::{AllocError, Global};
+
+/// The communicator that the library of rvmc-cc has for itself.
+const LIBRARY: u8 = 1;
 
 /// What a hart waits for. Ranks are ranks of the cluster, partitions those of the link's sender.
 #[derive(Clone, Copy, Drop)]
@@ -62,15 +65,31 @@ fn tag_text(alloc: Global, tag: Option<u16>) -> Result<String, AllocError>
     }
 }
 
-/// What is waited for, as `a message from rank 1 tag 7 comm 0`.
-pub fn wait_text(alloc: Global, wait: Wait) -> Result<String, AllocError>
-    ensures { IfOk result (λ text. string_bytes text ≡ wait_text wait) }
+/// A message's tag and communicator. Inside the library those of its own communicator are left out.
+fn envelope_text(
+    alloc: Global,
+    inside: bool,
+    tag: Option<u16>,
+    comm: u8,
+) -> Result<String, AllocError>
+    ensures { IfOk result (λ text. string_bytes text ≡ envelope_text inside tag comm) }
+{
+    if inside && comm == LIBRARY {
+        return Ok(String::new(alloc));
+    }
+    let tag = tag_text(alloc, tag)?;
+    format!(in alloc; " {tag} comm {comm}")
+}
+
+/// What is waited for, as `a message from rank 1 tag 7 comm 0`, or inside the library `a message from rank 1`.
+pub fn wait_text(alloc: Global, inside: bool, wait: Wait) -> Result<String, AllocError>
+    ensures { IfOk result (λ text. string_bytes text ≡ wait_text inside wait) }
 {
     match wait {
         Wait::Message { source, tag, comm } => {
             let source = source_text(alloc, source)?;
-            let tag = tag_text(alloc, tag)?;
-            format!(in alloc; "a message from {source} {tag} comm {comm}")
+            let envelope = envelope_text(alloc, inside, tag, comm)?;
+            format!(in alloc; "a message from {source}{envelope}")
         }
         Wait::Receiver { rank } => format!(in alloc; "rank {rank} to receive"),
         Wait::Partition { part, link, from } => {
@@ -89,11 +108,16 @@ pub fn wait_text(alloc: Global, wait: Wait) -> Result<String, AllocError>
 }
 
 /// Adds what is waited for behind other things: each with `; ` before it.
-fn put_more(alloc: Global, text: &mut Vec<u8>, waits: &[Wait]) -> Result<(), AllocError>
-    ensures { OnOk result (text.new.items ≡ text.old.items ++ more_text waits.now) }
+fn put_more(
+    alloc: Global,
+    text: &mut Vec<u8>,
+    inside: bool,
+    waits: &[Wait],
+) -> Result<(), AllocError>
+    ensures { OnOk result (text.new.items ≡ text.old.items ++ more_text inside waits.now) }
 {
     for wait in waits {
-        let more = wait_text(alloc, *wait)?;
+        let more = wait_text(alloc, inside, *wait)?;
         text.extend_from_slice(b"; ")?;
         text.extend_from_slice(more.as_bytes())?;
     }
@@ -102,15 +126,20 @@ fn put_more(alloc: Global, text: &mut Vec<u8>, waits: &[Wait]) -> Result<(), All
 
 /// Adds all that is waited for, each behind the other with `; ` between. What waits for nothing more goes on where it
 /// takes its turn.
-pub(crate) fn put_waits(alloc: Global, text: &mut Vec<u8>, waits: &[Wait]) -> Result<(), AllocError>
-    ensures { OnOk result (text.new.items ≡ text.old.items ++ waits_text waits.now) }
+pub(crate) fn put_waits(
+    alloc: Global,
+    text: &mut Vec<u8>,
+    inside: bool,
+    waits: &[Wait],
+) -> Result<(), AllocError>
+    ensures { OnOk result (text.new.items ≡ text.old.items ++ waits_text inside waits.now) }
 {
     match waits.split_first() {
         None => text.extend_from_slice(b"nothing more"),
         Some((first, rest)) => {
-            let head = wait_text(alloc, *first)?;
+            let head = wait_text(alloc, inside, *first)?;
             text.extend_from_slice(head.as_bytes())?;
-            put_more(alloc, text, rest)
+            put_more(alloc, text, inside, rest)
         }
     }
 }

@@ -2,8 +2,8 @@
 
 ghost use Rattle.std.specs.Prelude.{◌≡◌, ◌++◌, IfOk, OnOk, string_bytes};
 ghost use Rattle.cl_state.specs.Room.{rank_of};
-ghost use Rattle.rvmc_inspect.specs.Texts.{call_text, ended_text, hart_head, hart_line, hart_waits_text, doing_text};
-ghost use Rattle.rvmc_inspect.specs.Texts.{standing_text, waiting_place};
+ghost use Rattle.rvmc_inspect.specs.Texts.{doing_text, ended_text, hart_head, hart_line, hart_waits_text, has_ended};
+ghost use Rattle.rvmc_inspect.specs.Texts.{waiting_place, waiting_text};
 
 use crate::awaited::{Wait, put_waits};
 use crate::calls::call_name;
@@ -15,7 +15,7 @@ use part_box::Settled;
 use rv_hart::{Hart, Mode};
 use rv_image::Symbol;
 use rv_memory::RankMemory;
-use rvmc_places::{put_callers, put_own_place, put_place, trap_text};
+use rvmc_places::{is_in_library, put_callers, put_made, put_own_place, put_place, trap_text};
 use std::alloc::{AllocError, Global};
 
 /// `rank R hart H `, before how the hart stands.
@@ -23,22 +23,6 @@ fn hart_head(alloc: Global, rank: usize, number: usize) -> Result<String, AllocE
     ensures { IfOk result (λ text. string_bytes text ≡ hart_head rank number) }
 {
     format!(in alloc; "rank {rank} hart {number} ")
-}
-
-/// Adds in which call a hart waits, and for what.
-#[tactic(auto, unfolding(crate::specs::Texts::call_text))]
-fn put_call(
-    alloc: Global,
-    text: &mut Vec<u8>,
-    hart: &Hart,
-    found: &[Wait],
-) -> Result<(), AllocError>
-    ensures { OnOk result (text.new.items ≡ text.old.items ++ call_text hart.now found.now) }
-{
-    text.extend_from_slice(b" in ")?;
-    text.extend_from_slice(call_name(&Call::of(hart)).as_bytes())?;
-    text.extend_from_slice(b" for ")?;
-    put_waits(alloc, text, found)
 }
 
 /// What the lines of a rank's harts are told by.
@@ -50,21 +34,6 @@ struct Setting<'a> {
     framed: bool,
 }
 
-/// Adds where a hart is, and where it is asked for the calls that led there.
-fn put_standing(
-    text: &mut Vec<u8>,
-    setting: &Setting<'_>,
-    hart: &Hart,
-    at: u64,
-) -> Result<(), AllocError>
-    ensures { OnOk result (text.new.items
-        ≡ text.old.items
-        ++ standing_text setting.now.framed setting.now.symbols.now setting.now.memory.now hart.now at) }
-{
-    put_place(text, setting.symbols, at)?;
-    put_callers(text, setting.symbols, setting.memory, hart, setting.framed)
-}
-
 /// The code of a hart that ended.
 fn ended_text(alloc: Global, code: u64) -> Result<String, AllocError>
     ensures { IfOk result (λ text. string_bytes text ≡ ended_text code) }
@@ -72,20 +41,46 @@ fn ended_text(alloc: Global, code: u64) -> Result<String, AllocError>
     format!(in alloc; "ended {code}")
 }
 
-/// Adds where a hart that waits is: with all calls that led there, or the program's own call.
-fn put_waiting(text: &mut Vec<u8>, setting: &Setting<'_>, hart: &Hart) -> Result<(), AllocError>
+/// Adds where a hart makes the call in which it waits: at the program's own call, or where all calls are told where it is
+/// itself.
+fn put_waiting_place(
+    text: &mut Vec<u8>,
+    setting: &Setting<'_>,
+    hart: &Hart,
+) -> Result<(), AllocError>
     ensures { OnOk result (text.new.items
         ≡ text.old.items
         ++ waiting_place setting.now.framed setting.now.symbols.now setting.now.memory.now hart.now) }
 {
+    let name = call_name(&Call::of(hart));
     if setting.framed {
-        put_standing(text, setting, hart, hart.pc())
+        put_made(text, setting.symbols, hart.pc(), name)
     } else {
-        put_own_place(text, setting.symbols, setting.memory, hart)
+        put_own_place(text, setting.symbols, setting.memory, hart, name)
     }
 }
 
-/// Adds how a hart stands, and of one that waits in which call, and for what.
+/// Adds that place, and what the hart waits for.
+#[tactic(auto, unfolding(crate::specs::Texts::waiting_text))]
+fn put_waiting(
+    alloc: Global,
+    text: &mut Vec<u8>,
+    setting: &Setting<'_>,
+    hart: &Hart,
+    found: &[Wait],
+) -> Result<(), AllocError>
+    ensures { OnOk result (text.new.items
+        ≡ text.old.items
+        ++ waiting_text setting.now.framed setting.now.symbols.now setting.now.memory.now hart.now found.now) }
+{
+    text.extend_from_slice(b"waits at ")?;
+    put_waiting_place(text, setting, hart)?;
+    text.extend_from_slice(b" for ")?;
+    let inside = !setting.framed && is_in_library(setting.symbols, setting.memory, hart);
+    put_waits(alloc, text, inside, found)
+}
+
+/// Adds how a hart stands, and of one that waits for what.
 fn put_mode(
     alloc: Global,
     text: &mut Vec<u8>,
@@ -100,13 +95,9 @@ fn put_mode(
     match hart.mode() {
         Mode::Running => {
             text.extend_from_slice(b"runs at ")?;
-            put_standing(text, setting, hart, hart.pc())
+            put_place(text, setting.symbols, hart.pc())
         }
-        Mode::Waiting(_) => {
-            text.extend_from_slice(b"waits at ")?;
-            put_waiting(text, setting, hart)?;
-            put_call(alloc, text, hart, found)
-        }
+        Mode::Waiting(_) => put_waiting(alloc, text, setting, hart, found),
         Mode::Ended(code) => {
             let ended = ended_text(alloc, code)?;
             text.extend_from_slice(ended.as_bytes())
@@ -114,12 +105,19 @@ fn put_mode(
         Mode::Trapped(cause, at) => {
             let trapped = trap_text(alloc, setting.memory, hart, cause)?;
             text.extend_from_slice(trapped.as_bytes())?;
-            put_standing(text, setting, hart, at)
+            put_place(text, setting.symbols, at)
         }
     }
 }
 
-/// Adds the line of a hart that waits for this, if it waits.
+fn has_ended(hart: &Hart) -> bool
+    ensures { result ≡ has_ended hart.now.mode }
+{
+    matches!(hart.mode(), Mode::Ended(_))
+}
+
+/// Adds the line of a hart that waits for this, if it waits, and below it the calls that led to where it is, if they are
+/// asked for.
 #[tactic(auto, unfolding(crate::specs::Texts::hart_line))]
 fn put_hart(
     alloc: Global,
@@ -138,7 +136,8 @@ fn put_hart(
     text.extend_from_slice(head.as_bytes())?;
     put_mode(alloc, text, setting, hart, found)?;
     text.push(b'\n')?;
-    Ok(())
+    let framed = setting.framed && !has_ended(hart);
+    put_callers(text, setting.symbols, setting.memory, hart, framed)
 }
 
 /// Adds the lines of a rank's harts, in their order: how each stands, what one that waits is waiting for, and with

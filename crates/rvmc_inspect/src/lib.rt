@@ -22,4 +22,4 @@ pub use harts::put_harts;
 pub use telling::{put_company, why};
 pub use unreceived::put_unreceived;
 pub use word_texts::{bytes_text, place_text, regs_text};
-pub use words::{Told, tell_all};
+pub use words::{Told, address_of, tell_all};

@@ -1,14 +1,17 @@
 //! The words, done one after another.
 
 ghost use Rattle.std.specs.Prelude.{◌≡◌, ◌<◌, ◌++◌, IfErr, IfOk, List, OnErr, OnOk, length, ℕ};
-ghost use Rattle.cl_debug.specs.declared.faults.DebugFault.TheVariants.{NoSymbol};
+ghost use Rattle.cl_debug.specs.declared.faults.DebugFault.TheVariants.{Memory, NoSymbol};
 ghost use Rattle.rvmc_words.specs.declared.debug.DebugWord.TheVariants as word;
-ghost use Rattle.rvmc_inspect.specs.Words.{AddsBreak, Does, IsSpot, IsTextOfWords, IsUnknown, Refuses, TellsBytes, TellsPlace};
-ghost use Rattle.rvmc_inspect.specs.Words.{TellsFrames, TellsOutput, TellsRegs, WantsMemory};
+ghost use Rattle.rvmc_inspect.specs.Words.{AddsBreak, AreStops, Does, IsSpot, IsTextOfWords, IsUnknown, Refuses, TellsBytes};
+ghost use Rattle.rvmc_inspect.specs.Words.{TellsFrames, TellsOutput, TellsPlace, TellsRegs, WantsMemory, with_breaks};
+ghost use Rattle.rvmc_places.specs.Places.{line_start, line_starts};
 
 use crate::word_texts::{bytes_text, frames_text, output_text, place_text, regs_text};
 use cl_debug::{DebugFault, Debugger};
-use rvmc_words::{DebugWord, Spot};
+use rv_image::Symbol;
+use rvmc_places::{line_start, line_starts};
+use rvmc_words::{DebugWord, Name, Spot};
 use std::alloc::{AllocError, Global};
 
 /// What the words printed, and why one of them was refused, if one was: the text is then that of the words before it.
@@ -63,21 +66,88 @@ fn run(alloc: Global, debugger: &mut Debugger) -> Result<Vec<u8>, DebugFault>
     Ok(tell_place(alloc, debugger)?)
 }
 
-/// The address that a word names.
-fn address_of(debugger: &Debugger, at: &Spot) -> Result<u64, DebugFault>
+/// The symbols of the image.
+fn symbols_of(debugger: &Debugger) -> &[Symbol]
+    ensures { result.now ≡ debugger.now.image.symbols }
+{
+    debugger.image().parts().symbols.as_slice()
+}
+
+/// The address at which a line begins, or the first of several.
+fn line_start_of(debugger: &Debugger, file: &Name, number: &Name) -> Option<u64>
+    ensures { result ≡ line_start file.now number.now debugger.now.image.symbols }
+{
+    let symbols = symbols_of(debugger);
+    line_start(symbols, file.as_str().as_bytes(), number.as_str().as_bytes())
+}
+
+/// The address that a word names, of a line the first at which it begins.
+pub fn address_of(debugger: &Debugger, at: &Spot) -> Result<u64, DebugFault>
     ensures found { IfOk result (IsSpot debugger.now.image at.now) }
     ensures unknown { IfErr result (λ fault. (fault ≡ NoSymbol) × IsUnknown debugger.now.image at.now) }
 {
-    match at {
-        Spot::Address(address) => Ok(*address),
-        Spot::Name(name) => match debugger.symbol(name.as_str()) {
-            Some(address) => Ok(address),
-            None => Err(DebugFault::NoSymbol),
-        },
+    let found = match at {
+        Spot::Address(address) => Some(*address),
+        Spot::Name(name) => debugger.symbol(name.as_str()),
+        Spot::Line { file, number } => line_start_of(debugger, file, number),
+    };
+    match found {
+        Some(address) => Ok(address),
+        None => Err(DebugFault::NoSymbol),
     }
 }
 
-/// Sets a break, and prints nothing.
+/// The addresses at which a line begins.
+fn line_starts_of(
+    alloc: Global,
+    debugger: &Debugger,
+    file: &Name,
+    number: &Name,
+) -> Result<Vec<u64>, AllocError>
+    ensures { IfOk result (λ found. found.items ≡ line_starts file.now number.now debugger.now.image.symbols) }
+{
+    let symbols = symbols_of(debugger);
+    let (file, number) = (file.as_str().as_bytes(), number.as_str().as_bytes());
+    line_starts(alloc, symbols, file, number)
+}
+
+/// Sets a break of a hart at each of these addresses. The only fault is want of memory.
+fn set_breaks(
+    debugger: &mut Debugger,
+    rank: u8,
+    hart: u8,
+    pcs: &[u64],
+) -> Result<(), DebugFault>
+    requires rank { rank < debugger.old.image.ranks }
+    requires hart { hart < debugger.old.image.harts }
+    ensures set { OnOk result (debugger.new ≡ with_breaks debugger.old rank hart pcs.now) }
+    ensures fault { IfErr result (λ fault. fault ≡ Memory) }
+{
+    for pc in pcs {
+        debugger.set_break(rank, hart, *pc)?;
+    }
+    Ok(())
+}
+
+/// The addresses at which a break stops: that which the word names, or each at which the line begins.
+fn stops_of(
+    alloc: Global,
+    debugger: &Debugger,
+    at: &Spot,
+    pc: u64,
+) -> Result<Vec<u64>, AllocError>
+    requires { IsSpot debugger.now.image at.now pc }
+    ensures { IfOk result (λ pcs. AreStops debugger.now.image at.now pcs.items) }
+{
+    if let Spot::Line { file, number } = at {
+        return line_starts_of(alloc, debugger, file, number);
+    }
+    let mut pcs = Vec::new(alloc);
+    pcs.push(pc)?;
+    Ok(pcs)
+}
+
+/// Sets a break, of a line one at each address at which it begins, and prints nothing.
 fn set_break(
     alloc: Global,
     debugger: &mut Debugger,
@@ -91,7 +161,9 @@ fn set_break(
     ensures fault { IfErr result (λ fault. Refuses debugger.old fault (word.Break rank hart at.now)) }
 {
     let pc = address_of(debugger, at)?;
-    debugger.set_break(rank, hart, pc)?;
+    debugger.regs(rank, hart)?;
+    let pcs = stops_of(alloc, debugger, at, pc)?;
+    set_breaks(debugger, rank, hart, &pcs)?;
     Ok(Vec::new(alloc))
 }
 

@@ -14,8 +14,9 @@ pub enum Written {
     Report,
     /// The record, in place of the report.
     Record,
-    /// The report, and behind it how each hart is where the run ended, and what it waits for.
-    Why,
+    /// The report, and behind it how each hart is where the run ended, and what it waits for; with `frames` also which calls
+    /// led there.
+    Why { frames: bool },
 }
 
 /// What rvmc is asked to do.

@@ -21,7 +21,7 @@ abbrev pub calls_text : List ℕ → List ℕ → List Symbol → List Frame →
 calls_text before behind symbols chain =
     flat_map (λ frame. before ++ (call_place symbols (called_at frame) ++ behind)) chain
 
--- the calls that led to where a hart is, the last one first, if they are asked for
+-- the calls that led to where a hart is, the last one first and a line each, if they are asked for
 unfoldable pub callers_text : Bool → List Symbol → Memory → State → List ℕ
-callers_text true symbols memory hart = calls_text (codes " called from ") [] symbols (frames memory hart)
+callers_text true symbols memory hart = calls_text (codes "  called from ") (codes "\n") symbols (frames memory hart)
 callers_text false symbols memory hart = []

@@ -1,8 +1,9 @@
 -- The text of a place of a program: the line that it belongs to, in which function; or how far behind which label it is.
 use Rattle.std.specs.Prelude.{ℕ, ◌-◌, ◌&&◌, nat_le, nat_lt, if◌then◌else◌, not, Bool, true, false, List, [], ◌∷◌, ◌++◌, codes}
-use Rattle.std.specs.Prelude.{Option, Some, None}
+use Rattle.std.specs.Prelude.{Option, Some, None, find, map, option_map}
 use Rattle.std.specs.Fmt.{digits}
 use Rattle.std.specs.List.{filter}
+use Rattle.std.specs.Str.{bytes_eq}
 use Rattle.rv_image.specs.declared.images.Symbol.{Symbol}
 use Rattle.rvmc_places.specs.declared.near.Kind.{Kind}
 use Rattle.rvmc_places.specs.declared.near.Kind.TheVariants as kind
@@ -55,6 +56,24 @@ line_within label (Some line) = if is_inside label line then line_named line.nam
 -- the line that an address belongs to: that of the nearest symbol of a line, unless a label stands between
 unfoldable pub line_at : List Symbol → ℕ → Option Line
 line_at symbols at = line_within (nearest_of kind.Label symbols at) (nearest_of kind.Line symbols at)
+
+-- ---- where a line begins
+
+abbrev pub is_line : List ℕ → List ℕ → Option Line → Bool
+is_line file number None = false
+is_line file number (Some line) = bytes_eq line.file file && bytes_eq line.number number
+
+-- a symbol of a line, as `farm.c.46` or `farm.c.46.2` of `farm.c:46`
+abbrev pub begins_line : List ℕ → List ℕ → Symbol → Bool
+begins_line file number symbol = is_line file number (line_named symbol.name)
+
+-- the addresses at which a line begins, in the order of the symbols' names: first `farm.c.46`
+abbrev pub line_starts : List ℕ → List ℕ → List Symbol → List ℕ
+line_starts file number symbols = map (λ symbol. symbol.address) (filter (begins_line file number) symbols)
+
+-- the first of them
+abbrev pub line_start : List ℕ → List ℕ → List Symbol → Option ℕ
+line_start file number symbols = option_map (λ symbol. symbol.address) (find (begins_line file number) symbols)
 
 -- ---- texts
 

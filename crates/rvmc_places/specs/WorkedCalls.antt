@@ -3,7 +3,7 @@ use Rattle.std.specs.Prelude.{◌≡◌, ℕ, List, [], ◌∷◌, codes, refl, 
 use Rattle.std.specs.Fmt.{digits}
 use Rattle.rv_image.specs.declared.images.Symbol.{Symbol}
 use Rattle.rvmc_places.specs.Names.{line_named}
-use Rattle.rvmc_places.specs.OwnCalls.{own_call_from, own_call_text}
+use Rattle.rvmc_places.specs.OwnCalls.{made_text, own_call_from, own_call_text}
 use Rattle.rvmc_places.specs.Places.{line_at, named_address_text, nearest_of, place_name}
 use Rattle.rvmc_places.specs.declared.frames.Frame.{Frame}
 use Rattle.rvmc_places.specs.declared.own_calls.OwnCall.{OwnCall}
@@ -34,6 +34,15 @@ pub from_the_library_alone : own_call_from symbols 0x88 (returning 0x50 ∷ retu
 unfolding line_named nearest_of line_at
 from_the_library_alone = refl
 
-pub its_text : own_call_text symbols 0x88 (call 0x1c 0x4c) ≡ codes "coll.c:15 in main [0x1c], in MPI_Barrier,"
-unfolding line_named nearest_of line_at place_name named_address_text digits
+pub its_text : own_call_text symbols 0x88 (codes "RECV") (call 0x1c 0x4c) ≡ codes "coll.c:15 in main, in MPI_Barrier,"
+unfolding line_named nearest_of line_at place_name
 its_text = refl
+
+-- a call that `main` makes itself, and one that has no line
+pub in_a_line : own_call_text symbols 0x14 (codes "RECV") None ≡ codes "coll.c:15 in main,"
+unfolding line_named nearest_of line_at place_name made_text
+in_a_line = refl
+
+pub in_no_line : own_call_text symbols 0x88 (codes "RECV") None ≡ codes "rvmc_wait+0x8 [0x88] in RECV"
+unfolding line_named nearest_of line_at place_name named_address_text made_text digits
+in_no_line = refl

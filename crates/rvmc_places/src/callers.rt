@@ -64,7 +64,7 @@ pub fn put_calls(
     Ok(())
 }
 
-/// Adds the calls that led to where the hart is, if they are asked for.
+/// Adds the calls that led to where the hart is, a line each, if they are asked for.
 #[tactic(auto, unfolding(crate::specs::Callers::callers_text))]
 pub fn put_callers(
     text: &mut Vec<u8>,
@@ -79,5 +79,5 @@ pub fn put_callers(
     if !framed {
         return Ok(());
     }
-    put_calls(text, symbols, memory, hart, b" called from ", b"")
+    put_calls(text, symbols, memory, hart, b"  called from ", b"\n")
 }

@@ -11,6 +11,7 @@ mod laws;
 mod names;
 mod near;
 mod own_calls;
+mod starts;
 mod texts;
 
 pub use callers::{put_callers, put_calls};
@@ -19,5 +20,6 @@ pub use frames::{Frame, frame_above, own_frame};
 pub use laws::one_line_law;
 pub use names::{SourceLine, line_named};
 pub use near::{line_at, nearest_label};
-pub use own_calls::put_own_place;
+pub use own_calls::{is_in_library, put_made, put_own_place};
+pub use starts::{line_start, line_starts};
 pub use texts::{put_name, put_place};

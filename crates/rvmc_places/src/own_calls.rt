@@ -2,13 +2,14 @@
 
 ghost use Rattle.std.specs.Prelude.{◌≡◌, ◌++◌, OnOk};
 ghost use Rattle.std.specs.Option.{option_copied};
-ghost use Rattle.rvmc_places.specs.OwnCalls.{has_line, inner_text, own_call as own_call_of, own_call_from, own_call_text, own_place_text};
+ghost use Rattle.rvmc_places.specs.OwnCalls.{has_line, inner_text, is_in_library, made_text, own_call as own_call_of};
+ghost use Rattle.rvmc_places.specs.OwnCalls.{own_call_from, own_call_text, own_place_text};
 ghost use Rattle.rvmc_places.specs.Frames.{frames};
 
 use crate::callers::{MOST, called_at};
 use crate::frames::{frame_above, own_frame};
 use crate::near::{line_at, nearest_label};
-use crate::texts::put_place;
+use crate::texts::{put_name, put_place};
 use rv_hart::Hart;
 use rv_image::Symbol;
 use rv_memory::RankMemory;
@@ -63,47 +64,78 @@ fn own_call(symbols: &[Symbol], memory: &RankMemory, hart: &Hart) -> Option<OwnC
     own_call_above(symbols, memory, hart)
 }
 
+/// Whether the hart is in the library, and the program's own call that led there is known.
+#[tactic(auto, unfolding(crate::specs::OwnCalls::is_in_library))]
+pub fn is_in_library(symbols: &[Symbol], memory: &RankMemory, hart: &Hart) -> bool
+    ensures { result ≡ is_in_library symbols.now memory.now hart.now }
+{
+    own_call(symbols, memory, hart).is_some()
+}
+
+/// Adds where a call is made: `first.c:7 in main,`, or by the name that the machine has for the call
+/// `meet+0x20 [0x30] in RECV`.
+#[tactic(auto, unfolding(crate::specs::OwnCalls::made_text))]
+pub fn put_made(
+    text: &mut Vec<u8>,
+    symbols: &[Symbol],
+    at: u64,
+    name: &str,
+) -> Result<(), AllocError>
+    ensures { OnOk result (text.new.items ≡ text.old.items ++ made_text symbols.now at name.now) }
+{
+    if has_line(symbols, at) {
+        put_name(text, symbols, at)?;
+        return text.extend_from_slice(b",");
+    }
+    put_place(text, symbols, at)?;
+    text.extend_from_slice(b" in ")?;
+    text.extend_from_slice(name.as_bytes())
+}
+
 /// Adds a function of the library, as `, in MPI_Barrier,`, if its label is known.
 fn put_inner(text: &mut Vec<u8>, label: Option<&Symbol>) -> Result<(), AllocError>
     ensures { OnOk result (text.new.items ≡ text.old.items ++ inner_text (option_copied label.entry)) }
 {
     let Some(label) = label else {
-        return Ok(());
+        return text.extend_from_slice(b",");
     };
     text.extend_from_slice(b", in ")?;
     text.extend_from_slice(label.name.as_slice())?;
     text.extend_from_slice(b",")
 }
 
-/// Adds the place of a call, and what it called; where there is none the place of a pc.
+/// Adds the place of a call, and what it called; where there is none the place of a pc, at which a call of this name is made.
 fn put_call(
     text: &mut Vec<u8>,
     symbols: &[Symbol],
     pc: u64,
+    name: &str,
     call: Option<OwnCall>,
 ) -> Result<(), AllocError>
-    ensures { OnOk result (text.new.items ≡ text.old.items ++ own_call_text symbols.now pc call) }
+    ensures { OnOk result (text.new.items ≡ text.old.items ++ own_call_text symbols.now pc name.now call) }
 {
     match call {
-        None => put_place(text, symbols, pc),
+        None => put_made(text, symbols, pc, name),
         Some(call) => {
-            put_place(text, symbols, call.at)?;
+            put_name(text, symbols, call.at)?;
             put_inner(text, nearest_label(symbols, call.inner))
         }
     }
 }
 
 /// Adds where the program itself called the function of the library in which the hart is, and that function, as
-/// `coll.c:15 in main [0x1d0], in MPI_Barrier,`; or where the hart is.
+/// `coll.c:15 in main, in MPI_Barrier,`; or where the hart makes a call of this name itself.
 #[tactic(auto, unfolding(crate::specs::OwnCalls::own_place_text))]
 pub fn put_own_place(
     text: &mut Vec<u8>,
     symbols: &[Symbol],
     memory: &RankMemory,
     hart: &Hart,
+    name: &str,
 ) -> Result<(), AllocError>
-    ensures { OnOk result (text.new.items ≡ text.old.items ++ own_place_text symbols.now memory.now hart.now) }
+    ensures { OnOk result
+        (text.new.items ≡ text.old.items ++ own_place_text symbols.now memory.now hart.now name.now) }
 {
     let found = own_call(symbols, memory, hart);
-    put_call(text, symbols, hart.pc(), found)
+    put_call(text, symbols, hart.pc(), name, found)
 }

@@ -181,8 +181,8 @@ pub(crate) fn put_rows(text: &mut Vec<u8>, drawing: &Drawing, from: u64) -> io::
     Ok(down)
 }
 
-/// Where a line of the end is parted, so that it fits a narrow page: before the name of the call that a hart waits in,
-/// which is the last ` in ` with ` for ` behind it.
+/// Where a line of the end is parted, so that it fits a narrow page: before what a hart waits for, behind the comma of a place
+/// that has a line, or else before the name of the call, which is the last ` in ` with ` for ` behind it.
 fn parted(line: &[u8]) -> usize {
     let mut found = line.len();
     let mut last = line.len();
@@ -191,7 +191,7 @@ fn parted(line: &[u8]) -> usize {
             last = at;
         }
         if line[at..].starts_with(b" for ") {
-            found = last;
+            found = if line[..at].ends_with(b",") { at } else { last };
         }
     }
     found

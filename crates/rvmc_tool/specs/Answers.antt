@@ -45,23 +45,24 @@ pub record IsRecordOf (image : ImageParts) (left : Record) (text : List ℕ) : T
   pub inside : IsRecord image steps
   pub spelled : text ≡ record_text image steps
 
--- what they wait for where a record ends: where its steps lead, in order of their stamps
-pub record IsWhyOf (image : ImageParts) (left : Record) (text : List ℕ) : Type 0 where
+-- what they wait for where a record ends: where its steps lead, in order of their stamps; with `framed` also the calls that
+-- led to where they are
+pub record IsWhyOf (framed : Bool) (image : ImageParts) (left : Record) (text : List ℕ) : Type 0 where
   pub steps : List Step
   pub sorted : IsMerge (steps_in left) steps
-  pub why : IsWhyAt false image steps (length steps) text
+  pub why : IsWhyAt framed image steps (length steps) text
 
 -- the report of a record, and that behind it
-pub record IsReportWithWhy (image : ImageParts) (left : Record) (text : List ℕ) : Type 0 where
+pub record IsReportWithWhy (framed : Bool) (image : ImageParts) (left : Record) (text : List ℕ) : Type 0 where
   pub why : List ℕ
-  pub told : IsWhyOf image left why
+  pub told : IsWhyOf framed image left why
   pub spelled : text ≡ report (rank_ends left) ++ why
 
--- the report of a record, or with `--record` its own text; with `--why` more stands behind the report
+-- the report of a record, or with `--record` its own text; with `--why` or `--frames` more stands behind the report
 abbrev pub IsTextOf : Written → ImageParts → Record → List ℕ → Type 0
 IsTextOf written.Report image left text = text ≡ report (rank_ends left)
 IsTextOf written.Record image left text = IsRecordOf image left text
-IsTextOf written.Why image left text = IsReportWithWhy image left text
+IsTextOf (written.Why framed) image left text = IsReportWithWhy framed image left text
 
 -- what is told of the record that a run leaves, and the status of the run
 pub record IsTold (Leaves : Record → Type 0) (IsText : Record → List ℕ → Type 0) (text : List ℕ) (status : ℕ)
@@ -110,15 +111,21 @@ IsOne image budget harts ranks written text status =
 -- ---- a run that ends where nobody can go on
 
 -- the report of a record whose ranks were told to stop, of each of which it says this word, and what its harts wait for
-pub record IsToldReport (word : List ℕ) (image : ImageParts) (budget : ℕ) (left : Record) (text : List ℕ) : Type 0 where
+pub record IsToldReport (word : List ℕ) (framed : Bool) (image : ImageParts) (budget : ℕ) (left : Record) (text : List ℕ)
+    : Type 0 where
   pub why : List ℕ
-  pub told : IsWhyOf image left why
+  pub told : IsWhyOf framed image left why
   pub spelled : text ≡ told_report word budget (rank_ends left) ++ why
+
+-- with `--frames` also the calls are told that led to where harts are
+abbrev pub is_framed : Written → Bool
+is_framed (written.Why framed) = framed
+is_framed other = false
 
 -- or with `--record` the text of the record, as of any run
 abbrev pub IsToldTextOf : List ℕ → Written → ImageParts → ℕ → Record → List ℕ → Type 0
 IsToldTextOf word written.Record image budget left text = IsRecordOf image left text
-IsToldTextOf word other image budget left text = IsToldReport word image budget left text
+IsToldTextOf word other image budget left text = IsToldReport word (is_framed other) image budget left text
 
 -- of ranks in a deadlock
 abbrev pub IsStuckTextOf : Written → ImageParts → ℕ → Record → List ℕ → Type 0

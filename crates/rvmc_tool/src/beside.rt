@@ -61,7 +61,7 @@ fn tells_waits(line: &CommandLine) -> bool {
         ImageCommand::Run { written, .. }
         | ImageCommand::RunUntilStuck { written, .. }
         | ImageCommand::One { written, .. }
-        | ImageCommand::OneUntilStuck { written, .. } => matches!(written, Written::Why),
+        | ImageCommand::OneUntilStuck { written, .. } => matches!(written, Written::Why { .. }),
         _ => false,
     }
 }

@@ -11,6 +11,7 @@ use rvmc_hints::{
     Hint, Wanted, content_hint, is_near, magic_hint, plans_hint, short_hint, source_hint,
 };
 use rvmc_line::{CommandLine, ImageCommand, RecordCommand};
+use rvmc_places::{line_named, line_start};
 use rvmc_report::faults::{DrawRefusal, ExploreRefusal, Fault};
 use rvmc_words::{DebugWord, DebugWords, Numbers, Spot};
 use std::alloc::Global;
@@ -141,17 +142,10 @@ fn image_of_record(alloc: Global, bytes: &[u8]) -> Option<Image> {
     read_image(alloc, rest.get(..count)?).ok()
 }
 
-/// The name in a word of `debug`.
-fn name_in(word: &DebugWord) -> Option<&str> {
+/// What a word of `debug` names in place of an address.
+fn spot_in(word: &DebugWord) -> Option<&Spot> {
     match word {
-        DebugWord::Break {
-            at: Spot::Name(name),
-            ..
-        }
-        | DebugWord::Bytes {
-            at: Spot::Name(name),
-            ..
-        } => Some(name.as_str()),
+        DebugWord::Break { at, .. } | DebugWord::Bytes { at, .. } => Some(at),
         _ => None,
     }
 }
@@ -176,26 +170,65 @@ fn near_symbol<'a>(symbols: &'a [Symbol], name: &str) -> Option<&'a [u8]> {
     None
 }
 
-/// The first name of the words that no symbol has.
-fn absent<'a>(symbols: &[Symbol], words: &'a [DebugWord]) -> Option<&'a str> {
+/// Whether a number stands before another, in decimal and without zeros in front.
+fn is_before(number: &[u8], other: &[u8]) -> bool {
+    number.len() < other.len() || number.len() == other.len() && number < other
+}
+
+/// The next line of a file at which code begins.
+fn next_line<'a>(symbols: &'a [Symbol], file: &str, number: &str) -> Option<&'a [u8]> {
+    let mut found = None;
+    for symbol in symbols {
+        if let Some(line) = line_named(symbol.name.as_slice()) {
+            let is_nearer = match found {
+                None => true,
+                Some(nearest) => is_before(line.number, nearest),
+            };
+            if line.file == file.as_bytes() && is_before(number.as_bytes(), line.number) && is_nearer {
+                found = Some(line.number);
+            }
+        }
+    }
+    found
+}
+
+/// What can be told of a spot that isn't there: a name that no symbol has, and one that is near to it; or a line without
+/// code, and the next one with code.
+fn absent<'a>(symbols: &'a [Symbol], at: &'a Spot) -> Option<Hint<'a>> {
+    match at {
+        Spot::Address(_) => None,
+        Spot::Name(name) => {
+            let word = name.as_str();
+            if has_symbol(symbols, word) {
+                return None;
+            }
+            let near = near_symbol(symbols, word);
+            Some(Hint::NoSymbol { word, near })
+        }
+        Spot::Line { file, number } => {
+            let (file, number) = (file.as_str(), number.as_str());
+            if line_start(symbols, file.as_bytes(), number.as_bytes()).is_some() {
+                return None;
+            }
+            let next = next_line(symbols, file, number);
+            Some(Hint::NoLine { file, number, next })
+        }
+    }
+}
+
+/// What can be told of the first of the words that names what isn't there.
+fn symbol_hint<'a>(symbols: &'a [Symbol], words: &'a [DebugWord]) -> Option<Hint<'a>> {
     for word in words {
-        if let Some(name) = name_in(word) {
-            if !has_symbol(symbols, name) {
-                return Some(name);
+        if let Some(at) = spot_in(word) {
+            if let Some(hint) = absent(symbols, at) {
+                return Some(hint);
             }
         }
     }
     None
 }
 
-/// Which name of the words no symbol has, and one that has a name near to it.
-fn symbol_hint<'a>(symbols: &'a [Symbol], words: &'a [DebugWord]) -> Option<Hint<'a>> {
-    let word = absent(symbols, words)?;
-    let near = near_symbol(symbols, word);
-    Some(Hint::NoSymbol { word, near })
-}
-
-/// Writes which name of the words no symbol of the record's image has.
+/// Writes what can be told of a name or a line in the words that the record's image hasn't.
 fn hint_symbol<E: Write>(alloc: Global, words: &DebugWords, bytes: &[u8], err: &mut E) {
     let Some(image) = image_of_record(alloc, bytes) else {
         return;

@@ -74,8 +74,8 @@ fn output_of(
                 Ok(Output::Record(text))
             }
         }
-        Written::Why => {
-            let text = report_with_why(alloc, image, left)?;
+        Written::Why { frames } => {
+            let text = report_with_why(alloc, frames, image, left)?;
             if spent {
                 Ok(Output::Spent(text))
             } else {

@@ -26,19 +26,20 @@ use std::sync::Wait;
 use std::thread::Threads;
 
 /// The report of a run whose ranks were told to stop, of each of which it says this word, and behind it what its harts wait
-/// for. Each rank has so many turns by its plan.
+/// for, with `framed` also the calls that led there. Each rank has so many turns by its plan.
 fn report_with_word(
     alloc: Global,
+    framed: bool,
     image: &Image,
     word: &str,
     budget: u64,
     left: Record,
 ) -> Result<Vec<u8>, AllocError>
     requires { IsLeft image.now left }
-    ensures { IfOk result (λ text. IsToldReport word.now image.now budget left text.items) }
+    ensures { IfOk result (λ text. IsToldReport word.now framed image.now budget left text.items) }
 {
     let mut text = told_report(alloc, &left, word, budget)?;
-    let why = why_of(alloc, image, left)?;
+    let why = why_of(alloc, framed, image, left)?;
     text.extend_from_slice(&why)?;
     Ok(text)
 }
@@ -63,8 +64,10 @@ fn told_with_word(
             let output = Output::Record(record_of(alloc, image, left)?);
             Ok(Answer { output, end })
         }
-        Written::Report | Written::Why => {
-            let output = Output::Text(report_with_word(alloc, image, word, budget, left)?);
+        Written::Report | Written::Why { .. } => {
+            let framed = matches!(written, Written::Why { frames: true });
+            let text = report_with_word(alloc, framed, image, word, budget, left)?;
+            let output = Output::Text(text);
             Ok(Answer { output, end })
         }
     }

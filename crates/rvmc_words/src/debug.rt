@@ -6,14 +6,15 @@ ghost use Rattle.std.specs.List.{list_all, slice_split};
 ghost use Rattle.rv_image.specs.Names as names;
 ghost use Rattle.rvmc_words.specs.declared.debug.DebugWord.TheVariants.{Break, Bytes};
 ghost use Rattle.rvmc_words.specs.Debug.{bare_word, break_in, bytes_word_in, debug_word_in, frames_in, go_in, is_name};
-ghost use Rattle.rvmc_words.specs.Debug.{large_number_in, output_in, regs_in, small_number_in, spot_in, word_of, word_with};
+ghost use Rattle.rvmc_words.specs.Debug.{is_line_number, large_number_in, line_spot, output_in, regs_in, small_number_in};
+ghost use Rattle.rvmc_words.specs.Debug.{spot_in, spot_of, word_of, word_spot, word_with};
 
 use crate::list::parts;
 use crate::number::any_number_in;
 use std::alloc::{AllocError, Global};
 use std::marker::Model;
 
-/// A name of the source language, of any length. Contracts see its bytes.
+/// A name of the source language, of any length, or the number of a line. Contracts see its bytes.
 #[derive(Drop)]
 pub struct Name {
     text: String,
@@ -36,12 +37,14 @@ impl Name {
     }
 }
 
-/// Where something stands in a rank's memory: an address, or the name of the symbol there. Whether the memory reaches so
-/// far, or has a symbol of this name, is not known here.
+/// Where something stands in a rank's memory: an address, the name of the symbol there, or the line of a source that
+/// begins there, as `farm.c:46`. Whether the memory reaches so far, has a symbol of this name, or one where the line
+/// begins, is not known here.
 #[derive(Drop)]
 pub enum Spot {
     Address(u64),
     Name(Name),
+    Line { file: Name, number: Name },
 }
 
 /// A word of `debug`. Whether a rank or a hart is there is not known here.
@@ -57,7 +60,7 @@ pub enum DebugWord {
     Run,
     /// Tells the place.
     Place,
-    /// Stops `run` where the next step is this hart's and its pc is this.
+    /// Stops `run` where the next step is this hart's and its pc is this, or any of those where the line begins.
     Break { rank: u8, hart: u8, at: Spot },
     /// Shows how a hart is, and its registers.
     Regs { rank: u8, hart: u8 },
@@ -65,7 +68,7 @@ pub enum DebugWord {
     Frames { rank: u8, hart: u8 },
     /// Shows what a rank has put out.
     Output(u8),
-    /// Shows so many bytes of a rank's memory.
+    /// Shows so many bytes of a rank's memory, of a line from where it begins first.
     Bytes { rank: u8, at: Spot, count: u64 },
 }
 
@@ -124,6 +127,12 @@ fn are_name_bytes(bytes: &[u8]) -> bool
     bytes.iter().all(|byte| is_name_byte(*byte))
 }
 
+fn are_digits(bytes: &[u8]) -> bool
+    ensures { result ≡ list_all names.is_digit bytes.now }
+{
+    bytes.iter().all(|byte| byte.is_ascii_digit())
+}
+
 /// Whether a text is a name of the source language.
 fn is_name(text: &str) -> bool
     ensures { result ≡ is_name text.now }
@@ -150,19 +159,70 @@ fn large_number_in(text: &str) -> Option<u64>
     any_number_in(u64::MAX, text)
 }
 
+/// Whether a text is the number of a line: digits, of which the first is no 0.
+fn is_line_number(text: &str) -> bool
+    ensures { result ≡ is_line_number text.now }
+{
+    let bytes = text.as_bytes();
+    if bytes.is_empty() {
+        return false;
+    }
+    are_digits(bytes) && bytes[0] != b'0'
+}
+
+/// The text as it was written.
+fn name_of(alloc: Global, text: &str) -> Result<Name, AllocError>
+    ensures { IfOk result (λ name. name ≡ text.now) }
+{
+    let text = text.to_string(alloc)?;
+    Ok(Name { text })
+}
+
 /// A name, or the number of an address.
-#[tactic(auto, unfolding(crate::specs::Debug::spot_in))]
-fn spot_in(alloc: Global, text: &str) -> Result<Option<Spot>, AllocError>
-    ensures { IfOk result (λ found. found ≡ spot_in text.now) }
+#[tactic(auto, unfolding(crate::specs::Debug::word_spot))]
+fn word_spot(alloc: Global, text: &str) -> Result<Option<Spot>, AllocError>
+    ensures { IfOk result (λ found. found ≡ word_spot text.now) }
 {
     if is_name(text) {
-        let text = text.to_string(alloc)?;
-        return Ok(Some(Spot::Name(Name { text })));
+        return Ok(Some(Spot::Name(name_of(alloc, text)?)));
     }
     let Some(address) = large_number_in(text) else {
         return Ok(None);
     };
     Ok(Some(Spot::Address(address)))
+}
+
+/// A line, by its file and its number.
+#[tactic(auto, unfolding(crate::specs::Debug::line_spot))]
+fn line_spot(alloc: Global, file: &str, number: &str) -> Result<Option<Spot>, AllocError>
+    ensures { IfOk result (λ found. found ≡ line_spot file.now number.now) }
+{
+    if !is_name(file) || !is_line_number(number) {
+        return Ok(None);
+    }
+    let file = name_of(alloc, file)?;
+    let number = name_of(alloc, number)?;
+    Ok(Some(Spot::Line { file, number }))
+}
+
+/// The spot of what stands before, between and behind the colons.
+fn spot_of(alloc: Global, sides: &[&str]) -> Result<Option<Spot>, AllocError>
+    ensures { IfOk result (λ found. found ≡ spot_of (map (λ side. side.now) sides.now)) }
+{
+    match sides {
+        [text] => word_spot(alloc, text),
+        [file, number] => line_spot(alloc, file, number),
+        _ => Ok(None),
+    }
+}
+
+/// A name, the number of an address, or a line.
+#[tactic(auto, unfolding(crate::specs::Debug::spot_in))]
+fn spot_in(alloc: Global, text: &str) -> Result<Option<Spot>, AllocError>
+    ensures { IfOk result (λ found. found ≡ spot_in text.now) }
+{
+    let sides = parts(alloc, ':', text)?;
+    spot_of(alloc, &sides)
 }
 
 fn go_in(arguments: &[&str]) -> Option<DebugWord>
@@ -301,10 +361,10 @@ fn word_of(alloc: Global, sides: &[&str]) -> Result<Option<DebugWord>, AllocErro
     }
 }
 
-/// The word that a text writes: `step`, `back`, `run` or `place`, or `go=N`, `break=R,H,PC`, `break=R,H,NAME`,
-/// `regs=R,H`, `frames=R,H`, `output=R`, `bytes=R,A,N` or `bytes=R,NAME,N`. R and H are numbers from 0 to 255, the others are up to 2^64-1; each
-/// is in decimal, or in hexadecimal behind `0x`. A name is one of the source language, of any length. Any other text is
-/// no word.
+/// The word that a text writes: `step`, `back`, `run` or `place`, or `go=N`, `break=R,H,AT`, `regs=R,H`, `frames=R,H`,
+/// `output=R` or `bytes=R,AT,N`. R and H are numbers from 0 to 255, the others are up to 2^64-1; each is in decimal, or
+/// in hexadecimal behind `0x`. AT is the number of an address, a name, which is one of the source language, of any length,
+/// or such a name with `:` and a line's number behind it, in decimal and without zeros in front. Any other text is no word.
 #[tactic(auto, unfolding(crate::specs::Debug::debug_word_in))]
 pub fn debug_word_in(alloc: Global, text: &str) -> Result<Option<DebugWord>, AllocError>
     ensures { IfOk result (λ found. found ≡ debug_word_in text.now) }

@@ -1,5 +1,5 @@
 -- Words that are refused, and lines of harts that wait.
-use Rattle.std.specs.Prelude.{ℕ, zero, suc, ◌≡◌, false, List, [], ◌∷◌, ◌++◌, codes, slice_get, take, Option, Some, None}
+use Rattle.std.specs.Prelude.{ℕ, Bool, zero, suc, ◌≡◌, false, List, [], ◌∷◌, ◌++◌, codes, slice_get, take, Option, Some, None}
 use Rattle.std.specs.Fmt.{digits}
 use Rattle.std.specs.List.{enumerate_from, flat_map}
 use Rattle.std.proofs.Common.{refl, sym, ap, subst, arith}
@@ -14,9 +14,10 @@ use Rattle.part_box.specs.declared.settled.Settled.{Settled}
 use Rattle.rv_hart.specs.State.{State}
 use Rattle.rv_hart.specs.declared.state.Mode.TheVariants.{Waiting}
 use Rattle.rv_hart.specs.declared.state.Wait.{Wait as HartWait}
-use Rattle.cl_calls.specs.Calls.{call_named}
-use Rattle.rvmc_inspect.specs.Texts.{call_name, call_text, doing_text, hart_head, hart_line, hart_waits_text, waiting_place, waits_text}
+use Rattle.rvmc_inspect.specs.Texts.{doing_text, hart_head, hart_line, hart_waits_text, waiting_place, waiting_text, waits_text}
 use Rattle.rvmc_inspect.specs.Waits.{waits}
+use Rattle.rvmc_places.specs.Callers.{callers_text}
+use Rattle.rvmc_places.specs.OwnCalls.{is_in_library}
 use Rattle.rvmc_inspect.specs.Words.{IsTextOfWords, Refuses, Walks}
 use Rattle.rvmc_inspect.specs.declared.awaited.Wait.TheVariants.{Receiver}
 use Rattle.rvmc_report.specs.Report.{newline}
@@ -62,34 +63,33 @@ module _ (old : Debugging) (rank count : ℕ) (name : List ℕ) (unknown : HasNo
 
 -- ---- two things that are waited for
 
-both : waits_text (Receiver 1 ∷ Receiver 2 ∷ []) ≡ codes "rank 1 to receive; rank 2 to receive"
+both : (inside : Bool) → waits_text inside (Receiver 1 ∷ Receiver 2 ∷ []) ≡ codes "rank 1 to receive; rank 2 to receive"
 unfolding digits
-both = refl
+both inside = refl
 
 -- the line of such a hart
-line_has : (piece head standing called before_name waiting newline_text : List ℕ) → StandsIn piece waiting
-    → StandsIn piece (head ++ ((before_name ++ (standing ++ (codes " in " ++ (called ++ waiting)))) ++ newline_text))
-line_has piece head standing called before_name waiting newline_text h =
-    put_before piece head ((before_name ++ (standing ++ (codes " in " ++ (called ++ waiting)))) ++ newline_text)
-    (put_behind piece (before_name ++ (standing ++ (codes " in " ++ (called ++ waiting)))) newline_text
-    (put_before piece before_name (standing ++ (codes " in " ++ (called ++ waiting)))
-    (put_before piece standing (codes " in " ++ (called ++ waiting))
-    (put_before piece (codes " in ") (called ++ waiting) (put_before piece called waiting h)))))
+line_has : (piece head standing before_name waiting behind : List ℕ) → StandsIn piece waiting
+    → StandsIn piece (head ++ ((before_name ++ (standing ++ waiting)) ++ behind))
+line_has piece head standing before_name waiting behind h =
+    put_before piece head ((before_name ++ (standing ++ waiting)) ++ behind)
+    (put_behind piece (before_name ++ (standing ++ waiting)) behind
+    (put_before piece before_name (standing ++ waiting) (put_before piece standing waiting h)))
 
 module _ (hub : HubView) (boxes : List (List Settled)) (r : ℕ) (rank : Rank) (hart : State) (wait : HartWait)
     (one : rank.harts ≡ hart ∷ []) (mode : hart.mode ≡ Waiting wait)
     (two : waits hub boxes rank 0 ≡ Receiver 1 ∷ Receiver 2 ∷ []) where
   hart_told : StandsIn (codes " for rank 1 to receive; rank 2 to receive")
       (hart_line false [] rank.memory r 0 hart (Receiver 1 ∷ Receiver 2 ∷ []))
-  unfolding hart_line call_text
+  unfolding hart_line waiting_text callers_text
   hart_told =
       subst
       (λ m. StandsIn (codes " for rank 1 to receive; rank 2 to receive")
       (hart_head r 0 ++ (doing_text false [] rank.memory hart (Receiver 1 ∷ Receiver 2 ∷ []) m ++ newline))) (sym mode)
       (line_has (codes " for rank 1 to receive; rank 2 to receive") (hart_head r 0)
-      (waiting_place false [] rank.memory hart) (call_name (call_named hart)) (codes "waits at ")
-      (codes " for " ++ waits_text (Receiver 1 ∷ Receiver 2 ∷ [])) newline
-      (subst (λ text. StandsIn (codes " for rank 1 to receive; rank 2 to receive") (codes " for " ++ text)) (sym both)
+      (waiting_place false [] rank.memory hart) (codes "waits at ")
+      (codes " for " ++ waits_text (is_in_library [] rank.memory hart) (Receiver 1 ∷ Receiver 2 ∷ [])) newline
+      (subst (λ text. StandsIn (codes " for rank 1 to receive; rank 2 to receive") (codes " for " ++ text))
+      (sym (both (is_in_library [] rank.memory hart)))
       (itself (codes " for rank 1 to receive; rank 2 to receive"))))
 
   line_told : StandsIn (codes " for rank 1 to receive; rank 2 to receive")

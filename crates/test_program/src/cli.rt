@@ -274,7 +274,7 @@ pub fn record_of_a_check_is_refused(alloc: Global) -> Result<CommandLine, ParseF
 /// `--why` asks for what harts wait for, behind the report.
 #[tactic(auto, unfolding(rvmc_cli::specs::Meaning::faults_in, rvmc_cli::specs::Meaning::command_in, rvmc_cli::specs::Commands::line_in, clap::proofs::OnLiterals::clap_on_literals))]
 pub fn why_of_one(alloc: Global) -> Result<CommandLine, ParseFault>
-    ensures { IfOk result (λ line. line ≡ OfImage false (One 1000000 None None written.Why)) }
+    ensures { IfOk result (λ line. line ≡ OfImage false (One 1000000 None None (written.Why false))) }
 {
     parse(alloc, &["one", "--why"])
 }
@@ -282,7 +282,7 @@ pub fn why_of_one(alloc: Global) -> Result<CommandLine, ParseFault>
 /// The same of a run with threads.
 #[tactic(auto, unfolding(rvmc_cli::specs::Meaning::faults_in, rvmc_cli::specs::Meaning::command_in, rvmc_cli::specs::Commands::line_in, clap::proofs::OnLiterals::clap_on_literals))]
 pub fn why_of_run(alloc: Global) -> Result<CommandLine, ParseFault>
-    ensures { IfOk result (λ line. line ≡ OfImage false (Run 1000000 None 64 written.Why)) }
+    ensures { IfOk result (λ line. line ≡ OfImage false (Run 1000000 None 64 (written.Why false))) }
 {
     parse(alloc, &["run", "--why"])
 }
