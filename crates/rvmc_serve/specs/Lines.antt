@@ -1,5 +1,5 @@
 -- A session of `debug -`: what is written is a function of all bytes of the input, which are a record and lines behind it.
-use Rattle.std.specs.Prelude.{◌≡◌, ◌≢◌, ◌⊎◌, ℕ, ◌==◌, ◌||◌, if◌then◌else◌, List, [], ◌++◌, codes, length, map}
+use Rattle.std.specs.Prelude.{◌≡◌, ◌≢◌, ◌⊎◌, ⊤, ℕ, ◌==◌, ◌||◌, if◌then◌else◌, List, [], ◌++◌, codes, length, map}
 use Rattle.std.specs.Prelude.{Option, Some, None, Ok, Err}
 use Rattle.std.specs.List.{slice_split}
 use Rattle.cl_debug.specs.Debugging.{Debugging}
@@ -39,13 +39,18 @@ abbrev pub refusal_text : Option DebugFault → List ℕ
 refusal_text None = []
 refusal_text (Some fault) = fault_text fault
 
+-- want of memory is no answer
+abbrev pub IsTold : Option DebugFault → Type 0
+IsTold None = ⊤
+IsTold (Some fault) = fault ≢ debug.Memory
+
 -- the words are done one after another, and print what they do for `debug`; where one is refused, its fault is printed, and
--- the debugger stays there. Want of memory is no answer
+-- the debugger stays there
 pub record Debugs (old : Debugging) (words : List DebugWord) (new : Debugging) (text : List ℕ) : Type 0 where
   pub printed : List ℕ
   pub fault : Option DebugFault
   pub stops : StopsAt old words new printed fault
-  pub memory : fault ≢ Some debug.Memory
+  pub told : IsTold fault
   pub is : text ≡ printed ++ refusal_text fault
 
 -- a line with a text that is no word does nothing

@@ -1,9 +1,8 @@
 //! Lines of words: what is typed, and what is answered.
 
-ghost use Rattle.std.specs.Prelude.{◌≡◌, ◌≢◌, IfErr, IfOk, List, OnOk, Some, ℕ};
+ghost use Rattle.std.specs.Prelude.{◌≡◌, IfErr, IfOk, List, OnOk, ℕ};
 ghost use Rattle.std.specs.Io.KnownBytes.{Appends, Keeps};
-ghost use Rattle.cl_debug.specs.declared.faults.DebugFault.TheVariants as debug;
-ghost use Rattle.rvmc_serve.specs.Lines.{AnswersLine, Debugs, refusal_text, typed_byte, unknown_text};
+ghost use Rattle.rvmc_serve.specs.Lines.{AnswersLine, Debugs, IsTold, refusal_text, typed_byte, unknown_text};
 ghost use Rattle.rvmc_serve.specs.Serving.{CutsShort};
 
 use crate::serving::put;
@@ -34,7 +33,7 @@ fn typed_byte(byte: u8) -> u8
 /// What is printed behind the texts of the words.
 fn refusal_text(alloc: Global, fault: Option<DebugFault>) -> Result<Vec<u8>, AllocError>
     ensures told { IfOk result (λ text. text.items ≡ refusal_text fault) }
-    ensures memory { OnOk result (fault ≢ Some debug.Memory) }
+    ensures answer { OnOk result (IsTold fault) }
 {
     match fault {
         None => Ok(Vec::new(alloc)),
@@ -53,7 +52,7 @@ fn debugged(
     let told = tell_all(alloc, debugger, words.as_slice());
     let mut text = told.text;
     let refused = refusal_text(alloc, told.fault)?;
-    text.extend_from_slice(refused.as_slice())?;
+    text.extend_from_slice(&refused)?;
     Ok(text)
 }
 

@@ -20,6 +20,7 @@ use std::io::{Read, Write};
 
 /// The record that bytes spell, before its first step. The fault is that of the record, `NotARun` where its steps are no run
 /// of its image, or `Memory`.
+#[tactic(auto, using(crate::proofs::Typed::is_begun, crate::proofs::Opening::no_run, crate::proofs::Opening::unread))]
 fn begun(alloc: Global, bytes: &[u8]) -> Result<Typing, Fault>
     ensures begun { IfOk result (IsBegunAs (reading_record bytes.now)) }
     ensures fault { IfErr result (IsFaultOf None (reading_record bytes.now)) }

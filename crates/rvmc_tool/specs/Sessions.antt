@@ -1,4 +1,4 @@
--- Sessions, which answer as their input comes: those of gdb packets, and those of words lines.
+-- Sessions, which answer as their input comes: those of `gdb`, and those of `debug -`.
 use Rattle.std.specs.Prelude.{◌≡◌, ℕ, Bool, true, false, List, Option, None, Some}
 use Rattle.rvmc_line.specs.declared.line.CommandLine.{CommandLine}
 use Rattle.rvmc_line.specs.declared.line.CommandLine.TheVariants.{Session, WordSession}
