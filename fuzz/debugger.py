@@ -169,6 +169,35 @@ def told(words, image, steps):
     return 0, out, b""
 
 
+# what is told of a line with a text that is no word
+NO_SUCH_WORD = b"rvmc: no such word: rvmc debug --help lists them\n"
+
+
+def answer(line, debugger):
+    """What `debug -` answers to a line, by the debugger where the line before left it."""
+    try:
+        words = [meaning(text) for text in re.findall("[^ \t\r]+", line.decode())]
+    except UnicodeDecodeError:
+        return NO_SUCH_WORD
+    if None in words:
+        return NO_SUCH_WORD
+    out = b""
+    try:
+        for word in words:
+            out += debugger.does(*word)
+    except Refused as fault:
+        out += f"rvmc: debug: {fault}\n".encode()
+    return out
+
+
+def answers(typed, image, steps):
+    """What `debug -` tells of a record and of bytes behind it: the status and both texts."""
+    debugger = Debugger(image, steps)
+    if debugger.bad is not None:
+        return 1, b"", f"rvmc: debug: NotARun {debugger.bad}\n".encode()
+    return 0, b"".join(answer(line, debugger) for line in typed.split(b"\n")), b""
+
+
 class Words:
     """Words drawn at random, for a record whose steps are a run."""
 
@@ -182,6 +211,17 @@ class Words:
         if self.random.randrange(12) == 0:
             words.insert(self.random.randrange(len(words) + 1), self.random.choice(NO_WORDS))
         return words
+
+    def typed(self):
+        """Lines of words, as a person types them, or nearly so."""
+        lines = []
+        for _ in range(self.random.randrange(6)):
+            words = [word.encode() for word in self.drawn()[: self.random.randrange(5)]]
+            blanks = [self.random.choice([b" ", b" ", b"  ", b"\t", b" \r"]) for _ in range(len(words) + 1)]
+            ends = self.random.choice([(b"", b""), (b"", b"\r"), (blanks[0], blanks[0])])
+            line = ends[0] + b"".join(word + blank for word, blank in zip(words, blanks)) + ends[1]
+            lines.append(line if self.random.randrange(12) else line + self.random.randbytes(2))
+        return b"\n".join(lines) + self.random.choice([b"", b"\n"])
 
     def written(self, value):
         """A number, in decimal or in hexadecimal."""

@@ -52,7 +52,7 @@ fn answered<R: Threads + Wait + Sync>(
 
 /// Whether a command goes on to read standard input behind a file that is named for it.
 fn reads_on(line: &CommandLine) -> bool {
-    matches!(line, CommandLine::Session { .. })
+    matches!(line, CommandLine::Session { .. } | CommandLine::WordSession)
 }
 
 /// Whether a command answers with status 1 where there is no fault, as `check` does by `bad N`.

@@ -11,7 +11,7 @@ use Rattle.rvmc_words.specs.Debug.{debug_words_in}
 use Rattle.rvmc_starts.specs.Starts.{start_in}
 use Rattle.rvmc_starts.specs.declared.starts.Start.{Start}
 use Rattle.rvmc_line.specs.declared.line.CommandLine.{CommandLine}
-use Rattle.rvmc_line.specs.declared.line.CommandLine.TheVariants.{Join, OfImage, OfRecord, Session}
+use Rattle.rvmc_line.specs.declared.line.CommandLine.TheVariants.{Join, OfImage, OfRecord, Session, WordSession}
 use Rattle.rvmc_line.specs.declared.line.ImageCommand.{ImageCommand}
 use Rattle.rvmc_line.specs.declared.line.ImageCommand.TheVariants.{Asm, Dis, Explore, ExploreFrom, One, OneUntilStuck}
 use Rattle.rvmc_line.specs.declared.line.ImageCommand.TheVariants.{Run, RunUntilStuck, Split}
@@ -252,15 +252,22 @@ page_row =
           option_map (λ (places : Places). OfRecord (Page places.from places.to)) (places_given rows);
     }
 
--- `debug CMD..`
+-- `-` alone: the words come behind the record, a line each
+abbrev pub is_dash : List Text → Bool
+is_dash (word ∷ []) = bytes_eq word (codes "-")
+is_dash other = false
+
+abbrev pub debugging_in : List Text → Option CommandLine
+debugging_in words =
+    if is_dash words then Some WordSession else option_map (λ words. OfRecord (Debug words)) (debug_words_in words)
+
+-- `debug CMD..` and `debug -`
 abbrev pub debug_row : CommandRow
 debug_row =
     record {
       name = codes "debug";
       rules = texts (codes "words") ∷ [];
-      meaning = λ rows.
-          option_and_then (λ words. option_map (λ words. OfRecord (Debug words)) (debug_words_in words))
-          (all_of (codes "words") rows);
+      meaning = λ rows. option_and_then debugging_in (all_of (codes "words") rows);
     }
 
 -- one rank, or the first where none is named; with `--all` all of them, and then none is named

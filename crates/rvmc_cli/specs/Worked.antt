@@ -12,7 +12,7 @@ use Rattle.rvmc_starts.specs.declared.starts.Start.{Start}
 use Rattle.rvmc_words.specs.Debug.{bare_word, debug_word_in, spot_in, word_with}
 use Rattle.rvmc_words.specs.Number.{any_number_in, number_in, numbers_in}
 use Rattle.rvmc_words.specs.declared.debug.DebugWord.TheVariants.{Back, Go, Regs}
-use Rattle.rvmc_line.specs.declared.line.CommandLine.TheVariants.{Join, OfImage, OfRecord}
+use Rattle.rvmc_line.specs.declared.line.CommandLine.TheVariants.{Join, OfImage, OfRecord, WordSession}
 use Rattle.rvmc_line.specs.declared.line.ImageCommand.TheVariants.{Explore, ExploreFrom, Split}
 use Rattle.rvmc_line.specs.declared.line.RecordCommand.TheVariants.{Debug}
 
@@ -30,6 +30,15 @@ no_word = refl
 pub why_no_word : refusals_of (codes "debug" ∷ []) ≡ kind.MissingRequiredArgument ∷ []
 unfolding faults_in clap_on_literals
 why_no_word = refl
+
+-- `-` alone stands for words that come behind the record
+pub words_of_lines : meaning_of (codes "debug" ∷ codes "-" ∷ []) ≡ Some WordSession
+unfolding faults_in command_in line_in clap_on_literals
+words_of_lines = refl
+
+pub lines_and_words : meaning_of (codes "debug" ∷ codes "-" ∷ codes "back" ∷ []) ≡ None
+unfolding faults_in command_in line_in clap_on_literals debug_word_in bare_word word_with
+lines_and_words = refl
 
 -- a text that is no word, behind one that is
 pub a_wrong_word : meaning_of (codes "debug" ∷ codes "back" ∷ codes "step=1" ∷ []) ≡ None

@@ -38,6 +38,10 @@ pub a_record : named_in (codes "debug" ∷ codes "go=2" ∷ codes "x.record" ∷
     ≡ reads (codes "debug" ∷ codes "go=2" ∷ codes "where" ∷ []) (codes "x.record")
 a_record = refl
 
+pub a_record_of_lines : named_in (codes "debug" ∷ codes "-" ∷ codes "x.record" ∷ [])
+    ≡ reads (codes "debug" ∷ codes "-" ∷ []) (codes "x.record")
+a_record_of_lines = refl
+
 -- an option has its own word: `--record` takes one of `explore`, and none of `run`
 pub an_end : named_in (codes "explore" ∷ codes "--record" ∷ codes "2" ∷ codes "a.image" ∷ [])
     ≡ reads (codes "explore" ∷ codes "--record" ∷ codes "2" ∷ []) (codes "a.image")

@@ -1,10 +1,10 @@
-//! `debug CMD..`.
+//! `debug CMD..` and `debug -`.
 
-ghost use Rattle.std.specs.Prelude.{IfOk, map};
+ghost use Rattle.std.specs.Prelude.{◌≡◌, IfOk, map};
 ghost use Rattle.clap.specs.Walk.{rows_of};
 ghost use Rattle.clap.specs.Words.{found_of};
 ghost use Rattle.rvmc_cli.specs.Built.{StandsFor};
-ghost use Rattle.rvmc_cli.specs.Commands.{app_of, debug_row};
+ghost use Rattle.rvmc_cli.specs.Commands.{app_of, debug_row, debugging_in, is_dash};
 ghost use Rattle.rvmc_cli.specs.Parsing.{Finds};
 ghost use Rattle.rvmc_words.specs.Debug.{debug_words_in};
 
@@ -46,11 +46,28 @@ The words are read before the record is. A place, rank, hart, range or symbol
 that doesn't exist is an error, as `rvmc: debug: PastEnd 10`; what the words
 before it print has been written by then.
 
-At most 67,108,864 bytes are read, from FILE or else from standard input. With -o
-the output goes to a file, which is in its place once it is whole.
+With `-` in place of the words, they come from standard input, one line at a
+time. Each line is answered before the next one is read; the place and the breaks
+stay from line to line. An error is the last line of its line's answer, and you
+can go on from there:
+
+  $ rvmc debug - hi.record
+  go=2 step
+  at 2 of 10
+  at 3 of 10
+  back go=11 go=0
+  at 2 of 10
+  rvmc: debug: PastEnd 10
+
+If no FILE is named, the lines follow the record on standard input.
+
+At most 67,108,864 bytes are read, from FILE or else from standard input; with
+`-` the lines count too. With -o the output goes to a file, which is in its place
+once it is whole.
 
 Status:
-  0 done, 1 error in the record or of a word, 2 error in the command line,
+  0 done, or with `-` the input ended, 1 error in the record or of a word,
+  2 error in the command line,
   5 out of memory, 6 a read or write failed, or the input is too long
 
 Examples:
@@ -58,7 +75,18 @@ Examples:
   rvmc debug hi.record go=2 regs=0,0
   rvmc debug farm.record break=0,0,farm.c:12 run frames=0,0
   rvmc debug hi.record break=0,0,0x18 run run
-  rvmc debug hi.record go=3 bytes=0,0xfff8,4 back bytes=0,0xfff8,4";
+  rvmc debug hi.record go=3 bytes=0,0xfff8,4 back bytes=0,0xfff8,4
+  rvmc debug - hi.record";
+
+/// Whether the words come behind the record.
+fn is_dash(texts: &[&str]) -> bool
+    ensures { result ≡ is_dash (map (λ text. text.now) texts.now) }
+{
+    match texts {
+        [text] => *text == "-",
+        _ => false,
+    }
+}
 
 /// The word of each text, up to the first that is none.
 fn words<'a>(alloc: Global, texts: &[&'a str]) -> Result<DebugWords, Wrong<'a>>
@@ -75,7 +103,11 @@ fn words<'a>(alloc: Global, texts: &[&'a str]) -> Result<DebugWords, Wrong<'a>>
 }
 
 /// Its parts, in the order in which help lists them.
-static PARTS: &[Part] = &[Part::Texts("words", "CMD", "What to do or print, as go=2")];
+static PARTS: &[Part] = &[Part::Texts(
+    "words",
+    "CMD",
+    "What to do or print, as go=2; - alone reads words from standard input",
+)];
 
 /// The command as clap builds it.
 pub fn command<'a>(alloc: Global) -> Result<Command<'a>, AllocError>
@@ -93,6 +125,17 @@ pub fn command<'a>(alloc: Global) -> Result<Command<'a>, AllocError>
     )
 }
 
+/// What these texts ask for.
+fn debugging<'a>(alloc: Global, texts: &[&'a str]) -> Result<CommandLine, Wrong<'a>>
+    ensures { Finds (debugging_in (map (λ text. text.now) texts.now)) result }
+{
+    if is_dash(texts) {
+        return Ok(CommandLine::WordSession);
+    }
+    let words = words(alloc, texts)?;
+    Ok(CommandLine::OfRecord(RecordCommand::Debug { words }))
+}
+
 /// What it asks for, of what clap found.
 pub fn line<'a>(alloc: Global, matches: &ArgMatches<'a>) -> Result<CommandLine, Wrong<'a>>
     ensures { Finds (debug_row.meaning (rows_of (found_of matches.now))) result }
@@ -100,6 +143,5 @@ pub fn line<'a>(alloc: Global, matches: &ArgMatches<'a>) -> Result<CommandLine, 
     let Some(texts) = values::texts(matches, "words") else {
         return Err(Wrong::Command);
     };
-    let words = words(alloc, texts)?;
-    Ok(CommandLine::OfRecord(RecordCommand::Debug { words }))
+    debugging(alloc, texts)
 }

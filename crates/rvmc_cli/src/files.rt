@@ -87,7 +87,7 @@ fn has_equals_sign(bytes: &[u8]) -> bool
     bytes.iter().any(|byte| is_equals_sign(*byte))
 }
 
-/// Whether a word names a file: a `.` or a `/` stands in it, and no `=`, and it is no option.
+/// Whether a word names a file: it contains a `.` or a `/` and no `=`, and is no option.
 fn is_file(word: &str) -> bool
     ensures { result ≡ is_file word.now }
 {
@@ -254,7 +254,7 @@ fn walked<'a>(
     }
 }
 
-/// Whether `--source` is to stand behind the command: where the file is a source, and it isn't given.
+/// Whether `--source` must be added: the file is a source, and the words don't say so yet.
 fn lacks_source(file: Option<&str>, words: &[&str]) -> bool
     ensures { result ≡ lacks_source (option_map (λ file. file.now) file.entry) (map (λ word. word.now) words.now) }
 {
@@ -290,7 +290,7 @@ impl<'a> Named<'a> {
     }
 }
 
-/// What words name behind the command that takes this.
+/// What the words after the command name, by what the command takes.
 fn behind<'a>(
     alloc: Global,
     taker: &Taker,

@@ -97,11 +97,11 @@ cluster, as in MPI; a hart is one of its up to four hardware threads. In a turn
 one hart does one instruction, or tries a call once. A record has every step of
 a run, so that you can go through it forwards and backwards.
 
-FILE stands behind the command, and has a `.` or a `/` in its name. A file whose
-name ends in .s is an assembler source. -o OUTPUT writes to a file instead; if
-that is a regular file, it is replaced once the output is whole, and is left as
-it was if there is an error. Without a command rvmc does what `rvmc one` does, and
-reads a source from standard input if no FILE is named.
+FILE goes after the command. Its name must contain a `.` or a `/`. A file whose
+name ends in .s is an assembler source. -o OUTPUT writes to a file instead of
+standard output. A regular file is replaced once the output is complete, and is
+left alone if there is an error. Without a command rvmc does what `rvmc one`
+does; without a FILE either, it reads a source from standard input.
 
 Examples:
   rvmc hi.s                   assemble a source and run it
@@ -122,6 +122,7 @@ Examples:
                               make a web page to step through it
   rvmc debug farm.record go=2 regs=0,0
                               print the registers after two steps
+  rvmc debug - farm.record    the same, with words that you type line by line
   rvmc explore farm.image     list every outcome that any schedule can reach
   rvmc asm hi.s -o hi.image   assemble a source to an image
   rvmc dis hi.image           list the instructions of an image

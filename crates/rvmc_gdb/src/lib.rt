@@ -16,3 +16,4 @@ mod typing;
 
 pub use server::{Flow, Server};
 pub use session::Session;
+pub use typing::refusal;

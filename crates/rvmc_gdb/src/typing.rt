@@ -54,8 +54,8 @@ fn printed_text(alloc: Global, printed: &[u8]) -> Result<Vec<u8>, AllocError>
     digits_of(alloc, printed)
 }
 
-/// What is printed for a word that was refused, unless memory was.
-fn refusal(alloc: Global, fault: DebugFault) -> Result<Vec<u8>, AllocError>
+/// What is printed for a word that was refused, as the command line prints it. Want of memory is no answer.
+pub fn refusal(alloc: Global, fault: DebugFault) -> Result<Vec<u8>, AllocError>
     ensures told { IfOk result (λ text. text.items ≡ fault_text fault) }
     ensures memory { OnOk result (fault ≢ faults.Memory) }
 {

@@ -11,7 +11,7 @@ use Rattle.rvmc_hints.specs.declared.runs.Runner.TheVariants.{One, Run}
 abbrev pub next_bound : ℕ → Option ℕ
 next_bound bound = if nat_le 16777216 bound then None else Some (min (16 * bound) 16777216)
 
--- what stands before the next budget, where a hart waits, and where none does
+-- the hint up to the next budget: if a hart waits, and if none does
 abbrev pub waiting_head : Runner → List ℕ
 waiting_head Run = codes "a hart waits; --why says for what, and rvmc run --budget "
 waiting_head One = codes "a hart waits; --why says for what, and rvmc one --budget "

@@ -26,6 +26,8 @@ pub enum Awaited {
     Whole(Wanted),
     /// Packets of gdb, behind a record in a file.
     Packets,
+    /// Lines with the words of `debug`, behind a record in a file.
+    Words,
 }
 
 /// What a person can be told behind a fault's line. It prints as the text behind `hint: `.
@@ -258,6 +260,9 @@ fn put_awaited<W: fmt::Write>(f: &mut fmt::Formatter<W>, awaited: Awaited) -> fm
         ),
         Awaited::Packets => f.write_str(
             "waiting for gdb's packets on standard input (Ctrl-D ends it)",
+        ),
+        Awaited::Words => f.write_str(
+            "waiting for words on standard input, a line each, as go=2 regs=0,0 (Ctrl-D ends it)",
         ),
     }
 }

@@ -53,7 +53,7 @@ pub enum RunHint {
     Turns(u64),
 }
 
-/// What stands before the next budget where a hart waits.
+/// The hint up to the next budget, if a hart waits.
 fn waiting_head(runner: Runner) -> &'static str
     ensures text { result.now ≡ waiting_head runner }
     ensures one_line { IsOneLine result.now }
@@ -64,7 +64,7 @@ fn waiting_head(runner: Runner) -> &'static str
     }
 }
 
-/// What stands before it where none waits.
+/// The same if none waits.
 fn spent_head(runner: Runner) -> &'static str
     ensures text { result.now ≡ spent_head runner }
     ensures one_line { IsOneLine result.now }

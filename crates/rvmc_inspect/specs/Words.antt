@@ -1,5 +1,5 @@
 -- What the words of `debug` do to a debugger and what they print, up to the first that is refused.
-use Rattle.std.specs.Prelude.{ℕ, ◌≡◌, ◌<◌, ◌≤◌, ◌++◌, ⊤, Bool, List, [], ◌∷◌, length, slice_get, take}
+use Rattle.std.specs.Prelude.{ℕ, ◌≡◌, ◌≢◌, ◌<◌, ◌≤◌, ◌++◌, ⊤, Bool, List, [], ◌∷◌, length, slice_get, take}
 use Rattle.std.specs.Prelude.{Option, None, Some}
 use Rattle.rv_hart.specs.State.{State}
 use Rattle.rv_image.specs.declared.images.ImageParts.{ImageParts}
@@ -139,3 +139,11 @@ IsTextOfWords old words text None = (new : Debugging) × Walks old words new tex
 IsTextOfWords old words text (Some fault) =
     (n : ℕ) × (word : DebugWord) × (new : Debugging) × (slice_get words n ≡ Some word)
     × Walks old (take n words) new text × Refuses new fault word
+
+-- the same, and where the debugger is then: after the last word, or where one was refused. Where memory was refused it may
+-- be anywhere
+abbrev pub StopsAt : Debugging → List DebugWord → Debugging → List ℕ → Option DebugFault → Type 0
+StopsAt old words new text None = Walks old words new text
+StopsAt old words new text (Some fault) =
+    (n : ℕ) × (word : DebugWord) × (at : Debugging) × (slice_get words n ≡ Some word)
+    × Walks old (take n words) at text × Refuses at fault word × (fault ≢ faults.Memory → new ≡ at)

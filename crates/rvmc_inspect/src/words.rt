@@ -1,9 +1,9 @@
 //! The words, done one after another.
 
-ghost use Rattle.std.specs.Prelude.{◌≡◌, ◌<◌, ◌++◌, IfErr, IfOk, List, OnErr, OnOk, length, ℕ};
+ghost use Rattle.std.specs.Prelude.{◌≡◌, ◌≢◌, ◌<◌, ◌++◌, IfErr, IfOk, List, OnErr, OnOk, length, ℕ};
 ghost use Rattle.cl_debug.specs.declared.faults.DebugFault.TheVariants.{Memory, NoSymbol};
 ghost use Rattle.rvmc_words.specs.declared.debug.DebugWord.TheVariants as word;
-ghost use Rattle.rvmc_inspect.specs.Words.{AddsBreak, AreStops, Does, IsSpot, IsTextOfWords, IsUnknown, Refuses, TellsBytes};
+ghost use Rattle.rvmc_inspect.specs.Words.{AddsBreak, AreStops, Does, IsSpot, IsTextOfWords, IsUnknown, Refuses, StopsAt, TellsBytes};
 ghost use Rattle.rvmc_inspect.specs.Words.{TellsFrames, TellsOutput, TellsPlace, TellsRegs, WantsMemory, with_breaks};
 ghost use Rattle.rvmc_places.specs.Places.{line_start, line_starts};
 
@@ -34,6 +34,7 @@ fn go(alloc: Global, debugger: &mut Debugger, n: u64) -> Result<Vec<u8>, DebugFa
     ensures does { IfOk result (λ text. Does debugger.old (word.Go n) debugger.new text.items) }
     ensures wanted { IfOk result (λ text. 0 < length text.items → WantsMemory debugger.old (word.Go n)) }
     ensures fault { IfErr result (λ fault. Refuses debugger.old fault (word.Go n)) }
+    ensures stays { IfErr result (λ fault. fault ≢ Memory → debugger.new ≡ debugger.old) }
 {
     debugger.go(n)?;
     Ok(tell_place(alloc, debugger)?)
@@ -43,6 +44,7 @@ fn go(alloc: Global, debugger: &mut Debugger, n: u64) -> Result<Vec<u8>, DebugFa
 fn step(alloc: Global, debugger: &mut Debugger) -> Result<Vec<u8>, DebugFault>
     ensures does { IfOk result (λ text. Does debugger.old word.Step debugger.new text.items) }
     ensures fault { IfErr result (λ fault. Refuses debugger.old fault word.Step) }
+    ensures stays { IfErr result (λ fault. fault ≢ Memory → debugger.new ≡ debugger.old) }
 {
     debugger.step()?;
     Ok(tell_place(alloc, debugger)?)
@@ -52,6 +54,7 @@ fn step(alloc: Global, debugger: &mut Debugger) -> Result<Vec<u8>, DebugFault>
 fn back(alloc: Global, debugger: &mut Debugger) -> Result<Vec<u8>, DebugFault>
     ensures does { IfOk result (λ text. Does debugger.old word.Back debugger.new text.items) }
     ensures fault { IfErr result (λ fault. Refuses debugger.old fault word.Back) }
+    ensures stays { IfErr result (λ fault. fault ≢ Memory → debugger.new ≡ debugger.old) }
 {
     debugger.back()?;
     Ok(tell_place(alloc, debugger)?)
@@ -61,6 +64,7 @@ fn back(alloc: Global, debugger: &mut Debugger) -> Result<Vec<u8>, DebugFault>
 fn run(alloc: Global, debugger: &mut Debugger) -> Result<Vec<u8>, DebugFault>
     ensures does { IfOk result (λ text. Does debugger.old word.Run debugger.new text.items) }
     ensures fault { IfErr result (λ fault. Refuses debugger.old fault word.Run) }
+    ensures stays { IfErr result (λ fault. fault ≢ Memory → debugger.new ≡ debugger.old) }
 {
     debugger.run()?;
     Ok(tell_place(alloc, debugger)?)
@@ -159,6 +163,7 @@ fn set_break(
     ensures wanted { IfOk result
         (λ text. 0 < length text.items → WantsMemory debugger.old (word.Break rank hart at.now)) }
     ensures fault { IfErr result (λ fault. Refuses debugger.old fault (word.Break rank hart at.now)) }
+    ensures stays { IfErr result (λ fault. fault ≢ Memory → debugger.new ≡ debugger.old) }
 {
     let pc = address_of(debugger, at)?;
     debugger.regs(rank, hart)?;
@@ -221,11 +226,12 @@ fn bytes(
     Ok(bytes_text(alloc, &shown)?)
 }
 
-/// Does a word, and gives its text.
+/// Does a word, and gives its text. One that is refused changes nothing, unless memory was refused.
 fn tell(alloc: Global, debugger: &mut Debugger, word: &DebugWord) -> Result<Vec<u8>, DebugFault>
     ensures does { IfOk result (λ text. Does debugger.old word.now debugger.new text.items) }
     ensures wanted { IfOk result (λ text. 0 < length text.items → WantsMemory debugger.old word.now) }
     ensures fault { IfErr result (λ fault. Refuses debugger.old fault word.now) }
+    ensures stays { IfErr result (λ fault. fault ≢ Memory → debugger.new ≡ debugger.old) }
 {
     match word {
         DebugWord::Go(n) => go(alloc, debugger, *n),
@@ -252,15 +258,18 @@ fn put_word(
         × (text.new.items ≡ text.old.items ++ more)) }
     ensures unchanged { OnErr result (text.new.items ≡ text.old.items) }
     ensures fault { IfErr result (λ fault. Refuses debugger.old fault word.now) }
+    ensures stays { IfErr result (λ fault. fault ≢ Memory → debugger.new ≡ debugger.old) }
 {
     let more = tell(alloc, debugger, word)?;
     text.extend_from_slice(&more)?;
     Ok(())
 }
 
-/// Does words one after another, up to the first that is refused.
+/// Does words one after another, up to the first that is refused. The debugger stays where that word was refused; only where
+/// memory was refused it may be anywhere.
 pub fn tell_all(alloc: Global, debugger: &mut Debugger, words: &[DebugWord]) -> Told
-    ensures { IsTextOfWords debugger.old words.now result.text.items result.fault }
+    ensures text { IsTextOfWords debugger.old words.now result.text.items result.fault }
+    ensures stops { StopsAt debugger.old words.now debugger.new result.text.items result.fault }
 {
     let mut text = Vec::new(alloc);
     for word in words {

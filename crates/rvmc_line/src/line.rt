@@ -29,6 +29,8 @@ pub enum CommandLine {
     /// A record is read, and behind it the packets of gdb, each of which is answered as it comes: of this rank of the record
     /// (0 to 255), or of all its ranks. Whether there is such a rank is not known here.
     Session { rank: Option<u64> },
+    /// A record is read, and behind it lines with the words of `debug`, each of which is answered as it comes.
+    WordSession,
     /// Texts are read that were told of the starts of a split, and it is told whether these are all ends. Whether they were
     /// told of one split, and of each of its starts, is not known here.
     Join,

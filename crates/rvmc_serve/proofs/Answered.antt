@@ -57,7 +57,7 @@ front_is spelled packets front behind size all = (
 )
 
 -- the record is the front
-front_of : (spelled packets front behind : List ℕ) (image : ImageParts) (steps : List Step)
+pub front_of : (spelled packets front behind : List ℕ) (image : ImageParts) (steps : List Step)
     → reading_record spelled ≡ Ok (image, steps) → IsStream (spelled ++ packets) front behind
     → (front ≡ spelled) × (behind ≡ packets)
 front_of spelled packets front behind image steps read stream =

@@ -3,3 +3,7 @@ pub mod Opening
 pub mod Streams
 pub mod Answered
 pub mod Ends
+pub mod Heard
+pub mod Lines
+pub mod LineLaws
+pub mod Typed

@@ -1,3 +1,5 @@
 pub mod Sessions
 pub mod Serving
+pub mod Lines
+pub mod Typing
 pub mod Laws

@@ -1,11 +1,14 @@
-//! A session of gdb over streams: a record is read, and behind it the packets of a client, each of which is answered as it
-//! comes.
+//! Sessions over streams: a record is read, and behind it the packets of gdb, or lines with the words of `debug`. Each packet
+//! and each line is answered as it comes.
 //!
-//! The meaning stands in specs/Sessions.antt: where the record ends, which packets were heard, and what stands on the output
-//! for them.
+//! specs/Sessions.antt says where the record ends, which packets were heard, and what is written for them;
+//! specs/Lines.antt says what is written for lines.
 #![tactic(auto)]
 
 pub mod laws;
 mod serving;
+mod typing;
+mod words;
 
 pub use serving::{Refused, serve};
+pub use words::serve_words;

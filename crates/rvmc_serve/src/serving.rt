@@ -22,7 +22,7 @@ use std::alloc::Global;
 use std::io::{Read, Write};
 
 /// How many bytes are read at most, those of the record among them, and how many reads but one.
-const MOST: usize = 67_108_864;
+pub(crate) const MOST: usize = 67_108_864;
 
 /// Why a session ended before its client left, and before its input came to an end.
 #[derive(Drop)]
@@ -86,7 +86,7 @@ fn opened_or_kept(alloc: Global, rank: Option<u64>, bytes: Vec<u8>) -> Result<Se
 }
 
 /// Writes a text, and tells whether the writer took all of it.
-fn put<W: Write>(out: &mut W, text: &[u8]) -> Result<(), Fault>
+pub(crate) fn put<W: Write>(out: &mut W, text: &[u8]) -> Result<(), Fault>
     ensures written { OnOk result (Appends (W.contents out.old) (W.contents out.new) text.now) }
     ensures fault { IfErr result (λ fault. fault ≡ faults.Write) }
 {
@@ -207,7 +207,7 @@ fn talked<I: Read, O: Write>(
 }
 
 /// The front of an input. A fault stands beside no bytes.
-fn front_of<I: Read>(alloc: Global, input: &mut I) -> Result<Front, Refused>
+pub(crate) fn front_of<I: Read>(alloc: Global, input: &mut I) -> Result<Front, Refused>
     ensures taken { IfOk result (λ front. Consumes (I.remaining input.old) (I.remaining input.new)
         (front.record.items ++ front.behind.items)) }
     ensures front { IfOk result (λ front.

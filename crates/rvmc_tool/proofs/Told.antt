@@ -7,7 +7,7 @@ use Rattle.cl_text.specs.Reading.{reading_record}
 use Rattle.cl_text.specs.declared.faults.RecordFault.{RecordFault}
 use Rattle.rv_image.specs.declared.images.ImageParts.{ImageParts}
 use Rattle.rvmc_line.specs.declared.line.CommandLine.{CommandLine}
-use Rattle.rvmc_line.specs.declared.line.CommandLine.TheVariants.{Join, OfImage, OfRecord, Session}
+use Rattle.rvmc_line.specs.declared.line.CommandLine.TheVariants.{Join, OfImage, OfRecord, Session, WordSession}
 use Rattle.rvmc_line.specs.declared.line.ImageCommand.{ImageCommand}
 use Rattle.rvmc_line.specs.declared.line.ImageCommand.TheVariants.{Explore, ExploreFrom, One, OneUntilStuck, Run, RunUntilStuck, Split}
 use Rattle.rvmc_line.specs.declared.line.RecordCommand.{RecordCommand}
@@ -108,6 +108,7 @@ leaves_of : (line : CommandLine) (bytes : List ℕ) (fault : Fault) → IsFaultO
     → LeavesOf line bytes fault
 leaves_of (OfImage source command) bytes fault is = leaves command (image_in source bytes) fault is
 leaves_of (Session rank) bytes fault is = absurd is
+leaves_of WordSession bytes fault is = absurd is
 leaves_of Join bytes faults.Memory is = inr (refl, refl)
 leaves_of Join bytes (faults.Explore refusal) is = inl (inl (inr ((refusal, is), (refl, refl))))
 leaves_of Join bytes other is = absurd is

@@ -18,7 +18,7 @@ use Rattle.rv_image.specs.Image.{in_version_two}
 use Rattle.rv_image.specs.Text.{image_text}
 use Rattle.rv_image.specs.declared.images.ImageParts.{ImageParts}
 use Rattle.rvmc_line.specs.declared.line.CommandLine.{CommandLine}
-use Rattle.rvmc_line.specs.declared.line.CommandLine.TheVariants.{Join, OfImage, OfRecord, Session}
+use Rattle.rvmc_line.specs.declared.line.CommandLine.TheVariants.{Join, OfImage, OfRecord, Session, WordSession}
 use Rattle.rvmc_line.specs.declared.line.ImageCommand.{ImageCommand}
 use Rattle.rvmc_line.specs.declared.line.ImageCommand.TheVariants.{Asm, Dis, Explore, ExploreFrom, One, OneUntilStuck, Run, RunUntilStuck, Split}
 use Rattle.rvmc_line.specs.declared.line.Written.{Written}
@@ -31,7 +31,7 @@ use Rattle.rvmc_tool.specs.Exploring.{IsToldOfSearch}
 use Rattle.rvmc_tool.specs.Images.{image_in}
 use Rattle.rvmc_tool.specs.Plans.{ArePlansOf, listed}
 use Rattle.rvmc_tool.specs.Records.{IsWhyAt, SaysOfRecord}
-use Rattle.rvmc_tool.specs.Sessions.{SaysOfSession}
+use Rattle.rvmc_tool.specs.Sessions.{SaysOfSession, SaysOfWordSession}
 use Rattle.rvmc_tool.specs.Starting.{IsExploredFromBy, IsSplitBy, IsToldTogether}
 use Rattle.rvmc_starts.specs.declared.starts.Start.{Start}
 
@@ -227,6 +227,7 @@ abbrev pub Says : CommandLine → List ℕ → List ℕ → ℕ → Type 0
 Says (OfImage source command) bytes text status = SaysOfImage source command bytes text status
 Says (OfRecord command) bytes text status = SaysOfRecord command bytes text status
 Says (Session rank) bytes text status = SaysOfSession rank bytes text status
+Says WordSession bytes text status = SaysOfWordSession bytes text status
 Says Join bytes text status = IsToldTogether bytes text status
 
 -- ---- which fault is told

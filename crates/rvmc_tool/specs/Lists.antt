@@ -4,7 +4,7 @@ use Rattle.std.specs.Io.{StartsWith}
 use Rattle.std.specs.Io.KnownBytes.{Appends, Keeps}
 use Rattle.cl_text.specs.Reading.{reading_record}
 use Rattle.rvmc_line.specs.declared.line.CommandLine.{CommandLine}
-use Rattle.rvmc_line.specs.declared.line.CommandLine.TheVariants.{Join, OfImage, OfRecord, Session}
+use Rattle.rvmc_line.specs.declared.line.CommandLine.TheVariants.{Join, OfImage, OfRecord, Session, WordSession}
 use Rattle.rvmc_line.specs.declared.line.RecordCommand.{RecordCommand}
 use Rattle.rvmc_line.specs.declared.line.RecordCommand.TheVariants.{List as ListSteps}
 use Rattle.rvmc_list.specs.declared.folding.Wanted.{Wanted}
@@ -25,6 +25,7 @@ abbrev pub is_written_as_made : CommandLine → Bool
 is_written_as_made (OfImage source command) = false
 is_written_as_made (OfRecord command) = is_list command
 is_written_as_made (Session rank) = true
+is_written_as_made WordSession = true
 is_written_as_made Join = false
 
 -- the command that lists these steps

@@ -9,7 +9,7 @@ use Rattle.cl_text.specs.declared.faults.RecordFault.{RecordFault}
 use Rattle.rv_image.specs.Image.{IsImage}
 use Rattle.rv_image.specs.declared.images.ImageParts.{ImageParts}
 use Rattle.rvmc_line.specs.declared.line.CommandLine.{CommandLine}
-use Rattle.rvmc_line.specs.declared.line.CommandLine.TheVariants.{Join, OfImage, OfRecord, Session}
+use Rattle.rvmc_line.specs.declared.line.CommandLine.TheVariants.{Join, OfImage, OfRecord, Session, WordSession}
 use Rattle.rvmc_line.specs.declared.line.ImageCommand.{ImageCommand}
 use Rattle.rvmc_line.specs.declared.line.ImageCommand.TheVariants.{Explore, ExploreFrom, One, OneUntilStuck, Run, RunUntilStuck, Split}
 use Rattle.rvmc_line.specs.declared.line.RecordCommand.{RecordCommand}
@@ -48,6 +48,7 @@ abbrev pub EndsSo : CommandLine → List ℕ → List ℕ → End → Type 0
 EndsSo (OfImage source command) bytes text end = IsWhole end
 EndsSo (OfRecord command) bytes text end = HasTold command bytes text end
 EndsSo (Session rank) bytes text end = ⊥
+EndsSo WordSession bytes text end = ⊥
 EndsSo Join bytes text end = IsWhole end
 
 -- ---- runs to the end of their plans or until nobody can go on
@@ -76,6 +77,7 @@ abbrev pub needs_threads : CommandLine → Bool
 needs_threads (OfImage source command) = runs_threads command
 needs_threads (OfRecord command) = false
 needs_threads (Session rank) = false
+needs_threads WordSession = false
 needs_threads Join = false
 
 -- the plan is wrong, or the order of the ranks
@@ -158,6 +160,7 @@ abbrev pub IsFaultOf : CommandLine → List ℕ → Fault → Type 0
 IsFaultOf (OfImage source command) bytes fault = IsImageFault source command bytes fault
 IsFaultOf (OfRecord command) bytes fault = IsReadFault command (reading_record bytes) fault
 IsFaultOf (Session rank) bytes fault = ⊥
+IsFaultOf WordSession bytes fault = ⊥
 IsFaultOf Join bytes fault = IsJoinFault bytes fault
 
 -- ---- the steps to an answer

@@ -9,7 +9,7 @@ use Rattle.rvmc_tool.specs.Images.{image_in}
 use Rattle.rvmc_tool.specs.Sessions.{is_session}
 use Rattle.rvmc_cli.specs.Meaning.{Parses}
 use Rattle.rvmc_line.specs.declared.line.CommandLine.{CommandLine}
-use Rattle.rvmc_line.specs.declared.line.CommandLine.TheVariants.{Join, OfImage, OfRecord, Session}
+use Rattle.rvmc_line.specs.declared.line.CommandLine.TheVariants.{Join, OfImage, OfRecord, Session, WordSession}
 use Rattle.rvmc_line.specs.declared.line.RecordCommand.TheVariants.{List as ListSteps}
 use Rattle.rvmc_line.specs.declared.line.ParseFault.{ParseFault}
 use Rattle.rvmc_line.specs.declared.line.ParseFault.TheVariants as parse
@@ -24,6 +24,7 @@ IsUnlike (OfImage source command) bytes text status =
     IsFaulty text status × MatchResult (image_in source bytes) (λ image. HasThreads command image) (λ _. ⊥)
 IsUnlike (OfRecord command) bytes text status = ⊥
 IsUnlike (Session rank) bytes text status = ⊥
+IsUnlike WordSession bytes text status = ⊥
 IsUnlike Join bytes text status = ⊥
 
 -- what a command line says of the bytes, of which there are 2^26 at most; a session reads no more of them than it hears

@@ -177,7 +177,10 @@ pub fn needs_threads(line: &CommandLine) -> bool
 {
     match line {
         CommandLine::OfImage { command, .. } => runs_threads(command),
-        CommandLine::OfRecord(_) | CommandLine::Session { .. } | CommandLine::Join => false,
+        CommandLine::OfRecord(_)
+        | CommandLine::Session { .. }
+        | CommandLine::WordSession
+        | CommandLine::Join => false,
     }
 }
 
@@ -199,7 +202,7 @@ pub fn answer_to(alloc: Global, line: &CommandLine, bytes: &[u8]) -> Result<Answ
         CommandLine::OfImage { source, command } => answer_of_image(alloc, *source, command, bytes),
         CommandLine::OfRecord(command) => answer_of_record(alloc, command, bytes),
         CommandLine::Join => join(alloc, bytes),
-        CommandLine::Session { .. } => unreachable!(),
+        CommandLine::Session { .. } | CommandLine::WordSession => unreachable!(),
     }
 }
 
@@ -291,8 +294,9 @@ pub fn answer_with_threads<R: Threads + Wait + Sync>(
         CommandLine::OfImage { source, command } => {
             answer_of_image_with_threads(rt, alloc, *source, command, bytes)
         }
-        CommandLine::OfRecord(_) | CommandLine::Join | CommandLine::Session { .. } => {
-            answer_to(alloc, line, bytes)
-        }
+        CommandLine::OfRecord(_)
+        | CommandLine::Join
+        | CommandLine::Session { .. }
+        | CommandLine::WordSession => answer_to(alloc, line, bytes),
     }
 }

@@ -137,10 +137,10 @@ pub(crate) fn tell_run_hint<E: Write>(
 
 /// Writes what a command waits for that reads standard input; with `behind_a_file` a record comes from a file before it.
 pub fn tell_wait<E: Write>(line: &CommandLine, behind_a_file: bool, err: &mut E) {
-    let awaited = if behind_a_file {
-        Awaited::Packets
-    } else {
-        Awaited::Whole(wanted_by(line))
+    let awaited = match line {
+        CommandLine::WordSession if behind_a_file => Awaited::Words,
+        _ if behind_a_file => Awaited::Packets,
+        _ => Awaited::Whole(wanted_by(line)),
     };
     put_hint(err, Hint::Awaited(awaited));
 }

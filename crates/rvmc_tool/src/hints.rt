@@ -40,7 +40,9 @@ pub(crate) fn wanted_by(line: &CommandLine) -> Wanted
             ..
         } => Wanted::Listed,
         CommandLine::OfImage { .. } => Wanted::Image,
-        CommandLine::OfRecord(_) | CommandLine::Session { .. } => Wanted::Record,
+        CommandLine::OfRecord(_) | CommandLine::Session { .. } | CommandLine::WordSession => {
+            Wanted::Record
+        }
         CommandLine::Join => Wanted::Told,
     }
 }

@@ -46,7 +46,7 @@ const RANKS: &str =
                      source";
 
 /// How files are named.
-const FILES: &str = "one file to read can be named behind the command, and behind -o one to write";
+const FILES: &str = "name one FILE at most, after the command, and one OUTPUT at most, after -o";
 
 /// Where a command is asked for so many ranks.
 fn ranks_hint<'a>(words: &[&str]) -> Option<Hint<'a>> {

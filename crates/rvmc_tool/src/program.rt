@@ -20,7 +20,7 @@ use crate::hints::{put_hint, tell_hint};
 use crate::listing::listed;
 use crate::mistyped::hint_words;
 use crate::outputs::Output;
-use crate::sessions::served;
+use crate::sessions::{served, served_words};
 use rvmc_cli::parse;
 use rvmc_hints::Hint;
 use rvmc_line::{CommandLine, ParseFault, RecordCommand};
@@ -200,7 +200,9 @@ fn is_written_as_made(line: &CommandLine) -> bool
 {
     matches!(
         line,
-        CommandLine::Session { .. } | CommandLine::OfRecord(RecordCommand::List { .. })
+        CommandLine::Session { .. }
+            | CommandLine::WordSession
+            | CommandLine::OfRecord(RecordCommand::List { .. })
     )
 }
 
@@ -220,6 +222,7 @@ fn obey_by_pieces<I: Read, O: Write, E: Write>(
 {
     match line {
         CommandLine::Session { rank } => served(alloc, line, *rank, input, out, err),
+        CommandLine::WordSession => served_words(alloc, line, input, out, err),
         CommandLine::OfRecord(
             RecordCommand::List {
                 from,

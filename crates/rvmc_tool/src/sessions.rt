@@ -1,8 +1,8 @@
-//! Sessions of gdb.
+//! Sessions of gdb, and of lines with words.
 
 ghost use Rattle.std.specs.Prelude.{◌≡◌, ◌≢◌, List, Some, false, true, ℕ};
 ghost use Rattle.rvmc_hints.specs.HintLines.{AppendsHint};
-ghost use Rattle.rvmc_line.specs.declared.line.CommandLine.TheVariants.{Session};
+ghost use Rattle.rvmc_line.specs.declared.line.CommandLine.TheVariants.{Session, WordSession};
 ghost use Rattle.rvmc_report.specs.Faults.{fault_status};
 ghost use Rattle.rvmc_report.specs.Input.{TakesAtMost};
 ghost use Rattle.rvmc_tool.specs.Tool.{Answers, is_quiet};
@@ -10,7 +10,7 @@ ghost use Rattle.rvmc_tool.specs.Tool.{Answers, is_quiet};
 use crate::program::{fail_to_read, fail_with_hint};
 use rvmc_line::CommandLine;
 use rvmc_report::faults::Fault;
-use rvmc_serve::{Refused, serve};
+use rvmc_serve::{Refused, serve, serve_words};
 use std::alloc::Global;
 use std::io::{Read, Write};
 
@@ -40,6 +40,25 @@ pub(crate) fn served<I: Read, O: Write, E: Write>(
     ensures quiet { is_quiet result ≡ true → AppendsHint (E.contents err.old) (E.contents err.new) }
 {
     match serve(alloc, rank, input, out) {
+        Ok(()) => 0,
+        Err(fault) => refused(alloc, line, fault, err),
+    }
+}
+
+/// `debug -`: a record is read, and the lines behind it are answered as they come, until the input ends.
+pub(crate) fn served_words<I: Read, O: Write, E: Write>(
+    alloc: Global,
+    line: &CommandLine,
+    input: &mut I,
+    out: &mut O,
+    err: &mut E,
+) -> u8
+    ensures answers { (bytes : List ℕ) → I.remaining input.old ≡ Some bytes → result ≢ 6
+        → Answers WordSession bytes result (O.contents out.old) (O.contents out.new) }
+    ensures front { TakesAtMost 67112960 (I.remaining input.old) (I.remaining input.new) }
+    ensures quiet { is_quiet result ≡ true → AppendsHint (E.contents err.old) (E.contents err.new) }
+{
+    match serve_words(alloc, input, out) {
         Ok(()) => 0,
         Err(fault) => refused(alloc, line, fault, err),
     }

@@ -14,6 +14,6 @@ returns-clause-tells c =
       fault = fault;
       told = subst (λ (d : Debugging). IsTextOfWords d c.args.words.now text fault) c.in_ok-debugger.ensures.opened
           (subst (λ (words : List DebugWord). IsTextOfWords debugger words text fault) c.as_slice.ensures
-          c.tell_all-told.ensures);
+          c.tell_all-told.ensures.text);
       end_is = c.end_of.ensures;
     }

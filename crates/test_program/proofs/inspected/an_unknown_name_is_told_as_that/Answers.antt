@@ -9,4 +9,4 @@ returns c = λ rank count name is unknown.
     let text = c.tell_all.result.text.items in
     let fault = c.tell_all.result.fault in
     told old rank count name unknown text fault
-    (subst (λ words. IsTextOfWords old words text fault) is c.tell_all.ensures)
+    (subst (λ words. IsTextOfWords old words text fault) is c.tell_all.ensures.text)
