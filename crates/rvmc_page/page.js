@@ -305,7 +305,7 @@ function valued(all, kind) {
 // what is remembered for the page, where the browser remembers anything
 const kept = (() => {
   try {
-    return localStorage;
+    return localStorage || {};
   } catch (_) {
     return {};
   }
@@ -604,9 +604,11 @@ function showSource(at) {
     if (name !== file || !all[number - 1] || /[xt]/.test(hart.stand)) return;
     all[number - 1].firstChild.append(made("b", rank.harts.length > 1 ? r + "." + h : r, "r" + r));
   }));
-  if (!line || line[0] !== file || !all[line[1] - 1]) return;
-  all[line[1] - 1].classList.add("present");
-  const text = find("text"), box = all[line[1] - 1].getBoundingClientRect(), { top, bottom } = text.getBoundingClientRect();
+  const present = line && line[0] === file && all[line[1] - 1];
+  if (present) present.classList.add("present");
+  const text = find("text"), inView = present || text.querySelector(".done");
+  if (!inView) return;
+  const box = inView.getBoundingClientRect(), { top, bottom } = text.getBoundingClientRect();
   if (box.top < top || box.bottom > bottom) text.scrollTop += box.top - top - text.clientHeight / 2;
 }
 

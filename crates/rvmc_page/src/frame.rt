@@ -8,7 +8,7 @@ pub(crate) const HEAD: &str = "\
 <meta charset=utf-8>
 <meta name=viewport content='width=device-width'>
 <meta http-equiv=Content-Security-Policy content=\"default-src 'none'; style-src 'unsafe-inline';
- script-src 'sha256-a/D1P4vW7bn5Ke729czCSwu2xD3v56E27oGYv8lVAq0='\">
+ script-src 'sha256-QVGJYZqhs1VcMFbTVbU7cV1H1cAxIlalDIV4/Wx0y+g='\">
 <title>rvmc: a record</title>
 <style>
 :root{color-scheme:light dark;font:13px system-ui,sans-serif;--ink:#1c1c1c;--dim:#666;--paper:#fff;--rule:#ccc;
@@ -35,6 +35,7 @@ body.sourced{grid-template:'picture machine' minmax(0,1fr) 'source machine' minm
 .big #page-picture svg{zoom:1.5;max-width:none;background:var(--paper)}
 .big svg text{font-size:12px}
 .big svg .dim,.big svg .ink{fill:var(--ink)}
+#page-picture .again{display:none}
 .big svg .lane{stroke:var(--ink)}
 .big svg .a{stroke-width:2.5}
 .big #page-lanes{height:66px;margin-bottom:-66px}
@@ -81,10 +82,10 @@ text-underline-offset:2px;text-decoration-color:var(--dim);overflow-wrap:anywher
 #page-registers b{font-weight:400}
 input,select{font:inherit;font-weight:400}
 .page-rows select{width:5.5em}
-input[type=number]{width:6em}
+input[type=number]{width:5.5em}
 #page-address{width:11em}
 button{font:inherit}
-#page-bar button{padding:1px 5px}
+#page-bar button{padding:1px 4px;font-size:.92rem}
 @media (max-width:900px){body{grid-template:'picture' 42vh 'machine' minmax(0,1fr)/minmax(0,1fr)}
 body.sourced{grid-template:'picture' 30vh 'source' 22vh 'machine' minmax(0,1fr)/minmax(0,1fr)}
 #page-machine{border-left:0;border-top:2px solid var(--rule);padding:0 6px 6px}}
@@ -127,8 +128,8 @@ pub(crate) const BODY: &str = "\
 <label>steps done <input id=page-place type=number></label> <span id=page-range></span>
 <button id=page-play title='play, or pause (space)'>play</button>
 <select id=page-unit title='what is played'><option>marks<option>lines<option>steps</select>
-<select id=page-speed title='how many a second'><option value=1>1 a second<option value=3 selected>3 a second<option
- value=10>10 a second<option value=30>30 a second</select>
+<select id=page-speed title='how many a second'><option value=1>1/s<option value=3 selected>3/s<option value=10>10/s<option
+ value=30>30/s</select>
 </div>
 <div>
 <input id=page-search list=page-search-known placeholder='search: a line, a function, tag 1 (/)'>
