@@ -304,6 +304,21 @@ def read(svg):
     return marks, sorted(arrows), sorted(bars), rows, "".join(lines)
 
 
+def has_names(svg, ranks):
+    """Whether each rank's name stands by its lanes at least once in 700 pixels, and between its marks and not on them."""
+    root = tree.fromstring(svg)
+    foot = max(float(line.get("y2")) for line in root.iter(f"{SVG}line") if line.get("class") == "lane")
+    rows = [float(use.get("y")) for mark in root.iter(f"{SVG}g") if mark.get("id") for use in mark.iter(f"{SVG}use")]
+    for rank in range(ranks):
+        names = [float(text.get("y")) for text in root.iter(f"{SVG}text") if f"f{rank} bold" in text.get("class")]
+        if any(below - above > 700 for above, below in zip(names, names[1:] + [foot])):
+            return False
+        # a letter is 12 pixels high, and a mark 14
+        if any(-5 < row - name + 6 < 5 for name in names[1:] for row in rows):
+            return False
+    return True
+
+
 def has_lanes(svg):
     """Whether all marks of a hart stand in one lane, and the lanes in the order of ranks and of their harts."""
     across = {}

@@ -24,7 +24,7 @@ svg{background:#16181b}
 .s4{stroke:#f0e442}.s5{stroke:#9fd3ff}.s6{stroke:#d9a066}.s7{stroke:#bbb}
 .f0{fill:#56b4e9}.f1{fill:#ff8a3d}.f2{fill:#2fd6a3}.f3{fill:#e59ccb}
 .f4{fill:#f0e442}.f5{fill:#9fd3ff}.f6{fill:#d9a066}.f7{fill:#bbb}}
-@media (max-width:700px){svg{min-width:0!important}.wide{display:none}}
+@media (max-width:700px){svg{min-width:0!important}.wide{display:none}.dim,.ink{font-size:11px}}
 </style>
 ";
 

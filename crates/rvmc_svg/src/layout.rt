@@ -18,6 +18,14 @@ const LONG: u64 = 40;
 
 const LONG_ROW: u64 = 26;
 
+/// How far apart the names of the ranks are written once more, and how high the strip is that no mark stands in.
+const NAMES_APART: u64 = 640;
+
+const NAMES_ROW: u64 = 30;
+
+/// Where in its strip a name is written.
+const NAME: u64 = 18;
+
 /// The left margin in pixels, and where the part of the page ends that the ranks share.
 const LEFT: u64 = 70;
 
@@ -132,6 +140,28 @@ impl<'a> Layout<'a> {
     }
 }
 
+/// The first row at this one or below it that isn't among names.
+fn below_names(row: u64) -> u64 {
+    let strip = row.saturating_sub(row % NAMES_APART);
+    if strip == 0 {
+        return row;
+    }
+    row.max(strip.saturating_add(NAMES_ROW))
+}
+
+/// How many times the names of the ranks are written once more beside lanes that end at this row.
+pub(crate) fn names_count(foot: u64) -> u64 {
+    foot.saturating_sub(NAMES_ROW) / NAMES_APART
+}
+
+/// How far down they are written this time, from 0.
+pub(crate) fn names_at(number: u64) -> u64 {
+    number
+        .saturating_add(1)
+        .saturating_mul(NAMES_APART)
+        .saturating_add(NAME)
+}
+
 /// Where hart lanes were last used.
 #[derive(Drop)]
 struct Lanes {
@@ -197,8 +227,9 @@ pub(crate) fn rows(alloc: Global, drawing: &Drawing) -> Result<Vec<u64>, AllocEr
             rows.as_slice(),
             drawing.arrows.as_slice(),
             mark.spot.place,
-            least,
+            below_names(least),
         );
+        row = below_names(row);
         rows.push(row)?;
         lanes.used(mark.spot, row);
     }

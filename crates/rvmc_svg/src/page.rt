@@ -12,7 +12,7 @@ use crate::bars::put_bars;
 use crate::ends::{put_rows, put_told};
 use crate::fonts::{SHAPES, STYLE};
 use crate::labels::{NARROW, Places};
-use crate::layout::{Layout, TOP, lane_at, page_wide, rank_at, rows, share};
+use crate::layout::{Layout, TOP, lane_at, names_at, names_count, page_wide, rank_at, rows, share};
 use crate::legend::put_legend;
 use crate::marks::{all_marks, put_places};
 use crate::pieces::Piece::{Across, Hart, Number, Rank, Words};
@@ -22,6 +22,9 @@ use crate::safe::put_safe;
 use rvmc_draw::{Arrow, Drawing};
 use std::alloc::Global;
 use std::io;
+
+/// How many letters the name of a rank has.
+const NAME_LETTERS: usize = 7;
 
 /// Adds a lane's line, so far across.
 fn put_line(text: &mut Vec<u8>, at: u64, foot: u64) -> io::Result<()> {
@@ -66,15 +69,62 @@ fn put_band(text: &mut Vec<u8>, drawing: &Drawing, at: u64, foot: u64) -> io::Re
     )
 }
 
-/// Adds the name of a rank.
-fn put_name(text: &mut Vec<u8>, drawing: &Drawing, rank: u8, at: u64) -> io::Result<()> {
+/// Adds the name of a rank, so far down.
+fn put_name(
+    text: &mut Vec<u8>,
+    drawing: &Drawing,
+    rank: u8,
+    down: u64,
+    again: &'static str,
+) -> io::Result<()> {
     // a narrow page has no room for many names
     let class = if drawing.ranks > 5 { "wide" } else { "" };
     put(
         text,
-        "<text class=\"f{} bold\" font-size=\"12\" text-anchor=\"middle\" x=\"{}\" y=\"24\"><tspan class=\"{}\">rank </tspan>{}</text>\n",
-        &[Rank(rank), Across(at), Words(class), Rank(rank)],
+        "<text class=\"f{} bold{}\" font-size=\"12\" text-anchor=\"middle\" x=\"{}\" y=\"{}\"><tspan class=\"{}\">rank </tspan>{}</text>\n",
+        &[
+            Rank(rank),
+            Words(again),
+            Across(rank_at(drawing, rank)),
+            Number(down),
+            Words(class),
+            Rank(rank),
+        ],
     )
+}
+
+/// Takes the places of the names of all ranks, so far down.
+fn take_names_at(places: &mut Places, drawing: &Drawing, down: u64) -> io::Result<()> {
+    let wide = places.letters(NAME_LETTERS);
+    for rank in 0..drawing.ranks {
+        let left = rank_at(drawing, rank).saturating_sub(wide / 2);
+        places.take(left, wide, down)?;
+    }
+    Ok(())
+}
+
+/// Takes the places of all names below the first, so that nothing is written there.
+fn take_names(places: &mut Places, layout: &Layout<'_>) -> io::Result<()> {
+    for number in 0..names_count(layout.foot) {
+        take_names_at(places, layout.drawing, names_at(number))?;
+    }
+    Ok(())
+}
+
+/// Adds the names of all ranks once more, so far down.
+fn put_names_at(text: &mut Vec<u8>, drawing: &Drawing, down: u64) -> io::Result<()> {
+    for rank in 0..drawing.ranks {
+        put_name(text, drawing, rank, down, " halo again")?;
+    }
+    Ok(())
+}
+
+/// Adds them each time that a long picture would have none in view.
+fn put_names(text: &mut Vec<u8>, layout: &Layout<'_>) -> io::Result<()> {
+    for number in 0..names_count(layout.foot) {
+        put_names_at(text, layout.drawing, names_at(number))?;
+    }
+    Ok(())
 }
 
 /// Adds a rank: its name above, a band behind every second one, and its lanes.
@@ -83,7 +133,7 @@ fn put_rank(text: &mut Vec<u8>, drawing: &Drawing, rank: u8, foot: u64) -> io::R
     if rank % 2 == 1 {
         put_band(text, drawing, at, foot)?;
     }
-    put_name(text, drawing, rank, at)?;
+    put_name(text, drawing, rank, 24, "")?;
     for hart in 0..drawing.harts {
         put_lane(text, drawing, rank, hart, foot)?;
     }
@@ -103,15 +153,17 @@ fn put_under(text: &mut Vec<u8>, places: &mut Places, layout: &Layout<'_>) -> io
     let drawing = layout.drawing;
     put_heads(text, drawing.ranks)?;
     put_ranks(text, drawing, layout.foot)?;
+    take_names(places, layout)?;
     put_bars(text, places, layout)?;
     put_ribbons(text, layout)?;
     put_places(text, layout)
 }
 
-/// Adds what lies above the marks or stands below them, to the end of the page, and tells the page's height: labels, the
+/// Adds what lies above the marks or stands below them, to the end of the page, and tells the page's height: names, labels, the
 /// rows of the end, what is told of it, and the legend.
 fn put_over(text: &mut Vec<u8>, places: &mut Places, layout: &Layout<'_>) -> io::Result<u64> {
     let drawing = layout.drawing;
+    put_names(text, layout)?;
     put_labels(text, places, layout)?;
     put_losses(text, places, layout)?;
     let down = put_rows(text, drawing, layout.foot.saturating_add(20))?;
