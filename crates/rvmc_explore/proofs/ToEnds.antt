@@ -41,7 +41,7 @@ leads_in_order kept at turns steps leads sorted = λ image order nodes here limi
     let its = sorted image here.cluster limits way.run in
     record { turns = turns; way = way; sorted = its.0; run = its.1 }
 
-nodes_at : (told : List Outcome) (k at : ℕ) → slice_get (nodes_told told) k ≡ Some at
+pub nodes_at : (told : List Outcome) (k at : ℕ) → slice_get (nodes_told told) k ≡ Some at
     → (outcome : Outcome) × (slice_get told k ≡ Some outcome) × (outcome.node ≡ at)
 nodes_at [] k at is = absurd (cc)
 nodes_at (one ∷ told) zero at is = (one, refl, same_Some one.node at is)

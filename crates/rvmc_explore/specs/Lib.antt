@@ -9,5 +9,6 @@ pub mod Recorded
 pub mod InnerRecorded
 pub mod Splitting
 pub mod StatusLaw
+pub mod OneList
 pub mod Starting
 pub mod SplitLaw

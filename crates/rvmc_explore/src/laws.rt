@@ -1,5 +1,6 @@
 //! Laws of searches: functions with empty bodies, whose contracts are the laws.
 
+ghost use Rattle.rvmc_explore.specs.OneList.{OneListLaw};
 ghost use Rattle.rvmc_explore.specs.SplitLaw.{SplitLaw};
 ghost use Rattle.rvmc_explore.specs.StatusLaw.{StatusLaw};
 
@@ -13,4 +14,11 @@ pub fn split_law()
 /// Status 8: some run comes to where it can't end any more, and still no ranks are stuck in any.
 pub fn status_law()
     ensures { StatusLaw }
+{}
+
+/// What is told of one image and one order is one, where no state is left: each list tells the end of every run by the order,
+/// so the ends of one search are told of any other, the record of a number leads to an end that is told, and the status is
+/// the same.
+pub fn one_list_law()
+    ensures { OneListLaw }
 {}

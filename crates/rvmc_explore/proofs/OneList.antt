@@ -1,0 +1,463 @@
+-- What is told of one image and one order is one, where no state is left.
+use Rattle.std.specs.Prelude.{ℕ, zero, suc, ◌+◌, ◌<◌, ◌≡◌, ◌++◌, ◌||◌, ◌==◌, List, [], ◌∷◌, Bool, true, false, Option, Some, None, codes, if◌then◌else◌, length, map, not, slice_get}
+use Rattle.std.specs.Fmt.{decimal}
+use Rattle.std.specs.Option.{option_map}
+use Rattle.std.specs.List.{list_any}
+use Rattle.std.proofs.Common.{refl, sym, ap, ◌∙◌, subst, arith, inl, inr}
+use Rattle.std.proofs.lemmas.Bool.{eqb-true}
+use Rattle.std.proofs.lemmas.List.Folds.{list_any_at}
+use Rattle.std.proofs.lemmas.Option.{get_or_from_slice_get, same_Some, slice_get-map, slice_get_within}
+use Rattle.rv_hart.specs.State.{State}
+use Rattle.rv_hart.specs.declared.state.Mode.{Mode}
+use Rattle.rv_hart.specs.declared.state.Mode.TheVariants.{Running, Waiting, Ended, Trapped}
+use Rattle.rv_image.specs.Image.{IsImage}
+use Rattle.rv_image.specs.declared.images.ImageParts.{ImageParts}
+use Rattle.mp_alike_laws.specs.Renaming.{Renaming}
+use Rattle.cl_state.specs.Rank.{Rank}
+use Rattle.cl_state.specs.Room.{rank_of}
+use Rattle.cl_state.specs.declared.state.RankState.{RankState}
+use Rattle.cl_names_laws.specs.Named.{hart_by, mode_by, rank_by}
+use Rattle.cl_machine.specs.Cluster.{Cluster, IsRun, loaded_cluster}
+use Rattle.cl_machine.specs.declared.steps.Step.{Step}
+use Rattle.cl_order_laws.specs.Alike.{AlikeRanks}
+use Rattle.cl_order_laws.specs.Closed.{FollowPlans, IsEnd, Node, none_had, had_after}
+use Rattle.cl_order_laws.specs.Laws.{AreAlike}
+use Rattle.cl_outcome_laws.specs.Unending.{MayEnd}
+use Rattle.cl_deadlock.specs.Why.{AreBelow}
+use Rattle.cl_deadlock_laws.proofs.Reached.{comes_reached}
+use Rattle.cl_record.specs.Plans.{IsOrder}
+use Rattle.cl_moves.specs.Standing.{IsWay, by_order, first_node, node_of}
+use Rattle.cl_explore.specs.Ends.{Explored, ExploredFrom, Findings}
+use Rattle.cl_explore.specs.declared.companies.Company.{Company}
+use Rattle.cl_explore.specs.declared.kept.KeptNode.{KeptNode}
+use Rattle.cl_explore.proofs.Keeping.{node_found}
+use Rattle.cl_explore.proofs.Lists.{at_inside}
+use Rattle.cl_replay.specs.Kept.{Snapshot, snapshot}
+use Rattle.cl_replay.specs.States.{ClusterStandsFor}
+use Rattle.cl_replay.specs.declared.states.ClusterState.{ClusterState}
+use Rattle.cl_explore.specs.Kept.{cluster_of}
+use Rattle.rvmc_report.specs.Report.{has_trapped, hart_text, harts_text, is_trapped, mode_text, newline, output_text}
+use Rattle.rvmc_explore.specs.Endless.{AllMayEnd, SaysUnending, SomeNeverEnds}
+use Rattle.rvmc_explore.specs.Ends.{end_rank_text, end_ranks_from, end_stop, is_waiting_hart, is_waiting_mode, one_waits, IsWaitText, any_waits}
+use Rattle.rvmc_explore.specs.OneList.{IsTextAt, LeadsToText, OneListLaw, TellsEnd, lines_from, rank_lines}
+use Rattle.rvmc_explore.specs.Outcomes.{AreTold, IsListOf, IsOutcome, nodes_told}
+use Rattle.rvmc_explore.specs.Recorded.{Leads, LeadsTo, numbered}
+use Rattle.rvmc_explore.proofs.ToEnds.{nodes_at}
+use Rattle.rvmc_explore.specs.Telling.{Tells, any_end, has_stuck, holds_of, is_some_company, search_status, trapped_in, waits_in}
+use Rattle.rvmc_explore.specs.declared.outcomes.Outcome.{Outcome}
+
+-- ---- a rank by other names of posts tells the same
+
+abbrev at_clock : Rank → ℕ → Rank
+at_clock rank clock = record rank { clock = clock }
+
+mode_same : (names : Renaming) (mode : Mode) (pc : ℕ) → mode_text (mode_by names mode) pc ≡ mode_text mode pc
+mode_same names Running pc = refl
+mode_same names (Waiting wait) pc = refl
+mode_same names (Ended code) pc = refl
+mode_same names (Trapped cause at) pc = refl
+
+hart_same : (names : Renaming) (rank number : ℕ) (hart : State)
+    → hart_text rank number (hart_by names hart) ≡ hart_text rank number hart
+hart_same names rank number hart =
+    ap (λ text. codes "rank "
+    ++ (decimal rank ++ (codes " hart " ++ (decimal number ++ (codes " " ++ (text ++ newline))))))
+    (mode_same names hart.mode hart.pc)
+
+harts_same : (names : Renaming) (rank number : ℕ) (harts : List State)
+    → harts_text rank number (map (hart_by names) harts) ≡ harts_text rank number harts
+harts_same names rank number [] = refl
+harts_same names rank number (hart ∷ harts) =
+    λ i. hart_same names rank number hart i ++ harts_same names rank (number + 1) harts i
+
+waiting_mode_same : (names : Renaming) (mode : Mode) → is_waiting_mode (mode_by names mode) ≡ is_waiting_mode mode
+waiting_mode_same names Running = refl
+waiting_mode_same names (Waiting wait) = refl
+waiting_mode_same names (Ended code) = refl
+waiting_mode_same names (Trapped cause at) = refl
+
+waiting_same : (names : Renaming) (o : Option State) → is_waiting_hart (option_map (hart_by names) o) ≡ is_waiting_hart o
+waiting_same names None = refl
+waiting_same names (Some hart) = waiting_mode_same names hart.mode
+
+waits_same : (names : Renaming) (order : List ℕ) (harts : List State)
+    → one_waits order (map (hart_by names) harts) ≡ one_waits order harts
+waits_same names order harts =
+    ap (λ (p : ℕ → Bool). list_any p order) (λ i n. (ap is_waiting_hart (slice_get-map (hart_by names) harts n)
+    ∙ waiting_same names (slice_get harts n)) i)
+
+trapped_mode_same : (names : Renaming) (mode : Mode) → is_trapped (mode_by names mode) ≡ is_trapped mode
+trapped_mode_same names Running = refl
+trapped_mode_same names (Waiting wait) = refl
+trapped_mode_same names (Ended code) = refl
+trapped_mode_same names (Trapped cause at) = refl
+
+trapped_same : (names : Renaming) (harts : List State) → has_trapped (map (hart_by names) harts) ≡ has_trapped harts
+trapped_same names [] = refl
+trapped_same names (hart ∷ harts) = λ i. trapped_mode_same names hart.mode i || trapped_same names harts i
+
+rank_same : (names : Renaming) (order : List ℕ) (number clock : ℕ) (rank : Rank)
+    → end_rank_text order number (at_clock (rank_by names rank) clock) ≡ end_rank_text order number rank
+rank_same names order number clock rank =
+    λ i. output_text number rank.out ++ (harts_same names number 0 rank.harts i
+    ++ end_stop number (if waits_same names order rank.harts i then codes "stuck" else codes "all-ended"))
+
+-- ---- and so do all ranks of alike clusters
+
+abbrev AreAlikeLists : Renaming → List Rank → List Rank → Type 0
+AreAlikeLists names xs ys =
+    (length ys ≡ length xs)
+    × ((i : ℕ) (x : Rank) → slice_get xs i ≡ Some x → (y : Rank) × (slice_get ys i ≡ Some y) × AlikeRanks names x y)
+
+module _ (names : Renaming) where
+  first_alike : (x y : Rank) (xs ys : List Rank) → AreAlikeLists names (x ∷ xs) (y ∷ ys)
+      → (clock : ℕ) × (y ≡ at_clock (rank_by names x) clock)
+  first_alike x y xs ys alike =
+      let v = alike.1 0 x refl in (v.2.0, same_Some y v.0 v.1 ∙ v.2.1)
+
+  rest_alike : (x y : Rank) (xs ys : List Rank) → AreAlikeLists names (x ∷ xs) (y ∷ ys) → AreAlikeLists names xs ys
+  rest_alike x y xs ys alike = (omega (arith, alike.0), λ i z at. alike.1 (suc i) z at)
+
+  lines_same : (order : List ℕ) (number : ℕ) (xs ys : List Rank) → AreAlikeLists names xs ys
+      → lines_from order number ys ≡ lines_from order number xs
+  lines_same order number [] [] alike = refl
+  lines_same order number [] (y ∷ ys) alike = absurd (omega (arith, alike.0))
+  lines_same order number (x ∷ xs) [] alike = absurd (omega (arith, alike.0))
+  lines_same order number (x ∷ xs) (y ∷ ys) alike =
+      let first = first_alike x y xs ys alike in
+      λ i. (ap (end_rank_text order number) first.1 ∙ rank_same names order number first.0 x) i
+      ++ lines_same order (number + 1) xs ys (rest_alike x y xs ys alike) i
+
+  any_same : (p : Rank → Bool) → ((clock : ℕ) (rank : Rank) → p (at_clock (rank_by names rank) clock) ≡ p rank)
+      → (xs ys : List Rank) → AreAlikeLists names xs ys → list_any p ys ≡ list_any p xs
+  any_same p same [] [] alike = refl
+  any_same p same [] (y ∷ ys) alike = absurd (omega (arith, alike.0))
+  any_same p same (x ∷ xs) [] alike = absurd (omega (arith, alike.0))
+  any_same p same (x ∷ xs) (y ∷ ys) alike =
+      let first = first_alike x y xs ys alike in
+      λ i. (ap p first.1 ∙ same first.0 x) i || any_same p same xs ys (rest_alike x y xs ys alike) i
+
+alike_lists : (a b : Cluster) (alike : AreAlike a b) → AreAlikeLists alike.0 a.ranks b.ranks
+alike_lists a b alike = (((alike.1).ranks).many, ((alike.1).ranks).each)
+
+lines_alike : (order : List ℕ) (a b : Cluster) → AreAlike a b → rank_lines order b ≡ rank_lines order a
+lines_alike order a b alike = lines_same alike.0 order 0 a.ranks b.ranks (alike_lists a b alike)
+
+traps_alike : (a b : Cluster) → AreAlike a b
+    → list_any (λ (rank : Rank). has_trapped rank.harts) b.ranks ≡ list_any (λ (rank : Rank). has_trapped rank.harts) a.ranks
+traps_alike a b alike =
+    any_same alike.0 (λ (rank : Rank). has_trapped rank.harts) (λ clock rank. trapped_same alike.0 rank.harts) a.ranks b.ranks
+    (alike_lists a b alike)
+
+waits_alike : (order : List ℕ) (a b : Cluster) → AreAlike a b
+    → list_any (λ (rank : Rank). one_waits order rank.harts) b.ranks
+    ≡ list_any (λ (rank : Rank). one_waits order rank.harts) a.ranks
+waits_alike order a b alike =
+    any_same alike.0 (λ (rank : Rank). one_waits order rank.harts) (λ clock rank. waits_same alike.0 order rank.harts) a.ranks
+    b.ranks (alike_lists a b alike)
+
+-- ---- the text of a node
+
+lines_of_states : (order : List ℕ) (number : ℕ) (ranks : List RankState)
+    → end_ranks_from order number ranks ≡ lines_from order number (map rank_of ranks)
+lines_of_states order number [] = refl
+lines_of_states order number (rank ∷ ranks) =
+    ap (λ rest. end_rank_text order number (rank_of rank) ++ rest) (lines_of_states order (number + 1) ranks)
+
+waits_of_states : (order : List ℕ) (ranks : List RankState)
+    → any_waits order ranks ≡ list_any (λ (rank : Rank). one_waits order rank.harts) (map rank_of ranks)
+waits_of_states order [] = refl
+waits_of_states order (rank ∷ ranks) = ap (λ b. one_waits order rank.harts.items || b) (waits_of_states order ranks)
+
+-- what is kept of a node of this number has its ranks
+module _ (image : ImageParts) (order : List ℕ) (start : Node) (found : Findings) (explored : ExploredFrom image order start found) where
+  ranks_kept : (i : ℕ) (what : KeptNode) (node : Node) → slice_get found.kept i ≡ Some what
+      → slice_get explored.nodes i ≡ Some node → node.cluster.ranks ≡ what.cluster.ranks
+  ranks_kept i what node at there =
+      let v = (explored.are).each i what at in
+      let same : v.0 ≡ node = same_Some v.0 node (sym v.1 ∙ there) in
+      ap (λ (n : Node). n.cluster.ranks) (sym same) ∙ (v.2).ranks_are
+
+  stands_kept : (i : ℕ) (what : KeptNode) (node : Node) (state : ClusterState) → slice_get found.kept i ≡ Some what
+      → slice_get explored.nodes i ≡ Some node → snapshot state ≡ cluster_of what → ClusterStandsFor image state node.cluster
+  stands_kept i what node state at there same =
+      let v = (explored.are).each i what at in
+      let is : v.0 ≡ node = same_Some v.0 node (sym v.1 ∙ there) in
+      subst (λ (n : Node). ClusterStandsFor image state n.cluster) is ((v.2).stands state same)
+
+  found_way : (i : ℕ) (node : Node) → slice_get explored.nodes i ≡ Some node
+      → (steps : List Step) × IsWay (by_order order) (first_node image) steps node
+  found_way i node at = node_found image order found.kept explored.nodes explored.are i node at
+
+module _ (image : ImageParts) (order : List ℕ) (states turns : ℕ) (told : List Outcome)
+    (listed : IsListOf image order states turns told) (whole : (listed.found).left ≡ 0) where
+  abbrev explored : Explored image order listed.found
+  explored = (listed.searched).explored
+
+  tells_end : (steps : List Step) (end : Cluster) → IsRun (loaded_cluster image) steps end
+      → FollowPlans (by_order order) none_had steps → IsEnd (by_order order) end
+      → TellsEnd image order states turns told listed end
+  tells_end steps end run follow is =
+      let v = explored.all whole steps end run follow is in
+      let body = (listed.are).ends v.0 v.1 v.3 in
+      let kept = (body.2).is in
+      let text = (body.2).told in
+      let ranks : map rank_of (body.2).state.ranks.items ≡ v.2.cluster.ranks =
+      ap (λ (s : Snapshot). s.ranks) kept.same
+      ∙ sym (ranks_kept image order (first_node image) listed.found explored v.1 kept.what v.2 kept.there v.4) in
+      record {
+        number = v.1;
+        node = v.2;
+        there = v.4;
+        alike = v.5;
+        body = body.0;
+        told_is = body.1;
+        is = body.2;
+        waiting = text.waiting;
+        begins = text.spelled
+            ∙ ap (λ lines. lines ++ text.waiting)
+            (lines_of_states order 0 (body.2).state.ranks.items
+            ∙ ap (lines_from order 0) ranks ∙ lines_alike order end v.2.cluster v.5);
+        alone = λ none.
+            let waits : any_waits order (body.2).state.ranks.items ≡ false =
+            waits_of_states order (body.2).state.ranks.items
+            ∙ ap (list_any (λ (rank : Rank). one_waits order rank.harts)) ranks ∙ waits_alike order end v.2.cluster v.5
+            ∙ none in
+            subst (λ b. IsWaitText b image (body.2).state text.waiting) waits text.told;
+      }
+
+-- ---- the status
+
+bools : (a b : Bool) → (a ≡ true → b ≡ true) → (b ≡ true → a ≡ true) → a ≡ b
+bools true b there back = sym (there refl)
+bools false true there back = back refl
+bools false false there back = refl
+
+any_some : {A : Type 0} (p : A → Bool) (xs : List A) → list_any p xs ≡ true
+    → (k : ℕ) × (x : A) × (slice_get xs k ≡ Some x) × (p x ≡ true)
+any_some {A = A} p [] is = absurd (cc)
+any_some {A = A} p (x ∷ xs) is = of (λ any. any_some p xs any) (p x) refl is
+  where
+    of : (list_any p xs ≡ true → (k : ℕ) × (y : A) × (slice_get xs k ≡ Some y) × (p y ≡ true)) → (b : Bool) → p x ≡ b
+        → (b || list_any p xs) ≡ true → (k : ℕ) × (y : A) × (slice_get (x ∷ xs) k ≡ Some y) × (p y ≡ true)
+    of rest true here any = (0, x, refl, here)
+    of rest false here any = let v = rest any in (suc v.0, v.1, v.2, v.3)
+
+some_any : {A : Type 0} (p : A → Bool) (xs : List A) (k : ℕ) (x : A) → slice_get xs k ≡ Some x → p x ≡ true
+    → list_any p xs ≡ true
+some_any p xs k x at is =
+    list_any_at p xs k x (slice_get_within xs k x at) (ap p (get_or_from_slice_get xs k x x at) ∙ is)
+
+holds_some : (p : KeptNode → Bool) (o : Option KeptNode) → holds_of p o ≡ true
+    → (what : KeptNode) × (o ≡ Some what) × (p what ≡ true)
+holds_some p None is = absurd (cc)
+holds_some p (Some what) is = (what, refl, is)
+
+-- where something holds of an end by its ranks, whatever their posts are called, then of an end of each search
+module _ (image : ImageParts) (order : List ℕ) (found other : Findings) (one : Explored image order found)
+    (two : Explored image order other) (whole : other.left ≡ 0) (p : KeptNode → Bool) (q : List Rank → Bool)
+    (is : (what : KeptNode) → p what ≡ q what.cluster.ranks)
+    (same : (a b : Cluster) → AreAlike a b → q b.ranks ≡ q a.ranks) where
+  end_there : any_end p found.kept found.ends ≡ true → any_end p other.kept other.ends ≡ true
+  end_there any =
+      let e = any_some (λ i. holds_of p (slice_get found.kept i)) found.ends any in
+      let kept = holds_some p (slice_get found.kept e.1) e.3 in
+      let end = one.sound e.0 e.1 e.2 in
+      let node = end.0 in
+      let way = found_way image order (first_node image) found one e.1 node end.1 in
+      let v = two.all whole way.0 node.cluster (way.1).run (way.1).follow end.2 in
+      let low = slice_get_within two.nodes v.1 v.2 v.4 in
+      let what = at_inside other.kept v.1 (omega (arith, low, (two.are).many)) in
+      let holds : p what.0 ≡ true =
+      is what.0
+      ∙ ap q (sym (ranks_kept image order (first_node image) other two v.1 what.0 v.2 what.1 v.4))
+      ∙ same node.cluster v.2.cluster v.5
+      ∙ ap q (ranks_kept image order (first_node image) found one e.1 kept.0 node kept.1 end.1)
+      ∙ sym (is kept.0)
+      ∙ kept.2 in
+      some_any (λ i. holds_of p (slice_get other.kept i)) other.ends v.0 v.1 v.3
+      (ap (holds_of p) what.1 ∙ holds)
+
+some_is : (companies : List Company) → is_some_company companies ≡ true → 0 < length companies
+some_is [] some = absurd (cc)
+some_is (company ∷ companies) some = omega arith
+
+none_is : (companies : List Company) → is_some_company companies ≡ false → length companies ≡ 0
+none_is companies none = of (length companies == 0) refl none
+  where
+    of : (b : Bool) → (length companies == 0) ≡ b → not b ≡ false → length companies ≡ 0
+    of true is none = eqb-true (length companies) 0 is
+    of false is none = absurd (cc)
+
+either : (a b c d : Bool) → (a ≡ true → c ≡ true) → (b ≡ true → d ≡ true) → (a || b) ≡ true → (c || d) ≡ true
+either true b true d first second is = refl
+either true b false d first second is = absurd (let no = first refl in cc)
+either false true true true first second is = refl
+either false true false true first second is = refl
+either false true c false first second is = absurd (let no = second refl in cc)
+either false false c d first second is = absurd (cc)
+
+module _ (image : ImageParts) (order : List ℕ) (states turns more longer : ℕ) (text other : List ℕ) (status its : ℕ)
+    (right : IsImage image) (harts : IsOrder image.harts order)
+    (one : Tells image order states turns text status) (whole : ((one.listed).found).left ≡ 0)
+    (two : Tells image order more longer other its) (all : ((two.listed).found).left ≡ 0) where
+  abbrev first : Explored image order (one.listed).found
+  first = ((one.listed).searched).explored
+
+  abbrev second : Explored image order (two.listed).found
+  second = ((two.listed).searched).explored
+
+  traps_there : any_end trapped_in ((one.listed).found).kept ((one.listed).found).ends ≡ true
+      → any_end trapped_in ((two.listed).found).kept ((two.listed).found).ends ≡ true
+  traps_there =
+      end_there image order (one.listed).found (two.listed).found first second all trapped_in
+      (λ ranks. list_any (λ (rank : Rank). has_trapped rank.harts) ranks) (λ what. refl) traps_alike
+
+  -- ranks that are stuck in a node of one are stuck in some of the other
+  company_there : is_some_company ((one.listed).found).companies ≡ true
+      → is_some_company ((two.listed).found).companies ≡ true
+  company_there some = of (is_some_company ((two.listed).found).companies) refl
+    where
+      of : (b : Bool) → is_some_company ((two.listed).found).companies ≡ b
+          → is_some_company ((two.listed).found).companies ≡ true
+      of true is = is
+      of false is =
+          let low = some_is ((one.listed).found).companies some in
+          let company = at_inside ((one.listed).found).companies 0 low in
+          let at = first.stuck right 0 company.0 company.1 in
+          let way = found_way image order (first_node image) (one.listed).found first company.0.node at.0 at.1 in
+          let count = (comes_reached image way.0 at.0.cluster (way.1).run).count in
+          let never = two.none_stuck all (none_is ((two.listed).found).companies is) in
+          absurd (never way.0 at.0.cluster (way.1).run (way.1).follow company.0.ranks.items
+          (subst (AreBelow company.0.ranks.items) count (at.2).are_ranks)
+          (record { stuck = (at.2).stuck; waits = ((at.2).deadlock).waits }))
+
+  stuck_there : has_stuck order (one.listed).found ≡ true → has_stuck order (two.listed).found ≡ true
+  stuck_there =
+      either (any_end (waits_in order) ((one.listed).found).kept ((one.listed).found).ends)
+      (is_some_company ((one.listed).found).companies)
+      (any_end (waits_in order) ((two.listed).found).kept ((two.listed).found).ends)
+      (is_some_company ((two.listed).found).companies)
+      (end_there image order (one.listed).found (two.listed).found first second all (waits_in order)
+      (λ ranks. list_any (λ (rank : Rank). one_waits order rank.harts) ranks) (λ what. refl) (waits_alike order))
+      company_there
+
+  -- a run that can't end any more is one of any search
+  unending_there : one.unending ≡ true → two.unending ≡ true
+  unending_there some = of two.unending refl
+    where
+      of : (b : Bool) → two.unending ≡ b → two.unending ≡ true
+      of true is = is
+      of false is =
+          let never : SomeNeverEnds image order =
+          subst (SaysUnending image order (first_node image) ((one.listed).found).left) some one.unending_is in
+          let may : AllMayEnd order (first_node image) =
+          subst (SaysUnending image order (first_node image) ((two.listed).found).left) is two.unending_is all harts in
+          let way = never.way in
+          let goes = may never.steps (never.there).cluster way.run way.follow in
+          let same : node_of (never.there).cluster (had_after none_had never.steps) ≡ never.there =
+          (λ i. record { cluster = (never.there).cluster; had = (sym way.had) i }) in
+          let ends : MayEnd (by_order order) never.there = subst (MayEnd (by_order order)) same goes in
+          absurd (never.never ends.0 ends.1 ends.2)
+
+status_same : (left other status its : ℕ) (a b c x y z : Bool) → left ≡ 0 → other ≡ 0
+    → status ≡ search_status left a b c → its ≡ search_status other x y z → a ≡ x → b ≡ y → c ≡ z → status ≡ its
+status_same left other status its a b c x y z whole all is are first second third =
+    is ∙ (λ i. search_status ((whole ∙ sym all) i) (first i) (second i) (third i)) ∙ sym are
+
+leads_there : (image : ImageParts) (order : List ℕ) (nodes : List Node) (steps : List Step) (o : Option ℕ)
+    → Leads image order nodes o (Some steps) → (at : ℕ) × (o ≡ Some at) × LeadsTo image order nodes at steps
+leads_there image order nodes steps None leads = absurd leads
+leads_there image order nodes steps (Some at) leads = (at, refl, leads)
+
+outcome_at : (told : List Outcome) (number at : ℕ) → numbered (nodes_told told) number ≡ Some at
+    → (k : ℕ) × (outcome : Outcome) × (slice_get told k ≡ Some outcome) × (number ≡ suc k)
+    × (outcome.node ≡ at)
+outcome_at told zero at is = absurd (cc)
+outcome_at told (suc before) at is = let v = nodes_at told before at is in (before, v.0, v.1, refl, v.2)
+
+module _ (image : ImageParts) (order : List ℕ) (start : Node) (found : Findings) (explored : ExploredFrom image order start found) (outcome : Outcome)
+    (node : Node) (there : slice_get explored.nodes outcome.node ≡ Some node) where
+  text_at : IsOutcome order image found outcome → IsTextAt image order node.cluster outcome.body.items
+  text_at (inl end) =
+      let body = end.1 in
+      let kept = body.is in
+      record {
+        state = body.state;
+        stands = stands_kept image order start found explored outcome.node kept.what node body.state kept.there there kept.same;
+        spelled = inl body.told;
+      }
+  text_at (inr stuck) =
+      let company = stuck.1 in
+      let body = stuck.4 in
+      let kept = body.is in
+      record {
+        state = body.state;
+        stands = stands_kept image order start found explored outcome.node kept.what node body.state
+            (ap (slice_get found.kept) (sym stuck.3) ∙ kept.there) there kept.same;
+        spelled = inr (company.ranks.items, body.spelled);
+      }
+
+leads_to_text : (image : ImageParts) (order : List ℕ) (start : Node) (found : Findings)
+    → (explored : ExploredFrom image order start found) → (told : List Outcome) → AreTold order image found told
+    → (number : ℕ) (steps : List Step) → Leads image order explored.nodes (numbered (nodes_told told) number) (Some steps)
+    → LeadsToText image order told number steps
+leads_to_text image order start found explored told are number steps leads =
+    let led = leads_there image order explored.nodes steps (numbered (nodes_told told) number) leads in
+    let of = outcome_at told number led.0 led.1 in
+    record {
+      end = led.2.node.cluster;
+      run = led.2.run;
+      outcome = of.1;
+      place = of.0;
+      numbered_from_1 = of.3;
+      there = of.2;
+      told_at = text_at image order start found explored of.1 led.2.node (ap (slice_get explored.nodes) of.4 ∙ led.2.there)
+          (are.each of.0 of.1 of.2);
+    }
+
+pub one_list_law : OneListLaw
+one_list_law = record {
+  every = λ image order states turns told listed whole steps end run follow is.
+      tells_end image order states turns told listed whole steps end run follow is;
+  ends = λ image order states turns more longer told other one listed whole k i node at there.
+      let explored = (one.searched).explored in
+      let end = explored.sound k i at in
+      let same : end.0 ≡ node = same_Some end.0 node (sym end.1 ∙ there) in
+      let way = found_way image order (first_node image) one.found explored i node there in
+      tells_end image order more longer other listed whole way.0 node.cluster (way.1).run (way.1).follow
+      (subst (λ (n : Node). IsEnd (by_order order) n.cluster) same end.2);
+  record_leads = λ image order states turns number steps recorded.
+      leads_to_text image order (first_node image) (recorded.listed).found ((recorded.listed).searched).explored
+      recorded.told (recorded.listed).are number steps recorded.leads;
+  record_leads_from = λ image start states turns number steps recorded.
+      let behind = (recorded.listed).behind in
+      leads_to_text image start.harts behind.start (recorded.listed).found behind.explored recorded.told
+      (recorded.listed).are number steps recorded.leads;
+  records = λ image order states turns more longer number steps other recorded listed whole.
+      let led = leads_there image order (((recorded.listed).searched).explored).nodes steps
+      (numbered (nodes_told recorded.told) number) recorded.leads in
+      let way = led.2.way in (
+        led.2.node.cluster,
+        led.2.run,
+        λ is. tells_end image order more longer other listed whole led.2.turns led.2.node.cluster way.run way.follow is,
+      );
+  statuses = λ image order states turns more longer text other status its right harts one whole two all.
+      let unending = bools one.unending two.unending
+      (unending_there image order states turns more longer text other status its right harts one whole two all)
+      (unending_there image order more longer states turns other text its status right harts two all one whole) in (
+        unending,
+        status_same ((one.listed).found).left ((two.listed).found).left status its
+            (any_end trapped_in ((one.listed).found).kept ((one.listed).found).ends)
+            (has_stuck order (one.listed).found) one.unending
+            (any_end trapped_in ((two.listed).found).kept ((two.listed).found).ends)
+            (has_stuck order (two.listed).found) two.unending whole all one.status_is two.status_is
+            (bools _ _
+            (traps_there image order states turns more longer text other status its right harts one whole two all)
+            (traps_there image order more longer states turns other text its status right harts two all one whole))
+            (bools _ _
+            (stuck_there image order states turns more longer text other status its right harts one whole two all)
+            (stuck_there image order more longer states turns other text its status right harts two all one whole))
+            unending,
+      );
+}
