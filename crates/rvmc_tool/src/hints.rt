@@ -186,7 +186,10 @@ fn next_line<'a>(symbols: &'a [Symbol], file: &str, number: &str) -> Option<&'a 
                 None => true,
                 Some(nearest) => is_before(line.number, nearest),
             };
-            if line.file == file.as_bytes() && is_before(number.as_bytes(), line.number) && is_nearer {
+            if line.file == file.as_bytes()
+                && is_before(number.as_bytes(), line.number)
+                && is_nearer
+            {
                 found = Some(line.number);
             }
         }

@@ -4,7 +4,7 @@ ghost use Rattle.std.specs.Prelude.{◌≡◌, IfErr, IfOk};
 ghost use Rattle.cl_record.specs.Plans.{ArePlans, HasPlans};
 ghost use Rattle.rv_image.specs.Image.{IsImage};
 ghost use Rattle.rvmc_report.specs.Report.{rank_ends, status_of};
-ghost use Rattle.rvmc_tool.specs.Answers.{IsRunUntilStuck, IsThreadsUntilStuckBy, IsToldReport, IsToldTextOf};
+ghost use Rattle.rvmc_tool.specs.Answers.{IsRunUntilStuck, IsThreadsUntilStuckBy, IsToldReport, IsToldTextOf, is_framed};
 ghost use Rattle.rvmc_tool.specs.Ends.{end_status};
 ghost use Rattle.rvmc_tool.specs.Making.{IsLeft, IsRunFault, IsWhole};
 ghost use Rattle.rvmc_tool.specs.Outputs.{output_bytes};
@@ -24,6 +24,16 @@ use rvmc_report::stuck::told_report;
 use std::alloc::{AllocError, Global};
 use std::sync::Wait;
 use std::thread::Threads;
+
+/// Whether the calls are told that led to where harts are.
+fn is_framed(written: Written) -> bool
+    ensures { result ≡ is_framed written }
+{
+    match written {
+        Written::Why { frames } => frames,
+        Written::Report | Written::Record => false,
+    }
+}
 
 /// The report of a run whose ranks were told to stop, of each of which it says this word, and behind it what its harts wait
 /// for, with `framed` also the calls that led there. Each rank has so many turns by its plan.
@@ -65,7 +75,7 @@ fn told_with_word(
             Ok(Answer { output, end })
         }
         Written::Report | Written::Why { .. } => {
-            let framed = matches!(written, Written::Why { frames: true });
+            let framed = is_framed(written);
             let text = report_with_word(alloc, framed, image, word, budget, left)?;
             let output = Output::Text(text);
             Ok(Answer { output, end })
