@@ -189,7 +189,7 @@ fn beginning<'a>(alloc: Global, matches: &ArgMatches<'a>) -> Result<Option<Start
     }
 }
 
-/// Refuses what can't stand together.
+/// Refuses options that don't go together.
 fn fits<'a>(matches: &ArgMatches<'a>) -> Result<(), Wrong<'a>>
     ensures { Reads (explore_fits (rows_of (found_of matches.now))) result }
 {

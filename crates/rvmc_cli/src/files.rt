@@ -332,9 +332,9 @@ fn names_in<'a>(alloc: Global, words: &[&'a str]) -> Result<Option<Named<'a>>, A
 
 /// What a line names: a file to read, and one to write; and the line that is left, for `parse`.
 ///
-/// A file to read is a word that no option takes, behind a command or alone, with a `.` or a `/` and no `=` in it. A file to
-/// write stands behind `-o`. Each is named once at most: words that name another, or nothing behind `-o`, stay as they are,
-/// and so does each line without such words. Behind the name of a source, as `hi.s`, the line is that of a source.
+/// A file to read is a word that no option takes, after a command or alone, which contains a `.` or a `/` and no `=`. A file
+/// to write comes after `-o`. Each is named once at most: words that name another, or nothing after `-o`, stay as they are,
+/// and so does each line without such words. If the file is a source by its name, as `hi.s`, `--source` is added.
 pub fn named_in<'a>(alloc: Global, words: &[&'a str]) -> Result<Named<'a>, AllocError>
     ensures { IfOk result (λ named. names_of named ≡ named_in (map (λ word. word.now) words.now)) }
 {

@@ -90,7 +90,7 @@ pub fn with_parts<'a>(
     Ok(command)
 }
 
-/// What help says of a command: how it is used, a line, and what stands below its options.
+/// What help says of a command: how it is used, what it does in one line, and what comes after its options.
 #[derive(Clone, Copy, Drop)]
 pub struct Help<'a> {
     pub usage: &'a str,
