@@ -63,7 +63,7 @@ border-left:1px solid var(--rule)}
 .page-code,#page-machine pre{font:.92rem/1.35 ui-monospace,monospace}
 .page-code{white-space:pre;overflow-x:auto}
 #page-told-step div{overflow-wrap:anywhere;white-space:pre-wrap}
-#page-harts,#page-ways-now,#page-step-ways,#page-calls{max-height:16em;overflow:auto}
+#page-harts,#page-ways-now,#page-step-ways,#page-outputs,#page-calls{max-height:16em;overflow:auto}
 #page-harts button,#page-calls>*{display:block;width:100%;text-align:left;border:0;padding:1px 4px;background:none;color:inherit;
 font:inherit;cursor:pointer;box-sizing:border-box}
 #page-harts .chosen{background:var(--present)}
@@ -146,16 +146,16 @@ pub(crate) const BODY: &str = "\
 <div id=page-step-ways-head hidden><h2>got by this step</h2></div><div id=page-step-ways></div>
 <h2>harts</h2><div id=page-harts></div>
 <h2>on the way, as <select id=page-message-kind></select></h2><div id=page-ways-now></div>
+<h2>output so far</h2><div id=page-outputs></div>
 <h2>calls of <span id=page-whose></span></h2><div id=page-calls></div>
 <h2>values of <span id=page-whose-values></span> <input id=page-watch list=page-watch-known
  placeholder='watch a name, an address (w)'></h2><datalist id=page-watch-known></datalist>
 <div id=page-watches class=page-rows></div><div id=page-values class=page-rows></div>
 <details id=page-others><summary>other names</summary><div id=page-other-values class=page-rows></div></details>
-<h2>registers</h2><div id=page-registers class=page-code></div>
-<h2>program</h2><div id=page-program-lines class=page-code></div>
 <h2><label>memory of the rank at <input id=page-address value=0x0 list=page-names-known></label>
 <datalist id=page-names-known></datalist></h2><div id=page-memory class=page-code></div>
-<h2>output so far</h2><div id=page-outputs></div>
+<h2>registers</h2><div id=page-registers class=page-code></div>
+<h2>program</h2><div id=page-program-lines class=page-code></div>
 <h2>at the end</h2><div id=page-end-lines></div>
 <h2><label>sources from the disk <input id=page-open type=file multiple></label></h2>
 </main>
