@@ -1,3 +1,4 @@
+pub mod Held
 pub mod Laws
 pub mod Marks
 pub mod Motions

@@ -31,8 +31,9 @@ pub fn forwards(
     ensures fault { IfErr result (λ fault. fault ≡ faults.Memory) }
 {
     let (from, end) = debugger.place();
+    let mut seen = Vec::new(alloc);
     for _n in from..end {
-        let turned = turn(alloc, debugger, marks, mover)?;
+        let turned = turn(alloc, debugger, &mut seen, marks, mover)?;
         let next = next_stop(debugger, marks, mover);
         if let Some(halt) = turned.or(next) {
             return Ok(halt);
@@ -75,10 +76,11 @@ fn last_between(
     ensures fault { IfErr result (λ fault. fault ≡ faults.Memory) }
 {
     debugger.go(from)?;
+    let mut seen = Vec::new(alloc);
     let mut found = None;
     for n in from..to {
         let next = next_stop(debugger, marks, mover);
-        let turned = turn(alloc, debugger, marks, mover)?;
+        let turned = turn(alloc, debugger, &mut seen, marks, mover)?;
         found = later(found, n, turned.or(next));
     }
     Ok(found)

@@ -8,7 +8,7 @@ ghost use Rattle.rvmc_motions.specs.Turns.{step_stop, stepped, stop_behind};
 ghost use Rattle.rvmc_motions.specs.Walking.{TellsNext, TellsTurn, one_on};
 
 use crate::marks::{Halt, Mark, Motion, Mover, Ranks, broken, covers};
-use crate::watching::{Seen, seen_all, watched};
+use crate::watching::{Seen, see_all, watched};
 use cl_debug::{DebugFault, Debugger};
 use cl_replay::Step;
 use cl_state::RankState;
@@ -169,6 +169,7 @@ pub(crate) fn next_stop(debugger: &Debugger, marks: &[Mark], mover: Mover) -> Op
 fn own_turn_done(
     alloc: Global,
     debugger: &mut Debugger,
+    seen: &mut Vec<Seen>,
     marks: &[Mark],
     mover: Mover,
     turn: Whose,
@@ -184,7 +185,7 @@ fn own_turn_done(
         return Ok(None);
     };
     let live = is_live(before.harts.get(usize::from(turn.hart)));
-    let seen = seen_all(alloc, before, turn.rank, turn.hart, marks)?;
+    see_all(alloc, seen, before, turn.rank, turn.hart, marks)?;
     debugger.step()?;
     let Some(behind) = debugger.state().ranks.get(usize::from(turn.rank)) else {
         return Ok(None);
@@ -192,10 +193,12 @@ fn own_turn_done(
     Ok(stop_behind(alloc, mover, turn, live, seen.as_slice(), behind)?)
 }
 
-/// Does the step at the debugger's place, and tells why a motion ends for it.
+/// Does the step at the debugger's place, and tells why a motion ends for it. What watchpoints show before it is kept where
+/// it was for the turn before.
 pub(crate) fn turn(
     alloc: Global,
     debugger: &mut Debugger,
+    seen: &mut Vec<Seen>,
     marks: &[Mark],
     mover: Mover,
 ) -> Result<Option<Halt>, DebugFault>
@@ -206,7 +209,7 @@ pub(crate) fn turn(
 {
     let (place, _) = debugger.place();
     match own_turn(mover.ranks, debugger.steps().get(place as usize)) {
-        Some(turn) => own_turn_done(alloc, debugger, marks, mover, turn),
+        Some(turn) => own_turn_done(alloc, debugger, seen, marks, mover, turn),
         None => {
             debugger.step()?;
             Ok(None)

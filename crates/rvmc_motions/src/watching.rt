@@ -1,6 +1,6 @@
 //! Watched bytes, before a turn and behind it.
 
-ghost use Rattle.std.specs.Prelude.{◌≡◌, IfOk, map};
+ghost use Rattle.std.specs.Prelude.{◌≡◌, ◌≤◌, [], IfOk, OnOk, map};
 ghost use Rattle.std.specs.List.{filter};
 ghost use Rattle.rv_memory.specs.Memory.{bytes_at};
 ghost use Rattle.rvmc_motions.specs.Marks.{is_watch_of};
@@ -16,12 +16,49 @@ use rvmc_requests::Point;
 use std::alloc::{AllocError, Global};
 use std::marker::Model;
 
+/// Bytes of a memory, as a turn finds or leaves them. Contracts see the list of them.
+#[derive(Drop)]
+struct Bytes {
+    held: Held,
+}
+
+/// Where they stand. Most watchpoints have eight bytes or fewer: these take no memory, of which a motion would ask at each
+/// of its steps.
+#[derive(Drop)]
+enum Held {
+    Few { bytes: [u8; 8], count: usize },
+    Many(Vec<u8>),
+}
+
+impl Model for Bytes {
+    ghost use Rattle.std.specs.Prelude.{List, ℕ};
+    ghost use Rattle.rvmc_motions.specs.Held.{IsHeld, held_bytes};
+
+    ghost Value = { List ℕ };
+
+    ghost view = { λ bytes. held_bytes bytes.held };
+
+    ghost invariant = { λ bytes. IsHeld bytes.held };
+}
+
+impl Bytes {
+    /// All of them.
+    fn as_slice(&self) -> &[u8]
+        ensures { result.now ≡ self.now }
+    {
+        match &self.held {
+            Held::Few { bytes, count } => &bytes[..*count],
+            Held::Many(bytes) => bytes.as_slice(),
+        }
+    }
+}
+
 /// What a watchpoint shows before a turn. Contracts see the bytes.
 #[derive(Drop)]
 pub(crate) struct Seen {
     mark: Mark,
     read: bool,
-    bytes: Vec<u8>,
+    bytes: Bytes,
 }
 
 impl Model for Seen {
@@ -29,7 +66,32 @@ impl Model for Seen {
 
     ghost Value = { Watched };
 
-    ghost view = { λ seen. record { mark = seen.mark; read = seen.read; bytes = seen.bytes.items } };
+    ghost view = { λ seen. record { mark = seen.mark; read = seen.read; bytes = seen.bytes } };
+}
+
+/// Up to eight bytes from an address on, as far as the memory reaches.
+fn few_at(memory: &RankMemory, address: u64, size: usize) -> Bytes
+    requires { size ≤ 8 }
+    ensures { result ≡ bytes_at memory.now address size }
+{
+    let mut bytes = [0; 8];
+    let count = memory.read_into(address, &mut bytes[..size]);
+    Bytes {
+        held: Held::Few { bytes, count },
+    }
+}
+
+/// Any number of bytes from an address on, as far as the memory reaches.
+fn many_at(alloc: Global, memory: &RankMemory, address: u64, size: u64) -> Result<Bytes, AllocError>
+    ensures { IfOk result (λ bytes. bytes ≡ bytes_at memory.now address size) }
+{
+    let most = size.min(memory.size()) as usize;
+    let mut bytes = vec![in alloc; 0; most]?;
+    let count = memory.read_into(address, bytes.as_mut_slice());
+    bytes.truncate(count);
+    Ok(Bytes {
+        held: Held::Many(bytes),
+    })
 }
 
 /// The bytes from an address on, so many, as far as the memory reaches.
@@ -38,23 +100,34 @@ fn bytes_at(
     memory: &RankMemory,
     address: u64,
     size: u64,
-) -> Result<Vec<u8>, AllocError>
-    ensures { IfOk result (λ bytes. bytes.items ≡ bytes_at memory.now address size) }
+) -> Result<Bytes, AllocError>
+    ensures { IfOk result (λ bytes. bytes ≡ bytes_at memory.now address size) }
 {
-    let most = size.min(memory.size()) as usize;
-    let mut bytes = vec![in alloc; 0; most]?;
-    let count = memory.read_into(address, bytes.as_mut_slice());
-    bytes.truncate(count);
-    Ok(bytes)
+    if size <= 8 {
+        return Ok(few_at(memory, address, size as usize));
+    }
+    many_at(alloc, memory, address, size)
+}
+
+/// No bytes.
+fn no_bytes() -> Bytes
+    ensures { result ≡ [] }
+{
+    Bytes {
+        held: Held::Few {
+            bytes: [0; 8],
+            count: 0,
+        },
+    }
 }
 
 /// The bytes of a watchpoint; one that stops for reads alone needs none.
-fn bytes_for(alloc: Global, memory: &RankMemory, mark: &Mark) -> Result<Vec<u8>, AllocError>
+fn bytes_for(alloc: Global, memory: &RankMemory, mark: &Mark) -> Result<Bytes, AllocError>
     ensures { IfOk result
-        (λ bytes. bytes.items ≡ bytes_for mark.now.point memory.now mark.now.address mark.now.size) }
+        (λ bytes. bytes ≡ bytes_for mark.now.point memory.now mark.now.address mark.now.size) }
 {
     match mark.point {
-        Point::Read => Ok(Vec::new(alloc)),
+        Point::Read => Ok(no_bytes()),
         Point::Before | Point::HardwareBefore | Point::Written | Point::Touched => {
             bytes_at(alloc, memory, mark.address, mark.size)
         }
@@ -83,24 +156,25 @@ fn seen_of(alloc: Global, owner: &RankState, hart: u8, mark: &Mark) -> Result<Se
     })
 }
 
-/// What the watchpoints of a rank show before the turn of its hart.
-pub(crate) fn seen_all(
+/// Sees what the watchpoints of a rank show before the turn of its hart, in place of what was seen before another turn.
+pub(crate) fn see_all(
     alloc: Global,
+    seen: &mut Vec<Seen>,
     owner: &RankState,
     rank: u8,
     hart: u8,
     marks: &[Mark],
-) -> Result<Vec<Seen>, AllocError>
-    ensures { IfOk result (λ seen. seen.items ≡ seen_all (rank_of owner.now) rank hart marks.now) }
+) -> Result<(), AllocError>
+    ensures { OnOk result (seen.new.items ≡ seen_all (rank_of owner.now) rank hart marks.now) }
 {
-    let mut all = Vec::new(alloc);
+    seen.clear();
     for mark in marks {
         if is_watch_of(rank, mark) {
-            let seen = seen_of(alloc, owner, hart, mark)?;
-            all.push(seen)?;
+            let shown = seen_of(alloc, owner, hart, mark)?;
+            seen.push(shown)?;
         }
     }
-    Ok(all)
+    Ok(())
 }
 
 /// Whether the bytes of a watchpoint are others now.
