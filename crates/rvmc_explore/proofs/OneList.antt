@@ -398,6 +398,16 @@ module _ (image : ImageParts) (order : List ℕ) (start : Node) (found : Finding
         spelled = inr (company.ranks.items, body.spelled);
       }
 
+-- the node of what is told
+node_told : (image : ImageParts) (order : List ℕ) (found : Findings) (explored : Explored image order found) (outcome : Outcome)
+    → IsOutcome order image found outcome → (node : Node) × (slice_get explored.nodes outcome.node ≡ Some node)
+node_told image order found explored outcome (inl end) =
+    let kept = end.1.is in
+    let v = (explored.are).each outcome.node kept.what kept.there in (v.0, v.1)
+node_told image order found explored outcome (inr stuck) =
+    let kept = stuck.4.is in
+    let v = (explored.are).each stuck.1.node kept.what kept.there in (v.0, ap (slice_get explored.nodes) (sym stuck.3) ∙ v.1)
+
 leads_to_text : (image : ImageParts) (order : List ℕ) (start : Node) (found : Findings)
     → (explored : ExploredFrom image order start found) → (told : List Outcome) → AreTold order image found told
     → (number : ℕ) (steps : List Step) → Leads image order explored.nodes (numbered (nodes_told told) number) (Some steps)
@@ -418,6 +428,16 @@ leads_to_text image order start found explored told are number steps leads =
 
 pub one_list_law : OneListLaw
 one_list_law = record {
+  each = λ image order states turns told listed k outcome at.
+      let explored = (listed.searched).explored in
+      let is = (listed.are).each k outcome at in
+      let node = node_told image order listed.found explored outcome is in
+      let way = found_way image order (first_node image) listed.found explored outcome.node node.0 node.1 in (
+        way.0,
+        node.0,
+        way.1,
+        text_at image order (first_node image) listed.found explored outcome node.0 node.1 is,
+      );
   every = λ image order states turns told listed whole steps end run follow is.
       tells_end image order states turns told listed whole steps end run follow is;
   ends = λ image order states turns more longer told other one listed whole k i node at there.

@@ -9,7 +9,7 @@ use Rattle.cl_machine.specs.declared.steps.Step.{Step}
 use Rattle.cl_order_laws.specs.Closed.{FollowPlans, IsEnd, Node, none_had}
 use Rattle.cl_order_laws.specs.Laws.{AreAlike}
 use Rattle.cl_record.specs.Plans.{IsOrder}
-use Rattle.cl_moves.specs.Standing.{by_order}
+use Rattle.cl_moves.specs.Standing.{IsWay, by_order, first_node}
 use Rattle.cl_replay.specs.States.{ClusterStandsFor}
 use Rattle.cl_replay.specs.declared.states.ClusterState.{ClusterState}
 use Rattle.rvmc_inspect.specs.Why.{company_text}
@@ -71,6 +71,11 @@ pub record LeadsToText (image : ImageParts) (order : List ℕ) (told : List Outc
 
 -- of lists of one image and one order, whatever their bounds. Where a premise says so, a search left no state
 pub record OneListLaw : Type 0 where
+  -- each text is told of a cluster to which a run by the order leads, with whatever bounds
+  pub each : (image : ImageParts) (order : List ℕ) (states turns : ℕ) (told : List Outcome)
+      → IsListOf image order states turns told → (k : ℕ) (outcome : Outcome) → slice_get told k ≡ Some outcome
+      → (steps : List Step) × (node : Node) × IsWay (by_order order) (first_node image) steps node
+      × IsTextAt image order node.cluster outcome.body.items
   -- each tells the end of every run by the order
   pub every : (image : ImageParts) (order : List ℕ) (states turns : ℕ) (told : List Outcome)
       → (listed : IsListOf image order states turns told) → (listed.found).left ≡ 0

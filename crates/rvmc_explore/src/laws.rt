@@ -16,9 +16,9 @@ pub fn status_law()
     ensures { StatusLaw }
 {}
 
-/// What is told of one image and one order is one, where no state is left: each list tells the end of every run by the order,
-/// so the ends of one search are told of any other, the record of a number leads to an end that is told, and the status is
-/// the same.
+/// What is told of one image and one order is one, where no state is left: each text is told of where a run by the order leads,
+/// and the end of every such run is told. So any two searches tell the same ends, with the same status, and the record of a
+/// number leads to its text.
 pub fn one_list_law()
     ensures { OneListLaw }
 {}
