@@ -82,7 +82,11 @@ fn line_start_of(debugger: &Debugger, file: &Name, number: &Name) -> Option<u64>
     ensures { result ≡ line_start file.now number.now debugger.now.image.symbols }
 {
     let symbols = symbols_of(debugger);
-    line_start(symbols, file.as_str().as_bytes(), number.as_str().as_bytes())
+    line_start(
+        symbols,
+        file.as_str().as_bytes(),
+        number.as_str().as_bytes(),
+    )
 }
 
 /// The address that a word names, of a line the first at which it begins.
@@ -116,12 +120,7 @@ fn line_starts_of(
 }
 
 /// Sets a break of a hart at each of these addresses. The only fault is want of memory.
-fn set_breaks(
-    debugger: &mut Debugger,
-    rank: u8,
-    hart: u8,
-    pcs: &[u64],
-) -> Result<(), DebugFault>
+fn set_breaks(debugger: &mut Debugger, rank: u8, hart: u8, pcs: &[u64]) -> Result<(), DebugFault>
     requires rank { rank < debugger.old.image.ranks }
     requires hart { hart < debugger.old.image.harts }
     ensures set { OnOk result (debugger.new ≡ with_breaks debugger.old rank hart pcs.now) }
@@ -134,12 +133,7 @@ fn set_breaks(
 }
 
 /// The addresses at which a break stops: that which the word names, or each at which the line begins.
-fn stops_of(
-    alloc: Global,
-    debugger: &Debugger,
-    at: &Spot,
-    pc: u64,
-) -> Result<Vec<u64>, AllocError>
+fn stops_of(alloc: Global, debugger: &Debugger, at: &Spot, pc: u64) -> Result<Vec<u64>, AllocError>
     requires { IsSpot debugger.now.image at.now pc }
     ensures { IfOk result (λ pcs. AreStops debugger.now.image at.now pcs.items) }
 {
