@@ -69,6 +69,7 @@ impl Communicators {
         requires { 0 < length (get_or self.now comm []) }
         ensures { result ≡ comm }
     {
+        // ghost: brings into scope that there are at most 8 lists; no effect at run time
         let _ = &self.lists;
         comm as u8
     }

@@ -78,7 +78,7 @@ fn dead_end(alloc: Global, image: &Image, left: &Record) -> Result<Option<Vec<u8
     ensures { IfOk result (λ found.
         IsVerdictAt image.now left.now (option_map (λ ranks. ranks.items) found)) }
 {
-    // whoever asks for the parts knows that they are an image's
+    // ghost: brings into scope that the parts are those of an image; no effect at run time
     let _parts = image.parts();
     let steps = merge(alloc, left)?;
     let state = state_after(alloc, image, steps.as_slice())?;

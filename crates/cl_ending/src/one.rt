@@ -38,7 +38,7 @@ fn judge_whole(
     ensures judged { IfOk result (IsJudged image.now plans.now order.now) }
     ensures fault { IfErr result (λ fault. fault ≡ RunFault.Memory) }
 {
-    // whoever asks for the parts knows that there are few ranks
+    // ghost: brings into scope that there are few ranks; no effect at run time
     let _parts = image.parts();
     let Ok(stuck) = is_ended_stuck(alloc, image, &left) else {
         drop(left);
@@ -73,7 +73,7 @@ fn judge(
     ensures judged { IfOk result (IsJudged image.now plans.now order.now) }
     ensures fault { IfErr result (λ fault. fault ≡ RunFault.Memory) }
 {
-    // whoever asks for the parts knows that there are few ranks
+    // ghost: brings into scope that there are few ranks; no effect at run time
     let _parts = image.parts();
     let Ended { left, quiet } = ended;
     if !quiet {

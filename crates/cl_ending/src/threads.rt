@@ -86,7 +86,7 @@ pub fn run_threads_until_stuck<R: Threads + Wait + Sync, G: Gate>(
     ensures plans { (result ≡ Err RunFault.Plans) ↔ ¬ HasPlans image.now plans.now }
     ensures fault { IfErr result (IsEndedRefusal image.now plans.now) }
 {
-    // whoever asks for the parts knows that there are few ranks
+    // ghost: brings into scope that there are few ranks; no effect at run time
     let _parts = image.parts();
     let Ended { left, told } = run_threads_until_told(rt, alloc, image, plans, gate)?;
     let Ok(outcome) = judge(alloc, image, &left, told) else {

@@ -77,7 +77,7 @@ impl Standing {
     pub fn load(alloc: Global, image: &Image) -> Result<Standing, AllocError>
         ensures { IfOk result (IsStart image.now) }
     {
-        // whoever asks for the parts knows that the image has few ranks
+        // ghost: brings into scope that the image has few ranks; no effect at run time
         let _parts = image.parts();
         let cluster = ClusterState::load(alloc, image)?;
         let had = none_had(alloc, cluster.ranks.len())?;

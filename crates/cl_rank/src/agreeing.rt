@@ -36,6 +36,7 @@ pub fn agree(sender: &mut Rank, receiver: &mut Rank, channels: &[Channel], place
     };
     let send = &mut sender.sends[from].1;
     let recv = &mut receiver.recvs[to].1;
+    // ghost: brings into scope what both sides keep; no effect at run time
     let _sends = send.next();
     let _receives = recv.next();
     channels[place.link as usize].agree(send, recv, place.part);

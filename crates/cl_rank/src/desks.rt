@@ -76,7 +76,7 @@ fn call_hub(hub: &mut Hub, rank: u8, hart: u8, clock: Stamp, request: Request) -
     ensures stamp { IfOk result (λ told. (clock < told.1) × (told.1 < 2 ^ 62)) }
     ensures refused { IfErr result IsFault }
 {
-    // whoever asks for the entries knows that they replay, so that the hub's clock is below 2^62
+    // ghost: brings into scope that the entries replay, so the hub's clock is below 2^62; no effect at run time
     let _entries = hub.entries();
     hub.call(rank, hart, clock, request)
 }

@@ -47,6 +47,7 @@ pub(crate) fn make_ready(
         unreachable!()
     };
     let side = &mut sends[at].1;
+    // ghost: brings into scope what a side keeps; no effect at run time
     let _kept = side.next();
     let channel = &channels[place.link as usize];
     match side.ready(channel, place.part, bytes, clock) {
@@ -70,6 +71,7 @@ pub(crate) fn test(
         unreachable!()
     };
     let side = &mut sends[at].1;
+    // ghost: brings into scope what a side keeps; no effect at run time
     let _kept = side.next();
     side.test(&channels[link as usize], clock)
 }
@@ -89,6 +91,7 @@ pub(crate) fn take(
         unreachable!()
     };
     let side = &mut recvs[at].1;
+    // ghost: brings into scope what a side keeps; no effect at run time
     let _kept = side.next();
     match side.take(&channels[place.link as usize], place.part, clock) {
         Ok(take) => take,

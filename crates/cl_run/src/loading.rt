@@ -104,7 +104,7 @@ impl<'a> Loaded<'a> {
             mut driver,
             lists,
         } = self;
-        // whoever asks for the parts knows that they are an image's
+        // ghost: brings into scope that the parts are those of an image; no effect at run time
         let _parts = image.parts();
         driver.run(order);
         driver.into_record(lists)
@@ -128,7 +128,7 @@ impl<'a> Loaded<'a> {
             mut driver,
             lists,
         } = self;
-        // whoever asks for the parts knows that they are an image's
+        // ghost: brings into scope that the parts are those of an image; no effect at run time
         let _parts = image.parts();
         let quiet = driver.run_until_quiet(order, longest(plans));
         let left = driver.into_record(lists);

@@ -200,6 +200,7 @@ pub(crate) fn ask_ready(standing: &Standing, handle: u64, part: u64) -> Ask
     match sending_side(standing.requests, handle) {
         None => Ask::Local,
         Some(side) => {
+            // ghost: brings into scope that the phase keeps its limits; no effect at run time
             let _phase = standing.phases.sending(side.link);
             let part = part as u8;
             Ask::Ready {
@@ -221,6 +222,7 @@ pub(crate) fn ask_arrived(standing: &Standing, handle: u64, part: u64) -> Ask
     match receiving_side(standing.requests, handle) {
         None => Ask::Local,
         Some(side) => {
+            // ghost: brings into scope that the phase keeps its limits; no effect at run time
             let _phase = standing.phases.receiving(side.link);
             let awaited = Awaited::of_part(standing.phases, side.link, part as u8);
             awaited.ask(Manner::Immediate)

@@ -349,6 +349,7 @@ impl<'a> Turn<'a> {
         match sending_side(self.requests, handle) {
             None => Row::AtOnce(Outcome::Ends(Code::BadRequest, 0)),
             Some(side) => {
+                // ghost: brings into scope that the phase keeps its limits; no effect at run time
                 let _phase = self.phases.sending(side.link);
                 Row::OnBox(Visit::Readies {
                     link: side.link,
@@ -367,6 +368,7 @@ impl<'a> Turn<'a> {
         match receiving_side(self.requests, handle) {
             None => Row::AtOnce(Outcome::Ends(Code::BadRequest, 0)),
             Some(side) => {
+                // ghost: brings into scope that the phase keeps its limits; no effect at run time
                 let _phase = self.phases.receiving(side.link);
                 let asked = part as u8;
                 arrives(side, asked, Awaited::of_part(self.phases, side.link, asked))

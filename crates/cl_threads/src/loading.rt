@@ -57,7 +57,7 @@ impl<'a> Cluster<'a> {
         requires { HasPlans image.now plans.now }
         ensures { IfOk result (IsCluster image.now plans.now) }
     {
-        // whoever asks for the parts knows that each link joins two ranks
+        // ghost: brings into scope that each link joins two ranks; no effect at run time
         let _parts = image.parts();
         let Wiring { channels, ends } = Wiring::of(alloc, image)?;
         let seats = load_seats(alloc, image, plans, ends)?;

@@ -59,7 +59,7 @@ fn gather(
             place: 0,
         });
     }
-    // whoever asks for the entries knows that they replay
+    // ghost: brings into scope that the entries replay; no effect at run time
     let _entries = hub.entries();
     let left = leave(channels, hub, done, lists);
     match compare(parts.ranks, left.traces.as_slice(), &left.journal) {
@@ -86,7 +86,7 @@ fn run_cluster<R: Threads + Wait + Sync, G: Gate>(
     ensures run { IfOk result (IsRunUntil until image.now plans.now) }
     ensures fault { IfErr result (IsRefusalUntil until image.now plans.now) }
 {
-    // whoever asks for the parts knows that there are 8 ranks at most
+    // ghost: brings into scope that there are 8 ranks at most; no effect at run time
     let _parts = image.parts();
     let Cluster {
         seats,
@@ -163,7 +163,7 @@ pub fn run_threads<R: Threads + Wait + Sync, G: Gate>(
     ensures plans { (result ≡ Err RunFault.Plans) ↔ ¬ HasPlans image.now plans.now }
     ensures fault { IfErr result (IsRefusal image.now plans.now) }
 {
-    // whoever asks for the parts knows that they are an image's
+    // ghost: brings into scope that the parts are those of an image; no effect at run time
     let _parts = image.parts();
     run_until(rt, alloc, image, plans, gate, Until::Planned)
 }
@@ -198,7 +198,7 @@ pub fn run_threads_until_told<R: Threads + Wait + Sync, G: Gate>(
     ensures plans { (result ≡ Err RunFault.Plans) ↔ ¬ HasPlans image.now plans.now }
     ensures fault { IfErr result (IsEndedRefusal image.now plans.now) }
 {
-    // whoever asks for the parts knows that they are an image's
+    // ghost: brings into scope that the parts are those of an image; no effect at run time
     let _parts = image.parts();
     let left = run_until(rt, alloc, image, plans, gate, Until::Told)?;
     let told = has_told(plans, &left);

@@ -61,6 +61,7 @@ fn stored(rank: &RankState, hart: &Hart) -> Window
         ≡ window (store_range_of hart.now rank.now.memory).address (store_range_of hart.now rank.now.memory).count }
     ensures fits { result.address + result.count ≤ 2 ^ 20 }
 {
+    // ghost: brings into scope that the memory has at most 2^20 bytes; no effect at run time
     let _size = rank.memory.size();
     let stored = store_range(hart, &rank.memory);
     Window {

@@ -66,7 +66,7 @@ pub fn recorded(
     ensures { IfOk result (λ steps. RecordsEnd image.now asked.now.order.now asked.now.states asked.now.turns number
         (option_map (λ s. s.items) steps)) }
 {
-    // ghost: brings into scope that the image is one
+    // ghost: brings into scope that the parts are those of an image; no effect at run time
     let _parts = image.parts();
     let course = Course {
         alloc,

@@ -146,7 +146,7 @@ pub fn explored_from(
     ensures told { IfOk result (λ told. TellsFrom image.now start.now reach.states reach.turns told.text.items told.status) }
     ensures fault { IfErr result (StartFaultHolds image.now start.now) }
 {
-    // ghost: brings into scope that the image is one
+    // ghost: brings into scope that the parts are those of an image; no effect at run time
     let _parts = image.parts();
     let found = searched(alloc, image, start, reach)?;
     let order = start.harts.as_slice();
@@ -187,7 +187,7 @@ pub fn recorded_from(
         (option_map (λ s. s.items) steps)) }
     ensures fault { IfErr result (StartFaultHolds image.now start.now) }
 {
-    // ghost: brings into scope that the image is one
+    // ghost: brings into scope that the parts are those of an image; no effect at run time
     let _parts = image.parts();
     let found = searched(alloc, image, start, reach)?;
     let told = tell(alloc, image, start.harts.as_slice(), &found)?;

@@ -83,7 +83,7 @@ pub fn explored(alloc: Global, image: &Image, asked: &Asked<'_>) -> Result<Told,
     ensures { IfOk result (λ told. Tells image.now asked.now.order.now asked.now.states asked.now.turns told.text.items
         told.status) }
 {
-    // ghost: brings into scope that the image is one
+    // ghost: brings into scope that the parts are those of an image; no effect at run time
     let _parts = image.parts();
     let course = Course {
         alloc,

@@ -41,6 +41,7 @@ fn told_at(
     ensures told { IfOk result (λ text. IsWhyAt framed image.now steps.now place text.items) }
     ensures fault { IfErr result (ReplayFaultHolds image.now steps.now place) }
 {
+    // ghost: brings into scope that the parts are those of an image; no effect at run time
     let _parts = image.parts();
     let state = replay(alloc, image, steps, place)?;
     match why(alloc, image, &state, framed) {
