@@ -34,13 +34,13 @@ tag_text (Some tag) = codes "tag " ++ decimal tag
 
 -- a message's tag and communicator. The library of rvmc-cc has communicator 1 for itself, and tags of its own in it: where
 -- a hart is told inside the library they are left out
-abbrev pub envelope_text : Bool → Option ℕ → ℕ → List ℕ
-envelope_text inside tag comm =
+abbrev pub asked_envelope_text : Bool → Option ℕ → ℕ → List ℕ
+asked_envelope_text inside tag comm =
     if inside && (comm == 1) then [] else (codes " " ++ (tag_text tag ++ (codes " comm " ++ decimal comm)))
 
 abbrev pub wait_text : Bool → Wait → List ℕ
 wait_text inside (wait.Message source tag comm) =
-    codes "a message from " ++ (source_text source ++ envelope_text inside tag comm)
+    codes "a message from " ++ (source_text source ++ asked_envelope_text inside tag comm)
 wait_text inside (wait.Receiver rank) = codes "rank " ++ (decimal rank ++ codes " to receive")
 wait_text inside (wait.Partition part link rank) =
     codes "partition " ++ (decimal part ++ (codes " of link " ++ (decimal link ++ (codes " from rank " ++ decimal rank))))

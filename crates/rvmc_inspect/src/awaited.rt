@@ -1,7 +1,7 @@
 //! What a hart may wait for, and its text.
 
 ghost use Rattle.std.specs.Prelude.{◌≡◌, ◌++◌, IfOk, OnOk, string_bytes};
-ghost use Rattle.rvmc_inspect.specs.Texts.{envelope_text, more_text, source_text, tag_text, wait_text, waits_text};
+ghost use Rattle.rvmc_inspect.specs.Texts.{asked_envelope_text, more_text, source_text, tag_text, wait_text, waits_text};
 
 use std::alloc::{AllocError, Global};
 
@@ -66,13 +66,13 @@ fn tag_text(alloc: Global, tag: Option<u16>) -> Result<String, AllocError>
 }
 
 /// A message's tag and communicator. Inside the library those of its own communicator are left out.
-fn envelope_text(
+fn asked_envelope_text(
     alloc: Global,
     inside: bool,
     tag: Option<u16>,
     comm: u8,
 ) -> Result<String, AllocError>
-    ensures { IfOk result (λ text. string_bytes text ≡ envelope_text inside tag comm) }
+    ensures { IfOk result (λ text. string_bytes text ≡ asked_envelope_text inside tag comm) }
 {
     if inside && comm == LIBRARY {
         return Ok(String::new(alloc));
@@ -88,7 +88,7 @@ pub fn wait_text(alloc: Global, inside: bool, wait: Wait) -> Result<String, Allo
     match wait {
         Wait::Message { source, tag, comm } => {
             let source = source_text(alloc, source)?;
-            let envelope = envelope_text(alloc, inside, tag, comm)?;
+            let envelope = asked_envelope_text(alloc, inside, tag, comm)?;
             format!(in alloc; "a message from {source}{envelope}")
         }
         Wait::Receiver { rank } => format!(in alloc; "rank {rank} to receive"),

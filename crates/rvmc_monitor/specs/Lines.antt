@@ -6,12 +6,12 @@ use Rattle.rvmc_words.specs.Debug.{debug_words_in}
 use Rattle.rvmc_words.specs.declared.debug.DebugWord.{DebugWord}
 
 -- between two blanks there may be nothing
-abbrev pub is_text : List ℕ → Bool
-is_text text = nat_lt 0 (length text)
+abbrev pub is_some_text : List ℕ → Bool
+is_some_text text = nat_lt 0 (length text)
 
 -- the texts of a line have blanks between them, one or more
 abbrev pub texts_in : List ℕ → List (List ℕ)
-texts_in line = filter is_text (slice_split (λ byte. byte == 32) line)
+texts_in line = filter is_some_text (slice_split (λ byte. byte == 32) line)
 
 -- each is a word of `debug`, as on the command line
 abbrev pub words_of_text : List ℕ → Option (List DebugWord)

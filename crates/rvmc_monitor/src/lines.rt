@@ -2,7 +2,7 @@
 
 ghost use Rattle.std.specs.Prelude.{◌≡◌, ◌==◌, IfOk, filter, map};
 ghost use Rattle.std.specs.List.{slice_split};
-ghost use Rattle.rvmc_monitor.specs.Lines.{is_text, words_in, words_of_text};
+ghost use Rattle.rvmc_monitor.specs.Lines.{is_some_text, words_in, words_of_text};
 ghost use Rattle.rvmc_words.specs.Debug.{debug_words_in};
 
 use rvmc_words::{DebugWords, debug_word_in};
@@ -18,7 +18,7 @@ fn parts<'a>(alloc: Global, line: &'a str) -> Result<Vec<&'a str>, AllocError>
 /// The word of each text that isn't empty, or None where one of them is no word.
 fn each_word(alloc: Global, texts: &[&str]) -> Result<Option<DebugWords>, AllocError>
     ensures { IfOk result (λ found.
-        found ≡ debug_words_in (filter is_text (map (λ text. text.now) texts.now))) }
+        found ≡ debug_words_in (filter is_some_text (map (λ text. text.now) texts.now))) }
 {
     let mut words = DebugWords::new(alloc);
     for text in texts {

@@ -7,7 +7,7 @@ use Rattle.cl_text.specs.Reading.{reading_record}
 use Rattle.rvmc_inspect.specs.Words.{IsTextOfWords, StopsAt}
 use Rattle.rvmc_serve.proofs.Answered.{front_of}
 use Rattle.rvmc_serve.specs.Laws.{LineLaw, LinesLaw}
-use Rattle.rvmc_serve.specs.Lines.{AnswersLines, AnswersWords, Debugs, IsWholeTyped, lines_in}
+use Rattle.rvmc_serve.specs.Lines.{AnswersLines, AnswersWords, DebugsLine, IsWholeTyped, lines_in}
 use Rattle.rvmc_serve.specs.Sessions.{Reading}
 use Rattle.rvmc_words.specs.declared.debug.DebugWord.{DebugWord}
 
@@ -29,6 +29,6 @@ text_of old new words printed (Some fault) (n, word, at, is, walks, refuses, sta
 
 pub line_law : LineLaw
 line_law old new line text words meant answers =
-    let does : Debugs old words new text =
+    let does : DebugsLine old words new text =
     subst (λ (found : Option (List DebugWord)). AnswersWords old found new text) meant answers in
     (does.printed, does.fault, text_of old new words does.printed does.fault does.stops, does.is)

@@ -31,8 +31,8 @@ lines_in bytes = slice_split (λ byte. byte == 10) (map typed_byte bytes)
 
 -- ---- the answer to a line
 
-abbrev pub unknown_text : List ℕ
-unknown_text = codes "rvmc: no such word: rvmc debug --help lists them" ++ newline
+abbrev pub unknown_words_text : List ℕ
+unknown_words_text = codes "rvmc: no such word: rvmc debug --help lists them" ++ newline
 
 -- what is printed behind the texts of the words: the fault of the one that was refused
 abbrev pub refusal_text : Option DebugFault → List ℕ
@@ -46,7 +46,7 @@ IsTold (Some fault) = fault ≢ debug.Memory
 
 -- the words are done one after another, and print what they do for `debug`; where one is refused, its fault is printed, and
 -- the debugger stays there
-pub record Debugs (old : Debugging) (words : List DebugWord) (new : Debugging) (text : List ℕ) : Type 0 where
+pub record DebugsLine (old : Debugging) (words : List DebugWord) (new : Debugging) (text : List ℕ) : Type 0 where
   pub printed : List ℕ
   pub fault : Option DebugFault
   pub stops : StopsAt old words new printed fault
@@ -55,8 +55,8 @@ pub record Debugs (old : Debugging) (words : List DebugWord) (new : Debugging) (
 
 -- a line with a text that is no word does nothing
 abbrev pub AnswersWords : Debugging → Option (List DebugWord) → Debugging → List ℕ → Type 0
-AnswersWords old None new text = (new ≡ old) × (text ≡ unknown_text)
-AnswersWords old (Some words) new text = Debugs old words new text
+AnswersWords old None new text = (new ≡ old) × (text ≡ unknown_words_text)
+AnswersWords old (Some words) new text = DebugsLine old words new text
 
 abbrev pub AnswersLine : Debugging → List ℕ → Debugging → List ℕ → Type 0
 AnswersLine old line new text = AnswersWords old (words_in line) new text

@@ -2,7 +2,7 @@
 
 ghost use Rattle.std.specs.Prelude.{◌≡◌, IfErr, IfOk, List, OnOk, ℕ};
 ghost use Rattle.std.specs.Io.KnownBytes.{Appends, Keeps};
-ghost use Rattle.rvmc_serve.specs.Lines.{AnswersLine, Debugs, IsTold, refusal_text, typed_byte, unknown_text};
+ghost use Rattle.rvmc_serve.specs.Lines.{AnswersLine, DebugsLine, IsTold, refusal_text, typed_byte, unknown_words_text};
 ghost use Rattle.rvmc_serve.specs.Serving.{CutsShort};
 
 use crate::serving::put;
@@ -47,7 +47,7 @@ fn debugged(
     debugger: &mut Debugger,
     words: &DebugWords,
 ) -> Result<Vec<u8>, AllocError>
-    ensures { IfOk result (λ text. Debugs debugger.old words.now debugger.new text.items) }
+    ensures { IfOk result (λ text. DebugsLine debugger.old words.now debugger.new text.items) }
 {
     let told = tell_all(alloc, debugger, words.as_slice());
     let mut text = told.text;

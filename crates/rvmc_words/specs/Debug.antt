@@ -41,14 +41,14 @@ unfoldable pub line_spot : List ℕ → List ℕ → Option Spot
 line_spot file number = if is_name file && is_line_number number then Some (Line file number) else None
 
 -- what stands before, between and behind the colons: an address alone, or a file and a line of it
-abbrev pub spot_of : List (List ℕ) → Option Spot
-spot_of (text ∷ []) = word_spot text
-spot_of (file ∷ number ∷ []) = line_spot file number
-spot_of others = None
+abbrev pub spot_named : List (List ℕ) → Option Spot
+spot_named (text ∷ []) = word_spot text
+spot_named (file ∷ number ∷ []) = line_spot file number
+spot_named others = None
 
 -- an address: its number, its name, or `FILE:LINE`
 unfoldable pub spot_in : List ℕ → Option Spot
-spot_in text = spot_of (slice_split (λ byte. byte == 58) text)
+spot_in text = spot_named (slice_split (λ byte. byte == 58) text)
 
 -- ---- each word, by its arguments
 

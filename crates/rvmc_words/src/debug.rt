@@ -7,7 +7,7 @@ ghost use Rattle.rv_image.specs.Names as names;
 ghost use Rattle.rvmc_words.specs.declared.debug.DebugWord.TheVariants.{Break, Bytes};
 ghost use Rattle.rvmc_words.specs.Debug.{bare_word, break_in, bytes_word_in, debug_word_in, frames_in, go_in, is_name};
 ghost use Rattle.rvmc_words.specs.Debug.{is_line_number, large_number_in, line_spot, output_in, regs_in, small_number_in};
-ghost use Rattle.rvmc_words.specs.Debug.{spot_in, spot_of, word_of, word_spot, word_with};
+ghost use Rattle.rvmc_words.specs.Debug.{spot_in, spot_named, word_of, word_spot, word_with};
 
 use crate::list::parts;
 use crate::number::any_number_in;
@@ -206,8 +206,8 @@ fn line_spot(alloc: Global, file: &str, number: &str) -> Result<Option<Spot>, Al
 }
 
 /// The spot of what stands before, between and behind the colons.
-fn spot_of(alloc: Global, sides: &[&str]) -> Result<Option<Spot>, AllocError>
-    ensures { IfOk result (λ found. found ≡ spot_of (map (λ side. side.now) sides.now)) }
+fn spot_named(alloc: Global, sides: &[&str]) -> Result<Option<Spot>, AllocError>
+    ensures { IfOk result (λ found. found ≡ spot_named (map (λ side. side.now) sides.now)) }
 {
     match sides {
         [text] => word_spot(alloc, text),
@@ -222,7 +222,7 @@ fn spot_in(alloc: Global, text: &str) -> Result<Option<Spot>, AllocError>
     ensures { IfOk result (λ found. found ≡ spot_in text.now) }
 {
     let sides = parts(alloc, ':', text)?;
-    spot_of(alloc, &sides)
+    spot_named(alloc, &sides)
 }
 
 fn go_in(arguments: &[&str]) -> Option<DebugWord>
