@@ -1,5 +1,5 @@
 -- What is written behind a record, and for a line.
-use Rattle.std.specs.Prelude.{ℕ, ◌≡◌, List, [], ◌++◌, Option, Some, None, Ok}
+use Rattle.std.specs.Prelude.{ℕ, ◌≡◌, List, Option, Some, None, Ok}
 use Rattle.std.proofs.Common.{ap, subst, ◌∙◌}
 use Rattle.cl_debug.specs.Debugging.{Debugging}
 use Rattle.cl_debug.specs.declared.faults.DebugFault.{DebugFault}

@@ -1,6 +1,6 @@
 -- From bytes, as they come, to lines.
-use Rattle.std.specs.Prelude.{ℕ, ◌≡◌, ◌==◌, Bool, true, false, List, [], ◌∷◌, ◌++◌, cond, map}
-use Rattle.std.specs.List.{onto_first, slice_split}
+use Rattle.std.specs.Prelude.{ℕ, ◌≡◌, ◌==◌, Bool, true, false, List, [], ◌∷◌, ◌++◌, cond}
+use Rattle.std.specs.List.{onto_first}
 use Rattle.std.proofs.Common.{refl, sym, ap, subst, ◌∙◌, append_assoc}
 use Rattle.std.proofs.lemmas.List.{append-nil}
 use Rattle.cl_debug.specs.Debugging.{Debugging}

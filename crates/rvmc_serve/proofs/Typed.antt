@@ -1,6 +1,6 @@
 -- A session of lines, from all the bytes of an input to what is written.
 use Rattle.std.specs.Prelude.{ℕ, ◌≡◌, ◌≢◌, List, [], ◌++◌, Option, Some, None, Ok, length}
-use Rattle.std.proofs.Common.{refl, sym, subst, ◌∙◌, inl, inr}
+use Rattle.std.proofs.Common.{refl, sym, subst, inl, inr}
 use Rattle.std.specs.Io.KnownBytes.{Appends, Consumes}
 use Rattle.cl_debug.specs.Debugging.{Debugging}
 use Rattle.cl_front.specs.Input.{IsFront}

@@ -1,5 +1,5 @@
 -- Lines byte by byte, as they come.
-use Rattle.std.specs.Prelude.{◌≡◌, ℕ, ◌==◌, Bool, true, false, List, [], ◌∷◌, ◌++◌, Ok}
+use Rattle.std.specs.Prelude.{◌≡◌, ℕ, ◌==◌, Bool, true, false, List, [], ◌∷◌, ◌++◌}
 use Rattle.cl_debug.specs.Debugging.{Debugging}
 use Rattle.rvmc_gdb.specs.Following.{Follows}
 use Rattle.rvmc_serve.specs.Lines.{AnswersLine, IsBegun, typed_byte}
