@@ -38,7 +38,7 @@ fn line_there(
     place: u64,
 ) -> Result<Vec<u8>, AllocError>
     ensures kept { OnOk result (debugger.new ≡ debugger.old) }
-    ensures line { IfOk result (IsLineAt (at_place debugger.old place) who) }
+    ensures line { IfOk result (λ text. IsLineAt (at_place debugger.old place) who text.items) }
 {
     let (here, _) = debugger.place();
     go(debugger, place)?;
