@@ -29,7 +29,8 @@ gdb stops at the record's first step. Every command that moves forwards has its
 reverse: reverse-continue, reverse-next, reverse-finish. A watchpoint stops where
 the bytes change, whether a hart of the rank or an arriving message changes them.
 A record can't be changed, so registers and memory can't be set. `monitor` takes
-the words place, go N, why, rank R, regs R H, bytes R A N and help.
+the words place, go N, why, rank R, regs R H, bytes R A N, sent, got,
+last-write A and help.
 
 The packets of gdb's remote protocol come from standard input, behind the record
 if no FILE is named; the answers go to standard output. If the input isn't a record, its
