@@ -102,6 +102,11 @@ int MTestGetIntracomm(MPI_Comm *comm, int least)
     return MTestGetIntracommGeneral(comm, least, 0);
 }
 
+int MTestGetComm(MPI_Comm *comm, int least)
+{
+    return MTestGetIntracommGeneral(comm, least, 1);
+}
+
 const char *MTestGetIntracommName(void)
 {
     return communicators ? "MPI_COMM_WORLD" : "MPI_COMM_NULL";

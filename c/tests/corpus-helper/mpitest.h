@@ -1,6 +1,6 @@
 /* mpitest.h: a small helper of this repository's own, under the names that MPICH's tests call, for c/tests/corpus. It runs
    a test on MPI_COMM_WORLD alone, with memory of the host alone. What MPICH's helper makes of communicators between groups,
-   and of generated datatypes, isn't here: a test that wants it doesn't compile. */
+   and of generated datatypes, isn't here: a test that asks for it doesn't compile. */
 #ifndef CORPUS_MPITEST_H
 #define CORPUS_MPITEST_H
 #include "mpitestconf.h"
@@ -31,6 +31,8 @@ void MTestSleep(int seconds);
 
 int MTestGetIntracomm(MPI_Comm *comm, int least);
 int MTestGetIntracommGeneral(MPI_Comm *comm, int least, int smaller);
+/* communicators of any kind: here too it is MPI_COMM_WORLD */
+int MTestGetComm(MPI_Comm *comm, int least);
 const char *MTestGetIntracommName(void);
 int MTestTestComm(MPI_Comm comm);
 int MTestTestIntracomm(MPI_Comm comm);
