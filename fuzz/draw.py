@@ -268,6 +268,27 @@ def told(image, steps, first=0, last=None):
     return 0, drawing.tells(), b""
 
 
+class Joined(Drawing):
+    """The steps that messages, claims and partitions join: each arrow with its first step, its last or None, and its text."""
+
+    def arrow(self, start, end, dest, what, could=False):
+        """Adds an arrow; what could have been taken is none."""
+        if not could:
+            self.arrows.append((start, end, what))
+
+
+def joined(image, steps):
+    """The arrows of a record that is a run: those to each step in order, and those of what nobody got."""
+    walk, drawing = Walk(image, len(steps)), Joined(image, 0, len(steps))
+    for place, step in enumerate(steps):
+        deed = Deed(walk, place, step)
+        walk.takes(step)
+        deed.done(image)
+        drawing.arrows_to(deed)
+    drawing.losses(walk.cluster.hub)
+    return drawing.arrows
+
+
 # ---- what a picture tells
 
 

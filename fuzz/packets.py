@@ -13,7 +13,10 @@ PAYLOADS = [
     b"mffffffffffffffff,8", b"x0,4", b"vCont?", b"vCont;s:1", b"vCont;c", b"c", b"s", b"bs", b"bc", b"Z0,8,4", b"z0,8,4",
     b"Z2,800,8", b"Z3,800,4", b"Z4,800,1", b"z2,800,8", b"Z1,0,4", b"G00", b"P0=00", b"M0,1:00", b"X0,0:",
     b"qXfer:features:read:target.xml:0,100", b"qXfer:features:read:target.xml:100,ffff", b"qRcmd,706c616365",
-    b"qRcmd,676f2033", b"qRcmd,776879", b"qRcmd,68656c70", b"qRcmd,0", b"vMustReplyEmpty", b"qOffsets", b"", b"!",
+    b"qRcmd,676f2033", b"qRcmd,776879", b"qRcmd,68656c70", b"qRcmd,0",
+    # sent, got, and last-write of an address, of a symbol, and of an address that no memory has
+    b"qRcmd,73656e74", b"qRcmd,676f74", b"qRcmd,6c6173742d77726974652032303438", b"qRcmd,6c6173742d777269746520636f756e74", b"qRcmd,6c6173742d7772697465203939393939393939",
+    b"qXfer:threads:read::0,100", b"qXfer:threads:read::100,ffff", b"vMustReplyEmpty", b"qOffsets", b"", b"!",
 ]  # fmt: skip
 
 
@@ -103,6 +106,37 @@ def wrong(stream, answers):
         if message == b"D":
             break
     return None if at == len(answers) else f"{answers[at : at + 40]!r} behind the last answer"
+
+
+# ---- the other end of a message
+
+CARRIED = re.compile(r"(claimed, )?tag (\d+), (\d+) bytes|link (\d+) partition (\d+) phase \d+")
+
+
+def by(spot):
+    """A step, as `monitor` tells it."""
+    return f" at {spot.place} by rank {spot.rank} hart {spot.hart}"
+
+
+def other_end(arrows, steps, who, place, word):
+    """The first line that `monitor sent` or `monitor got` prints for a rank's hart at a place, by the arrows of the record: that of
+    the first message that it gets, or sends, from its last turn but one on."""
+    turns = [n for n in range(place) if (steps[n].rank, steps[n].hart) == who]
+    begin = turns[-2] if len(turns) > 1 else 0
+    found = []
+    for start, end, what in arrows:
+        claimed, tag, count, link, part = CARRIED.fullmatch(what).groups()
+        own = end if word == "sent" else start
+        if own is None or (own.rank, own.hart) != who or own.place < begin or (claimed and word == "got"):
+            continue
+        if link is not None:
+            first, last = f"partition {part} of link {link}, made ready", "taken"
+        else:
+            first, last = f"message of {count} bytes, tag {tag}, sent", "claimed" if claimed else "got"
+        found.append((own.place, f"{first}{by(start)}, {last}{' by nobody' if end is None else by(end)}"))
+    if not found:
+        return f"rank {who[0]} hart {who[1]} {'gets' if word == 'sent' else 'sends'} nothing from here on"
+    return min(found, key=lambda one: one[0])[1]
 
 
 class Streams:

@@ -1,6 +1,8 @@
 -- What methods of a session come to: what is printed, also where something isn't there, and which points are set.
-use Rattle.std.specs.Prelude.{ℕ, ◌≡◌, ◌≢◌, ◌↔◌, ◌<◌, ◌≤◌, true, false, List, [], ◌∷◌, ◌++◌, Result, Err, Option, Some, None}
+use Rattle.std.specs.Prelude.{ℕ, ◌≡◌, ◌≢◌, ◌↔◌, ◌<◌, ◌≤◌, true, false, List, [], ◌∷◌, ◌++◌, Result, Err, Option, Some, None, option_map}
+use Rattle.std.specs.Option.{unwrap_or}
 use Rattle.std.proofs.Common.{refl, sym, ap, subst, ◌∙◌}
+use Rattle.hex.specs.Hex.{encode_lower}
 use Rattle.rv_image.specs.declared.images.ImageParts.{ImageParts}
 use Rattle.rv_image.specs.declared.images.Symbol.{Symbol}
 use Rattle.cl_state.specs.Rank.{Rank}
@@ -15,10 +17,15 @@ use Rattle.rvmc_words.specs.declared.debug.DebugWord.TheVariants as word
 use Rattle.rvmc_inspect.specs.Words.{Does, Refuses}
 use Rattle.rvmc_inspect.specs.Why.{IsWhy}
 use Rattle.rvmc_motions.specs.declared.marks.Mark.{Mark}
-use Rattle.rvmc_gdb.specs.declared.session.Who.{Who}
 use Rattle.rvmc_gdb.specs.Points.{Inserts, IsOwner, Sets, can_add, has_mark, marks_with, with_marks}
 use Rattle.rvmc_gdb.specs.Serving.{Serving, done, refused}
-use Rattle.rvmc_gdb.specs.Shown.{IsLine, line_at}
+use Rattle.rvmc_gdb.specs.declared.ends.Found.{Found}
+use Rattle.rvmc_gdb.specs.declared.ends.Side.{Side}
+use Rattle.rvmc_gdb.specs.declared.session.Who.{Who}
+use Rattle.rvmc_gdb.specs.Finding.{IsEnd}
+use Rattle.rvmc_gdb.specs.Moving.{own_who}
+use Rattle.rvmc_gdb.specs.Shown.{IsLine, Names, TellsHart, names_in}
+use Rattle.rvmc_gdb.specs.Typing.{PrintsEnd, PrintsFound}
 use Rattle.rvmc_gdb.specs.Typing.{PrintsGo, PrintsWhy, PrintsWord, fault_text, with_debugging}
 
 -- ---- words of `debug`
@@ -81,12 +88,26 @@ why_printed old seen image state text is reached same why =
     subst (λ (s : Serving). PrintsWhy s text) is
     (state, reached, subst (λ (i : ImageParts). IsWhy false i state text) same why)
 
-pub line_found : (old seen : Serving) (who : Who) (symbols : List Symbol) (state : ClusterState) (line : Option (List ℕ))
-    → seen ≡ old → IsReached seen.debugging.image seen.debugging.steps seen.debugging.place state
-    → symbols ≡ seen.debugging.image.symbols → line ≡ line_at symbols state who.rank who.hart → IsLine old who line
-line_found old seen who symbols state line is reached same found =
-    subst (λ (s : Serving). IsLine s who line) is
-    (state, reached, found ∙ ap (λ names. line_at names state who.rank who.hart) same)
+pub hart_told : (old seen : Serving) (who : Who) (line : Option (List ℕ)) (text : List ℕ) → seen ≡ old
+    → IsLine seen.debugging who line → text ≡ unwrap_or (option_map encode_lower line) refused → TellsHart old (Some who) text
+hart_told old seen who line text is found told =
+    subst (λ (s : Serving). TellsHart s (Some who) text) is (line, found, told)
+
+pub names_told : (old seen : Serving) (symbols : List Symbol) (state : ClusterState) (text : List ℕ) → seen ≡ old
+    → IsReached seen.debugging.image seen.debugging.steps seen.debugging.place state → symbols ≡ seen.debugging.image.symbols
+    → text ≡ names_in symbols state old → Names old text
+names_told old seen symbols state text is reached same told =
+    subst
+    (λ (s : Serving). IsReached s.debugging.image s.debugging.steps s.debugging.place state
+    → symbols ≡ s.debugging.image.symbols → Names old text) is
+    (λ there names. (state, there, told ∙ ap (λ ns. names_in ns state old) names)) reached same
+
+-- ---- places that are asked for
+
+pub end_printed : (old seen new : Serving) (side : Side) (found : Option Found) (text : List ℕ) → seen ≡ old
+    → IsEnd seen.debugging side (own_who old) found → PrintsFound side found old new text → PrintsEnd side old new text
+end_printed old seen new side found text is end prints =
+    (found, subst (λ (s : Serving). IsEnd s.debugging side (own_who old) found) is end, prints)
 
 -- ---- points
 

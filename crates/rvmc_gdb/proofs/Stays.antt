@@ -1,4 +1,5 @@
 -- Whatever is asked, the record stays.
+use mathlib.Core.Logic.{inl, inr}
 use Rattle.std.specs.Prelude.{ℕ, ◌≡◌, ◌<◌, Bool, true, false, List, [], ◌∷◌, Option, Some, None, if◌then◌else◌, nat_lt}
 use Rattle.std.proofs.Common.{refl, sym, ap, subst, ◌∙◌, ltb-true}
 use Rattle.rv_image.specs.declared.images.ImageParts.{ImageParts}
@@ -22,11 +23,18 @@ use Rattle.rvmc_words.specs.declared.debug.DebugWord.TheVariants as word
 use Rattle.rvmc_gdb.specs.Answers.{Answers}
 use Rattle.rvmc_gdb.specs.Laws.{RecordStaysLaw}
 use Rattle.rvmc_gdb.specs.declared.session.Who.{Who}
+use Rattle.rvmc_gdb.specs.declared.ends.Found.{Found}
+use Rattle.rvmc_gdb.specs.declared.ends.Side.{Side}
+use Rattle.rvmc_gdb.specs.declared.ends.Side.TheVariants.{Gets, Sends}
+use Rattle.rvmc_gdb.specs.declared.session.Goal.{Goal}
+use Rattle.rvmc_gdb.specs.Goals.{goal_ahead, goal_behind, with_goal}
+use Rattle.rvmc_gdb.specs.Moving.{Arrives, RunsBackTo, RunsOn}
 use Rattle.rvmc_gdb.specs.Moving.{Backwards, Forwards, Selects, SelectsMoved, SelectsMovedWho, SelectsWho, Steps, StepsThread}
 use Rattle.rvmc_gdb.specs.Points.{Sets}
 use Rattle.rvmc_gdb.specs.Serving.{Serving, who_of, with_who}
 use Rattle.rvmc_gdb.specs.Talks.{Connection, HearsUnless, MeetsTold, MeetsUnless, Replies, Serves, Talk, read, repeats}
-use Rattle.rvmc_gdb.specs.Typing.{Debugs, Prints, with_rank}
+use Rattle.rvmc_gdb.specs.Typing.{Debugs, Prints, PrintsChange, PrintsChangeIf, PrintsFound, PrintsGoal, with_rank}
+use Rattle.rvmc_words.specs.declared.debug.Spot.{Spot}
 
 -- the same image and the same steps, and a rank that is there
 record IsKept (old new : Serving) : Type 0 where
@@ -123,6 +131,26 @@ kept_sets : (old new : Serving) (marks : Option (List Mark)) (text : List ℕ) �
 kept_sets old new None text a = kept_as old old new a.0 (kept_same old)
 kept_sets old new (Some marks) text a = kept_as old _ new a.0 (record { image = refl; steps = refl; rank = λ there. there })
 
+kept_goal : (old new : Serving) (goal : Option Goal) → new ≡ with_goal old goal → IsKept old new
+kept_goal old new goal is = kept_as old (with_goal old goal) new is (record { image = refl; steps = refl; rank = λ there. there })
+
+-- ---- runs, also to a place that was asked for
+
+kept_arrived : (old new : Serving) (goal : Goal) (text : List ℕ) → Arrives old goal new text → IsKept old new
+kept_arrived old new goal text a =
+    kept_or old new goal.place goal.rank
+    (ap (λ (s : Serving). s.rank) a.0
+    ∙ sym (ap (λ (s : Serving). if nat_lt goal.rank s.debugging.image.ranks then goal.rank else old.rank) a.0))
+    (ap (λ (s : Serving). s.debugging) a.0)
+
+kept_run : (old new : Serving) (goal : Option Goal) (text : List ℕ) → RunsOn goal old new text → IsKept old new
+kept_run old new (Some goal) text a = kept_arrived old new goal text a
+kept_run old new None text a = kept_then old (with_goal old None) new (kept_goal old (with_goal old None) None refl) (kept_on (with_goal old None) new _ text a)
+
+kept_run_back : (old new : Serving) (goal : Option Goal) (text : List ℕ) → RunsBackTo goal old new text → IsKept old new
+kept_run_back old new (Some goal) text a = kept_arrived old new goal text a
+kept_run_back old new None text a = kept_then old (with_goal old None) new (kept_goal old (with_goal old None) None refl) (kept_back (with_goal old None) new _ text a)
+
 -- ---- words behind `monitor`
 
 kept_debugging : (old new : Serving) → new ≡ record old { debugging = new.debugging } → new.debugging ≡ old.debugging → IsKept old new
@@ -145,6 +173,23 @@ kept_place : (old new : Serving) (fault : Option DebugFault) (text : List ℕ)
 kept_place old new None text stands a = kept_debugging old new stands a.0
 kept_place old new (Some fault) text stands a = kept_debugging old new stands a.2
 
+kept_aim : (old new : Serving) (none : List ℕ) (goal : Option Goal) (text : List ℕ) → PrintsGoal none old goal new text → IsKept old new
+kept_aim old new none None text a = kept_goal old new None a.0
+kept_aim old new none (Some goal) text a = kept_goal old new (Some goal) a.0
+
+kept_found : (old new : Serving) (side : Side) (found : Option Found) (text : List ℕ) → PrintsFound side found old new text
+    → IsKept old new
+kept_found old new side None text a = kept_aim old new _ None text a
+kept_found old new side (Some found) text a = kept_aim old new _ _ a.0 a.1
+
+kept_change_if : (old new : Serving) (there : Bool) (mark : Mark) (text : List ℕ) → PrintsChangeIf there mark old new text → IsKept old new
+kept_change_if old new false mark text a = kept_goal old new None a.0
+kept_change_if old new true mark text a = kept_aim old new _ a.0 text a.2
+
+kept_change : (old new : Serving) (at : Spot) (text : List ℕ) → PrintsChange at old new text → IsKept old new
+kept_change old new at text (inl a) = kept_change_if old new _ _ text a.2.2
+kept_change old new at text (inr a) = kept_goal old new None a.1
+
 kept_prints : (old new : Serving) (word : Typed) (text : List ℕ) → Prints old word new text → IsKept old new
 kept_prints old new typed.Help text a = kept_as old old new a.0 (kept_same old)
 kept_prints old new typed.Why text a = kept_as old old new a.0 (kept_same old)
@@ -161,6 +206,9 @@ kept_prints old new (typed.Bytes rank at count) text a = shown a.fault a.debugs
     shown : (fault : Option DebugFault) → Debugs old (word.Bytes rank at count) fault new.debugging text → IsKept old new
     shown None d = kept_debugging old new a.stands d.0
     shown (Some fault) d = kept_debugging old new a.stands d.2
+kept_prints old new typed.Sent text a = kept_found old new Gets a.0 text a.2
+kept_prints old new typed.Got text a = kept_found old new Sends a.0 text a.2
+kept_prints old new (typed.LastWrite at) text a = kept_change old new at text a
 kept_prints old new typed.Unknown text a = kept_as old old new a.0 (kept_same old)
 
 -- ---- requests
@@ -184,11 +232,11 @@ kept old new (request.Register number) text a = kept_as old old new a.0 (kept_sa
 kept old new (request.Bytes address count) text a = kept_as old old new a.0 (kept_same old)
 kept old new (request.RawBytes address count) text a = kept_as old old new a.0 (kept_same old)
 kept old new request.Moves text a = kept_as old old new a.0 (kept_same old)
-kept old new (request.Move move.Go) text a = kept_on old new _ text a
+kept old new (request.Move move.Go) text a = kept_run old new (goal_ahead old) text a
 kept old new (request.Move (move.Step which)) text a = kept_thread old new which text a
 kept old new (request.Move move.Stop) text a = kept_as old old new a.0 (kept_same old)
 kept old new request.StepBack text a = kept_back old new _ text a
-kept old new request.GoBack text a = kept_back old new _ text a
+kept old new request.GoBack text a = kept_run_back old new (goal_behind old) text a
 kept old new (request.Insert point address size) text a = kept_sets old new _ text a.sets
 kept old new (request.Remove point address size) text a =
     kept_as old _ new a.0 (record { image = refl; steps = refl; rank = λ there. there })

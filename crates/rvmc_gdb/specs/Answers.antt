@@ -14,7 +14,7 @@ use Rattle.rvmc_requests.specs.declared.requests.Request.TheVariants.{Change, Un
 use Rattle.rvmc_gdb.specs.Moving.{Moves as MovesAs, RunsBack, Selects, SelectsMoved, StepsBack, standing_text}
 use Rattle.rvmc_gdb.specs.Points.{Inserts, Removes, mark_of}
 use Rattle.rvmc_gdb.specs.Serving.{Serving, done, own_thread, refused, thread_count, who_of}
-use Rattle.rvmc_gdb.specs.Shown.{TellsBytes, TellsRegister, TellsRegisters, TellsThread, alive_text, raw_text}
+use Rattle.rvmc_gdb.specs.Shown.{Lists, TellsBytes, TellsRegister, TellsRegisters, TellsThread, alive_text, raw_text}
 use Rattle.rvmc_gdb.specs.Typing.{Monitors}
 
 -- how many bytes the text of a packet has at most
@@ -25,11 +25,12 @@ most = 16384
 abbrev pub Says : Serving → Serving → List ℕ → List ℕ → Type 0
 Says old new reply text = (new ≡ old) × (reply ≡ text)
 
--- A record can't be changed: what would change it is refused. What is no request is answered by nothing.
+-- A record can't be changed: what would change it is refused. What is no request is answered by nothing. Threads have names
+-- where all ranks are served.
 abbrev pub Answers : Serving → Request → Serving → List ℕ → Type 0
-Answers old Supported new reply = Says old new reply (supported_text most false)
+Answers old Supported new reply = Says old new reply (supported_text most old.all)
 Answers old (Description from count) new reply = Says old new reply (part_of description_text from count)
-Answers old (ThreadList from count) new reply = Says old new reply []
+Answers old (ThreadList from count) new reply = (new ≡ old) × Lists old from count reply
 Answers old HostInfo new reply = Says old new reply host_text
 Answers old ProcessInfo new reply = Says old new reply process_text
 Answers old Why new reply = Says old new reply (standing_text old)

@@ -1,4 +1,7 @@
 pub mod Serving
+pub mod Goals
+pub mod Ends
+pub mod Finding
 pub mod Shown
 pub mod Moving
 pub mod Points

@@ -1,7 +1,7 @@
 -- What is answered to what chooses threads and moves them: a motion leads where rvmc_motions says, and is told there.
-use Rattle.std.specs.Prelude.{ℕ, ◌≡◌, List, Option, Some, None}
+use Rattle.std.specs.Prelude.{ℕ, ◌≡◌, Bool, true, false, List, Option, Some, None}
 use Rattle.std.specs.Option.{unwrap_or}
-use Rattle.cl_debug.specs.Debugging.{Debugging}
+use Rattle.cl_debug.specs.Debugging.{Debugging, at_place}
 use Rattle.rvmc_motions.specs.declared.marks.Halt.{Halt}
 use Rattle.rvmc_motions.specs.declared.marks.Motion.{Motion}
 use Rattle.rvmc_motions.specs.declared.marks.Motion.TheVariants as motions
@@ -13,7 +13,9 @@ use Rattle.rvmc_requests.specs.declared.threads.Move.{Move}
 use Rattle.rvmc_requests.specs.declared.threads.Move.TheVariants.{Go, Step, Stop}
 use Rattle.rvmc_requests.specs.declared.threads.Thread.{Thread}
 use Rattle.rvmc_requests.specs.declared.threads.Thread.TheVariants.{All, Any, One}
+use Rattle.rvmc_gdb.specs.declared.session.Goal.{Goal}
 use Rattle.rvmc_gdb.specs.declared.session.Who.{Who}
+use Rattle.rvmc_gdb.specs.Goals.{goal_ahead, goal_behind, goal_who, with_goal}
 use Rattle.rvmc_gdb.specs.Serving.{Serving, done, own_thread, ranks_of, refused, who_of, with_who}
 
 -- ---- the thread that is meant
@@ -94,8 +96,37 @@ StepsThread old (One thread) new text = Steps old (who_of old thread) new text
 abbrev pub standing_text : Serving → List ℕ
 standing_text serving = stop_text stops.Step (own_thread serving)
 
+-- ---- runs: to the place that was asked for, where it lies that way, or else to where the motion ends. A run forgets that
+-- place, and a step doesn't
+
+-- where one rank is served that hart's is from then on, so a hart that was to be moved may be of another one
+abbrev pub moved_anywhere : Bool → Option Who → Option Who
+moved_anywhere true moved = moved
+moved_anywhere false moved = None
+
+abbrev pub arrived : Serving → Goal → Serving
+arrived old goal =
+    with_who
+    (record old {
+      debugging = at_place old.debugging goal.place;
+      moved = moved_anywhere old.all old.moved;
+      goal = None;
+    })
+    (goal_who goal)
+
+abbrev pub Arrives : Serving → Goal → Serving → List ℕ → Type 0
+Arrives old goal new text = (new ≡ arrived old goal) × (text ≡ stop_text stops.There (own_thread new))
+
+abbrev pub RunsOn : Option Goal → Serving → Serving → List ℕ → Type 0
+RunsOn (Some goal) old new text = Arrives old goal new text
+RunsOn None old new text = Forwards (with_goal old None) (mover_of old (own_who old) motions.Run) new text
+
+abbrev pub RunsBackTo : Option Goal → Serving → Serving → List ℕ → Type 0
+RunsBackTo (Some goal) old new text = Arrives old goal new text
+RunsBackTo None old new text = Backwards (with_goal old None) (mover_of old (own_who old) motions.Run) new text
+
 abbrev pub Moves : Serving → Move → Serving → List ℕ → Type 0
-Moves old Go new text = Forwards old (mover_of old (own_who old) motions.Run) new text
+Moves old Go new text = RunsOn (goal_ahead old) old new text
 Moves old (Step thread) new text = StepsThread old thread new text
 Moves old Stop new text = (new ≡ old) × (text ≡ standing_text old)
 
@@ -103,4 +134,4 @@ abbrev pub StepsBack : Serving → Serving → List ℕ → Type 0
 StepsBack old new text = Backwards old (mover_of old (moved_who old) motions.Step) new text
 
 abbrev pub RunsBack : Serving → Serving → List ℕ → Type 0
-RunsBack old new text = Backwards old (mover_of old (own_who old) motions.Run) new text
+RunsBack old new text = RunsBackTo (goal_behind old) old new text

@@ -6,10 +6,12 @@ use Rattle.cl_debug.specs.Debugging.{Debugging}
 use Rattle.rvmc_motions.specs.declared.marks.Mark.{Mark}
 use Rattle.rvmc_motions.specs.declared.marks.Ranks.{Ranks}
 use Rattle.rvmc_motions.specs.declared.marks.Ranks.TheVariants as ranks
+use Rattle.rvmc_gdb.specs.declared.session.Goal.{Goal}
 use Rattle.rvmc_gdb.specs.declared.session.Who.{Who}
 
 -- the record and the place; whether all ranks are served, or one alone; the rank and the hart whose registers are meant, the
--- one that a step moves if it is another, and where motions stop, in the order in which it was asked for
+-- one that a step moves if it is another; where motions stop, in the order in which it was asked for; and the place to which
+-- the next run leads, if one was asked for
 pub record Serving : Type 0 where
   pub debugging : Debugging
   pub all : Bool
@@ -17,6 +19,7 @@ pub record Serving : Type 0 where
   pub hart : ℕ
   pub moved : Option Who
   pub marks : List Mark
+  pub goal : Option Goal
 
 -- nothing was chosen or set yet: this rank is served, or all are, of which the first is meant
 abbrev pub opened : Debugging → Option ℕ → Serving
@@ -27,6 +30,7 @@ opened debugging rank = record {
   hart = 0;
   moved = None;
   marks = [];
+  goal = None;
 }
 
 -- the ranks that are served

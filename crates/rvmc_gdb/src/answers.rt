@@ -1,6 +1,6 @@
 //! The answer to each request.
 
-ghost use Rattle.std.specs.Prelude.{◌≡◌, IfOk, false};
+ghost use Rattle.std.specs.Prelude.{◌≡◌, IfOk};
 ghost use Rattle.rvmc_replies.specs.Threads.{current_text, host_text, process_text, supported_text, threads_text};
 ghost use Rattle.rvmc_gdb.specs.Answers.{kills, leaves, most, quiets};
 
@@ -42,10 +42,10 @@ impl Session {
 
     /// What the server can do.
     fn supported(&self) -> Result<Vec<u8>, AllocError>
-        ensures { IfOk result (λ text. text.items ≡ supported_text most false) }
+        ensures { IfOk result (λ text. text.items ≡ supported_text most self.now.all) }
     {
         let mut text = Vec::new(self.alloc);
-        match put_supported(&mut text, MOST as u64, false) {
+        match put_supported(&mut text, MOST as u64, self.all) {
             Ok(()) => Ok(text),
             Err(_) => Err(AllocError),
         }
@@ -153,9 +153,8 @@ impl Session {
                 size,
             } => self.remove(self.mark_of(*point, *address, *size)),
             Request::Detach | Request::NoAcknowledgements => self.done(),
-            Request::Kill | Request::ThreadList { .. } | Request::Unknown => {
-                Ok(Vec::new(self.alloc))
-            }
+            Request::ThreadList { from, count } => self.thread_list(*from, *count),
+            Request::Kill | Request::Unknown => Ok(Vec::new(self.alloc)),
             Request::Monitor(typed) => self.monitor(typed.as_slice()),
             Request::Change => self.refused(),
         }

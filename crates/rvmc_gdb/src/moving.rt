@@ -3,7 +3,7 @@
 ghost use Rattle.std.specs.Prelude.{◌≡◌, IfOk};
 ghost use Rattle.rvmc_replies.specs.Stops.{stop_text};
 
-use crate::session::{Session, Who};
+use crate::session::{Goal, Session, Who};
 use rvmc_motions::{Halt, Motion, Mover, backwards, forwards};
 use rvmc_replies::{Stop, put_stop};
 use rvmc_requests::{Move, Thread};
@@ -21,8 +21,9 @@ fn stop_text(alloc: Global, stop: Stop, thread: u64) -> Result<Vec<u8>, AllocErr
 }
 
 impl Session {
-    ghost use Rattle.rvmc_gdb.specs.Moving.{Backwards, Forwards, Moves, RunsBack, Selects, SelectsMoved, StepsBack, StepsThread};
-    ghost use Rattle.rvmc_gdb.specs.Moving.{Steps, halt_text, mover_of, moved_who, own_who, standing_text};
+    ghost use Rattle.rvmc_gdb.specs.Goals.{goal_ahead, goal_behind};
+    ghost use Rattle.rvmc_gdb.specs.Moving.{Arrives, Backwards, Forwards, Moves, RunsBack, RunsOn, Selects, SelectsMoved, StepsBack};
+    ghost use Rattle.rvmc_gdb.specs.Moving.{Steps, StepsThread, halt_text, moved_anywhere, mover_of, moved_who, own_who, standing_text};
 
     /// That the threads stand, for no cause.
     pub(crate) fn standing(&self) -> Result<Vec<u8>, AllocError>
@@ -67,7 +68,7 @@ impl Session {
     }
 
     /// The hart that is meant.
-    fn own_who(&self) -> Who
+    pub(crate) fn own_who(&self) -> Who
         ensures { result ≡ own_who self.now }
     {
         Who {
@@ -156,16 +157,72 @@ impl Session {
         }
     }
 
+    /// The place that was asked for, if it lies ahead.
+    fn goal_ahead(&self) -> Option<Goal>
+        ensures { result ≡ goal_ahead self.now }
+    {
+        let goal = self.goal?;
+        let (here, end) = self.debugger.place();
+        if here < goal.place && goal.place <= end {
+            Some(goal)
+        } else {
+            None
+        }
+    }
+
+    /// The place that was asked for, if it lies behind.
+    fn goal_behind(&self) -> Option<Goal>
+        ensures { result ≡ goal_behind self.now }
+    {
+        let goal = self.goal?;
+        let (here, _) = self.debugger.place();
+        if goal.place < here { Some(goal) } else { None }
+    }
+
+    /// The hart that a step moves where the rank that is served may be another.
+    fn moved_anywhere(&self) -> Option<Who>
+        ensures { result ≡ moved_anywhere self.now.all self.now.moved }
+    {
+        if self.all { self.moved } else { None }
+    }
+
+    /// Goes to the place that was asked for. In a session of one rank that hart's rank is served from then on.
+    fn arrive(&mut self, goal: Goal) -> Result<Vec<u8>, AllocError>
+        ensures { IfOk result (λ text. Arrives self.old goal self.new text.items) }
+    {
+        if self.debugger.go(goal.place).is_err() {
+            return Err(AllocError);
+        }
+        self.moved = self.moved_anywhere();
+        self.goal = None;
+        self.mean(Who {
+            rank: goal.rank,
+            hart: goal.hart,
+        });
+        stop_text(self.alloc, Stop::There, self.own_thread())
+    }
+
+    /// Forwards to where a run stops.
+    fn run(&mut self) -> Result<Vec<u8>, AllocError>
+        ensures { IfOk result (λ text. RunsOn (goal_ahead self.old) self.old self.new text.items) }
+    {
+        match self.goal_ahead() {
+            Some(goal) => self.arrive(goal),
+            None => {
+                self.goal = None;
+                let mover = self.mover_of(self.own_who(), Motion::Run);
+                self.forwards(mover)
+            }
+        }
+    }
+
     /// Moves forwards as it is asked for.
     pub(crate) fn go(&mut self, asked: Move) -> Result<Vec<u8>, AllocError>
         ensures { IfOk result (λ text. Moves self.old asked self.new text.items) }
     {
         match asked {
             Move::Stop => self.standing(),
-            Move::Go => {
-                let mover = self.mover_of(self.own_who(), Motion::Run);
-                self.forwards(mover)
-            }
+            Move::Go => self.run(),
             Move::Step(thread) => self.step(thread),
         }
     }
@@ -182,7 +239,13 @@ impl Session {
     pub(crate) fn go_back(&mut self) -> Result<Vec<u8>, AllocError>
         ensures { IfOk result (λ text. RunsBack self.old self.new text.items) }
     {
-        let mover = self.mover_of(self.own_who(), Motion::Run);
-        self.backwards(mover)
+        match self.goal_behind() {
+            Some(goal) => self.arrive(goal),
+            None => {
+                self.goal = None;
+                let mover = self.mover_of(self.own_who(), Motion::Run);
+                self.backwards(mover)
+            }
+        }
     }
 }

@@ -86,7 +86,7 @@ fn is_watch(mark: &Mark) -> bool
 }
 
 /// Whether a point of a rank can be set: of a watchpoint the rank's memory has all bytes, of which there is one at least.
-fn can_stand(owner: Option<&RankState>, mark: &Mark) -> bool
+pub(crate) fn can_stand(owner: Option<&RankState>, mark: &Mark) -> bool
     ensures { result ≡ can_stand (option_map (λ owner. rank_of owner.now) owner.entry) mark.now }
 {
     if !is_watch(mark) {
@@ -109,7 +109,7 @@ impl Session {
     ghost use Rattle.rvmc_gdb.specs.Points.{Inserts, IsOwner, Removes};
 
     /// The rank that is meant, if the image has it.
-    fn owner(&self) -> Option<&RankState>
+    pub(crate) fn owner(&self) -> Option<&RankState>
         ensures { IsOwner self.now (option_map (λ owner. rank_of owner.now) result) }
     {
         match self.debugger.rank(self.rank) {

@@ -17,6 +17,14 @@ pub(crate) struct Who {
     pub(crate) hart: u8,
 }
 
+/// A place to which the next run leads, and the hart that is meant there.
+#[derive(Clone, Copy)]
+pub(crate) struct Goal {
+    pub(crate) place: u64,
+    pub(crate) rank: u8,
+    pub(crate) hart: u8,
+}
+
 /// A rank of a record, or all its ranks, as gdb sees them: their harts are threads, numbered from 1. Contracts see its
 /// parts.
 #[derive(Drop)]
@@ -33,6 +41,8 @@ pub struct Session {
     pub(crate) moved: Option<Who>,
     /// Where motions stop, in the order in which it was asked for.
     pub(crate) marks: Vec<Mark>,
+    /// Where the next run leads, if a place was asked for.
+    pub(crate) goal: Option<Goal>,
 }
 
 impl Model for Session {
@@ -47,6 +57,7 @@ impl Model for Session {
       hart = s.hart;
       moved = s.moved;
       marks = s.marks.items;
+      goal = s.goal;
     } };
 }
 
@@ -92,6 +103,7 @@ impl Session {
             hart: 0,
             moved: None,
             marks: Vec::new(alloc),
+            goal: None,
         })
     }
 
@@ -141,7 +153,7 @@ impl Session {
 
     /// Whose the thread of this number is, which is there, from 0 on.
     #[tactic(auto, using(crate::proofs::Threads::some_harts))]
-    fn who_at(&self, number: u64) -> Who
+    pub(crate) fn who_at(&self, number: u64) -> Who
         requires { number < thread_count self.now }
         ensures { result ≡ who_at self.now number }
     {

@@ -1,6 +1,6 @@
 //! What is shown of the rank at the place.
 
-ghost use Rattle.std.specs.Prelude.{◌≡◌, ◌++◌, ◌==◌, IfOk, OnOk, map, option_map, slice_get};
+ghost use Rattle.std.specs.Prelude.{◌≡◌, ◌<◌, ◌≤◌, ◌++◌, ◌==◌, [], IfOk, OnOk, map, option_map, slice_get};
 ghost use Rattle.std.specs.List.{range_with_len, slice_split};
 ghost use Rattle.std.specs.Option.{option_copied, unwrap_or};
 ghost use Rattle.hex.specs.Hex.{encode_lower};
@@ -8,18 +8,19 @@ ghost use Rattle.rvmc_replies.specs.Digits.{register_text};
 ghost use Rattle.rvmc_replies.specs.Features.{description_text};
 ghost use Rattle.rvmc_replies.specs.Parts.{part_of};
 ghost use Rattle.rvmc_gdb.specs.Serving.{refused};
-ghost use Rattle.rvmc_gdb.specs.Shown.{line_at, wait_lines, register_value, registers_of, registers_text};
+ghost use Rattle.rvmc_gdb.specs.Shown.{IsLine, behind_name, line_at, wait_lines, register_value, registers_of, registers_text};
 
 use crate::session::{Session, Who, text_of};
-use cl_debug::DebugFault;
+use cl_debug::{DebugFault, Debugger};
 use cl_replay::ClusterState;
 use cl_state::RankState;
 use rv_decode::Reg;
 use rv_hart::Hart;
 use rv_image::Symbol;
 use rvmc_inspect::put_harts;
-use rvmc_replies::{description, put_bytes, put_part, put_register};
+use rvmc_replies::{description, put_bytes, put_name, put_named, put_part, put_register};
 use std::alloc::{AllocError, Global};
+use std::io;
 
 /// Adds x0 to x31.
 fn put_registers(alloc: Global, text: &mut Vec<u8>, hart: &Hart) -> Result<(), AllocError>
@@ -81,19 +82,19 @@ fn lines(alloc: Global, text: &[u8]) -> Result<Vec<&[u8]>, AllocError>
     text.split(|byte| *byte == b'\n').collect(alloc)
 }
 
-/// The piece of this number between newlines, in digits, if there is one.
-fn line_digits(alloc: Global, text: &[u8], number: u8) -> Result<Option<Vec<u8>>, AllocError>
-    ensures { IfOk result (λ found. option_map (λ digits. digits.items) found
-        ≡ option_map encode_lower (slice_get (slice_split (λ byte. byte == 10) text.now) number)) }
+/// The piece of this number between newlines, if there is one.
+fn line_of(alloc: Global, text: &[u8], number: u8) -> Result<Option<Vec<u8>>, AllocError>
+    ensures { IfOk result (λ found. option_map (λ line. line.items) found
+        ≡ slice_get (slice_split (λ byte. byte == 10) text.now) number) }
 {
     let pieces = lines(alloc, text)?;
     match pieces.get(usize::from(number)) {
-        Some(line) => Ok(Some(digits_of(alloc, line)?)),
+        Some(line) => Ok(Some(text_of(alloc, line)?)),
         None => Ok(None),
     }
 }
 
-/// The line of a hart among those that `why` has of a rank's harts, in digits.
+/// The line of a hart among those that `why` has of a rank's harts.
 fn owner_line(
     alloc: Global,
     symbols: &[Symbol],
@@ -103,7 +104,7 @@ fn owner_line(
     hart: u8,
 ) -> Result<Option<Vec<u8>>, AllocError>
     ensures { IfOk result (λ found. option_map (λ text. text.items) found
-        ≡ option_map encode_lower (slice_get (wait_lines symbols.now state.now rank owner.now) hart)) }
+        ≡ slice_get (wait_lines symbols.now state.now rank owner.now) hart) }
 {
     let mut text = Vec::new(alloc);
     put_harts(
@@ -116,10 +117,10 @@ fn owner_line(
         owner,
         false,
     )?;
-    Ok(line_digits(alloc, text.as_slice(), hart)?)
+    Ok(line_of(alloc, text.as_slice(), hart)?)
 }
 
-/// The line of a hart of a rank among those that `why` has, in digits, if there is one.
+/// The line of a hart of a rank among those that `why` has, if there is one.
 fn rank_line(
     alloc: Global,
     symbols: &[Symbol],
@@ -135,18 +136,54 @@ fn rank_line(
     }
 }
 
-/// A text that was found, or a refusal.
-fn text_or_refused(alloc: Global, found: Option<Vec<u8>>) -> Result<Vec<u8>, AllocError>
-    ensures { IfOk result (λ text. text.items ≡ unwrap_or (option_map (λ text. text.items) found) refused) }
+/// A text that was found, in digits, or a refusal.
+fn digits_or_refused(alloc: Global, found: Option<Vec<u8>>) -> Result<Vec<u8>, AllocError>
+    ensures { IfOk result (λ text. text.items
+        ≡ unwrap_or (option_map encode_lower (option_map (λ text. text.items) found)) refused) }
 {
     match found {
-        Some(text) => Ok(text),
+        Some(text) => digits_of(alloc, text.as_slice()),
         None => text_of(alloc, b"E01"),
     }
 }
 
+/// What `why` tells of a hart at the debugger's place, if it tells something.
+pub(crate) fn hart_line(
+    alloc: Global,
+    debugger: &Debugger,
+    who: Who,
+) -> Result<Option<Vec<u8>>, AllocError>
+    ensures { IfOk result (λ found. IsLine debugger.now who (option_map (λ text. text.items) found)) }
+{
+    let symbols = debugger.image().parts().symbols.as_slice();
+    Ok(rank_line(alloc, symbols, debugger.state(), who.rank, who.hart)?)
+}
+
+/// What stands behind a hart's name and a blank.
+fn behind_name(alloc: Global, who: Who, line: &[u8]) -> io::Result<Vec<u8>>
+    ensures { IfOk result (λ text. text.items ≡ behind_name who line.now) }
+{
+    let mut name = Vec::new(alloc);
+    put_name(&mut name, who.rank, who.hart)?;
+    let begin = line.len().min(name.len() + 1);
+    Ok(Vec::from_slice(alloc, &line[begin..])?)
+}
+
+/// What is told of a hart behind its name, or nothing.
+fn told_of(alloc: Global, who: Who, line: Option<Vec<u8>>) -> io::Result<Vec<u8>>
+    ensures { IfOk result
+        (λ text. text.items ≡ behind_name who (unwrap_or (option_map (λ line. line.items) line) [])) }
+{
+    match line {
+        Some(line) => behind_name(alloc, who, line.as_slice()),
+        None => behind_name(alloc, who, b""),
+    }
+}
+
 impl Session {
-    ghost use Rattle.rvmc_gdb.specs.Shown.{IsOwn, IsRead, IsLine, TellsBytes, TellsRegister, TellsRegisters, TellsThread, raw_text};
+    ghost use Rattle.rvmc_gdb.specs.Shown.{IsOwn, IsRead, TellsBytes, TellsRegister, TellsRegisters, TellsThread, raw_text};
+    ghost use Rattle.rvmc_gdb.specs.Serving.{thread_count};
+    ghost use Rattle.rvmc_gdb.specs.Shown.{Lists, Names, named_thread, named_threads, names_in};
 
     /// The hart that is meant, if the image has one of these numbers.
     fn own(&self) -> Option<&Hart>
@@ -216,15 +253,6 @@ impl Session {
         }
     }
 
-    /// What `why` tells of a hart, in digits, if it tells something.
-    fn hart_digits(&self, who: Who) -> Result<Option<Vec<u8>>, AllocError>
-        ensures { IfOk result (λ found. IsLine self.now who (option_map (λ text. text.items) found)) }
-    {
-        let symbols = self.debugger.image().parts().symbols.as_slice();
-        let state = self.debugger.state();
-        Ok(rank_line(self.alloc, symbols, state, who.rank, who.hart)?)
-    }
-
     /// What `why` tells of a thread, in digits.
     pub(crate) fn thread_text(&self, thread: u64) -> Result<Vec<u8>, AllocError>
         ensures { IfOk result (λ text. TellsThread self.now thread text.items) }
@@ -232,8 +260,81 @@ impl Session {
         let Some(who) = self.who_of(thread) else {
             return self.refused();
         };
-        let found = self.hart_digits(who)?;
-        Ok(text_or_refused(self.alloc, found)?)
+        let found = hart_line(self.alloc, &self.debugger, who)?;
+        Ok(digits_or_refused(self.alloc, found)?)
+    }
+
+    /// Adds the thread of this number, from 0 on, with its name and what `why` tells of it.
+    fn put_thread(
+        &self,
+        text: &mut Vec<u8>,
+        symbols: &[Symbol],
+        state: &ClusterState,
+        number: u64,
+    ) -> io::Result<()>
+        requires { number < thread_count self.now }
+        ensures { OnOk result (text.new.items
+            ≡ text.old.items ++ named_thread symbols.now state.now self.now number) }
+    {
+        let who = self.who_at(number);
+        let line = rank_line(self.alloc, symbols, state, who.rank, who.hart)?;
+        let told = told_of(self.alloc, who, line)?;
+        put_named(text, number + 1, who.rank, who.hart, told.as_slice())
+    }
+
+    /// Adds so many threads, from the first on.
+    fn put_threads(
+        &self,
+        text: &mut Vec<u8>,
+        symbols: &[Symbol],
+        state: &ClusterState,
+        count: u64,
+    ) -> io::Result<()>
+        requires { count ≤ thread_count self.now }
+        ensures { OnOk result (text.new.items
+            ≡ text.old.items ++ named_threads symbols.now state.now self.now count) }
+    {
+        for number in 0..count {
+            self.put_thread(text, symbols, state, number)?;
+        }
+        Ok(())
+    }
+
+    /// The list of all threads by their names, in this state.
+    fn names_in(&self, symbols: &[Symbol], state: &ClusterState) -> io::Result<Vec<u8>>
+        ensures { IfOk result (λ text. text.items ≡ names_in symbols.now state.now self.now) }
+    {
+        let mut text = Vec::new(self.alloc);
+        text.extend_from_slice(b"<?xml version=\"1.0\"?><threads>")?;
+        self.put_threads(&mut text, symbols, state, self.thread_count())?;
+        text.extend_from_slice(b"</threads>")?;
+        Ok(text)
+    }
+
+    /// The list of all threads by their names.
+    fn names(&self) -> io::Result<Vec<u8>>
+        ensures { IfOk result (λ text. Names self.now text.items) }
+    {
+        let symbols = self.debugger.image().parts().symbols.as_slice();
+        let state = self.debugger.state();
+        Ok(self.names_in(symbols, state)?)
+    }
+
+    /// A part of that list; with one rank there is none.
+    pub(crate) fn thread_list(&self, from: u64, count: u64) -> Result<Vec<u8>, AllocError>
+        ensures { IfOk result (λ text. Lists self.now from count text.items) }
+    {
+        let mut text = Vec::new(self.alloc);
+        if !self.all {
+            return Ok(text);
+        }
+        match self.names() {
+            Ok(list) => {
+                put_part(&mut text, list.as_slice(), from, count)?;
+                Ok(text)
+            }
+            Err(_) => Err(AllocError),
+        }
     }
 
     /// A part of the registers' description.

@@ -1,16 +1,23 @@
 //! What a person types behind `monitor`.
 
-ghost use Rattle.std.specs.Prelude.{◌≡◌, ◌≢◌, ◌<◌, IfErr, IfOk, OnOk, length};
+ghost use Rattle.std.specs.Prelude.{◌≡◌, ◌≢◌, ◌<◌, [], IfErr, IfOk, OnOk, length};
 ghost use Rattle.cl_debug.specs.declared.faults.DebugFault.TheVariants as faults;
 ghost use Rattle.rvmc_words.specs.declared.debug.DebugWord.TheVariants as word;
 ghost use Rattle.rvmc_inspect.specs.Words.{IsSpot, IsUnknown, Refuses, TellsBytes, WantsMemory};
-ghost use Rattle.rvmc_gdb.specs.Typing.{fault_text, flush_text, help_text, printed_text, unknown_text};
+ghost use Rattle.rvmc_gdb.specs.Ends.{arrow_text, nothing_text};
+ghost use Rattle.rvmc_gdb.specs.Typing.{fault_text, flush_text, help_text, printed_text, unchanged_text, unknown_text};
 
-use crate::session::{Session, text_of};
+use crate::ends::{Found, Side, other_end, put_arrow, put_nothing};
+use crate::finding::{bytes_of_spot, found_end, last_write, tell_goal};
+use crate::points::can_stand;
+use crate::session::{Goal, Session, Who, text_of};
 use crate::shown::digits_of;
 use cl_debug::{DebugFault, Debugger};
+use rvmc_draw::Arrow;
 use rvmc_inspect::{bytes_text, place_text, regs_text, why};
 use rvmc_monitor::{Typed, typed_word};
+use rvmc_motions::{Mark, Motion, Mover, Ranks};
+use rvmc_requests::Point;
 use rvmc_words::Spot;
 use std::alloc::{AllocError, Global};
 
@@ -20,6 +27,9 @@ why           tells what each hart waits for there
 rank R        shows rank R from now on
 regs R H      shows the registers of hart H of rank R
 bytes R A N   shows N bytes of rank R from address A, or a symbol, on
+sent          tells where the message was sent that the hart gets here, or next
+got           tells where the message is got that the hart sends here, or next
+last-write A  tells what last changed the bytes of address A, or of a symbol
 help          tells this
 ";
 
@@ -100,8 +110,34 @@ fn bytes_of(
     Ok(bytes_text(alloc, shown.as_slice())?)
 }
 
+/// What is told where nothing changed the bytes.
+const UNCHANGED: &[u8] = b"nothing changes it before this place\n";
+
+/// The line of an arrow.
+fn arrow_line(alloc: Global, arrow: &Arrow) -> Result<Vec<u8>, AllocError>
+    ensures { IfOk result (λ text. text.items ≡ arrow_text arrow.now) }
+{
+    let mut text = Vec::new(alloc);
+    match put_arrow(&mut text, arrow) {
+        Ok(()) => Ok(text),
+        Err(_) => Err(AllocError),
+    }
+}
+
+/// The line of a hart that gets, or sends, nothing.
+fn nothing_line(alloc: Global, side: Side, who: Who) -> Result<Vec<u8>, AllocError>
+    ensures { IfOk result (λ text. text.items ≡ nothing_text side who) }
+{
+    let mut text = Vec::new(alloc);
+    match put_nothing(&mut text, side, who) {
+        Ok(()) => Ok(text),
+        Err(_) => Err(AllocError),
+    }
+}
+
 impl Session {
-    ghost use Rattle.rvmc_gdb.specs.Typing.{Monitors, Prints, PrintsGo, PrintsRank, PrintsWhy, PrintsWord};
+    ghost use Rattle.rvmc_gdb.specs.Typing.{Monitors, Prints, PrintsChange, PrintsChangeAt, PrintsEnd, PrintsFound, PrintsGo};
+    ghost use Rattle.rvmc_gdb.specs.Typing.{PrintsGoal, PrintsRank, PrintsWhy, PrintsWord, change_mark, change_mover};
 
     /// The text of the place.
     fn place(&self) -> Result<Vec<u8>, AllocError>
@@ -170,6 +206,90 @@ impl Session {
         )?)
     }
 
+    /// Asks for a place, or for none, and tells of it.
+    fn aim(&mut self, none: &[u8], goal: Option<Goal>) -> Result<Vec<u8>, AllocError>
+        ensures { IfOk result (λ text. PrintsGoal none.now self.old goal self.new text.items) }
+    {
+        self.goal = goal;
+        match goal {
+            Some(goal) => tell_goal(self.alloc, &mut self.debugger, goal),
+            None => text_of(self.alloc, none),
+        }
+    }
+
+    /// Tells of both ends of a message, and asks for the other one's place.
+    fn tell_found(&mut self, side: Side, found: Option<Found>) -> Result<Vec<u8>, AllocError>
+        ensures { IfOk result (λ text. PrintsFound side found self.old self.new text.items) }
+    {
+        let Some(found) = found else {
+            let nothing = nothing_line(self.alloc, side, self.own_who())?;
+            return self.aim(nothing.as_slice(), None);
+        };
+        let mut text = arrow_line(self.alloc, &found.arrow)?;
+        let more = self.aim(b"", other_end(side, &found.arrow))?;
+        text.extend_from_slice(more.as_slice())?;
+        Ok(text)
+    }
+
+    /// The other end of what the hart gets, or sends.
+    fn end_of(&mut self, side: Side) -> Result<Vec<u8>, AllocError>
+        ensures { IfOk result (λ text. PrintsEnd side self.old self.new text.items) }
+    {
+        let found = found_end(self.alloc, &self.debugger, side, self.own_who())?;
+        self.tell_found(side, found)
+    }
+
+    /// The bytes from an address on, of the rank that is meant.
+    fn change_mark(&self, at: &Spot, address: u64) -> Mark
+        ensures { result ≡ change_mark self.now at.now address }
+    {
+        let symbols = self.debugger.image().parts().symbols.as_slice();
+        Mark {
+            ranks: Ranks::One(self.rank),
+            point: Point::Written,
+            address,
+            size: bytes_of_spot(symbols, at, address),
+        }
+    }
+
+    /// A run of that rank.
+    fn change_mover(&self) -> Mover
+        ensures { result ≡ change_mover self.now }
+    {
+        Mover {
+            ranks: Ranks::One(self.rank),
+            rank: self.rank,
+            hart: self.hart,
+            motion: Motion::Run,
+        }
+    }
+
+    /// What changed the bytes of a mark last.
+    fn change_at(&mut self, mark: Mark) -> Result<Vec<u8>, AllocError>
+        ensures { IfOk result (λ text. PrintsChangeAt mark self.old self.new text.items) }
+    {
+        if !can_stand(self.owner(), &mark) {
+            self.goal = None;
+            return fault_text(self.alloc, DebugFault::Range);
+        }
+        let mover = self.change_mover();
+        let goal = last_write(self.alloc, &mut self.debugger, mark, mover)?;
+        self.aim(UNCHANGED, goal)
+    }
+
+    /// What changed the bytes of an address, or of a symbol, last.
+    fn change_of(&mut self, at: &Spot) -> Result<Vec<u8>, AllocError>
+        ensures { IfOk result (λ text. PrintsChange at.now self.old self.new text.items) }
+    {
+        match address_of(&self.debugger, at) {
+            Ok(address) => self.change_at(self.change_mark(at, address)),
+            Err(_) => {
+                self.goal = None;
+                fault_text(self.alloc, DebugFault::NoSymbol)
+            }
+        }
+    }
+
     /// Does a word, and tells what it prints.
     fn prints(&mut self, word: &Typed) -> Result<Vec<u8>, AllocError>
         ensures { IfOk result (λ text. Prints self.old word.now self.new text.items) }
@@ -182,6 +302,9 @@ impl Session {
             Typed::Place => self.place(),
             Typed::Regs { rank, hart } => self.regs(*rank, *hart),
             Typed::Bytes { rank, at, count } => self.bytes_of(*rank, at, *count),
+            Typed::Sent => self.end_of(Side::Gets),
+            Typed::Got => self.end_of(Side::Sends),
+            Typed::LastWrite(at) => self.change_of(at),
             Typed::Unknown => text_of(self.alloc, UNKNOWN),
         }
     }

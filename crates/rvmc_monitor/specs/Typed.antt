@@ -1,5 +1,5 @@
 -- What is typed behind `monitor`: a word of `debug`, with a blank in place of `=` and of each comma, or another word.
-use Rattle.std.specs.Prelude.{ℕ, ◌==◌, List, [], ◌∷◌, codes, drop, nat_eq, Option, Some, None}
+use Rattle.std.specs.Prelude.{ℕ, ◌==◌, List, [], ◌∷◌, ◌++◌, codes, drop, nat_eq, Option, Some, None}
 use Rattle.std.specs.Prelude.{if◌then◌else◌, option_and_then, option_map}
 use Rattle.std.specs.List.{starts_with}
 use Rattle.std.specs.Option.{option_or, unwrap_or}
@@ -41,11 +41,30 @@ taken (Break rank hart at) = None
 taken (Frames rank hart) = None
 taken (Output rank) = None
 
+-- `last-write=A`, where A is written as that of `bytes=R,A,N`
+abbrev pub number_or_name : Option DebugWord → Option Typed
+number_or_name (Some (Bytes rank at count)) = Some (typed.LastWrite at)
+number_or_name word = None
+
+unfoldable pub last_write_in : List ℕ → Option Typed
+last_write_in text =
+    if starts_with nat_eq text (codes "last-write=")
+    then number_or_name (debug_word_in (codes "bytes=0," ++ (drop 11 text ++ codes ",0"))) else None
+
+abbrev pub word_alone : List ℕ → Option Typed
+word_alone text =
+    if bytes_eq text (codes "help") then Some typed.Help
+    else if bytes_eq text (codes "why") then Some typed.Why
+    else if bytes_eq text (codes "sent") then Some typed.Sent
+    else if bytes_eq text (codes "got") then Some typed.Got
+    else None
+
+abbrev pub spelled_word : List ℕ → Typed
+spelled_word text = unwrap_or (option_and_then taken (debug_word_in text)) typed.Unknown
+
 unfoldable pub word_spelled : List ℕ → Typed
 word_spelled text =
-    if bytes_eq text (codes "help") then typed.Help
-    else if bytes_eq text (codes "why") then typed.Why
-    else unwrap_or (option_or (rank_in text) (option_and_then taken (debug_word_in text))) typed.Unknown
+    unwrap_or (option_or (word_alone text) (option_or (rank_in text) (last_write_in text))) (spelled_word text)
 
 -- what is no text is no word
 abbrev pub word_of_text : List ℕ → Typed

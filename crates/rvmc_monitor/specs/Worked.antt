@@ -14,6 +14,9 @@ a_number = refl
 pub several : IsSpelled (codes "bytes 1 grid 16") (codes "bytes=1,grid,16")
 several = refl
 
+pub a_symbol : IsSpelled (codes "last-write sum") (codes "last-write=sum")
+a_symbol = refl
+
 -- two blanks leave a number out, and no word of `debug` does
 pub two_blanks : IsSpelled (codes "regs 0  1") (codes "regs=0,,1")
 two_blanks = refl

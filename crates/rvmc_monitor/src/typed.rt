@@ -1,7 +1,8 @@
 //! Words behind `monitor`.
 
-ghost use Rattle.std.specs.Prelude.{◌≡◌, IfOk};
-ghost use Rattle.rvmc_monitor.specs.Typed.{marked_byte, next_mark, rank_in, debug_spelling, taken, typed_word, word_of_text, word_spelled};
+ghost use Rattle.std.specs.Prelude.{◌≡◌, ◌++◌, IfOk, codes};
+ghost use Rattle.rvmc_monitor.specs.Typed.{debug_spelling, last_write_in, marked_byte, next_mark, number_or_name, rank_in, spelled_word};
+ghost use Rattle.rvmc_monitor.specs.Typed.{taken, typed_word, word_alone, word_of_text, word_spelled};
 
 use rvmc_words::{DebugWord, Spot, any_number_in, debug_word_in};
 use std::alloc::{AllocError, Global};
@@ -23,6 +24,12 @@ pub enum Typed {
     Regs { rank: u8, hart: u8 },
     /// So many bytes of a rank's memory.
     Bytes { rank: u8, at: Spot, count: u64 },
+    /// Where the message was sent that is got.
+    Sent,
+    /// Where the message is got that was sent.
+    Got,
+    /// Which step changed the bytes of an address, or of a symbol, last.
+    LastWrite(Spot),
     /// Anything else.
     Unknown,
 }
@@ -82,20 +89,51 @@ fn taken(word: DebugWord) -> Option<Typed>
     }
 }
 
-/// The word that is debug_spelling so.
-#[tactic(auto, unfolding(crate::specs::Typed::word_spelled))]
-fn word_spelled(alloc: Global, text: &str) -> Result<Typed, AllocError>
-    ensures { IfOk result (λ word. word ≡ word_spelled text.now) }
+/// The address or the symbol that is named among the arguments of `bytes`.
+fn number_or_name(word: Option<DebugWord>) -> Option<Typed>
+    ensures { result ≡ number_or_name word }
+{
+    match word {
+        Some(DebugWord::Bytes { at, .. }) => Some(Typed::LastWrite(at)),
+        _ => None,
+    }
+}
+
+/// The address or the symbol that is named behind `last-write=`, as `bytes` has one.
+#[tactic(auto, unfolding(crate::specs::Typed::last_write_in))]
+fn last_write_in(alloc: Global, text: &str) -> Result<Option<Typed>, AllocError>
+    ensures { IfOk result (λ found. found ≡ last_write_in text.now) }
+{
+    let Some(at) = text.strip_prefix("last-write=") else {
+        return Ok(None);
+    };
+    let among = format!(in alloc; "bytes=0,{at},0")?;
+    Ok(number_or_name(debug_word_in(alloc, among.as_str())?))
+}
+
+/// A word that stands alone, and isn't one of `debug`.
+fn word_alone(text: &str) -> Option<Typed>
+    ensures { result ≡ word_alone text.now }
 {
     if text == "help" {
-        return Ok(Typed::Help);
+        return Some(Typed::Help);
     }
     if text == "why" {
-        return Ok(Typed::Why);
+        return Some(Typed::Why);
     }
-    if let Some(rank) = rank_in(text) {
-        return Ok(rank);
+    if text == "sent" {
+        return Some(Typed::Sent);
     }
+    if text == "got" {
+        return Some(Typed::Got);
+    }
+    None
+}
+
+/// A word of `debug`, or none of any kind.
+fn spelled_word(alloc: Global, text: &str) -> Result<Typed, AllocError>
+    ensures { IfOk result (λ word. word ≡ spelled_word text.now) }
+{
     let Some(word) = debug_word_in(alloc, text)? else {
         return Ok(Typed::Unknown);
     };
@@ -103,6 +141,23 @@ fn word_spelled(alloc: Global, text: &str) -> Result<Typed, AllocError>
         Some(word) => Ok(word),
         None => Ok(Typed::Unknown),
     }
+}
+
+/// The word that is spelled so.
+#[tactic(auto, unfolding(crate::specs::Typed::word_spelled))]
+fn word_spelled(alloc: Global, text: &str) -> Result<Typed, AllocError>
+    ensures { IfOk result (λ word. word ≡ word_spelled text.now) }
+{
+    if let Some(word) = word_alone(text) {
+        return Ok(word);
+    }
+    if let Some(rank) = rank_in(text) {
+        return Ok(rank);
+    }
+    if let Some(word) = last_write_in(alloc, text)? {
+        return Ok(word);
+    }
+    spelled_word(alloc, text)
 }
 
 fn word_of_text(alloc: Global, text: &[u8]) -> Result<Typed, AllocError>
@@ -114,9 +169,9 @@ fn word_of_text(alloc: Global, text: &[u8]) -> Result<Typed, AllocError>
     }
 }
 
-/// The word that was typed: `help`, `why`, `rank R`, or a word of `debug` among `go N`, `place`, `regs R H` and
-/// `bytes R A N`, each with a blank where `debug` has `=` or a comma. Numbers are as those of `debug`: R and H from 0 to 255,
-/// the others up to 2^64-1. What is no text in UTF-8, and any other text, is [`Typed::Unknown`]. The only error is want of
+/// The word that was typed: `help`, `why`, `sent`, `got`, `last-write A`, `rank R`, or a word of `debug` among `go N`,
+/// `place`, `regs R H` and `bytes R A N`, each with a blank where `debug` has `=` or a comma. Numbers are as those of `debug`:
+/// R and H from 0 to 255, the others up to 2^64-1. What is no text in UTF-8, and any other text, is [`Typed::Unknown`]. The only error is want of
 /// memory.
 pub fn typed_word(alloc: Global, typed: &[u8]) -> Result<Typed, AllocError>
     ensures { IfOk result (λ word. word ≡ typed_word typed.now) }

@@ -43,8 +43,9 @@ use Rattle.rvmc_list.proofs.Told.{IsSeen, each_more, seen_at}
 use Rattle.rvmc_list.specs.Lines.{hart_of, sight_of, sight_text}
 use Rattle.rvmc_list.specs.List.{IsSightAt}
 use Rattle.rvmc_picture.specs.Deeds.{IsDeedBy, ask_met}
-use Rattle.rvmc_picture.specs.Pictures.{AreDeeds, DrawFaultHolds, HasTooMany, IsDeedAt, IsDrawing, IsEndAt, IsTipOf, arrows_with, is_past_end, scope_in}
-use Rattle.rvmc_picture.specs.Walking.{IsDrawn}
+use Rattle.rvmc_picture.specs.Pictures.{AreArrows, AreDeeds, DrawFaultHolds, HasTooMany, IsDeedAt, IsDrawing, IsEndAt, IsTipOf}
+use Rattle.rvmc_picture.specs.Pictures.{arrows_in, arrows_with, is_past_end, scope_in}
+use Rattle.rvmc_picture.specs.Walking.{IsDrawn, shown_arrows}
 use Rattle.rvmc_picture.specs.Walking.{ArePut, IsPutAt, IsWalkedTo, Puts, StepBreaks, StepsBreak}
 use Rattle.rvmc_picture.specs.declared.pictures.DrawFault.{DrawFault}
 use Rattle.rvmc_picture.specs.declared.pictures.DrawFault.TheVariants as fault
@@ -211,6 +212,17 @@ module _ (image : ImageParts) (steps : List Step) (view : View) (state : Cluster
       (arrows_with image.links (arrows_of (scope_in image view) put.deeds)
       (untaken_of (16 * length image.links) put.deeds))
 
+  pub are_shown : shown_arrows image.links view walk.board walk.parts.untaken.items walk.arrows.items
+      ≡ arrows_in image view put.deeds
+  are_shown =
+      ap (λ l. flat_map (arrow_in_view view) (arrows_with image.links l walk.parts.untaken.items)
+      ++ lost view walk.board.lines.items walk.board.spots.items walk.board.got.items) put.walked.arrows
+      ∙ ap (λ l. flat_map (arrow_in_view view) (arrows_with image.links (arrows_of (scope_in image view) put.deeds) l)
+      ++ lost view walk.board.lines.items walk.board.spots.items walk.board.got.items) put.walked.untaken
+      ∙ ap (λ l. all_shown ++ lost view l walk.board.spots.items walk.board.got.items) put.walked.lines
+      ∙ ap (λ l. all_shown ++ lost view (pairs (posts_made put.deeds)) l walk.board.got.items) put.walked.spots
+      ∙ ap (λ l. all_shown ++ lost view (pairs (posts_made put.deeds)) (spots_made put.deeds) l) put.walked.got
+
   pub is_drawing : walk.marks.count ≤ 5000 → (rows : List Row) (told : List ℕ) → IsEndAt image steps view.to rows told
       → (drawing : Drawing) → IsDrawn image view (length steps) walk rows told drawing
       → IsDrawing image steps view drawing
@@ -223,14 +235,7 @@ module _ (image : ImageParts) (steps : List Step) (view : View) (state : Cluster
     to = d.to;
     marks = ap (map sign_of) d.marks ∙ put.walked.kept few;
     tips = subst (λ l. All (IsTipOf image steps) (map told_by l)) (sym d.marks) put.tips;
-    arrows = d.arrows
-        ∙ ap (λ l. flat_map (arrow_in_view view) (arrows_with image.links l walk.parts.untaken.items)
-        ++ lost view walk.board.lines.items walk.board.spots.items walk.board.got.items) put.walked.arrows
-        ∙ ap (λ l. flat_map (arrow_in_view view) (arrows_with image.links (arrows_of (scope_in image view) put.deeds) l)
-        ++ lost view walk.board.lines.items walk.board.spots.items walk.board.got.items) put.walked.untaken
-        ∙ ap (λ l. all_shown ++ lost view l walk.board.spots.items walk.board.got.items) put.walked.lines
-        ∙ ap (λ l. all_shown ++ lost view (pairs (posts_made put.deeds)) l walk.board.got.items) put.walked.spots
-        ∙ ap (λ l. all_shown ++ lost view (pairs (posts_made put.deeds)) (spots_made put.deeds) l) put.walked.got;
+    arrows = d.arrows ∙ are_shown;
     bars = record {
       begun = walk.looks.begun.items;
       known = put.walked.begun;
@@ -253,6 +258,18 @@ pub walked_drawing : (image : ImageParts) (steps : List Step) (view : View) (wal
     → IsDrawn image view (length steps) walk rows told drawing → IsDrawing image steps view drawing
 walked_drawing image steps view walk rows told walked few drawing d =
     is_drawing image steps view walked.last walk walked.all few rows told walked.ending drawing d
+
+-- and its arrows
+pub walked_arrows : (image : ImageParts) (steps : List Step) (walk : Walk) (rows : List Row) (told : List ℕ)
+    → IsWalkedTo image steps (record { from = 0; to = length steps }) walk rows told
+    → AreArrows image steps
+    (shown_arrows image.links (record { from = 0; to = length steps }) walk.board walk.parts.untaken.items
+    walk.arrows.items)
+walked_arrows image steps walk rows told walked = record {
+  deeds = walked.all.deeds;
+  are = walked.all.are;
+  all = are_shown image steps (record { from = 0; to = length steps }) walked.last walk walked.all;
+}
 
 -- why not all steps were added is why there is no drawing
 pub fault_holds : (image : ImageParts) (steps : List Step) (view : View) → is_past_end view steps ≡ false → (f : DrawFault)

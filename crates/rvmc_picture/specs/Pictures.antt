@@ -95,6 +95,19 @@ one_untaken links one = arrow_untaken links one ∷ []
 abbrev pub arrows_with : List Link → List Arrow → List Untaken → List Arrow
 arrows_with links arrows untaken = arrows ++ flat_map (one_untaken links) untaken
 
+-- those that are shown of the arrows of steps, with the messages that nobody got
+abbrev pub arrows_in : ImageParts → View → List Deed → List Arrow
+arrows_in image view deeds =
+    flat_map (arrow_in_view view)
+    (arrows_with image.links (arrows_of (scope_in image view) deeds) (untaken_of (16 * length image.links) deeds))
+    ++ lost view (pairs (posts_made deeds)) (spots_made deeds) (got_places deeds)
+
+-- all arrows of a record's steps
+pub record AreArrows (image : ImageParts) (steps : List Step) (arrows : List Arrow) : Type 0 where
+  pub deeds : List Deed
+  pub are : AreDeeds image steps (length steps) deeds
+  pub all : arrows ≡ arrows_in image (record { from = 0; to = length steps }) deeds
+
 -- the bars that a step ended, and those that none did
 pub record AreBars (scope : Scope) (deeds : List Deed) (view : View) (bars : List Bar) : Type 0 where
   pub begun : List (Option Bar)
@@ -111,10 +124,7 @@ pub record IsDrawing (image : ImageParts) (steps : List Step) (view : View) (dra
   pub to : drawing.to ≡ view.to
   pub marks : map sign_of drawing.marks.items ≡ marks_of (scope_in image view) deeds
   pub tips : All (IsTipOf image steps) (map told_by drawing.marks.items)
-  pub arrows : drawing.arrows.items
-      ≡ flat_map (arrow_in_view view)
-      (arrows_with image.links (arrows_of (scope_in image view) deeds) (untaken_of (16 * length image.links) deeds))
-      ++ lost view (pairs (posts_made deeds)) (spots_made deeds) (got_places deeds)
+  pub arrows : drawing.arrows.items ≡ arrows_in image view deeds
   pub bars : AreBars (scope_in image view) deeds view drawing.bars.items
   pub ending : IsEndAt image steps view.to drawing.rows.items drawing.told.items
 

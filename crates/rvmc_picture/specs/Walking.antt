@@ -2,6 +2,7 @@
 use Rattle.std.specs.Prelude.{ℕ, ◌≡◌, ◌<◌, ◌≤◌, ◌+◌, List, [], ◌∷◌, ◌++◌, length, map, slice_get, Option, Some, None}
 use Rattle.std.specs.List.{All, flat_map}
 use Rattle.rv_image.specs.declared.images.ImageParts.{ImageParts}
+use Rattle.rv_image.specs.declared.images.Link.{Link}
 use Rattle.rv_image.specs.declared.images.Symbol.{Symbol}
 use Rattle.cl_machine.specs.declared.steps.Step.{Step}
 use Rattle.cl_replay.specs.InnerReplaying.{BreaksAt}
@@ -18,9 +19,12 @@ use Rattle.rvmc_draw.specs.Looks.{open_to}
 use Rattle.rvmc_draw.specs.Marks.{told_by}
 use Rattle.rvmc_draw.specs.Views.{arrow_in_view, bar_in_view}
 use Rattle.rvmc_draw.specs.Walks.{Scope}
+use Rattle.rvmc_draw.specs.declared.board.Board.{Board}
 use Rattle.rvmc_draw.specs.declared.deeds.Deed.{Deed}
+use Rattle.rvmc_draw.specs.declared.drawing.Arrow.{Arrow}
 use Rattle.rvmc_draw.specs.declared.drawing.Drawing.{Drawing}
 use Rattle.rvmc_draw.specs.declared.drawing.Row.{Row}
+use Rattle.rvmc_draw.specs.declared.parts.Untaken.{Untaken}
 use Rattle.rvmc_draw.specs.declared.views.View.{View}
 use Rattle.rvmc_draw.specs.declared.walks.Walk.{Walk}
 use Rattle.rvmc_list.specs.Lines.{hart_of, sight_of, sight_text}
@@ -84,6 +88,12 @@ pub record IsWalkedTo (image : ImageParts) (steps : List Step) (view : View) (wa
   pub all : ArePut image steps (scope_in image view) (length steps) last walk
   pub ending : IsEndAt image steps view.to rows told
 
+-- the arrows that are shown of what a board and the boxes hold
+abbrev pub shown_arrows : List Link → View → Board → List Untaken → List Arrow → List Arrow
+shown_arrows links view board untaken arrows =
+    flat_map (arrow_in_view view) (arrows_with links arrows untaken)
+    ++ lost view board.lines.items board.spots.items board.got.items
+
 -- what is shown of a walk through all steps, of whose end this is told
 pub record IsDrawn (image : ImageParts) (view : View) (end : ℕ) (walk : Walk) (rows : List Row) (told : List ℕ)
     (drawing : Drawing) : Type 0 where
@@ -93,8 +103,7 @@ pub record IsDrawn (image : ImageParts) (view : View) (end : ℕ) (walk : Walk) 
   pub to : drawing.to ≡ view.to
   pub marks : drawing.marks.items ≡ walk.marks.kept.items
   pub arrows : drawing.arrows.items
-      ≡ flat_map (arrow_in_view view) (arrows_with image.links walk.arrows.items walk.parts.untaken.items)
-      ++ lost view walk.board.lines.items walk.board.spots.items walk.board.got.items
+      ≡ shown_arrows image.links view walk.board walk.parts.untaken.items walk.arrows.items
   pub bars : drawing.bars.items
       ≡ flat_map (bar_in_view view) (walk.bars.items ++ flat_map (open_to end) walk.looks.begun.items)
   pub rows_are : drawing.rows.items ≡ rows

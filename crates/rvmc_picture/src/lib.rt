@@ -1,4 +1,4 @@
-//! A record as a drawing: what each of its steps did, and the picture of them as data.
+//! A record as a drawing: what each of its steps did, and the picture of them as data; or its arrows alone.
 //!
 //! The meaning stands in specs/: what a step did (`Deeds`), the drawing of a record's steps and why there is none
 //! (`Pictures`), and what is told of its end (`Ends`).
@@ -10,4 +10,4 @@ mod notes;
 mod pictures;
 mod walking;
 
-pub use pictures::{DrawFault, drawing};
+pub use pictures::{DrawFault, arrows, drawing};

@@ -3,11 +3,11 @@
 ghost use Rattle.std.specs.Prelude.{◌≡◌, ◌≤◌, ◌||◌, ◌++◌, [], IfErr, IfOk, OnOk, length, nat_lt};
 ghost use Rattle.cl_machine.specs.Cluster.{loaded_cluster};
 ghost use Rattle.cl_replay.specs.States.{ClusterStandsFor};
-ghost use Rattle.rvmc_picture.specs.Pictures.{DrawFaultHolds, IsDrawing, is_past_end as is_past_of};
+ghost use Rattle.rvmc_picture.specs.Pictures.{AreArrows, DrawFaultHolds, IsDrawing, is_past_end as is_past_of};
 ghost use Rattle.rvmc_picture.specs.declared.pictures.DrawFault.TheVariants as faults;
 ghost use Rattle.rvmc_picture.specs.Pictures.{arrow_untaken as arrow_untaken_of, arrows_with, one_untaken, receiver_of, scope_in};
 ghost use Rattle.rvmc_picture.specs.Pictures.{view_of as view_in};
-ghost use Rattle.rvmc_picture.specs.Walking.{IsDrawn};
+ghost use Rattle.rvmc_picture.specs.Walking.{IsDrawn, shown_arrows};
 ghost use Rattle.rvmc_picture.specs.Walking.{IsWalkedTo, StepsBreak};
 ghost use Rattle.rvmc_draw.specs.Held.{IsWalked};
 
@@ -17,7 +17,7 @@ use cl_machine::Step;
 use cl_replay::ClusterState;
 use rv_image::{Image, Link};
 use rvmc_draw::{
-    Arrow, Carried, Drawing, MARKS_MAX, Sizes, Untaken, View, Walk, arrows_seen, bars_seen,
+    Arrow, Board, Carried, Drawing, MARKS_MAX, Sizes, Untaken, View, Walk, arrows_seen, bars_seen,
 };
 use std::alloc::{AllocError, Global};
 use std::io;
@@ -197,6 +197,24 @@ fn put_all_untaken(
     Ok(())
 }
 
+/// The arrows that are shown: of all arrows to steps, of partitions that no step took, and of messages that nobody got.
+fn shown_arrows(
+    alloc: Global,
+    image: &Image,
+    view: View,
+    board: &Board,
+    untaken: &[Untaken],
+    arrows: Vec<Arrow>,
+) -> Result<Vec<Arrow>, AllocError>
+    ensures { IfOk result (λ shown. shown.items ≡ shown_arrows image.now.links view board.now untaken.now arrows.items) }
+{
+    let mut arrows = arrows;
+    put_all_untaken(&mut arrows, image.parts().links.as_slice(), untaken)?;
+    let mut shown = arrows_seen(alloc, view, arrows.as_slice())?;
+    board.put_lost(&mut shown, view)?;
+    Ok(shown)
+}
+
 /// What is shown of the steps that were walked through.
 fn drawn(
     alloc: Global,
@@ -219,14 +237,7 @@ fn drawn(
     } = walk;
     let mut bars = bars;
     looks.put_open(&mut bars, steps)?;
-    let mut arrows = arrows;
-    put_all_untaken(
-        &mut arrows,
-        parts.links.as_slice(),
-        boxes.untaken.as_slice(),
-    )?;
-    let mut arrows = arrows_seen(alloc, view, arrows.as_slice())?;
-    board.put_lost(&mut arrows, view)?;
+    let arrows = shown_arrows(alloc, image, view, &board, boxes.untaken.as_slice(), arrows)?;
     let bars = bars_seen(alloc, view, bars.as_slice())?;
     let End { rows, told } = end;
     Ok(Drawing {
@@ -268,4 +279,24 @@ pub fn drawing(
     }
     let drawing = drawn(alloc, image, view, steps.len() as u64, walk, end)?;
     Ok(drawing)
+}
+
+/// The arrows of a record: from the step that sent a message, or made a partition ready, to each that got, claimed or took
+/// it, or could have; and from each whose message or partition nobody got. The fault is NotARun where a step is none of the
+/// machine, or Memory.
+#[tactic(auto, using(crate::proofs::Told::walked_arrows))]
+pub fn arrows(alloc: Global, image: &Image, steps: &[Step]) -> Result<Vec<Arrow>, DrawFault>
+    ensures arrows { IfOk result (λ arrows. AreArrows image.now steps.now arrows.items) }
+    ensures fault { IfErr result (StepsBreak image.now steps.now) }
+{
+    let view = view_of(0, None, steps);
+    let (walk, _) = walk_all(alloc, image, steps, view)?;
+    let Walk {
+        board,
+        parts,
+        arrows,
+        ..
+    } = walk;
+    let shown = shown_arrows(alloc, image, view, &board, parts.untaken.as_slice(), arrows)?;
+    Ok(shown)
 }

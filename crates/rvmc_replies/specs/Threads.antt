@@ -1,6 +1,8 @@
 -- Threads, which are numbered from 1, and what the server can do.
-use Rattle.std.specs.Prelude.{ℕ, zero, suc, ◌+◌, ◌-◌, Bool, true, false, List, [], ◌∷◌, ◌++◌, codes}
-use Rattle.std.specs.Fmt.{digits}
+use Rattle.std.specs.Prelude.{ℕ, zero, suc, ◌+◌, ◌-◌, ◌==◌, ◌||◌, nat_lt, if◌then◌else◌}
+use Rattle.std.specs.Prelude.{Bool, true, false, List, [], ◌∷◌, ◌++◌, codes}
+use Rattle.std.specs.Fmt.{decimal, digits}
+use Rattle.std.specs.List.{flat_map}
 
 -- with `named`, threads are listed by names
 abbrev pub names_text : Bool → List ℕ
@@ -39,3 +41,27 @@ more_threads (suc further) = more_threads further ++ (44 ∷ thread_number (furt
 
 abbrev pub threads_text : ℕ → List ℕ
 threads_text count = codes "m1" ++ more_threads (count - 1)
+
+-- ---- threads with their names (GDB manual, 'Thread List Format')
+
+-- a hart's name
+abbrev pub name_text : ℕ → ℕ → List ℕ
+name_text rank hart = codes "rank " ++ (decimal rank ++ (codes " hart " ++ decimal hart))
+
+-- `<`, `>` and `&` as XML has them; what isn't printed as a point
+unfoldable pub xml_byte : ℕ → List ℕ
+xml_byte byte =
+    if byte == 60 then codes "&lt;"
+    else if byte == 62 then codes "&gt;"
+    else if byte == 38 then codes "&amp;"
+    else if nat_lt byte 32 || nat_lt 126 byte then codes "."
+    else byte ∷ []
+
+abbrev pub named_head : ℕ → ℕ → ℕ → List ℕ
+named_head thread rank hart =
+    codes "<thread id=\""
+    ++ (thread_number thread
+    ++ (codes "\" name=\"rank " ++ (decimal rank ++ (codes " hart " ++ (decimal hart ++ codes "\">")))))
+
+abbrev pub named_text : ℕ → ℕ → ℕ → List ℕ → List ℕ
+named_text thread rank hart told = named_head thread rank hart ++ flat_map xml_byte told ++ codes "</thread>"

@@ -13,4 +13,6 @@ pub use digits::{put_bytes, put_register};
 pub use features::description;
 pub use parts::put_part;
 pub use stops::{Stop, put_stop};
-pub use threads::{put_current, put_host, put_process, put_supported, put_threads};
+pub use threads::{
+    put_current, put_host, put_name, put_named, put_process, put_supported, put_threads,
+};

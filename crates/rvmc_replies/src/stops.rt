@@ -2,7 +2,7 @@
 
 ghost use Rattle.std.specs.Prelude.{◌≡◌, ◌++◌, OnOk, codes, false};
 ghost use Rattle.std.specs.Fmt.{digits};
-ghost use Rattle.rvmc_replies.specs.Stops.{cause_text, stop_text};
+ghost use Rattle.rvmc_replies.specs.Stops.{cause_text, signal_text, stop_text};
 ghost use Rattle.rvmc_replies.specs.Threads.{thread_number};
 
 use crate::threads::put_thread;
@@ -28,6 +28,8 @@ pub enum Stop {
     Begin,
     /// The record's last place.
     End,
+    /// A place that was asked for.
+    There,
 }
 
 /// Adds a word.
@@ -52,7 +54,7 @@ fn put_cause(text: &mut Vec<u8>, stop: Stop) -> io::Result<()>
     ensures { OnOk result (text.new.items ≡ text.old.items ++ cause_text stop) }
 {
     match stop {
-        Stop::Step => Ok(()),
+        Stop::Step | Stop::There => Ok(()),
         Stop::Before => put_word(text, b"swbreak:;"),
         Stop::HardwareBefore => put_word(text, b"hwbreak:;"),
         Stop::Written(address) => put_touched(text, b"watch:", address),
@@ -74,11 +76,28 @@ fn put_meant(text: &mut Vec<u8>, thread: u64) -> io::Result<()>
     Ok(())
 }
 
+/// Adds the signal: a trap, or none where nothing but a place was asked for.
+fn put_signal(text: &mut Vec<u8>, stop: Stop) -> io::Result<()>
+    ensures { OnOk result (text.new.items ≡ text.old.items ++ signal_text stop) }
+{
+    match stop {
+        Stop::There => put_word(text, b"T00"),
+        Stop::Step
+        | Stop::Before
+        | Stop::HardwareBefore
+        | Stop::Written(_)
+        | Stop::Read(_)
+        | Stop::Touched(_)
+        | Stop::Begin
+        | Stop::End => put_word(text, b"T05"),
+    }
+}
+
 /// Adds that the threads stand, why, and which of them is meant from now on.
 pub fn put_stop(text: &mut Vec<u8>, stop: Stop, thread: u64) -> io::Result<()>
     ensures { OnOk result (text.new.items ≡ text.old.items ++ stop_text stop thread) }
 {
-    text.extend_from_slice(b"T05")?;
+    put_signal(text, stop)?;
     put_cause(text, stop)?;
     put_meant(text, thread)
 }

@@ -1,8 +1,9 @@
 //! Threads, and what the server can do.
 
 ghost use Rattle.std.specs.Prelude.{◌≡◌, ◌++◌, OnOk, codes};
-ghost use Rattle.rvmc_replies.specs.Threads.{current_text, host_text, most_text, names_text, process_text, supported_text};
-ghost use Rattle.rvmc_replies.specs.Threads.{thread_number, threads_text};
+ghost use Rattle.std.specs.List.{flat_map};
+ghost use Rattle.rvmc_replies.specs.Threads.{current_text, host_text, most_text, name_text, named_head, named_text, names_text, process_text};
+ghost use Rattle.rvmc_replies.specs.Threads.{supported_text, thread_number, threads_text, xml_byte};
 
 use crate::stops::put_word;
 use std::io;
@@ -79,4 +80,54 @@ pub fn put_threads(text: &mut Vec<u8>, count: u64) -> io::Result<()>
         put_thread(text, further + 2)?;
     }
     Ok(())
+}
+
+/// Adds the name of a hart's thread.
+pub fn put_name(text: &mut Vec<u8>, rank: u8, hart: u8) -> io::Result<()>
+    ensures { OnOk result (text.new.items ≡ text.old.items ++ name_text rank hart) }
+{
+    write!(text, "rank {rank} hart {hart}")
+}
+
+/// Adds a byte as it stands in a text of XML.
+#[tactic(auto, unfolding(crate::specs::Threads::xml_byte))]
+fn put_xml_byte(text: &mut Vec<u8>, byte: u8) -> io::Result<()>
+    ensures { OnOk result (text.new.items ≡ text.old.items ++ xml_byte byte) }
+{
+    match byte {
+        b'<' => put_word(text, b"&lt;"),
+        b'>' => put_word(text, b"&gt;"),
+        b'&' => put_word(text, b"&amp;"),
+        b' '..=b'~' => put_word(text, &[byte]),
+        _ => put_word(text, b"."),
+    }
+}
+
+/// Adds bytes as they stand in a text of XML.
+fn put_xml(text: &mut Vec<u8>, bytes: &[u8]) -> io::Result<()>
+    ensures { OnOk result (text.new.items ≡ text.old.items ++ flat_map xml_byte bytes.now) }
+{
+    for byte in bytes {
+        put_xml_byte(text, *byte)?;
+    }
+    Ok(())
+}
+
+/// Adds what stands before that which is told of a thread: its number, and the name of its hart.
+fn put_named_head(text: &mut Vec<u8>, thread: u64, rank: u8, hart: u8) -> io::Result<()>
+    ensures { OnOk result (text.new.items ≡ text.old.items ++ named_head thread rank hart) }
+{
+    write!(
+        text,
+        "<thread id=\"{thread:x}\" name=\"rank {rank} hart {hart}\">"
+    )
+}
+
+/// Adds a thread of a list by names: its number, the name of its hart, and what is told of it.
+pub fn put_named(text: &mut Vec<u8>, thread: u64, rank: u8, hart: u8, told: &[u8]) -> io::Result<()>
+    ensures { OnOk result (text.new.items ≡ text.old.items ++ named_text thread rank hart told.now) }
+{
+    put_named_head(text, thread, rank, hart)?;
+    put_xml(text, told)?;
+    put_word(text, b"</thread>")
 }
