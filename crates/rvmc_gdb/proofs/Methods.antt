@@ -1,6 +1,7 @@
 -- What methods of a session come to: what is printed, also where something isn't there, and which points are set.
-use Rattle.std.specs.Prelude.{ℕ, ◌≡◌, ◌≢◌, ◌↔◌, ◌<◌, ◌≤◌, true, false, List, [], ◌∷◌, ◌++◌, Result, Err, Option, Some, None, option_map}
+use Rattle.std.specs.Prelude.{ℕ, ◌≡◌, ◌≢◌, ◌↔◌, ◌<◌, ◌≤◌, true, false, List, [], ◌∷◌, ◌++◌, Result, Err, Option, Some, None, Vec, option_map}
 use Rattle.std.specs.Option.{unwrap_or}
+use Rattle.std.specs.declared.alloc.Global.{Global}
 use Rattle.std.proofs.Common.{refl, sym, ap, subst, ◌∙◌}
 use Rattle.hex.specs.Hex.{encode_lower}
 use Rattle.rv_image.specs.declared.images.ImageParts.{ImageParts}
@@ -22,10 +23,12 @@ use Rattle.rvmc_gdb.specs.Serving.{Serving, done, refused}
 use Rattle.rvmc_gdb.specs.declared.ends.Found.{Found}
 use Rattle.rvmc_gdb.specs.declared.ends.Side.{Side}
 use Rattle.rvmc_gdb.specs.declared.session.Who.{Who}
-use Rattle.rvmc_gdb.specs.Finding.{IsEnd}
+use Rattle.rvmc_gdb.specs.declared.session.Goal.{Goal}
+use Rattle.rvmc_gdb.specs.Finding.{IsEnd, IsLineAt, TellsGoal}
+use Rattle.rvmc_gdb.specs.Goals.{with_goal}
 use Rattle.rvmc_gdb.specs.Moving.{own_who}
 use Rattle.rvmc_gdb.specs.Shown.{IsLine, Names, TellsHart, names_in}
-use Rattle.rvmc_gdb.specs.Typing.{PrintsEnd, PrintsFound}
+use Rattle.rvmc_gdb.specs.Typing.{PrintsEnd, PrintsFound, PrintsGoal}
 use Rattle.rvmc_gdb.specs.Typing.{PrintsGo, PrintsWhy, PrintsWord, fault_text, with_debugging}
 
 -- ---- words of `debug`
@@ -96,13 +99,39 @@ hart_told old seen who line text is found told =
 pub names_told : (old seen : Serving) (symbols : List Symbol) (state : ClusterState) (text : List ℕ) → seen ≡ old
     → IsReached seen.debugging.image seen.debugging.steps seen.debugging.place state → symbols ≡ seen.debugging.image.symbols
     → text ≡ names_in symbols state old → Names old text
-names_told old seen symbols state text is reached same told =
-    subst
-    (λ (s : Serving). IsReached s.debugging.image s.debugging.steps s.debugging.place state
-    → symbols ≡ s.debugging.image.symbols → Names old text) is
-    (λ there names. (state, there, told ∙ ap (λ ns. names_in ns state old) names)) reached same
+names_told old seen symbols state text is reached same told = (
+  state,
+  subst (λ (s : Serving). IsReached s.debugging.image s.debugging.steps s.debugging.place state) is reached,
+  told
+      ∙ ap (λ ns. names_in ns state old) (subst (λ (s : Serving). symbols ≡ s.debugging.image.symbols) is same),
+)
 
 -- ---- places that are asked for
+
+pub goal_told : (old seen : Serving) (goal : Goal) (text : List ℕ) → seen ≡ old → TellsGoal seen.debugging goal text
+    → TellsGoal old.debugging goal text
+goal_told old seen goal text is told = subst (λ (s : Serving). TellsGoal s.debugging goal text) is told
+
+pub aim_some : (none : List ℕ) (old seen new : Serving) (asked : Option Goal) (goal : Goal) (text : List ℕ) → seen ≡ old
+    → asked ≡ Some goal → new ≡ with_goal seen asked → TellsGoal seen.debugging goal text
+    → PrintsGoal none old asked new text
+aim_some none old seen new asked goal text is some kept told =
+    subst (λ o. PrintsGoal none old o new text) (sym some) (
+      subst (λ (s : Serving). new ≡ with_goal s (Some goal)) is (kept ∙ ap (with_goal seen) some),
+      goal_told old seen goal text is told,
+    )
+
+pub line_some : (there debugging : Debugging) (who : Who) (found : Option (Vec ℕ Global)) (line : Vec ℕ Global)
+    → debugging ≡ there → found ≡ Some line → IsLine debugging who (option_map (λ t. t.items) found) → IsLineAt there who line.items
+line_some there debugging who found line at is told =
+    subst (λ (d : Debugging). IsLineAt d who line.items) at
+    (Some line.items, subst (λ o. IsLine debugging who (option_map (λ t. t.items) o)) is told, refl)
+
+pub line_none : (there debugging : Debugging) (who : Who) (found : Option (Vec ℕ Global)) (text : List ℕ)
+    → debugging ≡ there → found ≡ None → IsLine debugging who (option_map (λ t. t.items) found) → text ≡ [] → IsLineAt there who text
+line_none there debugging who found text at is told empty =
+    subst (λ (d : Debugging). IsLineAt d who text) at
+    (None, subst (λ o. IsLine debugging who (option_map (λ t. t.items) o)) is told, empty)
 
 pub end_printed : (old seen new : Serving) (side : Side) (found : Option Found) (text : List ℕ) → seen ≡ old
     → IsEnd seen.debugging side (own_who old) found → PrintsFound side found old new text → PrintsEnd side old new text

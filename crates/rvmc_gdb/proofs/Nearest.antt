@@ -1,12 +1,11 @@
 -- The earliest of several, and the least of several distances, in whichever order they are looked at.
-use Rattle.std.specs.Prelude.{ℕ, zero, suc, ◌≡◌, ◌-◌, ◌<◌, nat_le, nat_lt, min, slice_get, if◌then◌else◌, Bool, true, false, List, [], ◌∷◌, Option, Some, None}
-use Rattle.std.proofs.Common.{refl, sym, ap, ◌∙◌, arith}
-use Rattle.rv_image.specs.declared.images.Symbol.{Symbol}
+use Rattle.std.specs.Prelude.{ℕ, zero, suc, ◌≡◌, ◌-◌, ◌<◌, ◌≤◌, nat_le, min, slice_get, if◌then◌else◌, Bool, true, false, List, [], ◌∷◌, Option, Some, None}
+use Rattle.std.proofs.Common.{refl, sym, ap, subst, ◌∙◌, arith}
 use Rattle.cl_machine.specs.declared.steps.Step.{Step}
 use Rattle.rvmc_gdb.specs.declared.ends.Found.{Found}
 use Rattle.rvmc_gdb.specs.declared.session.Who.{Who}
 use Rattle.rvmc_gdb.specs.Ends.{earlier}
-use Rattle.rvmc_gdb.specs.Finding.{is_turn_of, least_among, less_than, turns_back}
+use Rattle.rvmc_gdb.specs.Finding.{is_turn_of, turns_back}
 
 -- ---- the earliest
 
@@ -34,37 +33,45 @@ earlier_none (Some x) = refl
 
 -- ---- the least
 
-less_comm : (address : ℕ) (s t : Symbol) (n : ℕ)
-    → less_than address s (less_than address t n) ≡ less_than address t (less_than address s n)
-less_comm address s t n = go (nat_lt address s.address) (nat_lt address t.address)
-  where
-    go : (b c : Bool)
-        → (if b then min (if c then min n (t.address - address) else n) (s.address - address) else (if c then min n (t.address - address) else n))
-        ≡ (if c then min (if b then min n (s.address - address) else n) (t.address - address) else (if b then min n (s.address - address) else n))
-    go true true = grind arith
-    go true false = refl
-    go false true = refl
-    go false false = refl
+pub min_assoc : (a b c : ℕ) → min (min a b) c ≡ min a (min b c)
+min_assoc a b c = omega arith
 
-pub less_first : (address : ℕ) (s : Symbol) (n : ℕ) (symbols : List Symbol)
-    → least_among address (less_than address s n) symbols ≡ less_than address s (least_among address n symbols)
-less_first address s n [] = refl
-less_first address s n (t ∷ symbols) =
-    ap (less_than address t) (less_first address s n symbols) ∙ less_comm address t s (least_among address n symbols)
+pub min_most : (a : ℕ) → a ≤ 8 → min a 8 ≡ a
+min_most a small = omega (arith, small)
 
 -- ---- turns back
 
-pub turns_step : (left : ℕ) (steps : List Step) (who : Who) (place : ℕ) → 0 < left → 0 < place
-    → turns_back left steps who place
-    ≡ turns_back (if is_turn_of who (slice_get steps (place - 1)) then left - 1 else left) steps who (place - 1)
-turns_step zero steps who place some more = absurd (omega (arith, some))
-turns_step (suc left) steps who zero some more = absurd (omega (arith, more))
-turns_step (suc left) steps who (suc place) some more = go (is_turn_of who (slice_get steps place))
-  where
-    go : (b : Bool) → (if b then turns_back left steps who place else turns_back (suc left) steps who place)
-        ≡ turns_back (if b then left else suc left) steps who place
-    go true = refl
-    go false = refl
+minus_one : (n : ℕ) → suc n - 1 ≡ n
+minus_one n = omega arith
+
+pick : (b : Bool) (x y : ℕ) → b ≡ true → (if b then x else y) ≡ x
+pick true x y is = refl
+pick false x y is = absurd (cc)
+
+skip : (b : Bool) (x y : ℕ) → b ≡ false → (if b then x else y) ≡ y
+skip true x y is = absurd (cc)
+skip false x y is = refl
+
+pub turns_own : (left : ℕ) (steps : List Step) (who : Who) (place : ℕ) → 0 < left → 0 < place
+    → is_turn_of who (slice_get steps (place - 1)) ≡ true
+    → turns_back left steps who place ≡ turns_back (left - 1) steps who (place - 1)
+turns_own zero steps who place some more is = absurd (omega (arith, some))
+turns_own (suc left) steps who zero some more is = absurd (omega (arith, more))
+turns_own (suc left) steps who (suc place) some more is =
+    pick (is_turn_of who (slice_get steps place)) (turns_back left steps who place) (turns_back (suc left) steps who place)
+    (subst (λ p. is_turn_of who (slice_get steps p) ≡ true) (minus_one place) is)
+    ∙ sym (ap (λ l. turns_back l steps who (suc place - 1)) (minus_one left)
+    ∙ ap (λ p. turns_back left steps who p) (minus_one place))
+
+pub turns_other : (left : ℕ) (steps : List Step) (who : Who) (place : ℕ) → 0 < left → 0 < place
+    → is_turn_of who (slice_get steps (place - 1)) ≡ false
+    → turns_back left steps who place ≡ turns_back left steps who (place - 1)
+turns_other zero steps who place some more is = absurd (omega (arith, some))
+turns_other (suc left) steps who zero some more is = absurd (omega (arith, more))
+turns_other (suc left) steps who (suc place) some more is =
+    skip (is_turn_of who (slice_get steps place)) (turns_back left steps who place) (turns_back (suc left) steps who place)
+    (subst (λ p. is_turn_of who (slice_get steps p) ≡ false) (minus_one place) is)
+    ∙ sym (ap (λ p. turns_back (suc left) steps who p) (minus_one place))
 
 pub turns_none : (steps : List Step) (who : Who) (place : ℕ) → turns_back 0 steps who place ≡ place
 turns_none steps who place = refl

@@ -57,7 +57,7 @@ is_turn_of who None = false
 is_turn_of who (Some e) = e.rank == who.rank && e.hart == who.hart
 
 -- the place so many turns of a hart back, or the first
-unfoldable pub turns_back : ℕ → List Step → Who → ℕ → ℕ
+abbrev pub turns_back : ℕ → List Step → Who → ℕ → ℕ
 turns_back zero steps who place = place
 turns_back (suc left) steps who zero = zero
 turns_back (suc left) steps who (suc place) =
@@ -72,17 +72,17 @@ IsEnd debugging side who found =
 -- ---- what changed bytes last
 
 -- the bytes of a symbol reach as far as the next one; of them eight are watched at most.
--- The lesser of a number of bytes and the distance to a symbol, if that is behind the address
-abbrev pub less_than : ℕ → Symbol → ℕ → ℕ
-less_than address symbol count = if nat_lt address symbol.address then min count (symbol.address - address) else count
+-- The distance to a symbol that is behind the address, or 8
+abbrev pub room : ℕ → Symbol → ℕ
+room address symbol = if nat_lt address symbol.address then symbol.address - address else 8
 
--- the least of a number and of all those distances
-abbrev pub least_among : ℕ → ℕ → List Symbol → ℕ
-least_among address count [] = count
-least_among address count (symbol ∷ symbols) = less_than address symbol (least_among address count symbols)
+-- the least of all
+abbrev pub least_room : ℕ → List Symbol → ℕ
+least_room address [] = 8
+least_room address (symbol ∷ symbols) = min (room address symbol) (least_room address symbols)
 
 abbrev pub named_bytes : ℕ → List Symbol → ℕ
-named_bytes address symbols = least_among address 8 symbols
+named_bytes address symbols = min 8 (least_room address symbols)
 
 -- eight of an address
 abbrev pub bytes_of_spot : List Symbol → Spot → ℕ → ℕ

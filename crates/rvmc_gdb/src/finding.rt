@@ -1,13 +1,13 @@
 //! Places of a record that are looked for: that of the other end of a message, and that of the last change of some bytes.
 
-ghost use Rattle.std.specs.Prelude.{◌≡◌, IfOk, OnOk, option_map};
+ghost use Rattle.std.specs.Prelude.{◌≡◌, ◌≤◌, [], IfOk, OnOk, option_map, slice_get};
 ghost use Rattle.cl_debug.specs.Debugging.{at_place};
-ghost use Rattle.rvmc_gdb.specs.Finding.{FindsWrite, IsEnd, IsLineAt, TellsGoal, bytes_of_spot, goal_text, is_turn_of, less_than};
+ghost use Rattle.rvmc_gdb.specs.Finding.{FindsWrite, IsEnd, IsLineAt, TellsGoal, bytes_of_spot, goal_text, is_turn_of, room};
 ghost use Rattle.rvmc_gdb.specs.Finding.{named_bytes, place_line, turns_back, way_text, write_goal};
 ghost use Rattle.rvmc_gdb.specs.Shown.{IsLine};
 
 use crate::ends::{Found, Side, nearest};
-use crate::session::{Goal, Who, text_of};
+use crate::session::{Goal, Who};
 use crate::shown::hart_line;
 use cl_debug::Debugger;
 use cl_replay::Step;
@@ -46,7 +46,7 @@ fn line_there(
     go(debugger, here)?;
     match found {
         Some(line) => Ok(line),
-        None => text_of(alloc, b""),
+        None => Ok(Vec::new(alloc)),
     }
 }
 
@@ -114,8 +114,15 @@ fn is_turn_of(who: Who, step: Option<&Step>) -> bool
     }
 }
 
+/// Whether the step at a place is a turn of the hart.
+fn is_turn_at(who: Who, steps: &[Step], place: u64) -> bool
+    ensures { result ≡ is_turn_of who (slice_get steps.now place) }
+{
+    is_turn_of(who, steps.get(place as usize))
+}
+
 /// The place so many turns of a hart back, or the first.
-#[tactic(auto, using(crate::proofs::Nearest::turns_step, crate::proofs::Nearest::turns_none, crate::proofs::Nearest::turns_first))]
+#[tactic(auto, using(crate::proofs::Nearest::turns_none, crate::proofs::Nearest::turns_first))]
 fn turns_back(steps: &[Step], who: Who, here: u64, count: u64) -> u64
     ensures { result ≡ turns_back count steps.now who here }
 {
@@ -123,7 +130,7 @@ fn turns_back(steps: &[Step], who: Who, here: u64, count: u64) -> u64
     let mut place = here;
     while left > 0 && place > 0 {
         place -= 1;
-        if is_turn_of(who, steps.get(place as usize)) {
+        if is_turn_at(who, steps, place) {
             left -= 1;
         }
     }
@@ -148,26 +155,22 @@ pub(crate) fn found_end(
     }
 }
 
-/// The lesser of a number of bytes and the distance to another symbol, if that is behind the address.
-fn less_than(address: u64, symbol: &Symbol, count: u64) -> u64
-    ensures { result ≡ less_than address symbol.now count }
+/// The distance from an address to a symbol that is behind it, or 8.
+fn room(address: u64, symbol: &Symbol) -> u64
+    ensures { result ≡ room address symbol.now }
 {
     let other = u64::from(symbol.address);
-    if address < other {
-        count.min(other - address)
-    } else {
-        count
-    }
+    if address < other { other - address } else { 8 }
 }
 
 /// The bytes of a symbol, of which eight are watched at most: as far as the next symbol.
-#[tactic(auto, using(crate::proofs::Nearest::less_first))]
+#[tactic(auto, using(crate::proofs::Nearest::min_assoc, crate::proofs::Nearest::min_most))]
 fn named_bytes(symbols: &[Symbol], address: u64) -> u64
     ensures { result ≡ named_bytes address symbols.now }
 {
     let mut count = 8;
     for symbol in symbols {
-        count = less_than(address, symbol, count);
+        count = count.min(room(address, symbol));
     }
     count
 }

@@ -1,6 +1,6 @@
 //! What is shown of the rank at the place.
 
-ghost use Rattle.std.specs.Prelude.{◌≡◌, ◌<◌, ◌≤◌, ◌++◌, ◌==◌, [], IfOk, OnOk, map, option_map, slice_get};
+ghost use Rattle.std.specs.Prelude.{◌≡◌, ◌<◌, ◌≤◌, ◌+◌, ◌++◌, ◌==◌, [], IfOk, OnOk, map, option_map, slice_get, true};
 ghost use Rattle.std.specs.List.{range_with_len, slice_split};
 ghost use Rattle.std.specs.Option.{option_copied, unwrap_or};
 ghost use Rattle.hex.specs.Hex.{encode_lower};
@@ -183,7 +183,7 @@ fn told_of(alloc: Global, who: Who, line: Option<Vec<u8>>) -> io::Result<Vec<u8>
 impl Session {
     ghost use Rattle.rvmc_gdb.specs.Shown.{IsOwn, IsRead, TellsBytes, TellsRegister, TellsRegisters, TellsThread, raw_text};
     ghost use Rattle.rvmc_gdb.specs.Serving.{thread_count};
-    ghost use Rattle.rvmc_gdb.specs.Shown.{Lists, Names, named_thread, named_threads, names_in};
+    ghost use Rattle.rvmc_gdb.specs.Shown.{Lists, ListsIf, Names, named_thread, named_threads, names_in};
 
     /// The hart that is meant, if the image has one of these numbers.
     fn own(&self) -> Option<&Hart>
@@ -264,22 +264,25 @@ impl Session {
         Ok(digits_or_refused(self.alloc, found)?)
     }
 
-    /// Adds the thread of this number, from 0 on, with its name and what `why` tells of it.
+    /// Adds a thread, which is that of a number from 0 on and 1, with its name and what `why` tells of it.
+    #[tactic(auto, unfolding(crate::specs::Shown::named_thread))]
     fn put_thread(
         &self,
         text: &mut Vec<u8>,
         symbols: &[Symbol],
         state: &ClusterState,
         number: u64,
+        thread: u64,
     ) -> io::Result<()>
-        requires { number < thread_count self.now }
+        requires there { number < thread_count self.now }
+        requires next { thread ≡ number + 1 }
         ensures { OnOk result (text.new.items
             ≡ text.old.items ++ named_thread symbols.now state.now self.now number) }
     {
         let who = self.who_at(number);
         let line = rank_line(self.alloc, symbols, state, who.rank, who.hart)?;
         let told = told_of(self.alloc, who, line)?;
-        put_named(text, number + 1, who.rank, who.hart, told.as_slice())
+        put_named(text, thread, who.rank, who.hart, told.as_slice())
     }
 
     /// Adds so many threads, from the first on.
@@ -295,7 +298,7 @@ impl Session {
             ≡ text.old.items ++ named_threads symbols.now state.now self.now count) }
     {
         for number in 0..count {
-            self.put_thread(text, symbols, state, number)?;
+            self.put_thread(text, symbols, state, number, number + 1)?;
         }
         Ok(())
     }
@@ -320,20 +323,26 @@ impl Session {
         Ok(self.names_in(symbols, state)?)
     }
 
+    /// A part of that list.
+    fn names_part(&self, from: u64, count: u64) -> Result<Vec<u8>, AllocError>
+        ensures { IfOk result (λ text. ListsIf true self.now from count text.items) }
+    {
+        let Ok(list) = self.names() else {
+            return Err(AllocError);
+        };
+        let mut text = Vec::new(self.alloc);
+        put_part(&mut text, list.as_slice(), from, count)?;
+        Ok(text)
+    }
+
     /// A part of that list; with one rank there is none.
     pub(crate) fn thread_list(&self, from: u64, count: u64) -> Result<Vec<u8>, AllocError>
         ensures { IfOk result (λ text. Lists self.now from count text.items) }
     {
-        let mut text = Vec::new(self.alloc);
-        if !self.all {
-            return Ok(text);
-        }
-        match self.names() {
-            Ok(list) => {
-                put_part(&mut text, list.as_slice(), from, count)?;
-                Ok(text)
-            }
-            Err(_) => Err(AllocError),
+        if self.all {
+            self.names_part(from, count)
+        } else {
+            Ok(Vec::new(self.alloc))
         }
     }
 

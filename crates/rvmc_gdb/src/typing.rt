@@ -5,6 +5,7 @@ ghost use Rattle.cl_debug.specs.declared.faults.DebugFault.TheVariants as faults
 ghost use Rattle.rvmc_words.specs.declared.debug.DebugWord.TheVariants as word;
 ghost use Rattle.rvmc_inspect.specs.Words.{Refuses, TellsBytes, WantsMemory};
 ghost use Rattle.rvmc_gdb.specs.Ends.{arrow_text, nothing_text};
+ghost use Rattle.rvmc_gdb.specs.Finding.{TellsGoal};
 ghost use Rattle.rvmc_gdb.specs.Typing.{fault_text, flush_text, help_text, printed_text, unchanged_text, unknown_text};
 
 use crate::ends::{Found, Side, other_end, put_arrow, put_nothing};
@@ -192,13 +193,25 @@ impl Session {
         )?)
     }
 
+    /// What is told of a place that is asked for.
+    fn tell(&mut self, goal: Goal) -> Result<Vec<u8>, AllocError>
+        ensures kept { OnOk result (self.new ≡ self.old) }
+        ensures told { IfOk result (λ text. TellsGoal self.old.debugging goal text.items) }
+    {
+        let text = tell_goal(self.alloc, &mut self.debugger, goal)?;
+        Ok(text)
+    }
+
     /// Asks for a place, or for none, and tells of it.
     fn aim(&mut self, none: &[u8], goal: Option<Goal>) -> Result<Vec<u8>, AllocError>
         ensures { IfOk result (λ text. PrintsGoal none.now self.old goal self.new text.items) }
     {
         self.goal = goal;
         match goal {
-            Some(goal) => tell_goal(self.alloc, &mut self.debugger, goal),
+            Some(goal) => {
+                let text = self.tell(goal)?;
+                Ok(text)
+            }
             None => text_of(self.alloc, none),
         }
     }
