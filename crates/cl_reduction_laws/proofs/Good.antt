@@ -1,0 +1,397 @@
+-- What holds of the loaded cluster lasts.
+use Rattle.std.proofs.Common.{◌≡◌, ◌∙◌, ℕ, ◌+◌, ◌≤◌, refl, sym, ap, subst, arith, inl, inr, Bool, true, false, length, Option, Some, None}
+use Rattle.std.specs.Prelude.{cond, nat_lt, ◌&&◌}
+use Rattle.std.specs.List.{list_all, slice_get, slice_set}
+use Rattle.std.proofs.lemmas.Bool.{cases_eq}
+use Rattle.mp_types.specs.declared.codes.Code.TheVariants as code
+use Rattle.mp_types.specs.declared.messages.Envelope.{Envelope}
+use Rattle.mp_types.specs.declared.messages.Message.{Message}
+use Rattle.mp_types.specs.declared.replies.Reply.{Reply}
+use Rattle.mp_types.specs.declared.replies.Reply.TheVariants as reply
+use Rattle.mp_types.specs.declared.requests.Request.{Request}
+use Rattle.mp_types.specs.declared.requests.Request.TheVariants as request
+use Rattle.mp_match.specs.declared.posts.Line.{Line}
+use Rattle.mp_match.specs.declared.posts.Post.{Post}
+use Rattle.mp_match.specs.declared.posts.Post.TheVariants as post
+use Rattle.mp_match.specs.declared.posts.Selection.{Selection}
+use Rattle.mp_match.specs.declared.posts.Sent.{Sent}
+use Rattle.mp_match.specs.Board.{Board, collect, held_count, is_send_of, line_of, receive_posted, send_posted}
+use Rattle.mp_match.specs.Pairs.{add}
+use Rattle.mp_match.proofs.Lines.{Look, add_length, is_given, is_new, is_old, look}
+use Rattle.mp_hub.specs.Hub.{HubView, all_collected, all_got, are_distinct, got_or, is_complete, is_done, is_known, is_ready, may_collect, outcome, seen, selecting, sending, with_board}
+use Rattle.mp_probe.specs.Claims.{next_number}
+use Rattle.mp_hub.proofs.BoardKept.{all_lines, collect_lines}
+use Rattle.mp_wait_laws.proofs.Moves.{got_hub}
+use Rattle.mp_wait_laws.proofs.Sets.{get-set_other}
+use Rattle.mp_source_laws.specs.Alike.{Wild}
+use Rattle.mp_source_laws.specs.Laws.{AsksFrom, AsksWithin}
+use Rattle.mp_clash_laws.specs.Exchanges.{WaitsWithin}
+use Rattle.cl_state.specs.declared.asking.Answer.{Answer}
+use Rattle.cl_state.specs.declared.asking.Answer.TheVariants as answer
+use Rattle.cl_state.specs.declared.asking.Ask.{Ask}
+use Rattle.cl_state.specs.Asked.{asked, doing, part_of}
+use Rattle.cl_state.specs.Rank.{Rank}
+use Rattle.cl_state.specs.Told.{told}
+use Rattle.cl_state_laws.specs.Awake.{HasNoBytes, StandsAtCall}
+use Rattle.cl_state_laws.specs.Vain.{waits_on}
+use Rattle.cl_state_laws.proofs.Wakes.{wake_law}
+use Rattle.cl_post_laws.specs.Laws.{NamesBelow, TellsBelow}
+use Rattle.cl_post_laws.proofs.Renamed.{below}
+use Rattle.cl_trace.specs.declared.events.Kind.{Kind}
+use Rattle.cl_machine.specs.Boxes.{Box}
+use Rattle.cl_machine.specs.Cluster.{Cluster}
+use Rattle.cl_order_laws.specs.Alike.{AlikeBoxes, hub_of}
+use Rattle.cl_order_laws.specs.Closed.{Node, Plans, Turns, none_had, one_more}
+use Rattle.cl_order_laws.specs.Sure.{Goes}
+use Rattle.cl_order_laws.specs.Turns.{IsOnly, IsTurn}
+use Rattle.cl_order_laws.proofs.Each.{was_there}
+use Rattle.cl_order_laws.proofs.Turns.{turns_law}
+use Rattle.cl_order_laws.proofs.Walks.{turn_posts, turn_posts_most}
+use Rattle.cl_source_laws.specs.Alike.{AskWithin}
+use Rattle.cl_first_laws.specs.Laws.{Turn}
+use Rattle.cl_first_laws.proofs.Exchanges.{Called, call_of}
+use Rattle.cl_reduction_laws.specs.Clusters.{IsGood, IsWithin, Search, posts_of}
+use Rattle.cl_reduction_laws.specs.Patterns.{IsAllowed, Patterns, pattern_of, pattern_of_ask, pattern_of_request}
+
+-- ---- the posts of a call
+
+-- a call of these patterns makes no post, or a send, or the receive that it asks for
+pub data Makes (h : HubView) (r : ℕ) (q : Request) (new : HubView) : Type 0 where
+  nothing : new.board.lines ≡ h.board.lines → Makes h r q new
+  a_send : (s : Sent) → new.board.lines ≡ add h.board.lines (post.Send s) → Makes h r q new
+  a_receive : (now : Bool) (comm : ℕ) (source tag : Option ℕ) → q ≡ request.Recv now comm source tag
+      → new.board.lines ≡ add h.board.lines (post.Receive (selecting r comm source tag)) → Makes h r q new
+
+-- sends, receives, and calls that collect or look
+abbrev pub IsListed : Request → Type 0
+IsListed (request.Send sync comm dest tag bytes) = Unit {0}
+IsListed (request.Recv now comm source tag) = Unit {0}
+IsListed (request.Collect n) = Unit {0}
+IsListed (request.Finished n) = Unit {0}
+IsListed (request.All ns) = Unit {0}
+IsListed (request.Probe comm source tag) = Unit {0}
+IsListed _ = ⊥
+
+module _ (h : HubView) (r : ℕ) (q : Request) where
+  either : (b : Bool) (x y : Reply × HubView) → Makes h r q x.1 → Makes h r q y.1 → Makes h r q (cond b x y).1
+  either true x y p s = p
+  either false x y p s = s
+
+pub makes : (h : HubView) (r : ℕ) (q : Request) → IsListed q → Makes h r q (outcome h r q).1
+makes h r (request.Send sync comm dest tag bytes) is =
+    let s = sending r sync comm dest tag bytes in
+    either h r _ (nat_lt (held_count h.board.bodies) 65536)
+    (reply.Posted (next_number h.board) (is_done h.board s), with_board h (send_posted h.board s bytes))
+    (reply.Code code.Full, h) (a_send s refl) (nothing refl)
+makes h r (request.Recv true comm source tag) is =
+    let b = receive_posted h.board (selecting r comm source tag) in
+    a_receive true comm source tag refl
+    (ap (λ (k : HubView). k.board.lines) (got_hub h (reply.Posted (next_number h.board) false) (collect b (next_number h.board)))
+    ∙ collect_lines b (next_number h.board))
+makes h r (request.Recv false comm source tag) is = a_receive false comm source tag refl refl
+makes h r (request.Collect n) is =
+    either h r _ (may_collect h r n) (got_or h reply.NotYet (collect h.board n)) (reply.Code code.BadRequest, h)
+    (nothing (ap (λ (k : HubView). k.board.lines) (got_hub h reply.NotYet (collect h.board n)) ∙ collect_lines h.board n))
+    (nothing refl)
+makes h r (request.Finished n) is =
+    either h r _ (is_send_of r (line_of h.board n)) (cond (is_complete h n) reply.Done reply.NotYet, h)
+    (reply.Code code.BadRequest, h) (nothing refl) (nothing refl)
+makes h r (request.Probe comm source tag) is = nothing refl
+makes h r (request.All ns) is =
+    either h r _ (are_distinct ns && list_all (λ n. is_known h r n) ns)
+    (cond (list_all (λ n. is_ready h r n) ns) (all_collected h (all_got r h.board ns)) (reply.NotYet, h))
+    (reply.Code code.BadRequest, h)
+    (either h r _ (list_all (λ n. is_ready h r n) ns) (all_collected h (all_got r h.board ns)) (reply.NotYet, h)
+    (nothing (all_lines r ns h.board)) (nothing refl))
+    (nothing refl)
+makes h r _ is = absurd is
+
+-- ---- receives of any source
+
+same_receive : (x y : Selection) → post.Receive x ≡ post.Receive y → x ≡ y
+same_receive x y e = cc
+
+same_post : (a b : ℕ) (x y : Bool) → reply.Posted a x ≡ reply.Posted b y → a ≡ b
+same_post a b x y e = cc
+
+module _ (wild : Wild) (h : HubView) (within : WaitsWithin wild h) where
+  -- what waits in a list with one post more waited before, or is that post
+  waits_in : (p : Post) → ((a : Selection) → p ≡ post.Receive a → AsksFrom wild a.rank a.comm a.source) → (place : ℕ) (a : Selection)
+      → slice_get (add h.board.lines p) place ≡ Some (record { post = post.Receive a; partner = None })
+      → AsksFrom wild a.rank a.comm a.source
+  waits_in p fits place a here = go (look h.board.lines p place _ here)
+    where
+      go : Look h.board.lines p place (record { post = post.Receive a; partner = None }) → AsksFrom wild a.rank a.comm a.source
+      go (is_new at is) = fits a (sym (ap (λ (m : Line). m.post) is))
+      go (is_old there) = within place a there
+      go (is_given x there gives is) = (let none = ap (λ (m : Line). m.partner) is in absurd (cc))
+
+  pub waits_after : (r : ℕ) (q : Request) → IsListed q → AsksWithin wild r q → WaitsWithin wild (outcome h r q).1
+  waits_after r q listed asks place a here = go (makes h r q listed)
+    where
+      go : Makes h r q (outcome h r q).1 → AsksFrom wild a.rank a.comm a.source
+      go (nothing same) = within place a (ap (λ ms. slice_get ms place) (sym same) ∙ here)
+      go (a_send s same) =
+          waits_in (post.Send s) (λ b e. absurd (cc)) place a (ap (λ ms. slice_get ms place) (sym same) ∙ here)
+      go (a_receive now comm source tag is same) =
+          waits_in (post.Receive (selecting r comm source tag))
+          (λ b e. subst (λ (s : Selection). AsksFrom wild s.rank s.comm s.source) (same_receive (selecting r comm source tag) b e)
+          (subst (AsksWithin wild r) is asks))
+          place a (ap (λ ms. slice_get ms place) (sym same) ∙ here)
+
+-- ---- posts that a reply tells of
+
+-- a reply tells of posts that were made
+pub told_below : (h : HubView) (r : ℕ) (q : Request) → IsListed q → (n : ℕ) (done : Bool)
+    → (outcome h r q).0 ≡ reply.Posted n done → n ≤ length (outcome h r q).1.board.lines
+told_below h r (request.Send sync comm dest tag bytes) is n done e =
+    go (nat_lt (held_count h.board.bodies) 65536) e
+  where
+    s : Sent
+    s = sending r sync comm dest tag bytes
+
+    full : Reply × HubView
+    full = (reply.Code code.Full, h)
+
+    made : Reply × HubView
+    made = (reply.Posted (next_number h.board) (is_done h.board s), with_board h (send_posted h.board s bytes))
+
+    go : (b : Bool) → (cond b made full).0 ≡ reply.Posted n done → n ≤ length (cond b made full).1.board.lines
+    go true e =
+        (let same : next_number h.board ≡ n = same_post _ _ _ _ e in
+        let long = add_length h.board.lines (post.Send s) in omega (arith, same, long))
+    go false e = absurd (cc)
+told_below h r (request.Recv false comm source tag) is n done e =
+    (let long = add_length h.board.lines (post.Receive (selecting r comm source tag)) in
+    let same : next_number h.board ≡ n = same_post _ _ _ _ e in omega (arith, same, long))
+told_below h r (request.Recv true comm source tag) is n done e =
+    go (collect b (next_number h.board)).0 (collect b (next_number h.board)).1 (collect_lines b (next_number h.board)) e
+  where
+    b : Board
+    b = receive_posted h.board (selecting r comm source tag)
+
+    go : (o : Option Message) (c : Board) → c.lines ≡ b.lines
+        → (got_or h (reply.Posted (next_number h.board) false) (o, c)).0 ≡ reply.Posted n done
+        → n ≤ length (got_or h (reply.Posted (next_number h.board) false) (o, c)).1.board.lines
+    go None c same e =
+        (let at : next_number h.board ≡ n = same_post _ _ _ _ e in
+        let long = add_length h.board.lines (post.Receive (selecting r comm source tag)) in
+        let many = ap length same in omega (arith, at, long, many))
+    go (Some m) c same e = absurd (cc)
+told_below h r (request.Collect k) is n done e = absurd (go (may_collect h r k) (collect h.board k).0 (collect h.board k).1 e)
+  where
+    go : (b : Bool) (o : Option Message) (c : Board)
+        → (cond b (got_or h reply.NotYet (o, c)) (reply.Code code.BadRequest, h)).0 ≡ reply.Posted n done → ⊥
+    go true None c e = absurd (cc)
+    go true (Some m) c e = absurd (cc)
+    go false o c e = absurd (cc)
+told_below h r (request.Finished k) is n done e = absurd (go (is_send_of r (line_of h.board k)) (is_complete h k) e)
+  where
+    go : (b c : Bool) → (let o : Reply × HubView = cond b (cond c reply.Done reply.NotYet, h) (reply.Code code.BadRequest, h) in o).0 ≡ reply.Posted n done → ⊥
+    go true true e = absurd (cc)
+    go true false e = absurd (cc)
+    go false c e = absurd (cc)
+told_below h r (request.All ns) is n done e =
+    absurd (go (are_distinct ns && list_all (λ k. is_known h r k) ns) (list_all (λ k. is_ready h r k) ns) e)
+  where
+    go : (b c : Bool)
+        → (let o : Reply × HubView = cond b (cond c (all_collected h (all_got r h.board ns)) (reply.NotYet, h)) (reply.Code code.BadRequest, h) in o).0
+        ≡ reply.Posted n done → ⊥
+    go true true e = absurd (cc)
+    go true false e = absurd (cc)
+    go false c e = absurd (cc)
+told_below h r (request.Probe comm source tag) is n done e = absurd (go _ e)
+  where
+    go : (o : Option Envelope) → seen o ≡ reply.Posted n done → ⊥
+    go None e = absurd (cc)
+    go (Some x) e = absurd (cc)
+told_below h r _ is n done e = absurd is
+
+-- what a reply tells of was made
+pub tells_below : (h : HubView) (r : ℕ) (q : Request) → IsListed q → (x : Reply) → (outcome h r q).0 ≡ x
+    → TellsBelow (length (outcome h r q).1.board.lines) (answer.Reply x)
+tells_below h r q listed (reply.Posted n done) is = told_below h r q listed n done is
+tells_below h r q listed (reply.Code c) is = tt
+tells_below h r q listed (reply.Got m) is = tt
+tells_below h r q listed reply.NotYet is = tt
+tells_below h r q listed reply.Done is = tt
+tells_below h r q listed (reply.Seen e) is = tt
+tells_below h r q listed (reply.Held n e) is = tt
+tells_below h r q listed (reply.AllGot gots) is = tt
+tells_below h r q listed (reply.Link link) is = tt
+tells_below h r q listed (reply.Cut parts size) is = tt
+
+pub listed_of : (patterns : Patterns) (r : ℕ) (w : Bool) (q : Request) → IsAllowed patterns r (pattern_of_request w q) → IsListed q
+listed_of patterns r w (request.Send sync comm dest tag bytes) is = tt
+listed_of patterns r w (request.Recv now comm source tag) is = tt
+listed_of patterns r w (request.Collect n) is = tt
+listed_of patterns r w (request.Finished n) is = tt
+listed_of patterns r w (request.All ns) is = tt
+listed_of patterns r w (request.Probe comm source tag) is = tt
+listed_of patterns r w (request.Claim comm source tag) is = absurd is
+listed_of patterns r w (request.Claimed now n) is = absurd is
+listed_of patterns r w (request.Init sends comm peer tag parts size) is = absurd is
+listed_of patterns r w (request.Cut link) is = absurd is
+
+-- ---- a turn, by what it asks
+
+abbrev pub IsOwn : Ask → Type 0
+IsOwn Ask.Plain = Unit {0}
+IsOwn Ask.Local = Unit {0}
+IsOwn Ask.Idle = Unit {0}
+IsOwn _ = ⊥
+
+-- a turn of its own, or a call of the hub
+abbrev pub IsMade : Ask → Type 0
+IsMade Ask.Plain = Unit {0}
+IsMade Ask.Local = Unit {0}
+IsMade Ask.Idle = Unit {0}
+IsMade (Ask.Hub q) = Unit {0}
+IsMade _ = ⊥
+
+pub made_of : (patterns : Patterns) (r : ℕ) (w : Bool) (a : Ask) → IsAllowed patterns r (pattern_of_ask w a) → IsMade a
+made_of patterns r w Ask.Plain is = tt
+made_of patterns r w Ask.Local is = tt
+made_of patterns r w Ask.Idle is = tt
+made_of patterns r w (Ask.Hub q) is = tt
+made_of patterns r w Ask.Held is = absurd is
+made_of patterns r w (Ask.Ready link part bytes) is = absurd is
+made_of patterns r w (Ask.Look link part) is = absurd is
+made_of patterns r w (Ask.Freed link part) is = absurd is
+
+pub made_within : (patterns : Patterns) (r hart : ℕ) (rank : Rank) → IsAllowed patterns r (pattern_of rank hart)
+    → IsMade (asked rank hart)
+made_within patterns r hart rank is = made_of patterns r (waits_on (doing rank.site (part_of rank hart))) (asked rank hart) is
+
+-- it changes its rank alone, or makes a call
+pub data Gone (r hart : ℕ) (c new : Cluster) (rank : Rank) : Type 0 where
+  alone : (stamp : ℕ) → IsOwn (asked rank hart) → new.ranks ≡ slice_set c.ranks r (told rank hart answer.Alone stamp)
+      → new.journal ≡ c.journal → new.boxes ≡ c.boxes
+      → Gone r hart c new rank
+  called : (q : Request) → asked rank hart ≡ Ask.Hub q → Called r hart c new rank q → Gone r hart c new rank
+
+pub gone : (r hart : ℕ) (c new : Cluster) (rank : Rank) → slice_get c.ranks r ≡ Some rank → IsMade (asked rank hart)
+    → Turn r hart c new
+    → Gone r hart c new rank
+gone r hart c new rank there made turn = go (asked rank hart) refl
+  where
+    here : slice_get c.ranks turn.step.rank ≡ Some rank
+    here = ap (slice_get c.ranks) turn.rank ∙ there
+
+    is_turn : IsTurn c turn.step rank (asked rank hart) new
+    is_turn = subst (λ h. IsTurn c turn.step rank (asked rank h) new) turn.hart (turns_law c new turn.step rank here turn.leads)
+
+    only : (kind : Kind) → asked rank hart ≡ asked rank hart → IsOwn (asked rank hart) → IsOnly c turn.step rank kind answer.Alone new
+        → Gone r hart c new rank
+    only kind e own is =
+        alone turn.step.stamp own
+        (ap (λ (k : Cluster). k.ranks) is.1
+        ∙ ap (λ k. slice_set c.ranks k (told rank turn.step.hart answer.Alone turn.step.stamp)) turn.rank
+        ∙ ap (λ h. slice_set c.ranks r (told rank h answer.Alone turn.step.stamp)) turn.hart)
+        (ap (λ (k : Cluster). k.journal) is.1)
+        (ap (λ (k : Cluster). k.boxes) is.1)
+
+    go : (a : Ask) → asked rank hart ≡ a → Gone r hart c new rank
+    go Ask.Plain is = only Kind.Plain refl (subst IsOwn (sym is) tt) (subst (λ a. IsTurn c turn.step rank a new) is is_turn)
+    go Ask.Local is = only Kind.Local refl (subst IsOwn (sym is) tt) (subst (λ a. IsTurn c turn.step rank a new) is is_turn)
+    go Ask.Idle is = only Kind.Idle refl (subst IsOwn (sym is) tt) (subst (λ a. IsTurn c turn.step rank a new) is is_turn)
+    go (Ask.Hub q) is = called q is (call_of r hart c new rank q there is turn)
+    go Ask.Held is = absurd (subst IsMade is made)
+    go (Ask.Ready link part bytes) is = absurd (subst IsMade is made)
+    go (Ask.Look link part) is = absurd (subst IsMade is made)
+    go (Ask.Freed link part) is = absurd (subst IsMade is made)
+
+-- ---- posts
+
+abbrev pub plans_of : (ℕ → ℕ) → Plans
+plans_of harts = λ r n. harts r
+
+abbrev pub at_start : Cluster → Node
+at_start c = record { cluster = c; had = none_had }
+
+pub goes_of : (harts : ℕ → ℕ) (r : ℕ) (c new : Cluster) (had : Turns) → Turn r (harts r) c new
+    → Goes (plans_of harts) r (record { cluster = c; had = had }) (record { cluster = new; had = one_more had r })
+goes_of harts r c new had turn = record {
+  step = turn.step;
+  rank = turn.rank;
+  hart = turn.hart;
+  leads = turn.leads;
+  had = refl;
+}
+
+pub grows_by : (harts : ℕ → ℕ) (r : ℕ) (c new : Cluster) → Turn r (harts r) c new
+    → (posts_of c ≤ posts_of new) × (posts_of new ≤ posts_of c + 1)
+grows_by harts r c new turn =
+    let g = goes_of harts r c new none_had turn in (
+      turn_posts (plans_of harts) r (at_start c) (record { cluster = new; had = one_more none_had r }) g,
+      turn_posts_most (plans_of harts) r (at_start c) (record { cluster = new; had = one_more none_had r }) g,
+    )
+
+-- ---- a turn keeps what holds
+
+names_more : (n m : ℕ) (rank : Rank) → n ≤ m → NamesBelow n rank → NamesBelow m rank
+names_more n m rank le below names fixed = below names (λ place h. fixed place (omega (arith, h, le)))
+
+module _ (search : Search) (r : ℕ) (c new : Cluster) (rank : Rank) (there : slice_get c.ranks r ≡ Some rank)
+    (good : IsGood search c) (within : IsWithin search c r) (turn : Turn r (search.harts r) c new) where
+  -- what holds of the rank that was told, and of each other one, holds of all
+  each_rank : (P : ℕ → Rank → Type 0) (a : Answer) (stamp : ℕ)
+      → new.ranks ≡ slice_set c.ranks r (told rank (search.harts r) a stamp) → P r (told rank (search.harts r) a stamp)
+      → ((s : ℕ) (x : Rank) → slice_get c.ranks s ≡ Some x → P s x)
+      → (s : ℕ) (x : Rank) → slice_get new.ranks s ≡ Some x → P s x
+  each_rank P a stamp ranks mine others s x here = elim (cases_eq r s) [
+    | inl same ↦
+        let w = was_there c.ranks r (told rank (search.harts r) a stamp) x
+        (subst (λ k. slice_get (slice_set c.ranks r (told rank (search.harts r) a stamp)) k ≡ Some x) (sym same)
+        (ap (λ xs. slice_get xs s) (sym ranks) ∙ here)) in
+        subst (λ k. P k x) same (subst (P r) w.0 mine)
+    | inr other ↦
+        others s x (sym (get-set_other c.ranks r s (told rank (search.harts r) a stamp) other)
+        ∙ ap (λ xs. slice_get xs s) (sym ranks) ∙ here)
+  ]
+
+  pub good_after : IsGood search new
+  good_after = go (gone r (search.harts r) c new rank there
+      (made_within search.patterns r (search.harts r) rank (within rank there).0) turn)
+    where
+      more : posts_of c ≤ posts_of new
+      more = (grows_by search.harts r c new turn).0
+
+      names_after : (a : Answer) (stamp : ℕ) → new.ranks ≡ slice_set c.ranks r (told rank (search.harts r) a stamp)
+          → TellsBelow (posts_of new) a
+          → (s : ℕ) (x : Rank) → slice_get new.ranks s ≡ Some x → NamesBelow (posts_of new) x
+      names_after a stamp ranks tells =
+          each_rank (λ s x. NamesBelow (posts_of new) x) a stamp ranks
+          (below (posts_of c) (posts_of new) rank (search.harts r) a stamp more (good.names r rank there) tells)
+          (λ s x here. names_more (posts_of c) (posts_of new) x more (good.names s x here))
+
+      stands_after : (a : Answer) (stamp : ℕ) → new.ranks ≡ slice_set c.ranks r (told rank (search.harts r) a stamp)
+          → HasNoBytes a
+          → (s : ℕ) (x : Rank) → slice_get new.ranks s ≡ Some x → StandsAtCall x (search.harts s)
+      stands_after a stamp ranks bytes =
+          each_rank (λ s x. StandsAtCall x (search.harts s)) a stamp ranks
+          ((wake_law.stands) rank (search.harts r) stamp a (good.stands r rank there) bytes)
+          good.stands
+
+      go : Gone r (search.harts r) c new rank → IsGood search new
+      go (alone stamp own ranks journal boxes) = record {
+        waits = subst (λ j. WaitsWithin search.wild (hub_of j)) (sym journal) good.waits;
+        names = names_after answer.Alone stamp ranks tt;
+        boxes = subst (λ bs. (i : ℕ) (box : Box) → slice_get bs i ≡ Some box → AlikeBoxes box box) (sym boxes) good.boxes;
+        stands = stands_after answer.Alone stamp ranks tt;
+      }
+      go (called q asks k) =
+          let listed = listed_of search.patterns r (waits_on (doing rank.site (part_of rank (search.harts r)))) q
+          (subst (λ a. IsAllowed search.patterns r
+          (pattern_of_ask (waits_on (doing rank.site (part_of rank (search.harts r)))) a)) asks (within rank there).0) in
+          let o = outcome (hub_of c.journal) r q in
+          record {
+            waits = subst (WaitsWithin search.wild) (sym k.hubs)
+                (waits_after search.wild (hub_of c.journal) good.waits r q listed
+                (subst (AskWithin search.wild r) asks (within rank there).1));
+            names = names_after (answer.Reply o.0) k.stamp k.ranks
+                (subst (λ h. TellsBelow (length h.board.lines) (answer.Reply o.0)) (sym k.hubs)
+                (tells_below (hub_of c.journal) r q listed o.0 refl));
+            boxes = subst (λ bs. (i : ℕ) (box : Box) → slice_get bs i ≡ Some box → AlikeBoxes box box) (sym k.boxes) good.boxes;
+            stands = stands_after (answer.Reply o.0) k.stamp k.ranks tt;
+          }

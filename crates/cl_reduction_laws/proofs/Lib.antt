@@ -1,0 +1,7 @@
+pub mod Awake
+pub mod Good
+pub mod Machine
+pub mod Follows
+pub mod First
+pub mod Exchanged
+pub mod Clusters

@@ -1,0 +1,118 @@
+-- Clusters whose ranks have one hart each, as a machine of ranks that take turns.
+use Rattle.std.specs.Prelude.{ℕ, ◌+◌, ◌<◌, ◌≡◌, ◌≢◌, true, length, map, Option, Some, None}
+use Rattle.std.specs.List.{slice_get}
+use Rattle.rv_hart.specs.declared.state.Mode.{Mode}
+use Rattle.rv_hart.specs.declared.state.Mode.TheVariants.{Waiting}
+use Rattle.rv_hart.specs.declared.state.Wait.TheVariants.{Post}
+use Rattle.mp_types.specs.declared.requests.Request.{Request}
+use Rattle.mp_source_laws.specs.Alike.{Wild}
+use Rattle.mp_clash_laws.specs.Exchanges.{IsPosting, WaitsWithin}
+use Rattle.cl_state.specs.declared.asking.Ask.{Ask}
+use Rattle.cl_state.specs.Asked.{asked}
+use Rattle.cl_state.specs.Rank.{Rank}
+use Rattle.cl_state_laws.specs.Awake.{StandsAtCall, awake}
+use Rattle.cl_state_laws.specs.Vain.{mode_of}
+use Rattle.cl_post_laws.specs.Laws.{NamesBelow}
+use Rattle.cl_machine.specs.Boxes.{Box}
+use Rattle.cl_machine.specs.Cluster.{Cluster}
+use Rattle.cl_machine.specs.Journal.{reply_in}
+use Rattle.cl_order_laws.specs.Alike.{AlikeBoxes, hub_of}
+use Rattle.cl_order_laws.specs.SureAsks.{IsBusy, IsReady}
+use Rattle.cl_source_laws.specs.Alike.{AreAlike, AskWithin}
+use Rattle.cl_first_laws.specs.Laws.{Turn}
+use Rattle.cl_schedule_laws.specs.Machines.{Machine, Ranks}
+use Rattle.cl_reduction_laws.specs.Patterns.{IsAllowed, MayPass, Pattern, Patterns, pattern_of}
+
+-- ---- what a search is told
+
+pub record Search : Type 0 where
+  -- whether a rank may ask in a communicator for a message of any source
+  pub wild : Wild
+  pub patterns : Patterns
+  -- the one hart of each rank that takes turns
+  pub harts : ℕ → ℕ
+
+-- ---- states
+
+abbrev pub posts_of : Cluster → ℕ
+posts_of c = length (hub_of c.journal).board.lines
+
+-- receives of any source wait only where those may be made, ranks name only posts that were made, no box has two things,
+-- and a hart that is to make its call anew stands at it. Each holds of the loaded cluster, and lasts
+pub record IsGood (search : Search) (c : Cluster) : Type 0 where
+  pub waits : WaitsWithin search.wild (hub_of c.journal)
+  pub names : (r : ℕ) (rank : Rank) → slice_get c.ranks r ≡ Some rank → NamesBelow (posts_of c) rank
+  pub boxes : (i : ℕ) (box : Box) → slice_get c.boxes i ≡ Some box → AlikeBoxes box box
+  pub stands : (r : ℕ) (rank : Rank) → slice_get c.ranks r ≡ Some rank → StandsAtCall rank (search.harts r)
+
+pub record State (search : Search) : Type 0 where
+  pub cluster : Cluster
+  pub good : IsGood search cluster
+
+-- the same cluster, in which a hart that is to make its call anew is to make it for the first time
+abbrev pub awake_cluster : Cluster → Cluster
+awake_cluster c = record { ranks = map awake c.ranks; journal = c.journal; boxes = c.boxes }
+
+-- ---- turns
+
+-- what the rank asks is one of its patterns, and for any source only where it may
+abbrev pub IsWithin : Search → Cluster → ℕ → Type 0
+IsWithin search c r =
+    (rank : Rank) → slice_get c.ranks r ≡ Some rank
+    → IsAllowed search.patterns r (pattern_of rank (search.harts r))
+    × AskWithin search.wild r (asked rank (search.harts r))
+
+-- 0 for the poll of a RECV or SSEND, whose post was made
+abbrev pub weight_in : Mode → ℕ
+weight_in (Waiting (Post post)) = 0
+weight_in _ = 1
+
+abbrev pub weight_of : Option Rank → ℕ → ℕ
+weight_of None hart = 1
+weight_of (Some rank) hart = weight_in (mode_of rank hart)
+
+-- ---- ranks that may go first
+
+-- needs only its rank; or asks the hub for what is there and stays; or posts what may pass whatever other ranks may ask
+pub data GoesFirst (search : Search) (c : Cluster) (r : ℕ) (rank : Rank) : Type 0 where
+  alone : IsBusy (asked rank (search.harts r)) → GoesFirst search c r rank
+  collects : (q : Request) → asked rank (search.harts r) ≡ Ask.Hub q → IsReady q (reply_in c.journal r q)
+      → GoesFirst search c r rank
+  posts : (q : Request) → asked rank (search.harts r) ≡ Ask.Hub q → IsPosting q
+      → ((s : ℕ) (p : Pattern) → s ≢ r → IsAllowed search.patterns s p → MayPass search.wild r q s p)
+      → GoesFirst search c r rank
+
+-- one rank goes first
+pub record AreSure (search : Search) (c : Cluster) (rs : Ranks) : Type 0 where
+  pub one : ℕ
+  pub among : rs one ≡ true
+  pub only : (r : ℕ) → rs r ≡ true → r ≡ one
+  pub rank : Rank
+  pub there : slice_get c.ranks one ≡ Some rank
+  pub first : GoesFirst search c one rank
+  pub within : IsWithin search c one
+
+-- the rank polls its own receive or send, and it has come
+pub record IsReadyPoll (search : Search) (c : Cluster) (r : ℕ) : Type 0 where
+  pub rank : Rank
+  pub there : slice_get c.ranks r ≡ Some rank
+  pub light : weight_in (mode_of rank (search.harts r)) ≡ 0
+  pub q : Request
+  pub asks : asked rank (search.harts r) ≡ Ask.Hub q
+  pub ready : IsReady q (reply_in c.journal r q)
+  pub within : IsWithin search c r
+
+-- ---- the machine
+
+abbrev pub cluster_machine : Search → Machine
+cluster_machine search = record {
+  State = State search;
+  Goes = λ r a b. Turn r (search.harts r) a.cluster b.cluster;
+  Alike = λ a b. AreAlike search.wild (awake_cluster a.cluster) (awake_cluster b.cluster);
+  IsWithin = λ a r. IsWithin search a.cluster r;
+  HasRoom = λ a. posts_of a.cluster + 3 < 65536;
+  HasSpace = λ a. posts_of a.cluster + 1 < 65536;
+  weight = λ a r. weight_of (slice_get a.cluster.ranks r) (search.harts r);
+  AreSure = λ a rs. AreSure search a.cluster rs;
+  IsReady = λ a r. IsReadyPoll search a.cluster r;
+}

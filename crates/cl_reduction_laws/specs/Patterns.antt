@@ -1,0 +1,70 @@
+-- What ranks ask for, as patterns without post numbers and without bytes, and which turns may pass one another.
+use Rattle.std.specs.Prelude.{ℕ, ◌≡◌, Bool, true, false, [], None, cond}
+use Rattle.mp_types.specs.declared.requests.Request.{Request}
+use Rattle.mp_types.specs.declared.requests.Request.TheVariants as request
+use Rattle.mp_source_laws.specs.Alike.{Wild}
+use Rattle.mp_clash_laws.specs.Exchanges.{NoRace, NoSync}
+use Rattle.cl_state.specs.declared.asking.Ask.{Ask}
+use Rattle.cl_state.specs.Asked.{asked, doing, part_of}
+use Rattle.cl_state.specs.Rank.{Rank}
+use Rattle.cl_state_laws.specs.Vain.{waits_on}
+
+pub data Pattern : Type 0 where
+  -- an instruction, a call that asks nobody, a turn of a stopped hart
+  own : Pattern
+  -- a send of this mode to this rank in this communicator
+  send : Bool → ℕ → ℕ → Pattern
+  receive : Pattern
+  -- WAIT, WAITALL and PROBE, and the poll of a RECV or SSEND: where nothing is there the rank waits on
+  wait : Pattern
+  -- TEST, TESTALL and IPROBE: where nothing is there the rank goes on
+  poll : Pattern
+  -- claims and partitions, which have no pattern of their own yet
+  unlisted : Pattern
+
+abbrev pub pattern_of_request : Bool → Request → Pattern
+pattern_of_request waits (request.Send sync comm dest tag bytes) = send sync dest comm
+pattern_of_request waits (request.Recv now comm source tag) = receive
+pattern_of_request waits (request.Collect post) = cond waits wait poll
+pattern_of_request waits (request.Finished post) = cond waits wait poll
+pattern_of_request waits (request.All posts) = cond waits wait poll
+pattern_of_request waits (request.Probe comm source tag) = cond waits wait poll
+pattern_of_request waits _ = unlisted
+
+abbrev pub pattern_of_ask : Bool → Ask → Pattern
+pattern_of_ask waits Ask.Plain = own
+pattern_of_ask waits Ask.Local = own
+pattern_of_ask waits Ask.Idle = own
+pattern_of_ask waits (Ask.Hub q) = pattern_of_request waits q
+pattern_of_ask waits _ = unlisted
+
+-- of what the hart asks in its next turn
+abbrev pub pattern_of : Rank → ℕ → Pattern
+pattern_of rank hart = pattern_of_ask (waits_on (doing rank.site (part_of rank hart))) (asked rank hart)
+
+-- ---- what may be asked
+
+-- the patterns of each rank in a whole search
+abbrev pub Patterns : Type 0
+Patterns = ℕ → Pattern → Bool
+
+-- turns of its own and waits are always allowed for
+abbrev pub IsAllowed : Patterns → ℕ → Pattern → Type 0
+IsAllowed patterns r own = Unit {0}
+IsAllowed patterns r wait = Unit {0}
+IsAllowed patterns r unlisted = ⊥
+IsAllowed patterns r p = patterns r p ≡ true
+
+-- ---- which turns may pass one another
+
+-- a send or a receive q of rank r may go before what rank s asks. No rank can tell which was first: two sends to one rank
+-- are told apart where it asks for any source, a synchronous send tells whether its receive was posted, and a poll tells
+-- that nothing is there
+abbrev pub MayPass : Wild → ℕ → Request → ℕ → Pattern → Type 0
+MayPass wild r q s own = Unit {0}
+MayPass wild r q s wait = Unit {0}
+MayPass wild r q s (send sync dest comm) =
+    NoRace wild q (request.Send sync comm dest 0 []) × NoSync r q s (request.Send sync comm dest 0 [])
+MayPass wild r q s receive = NoSync r q s (request.Recv false 0 None None)
+MayPass wild r q s poll = ⊥
+MayPass wild r q s unlisted = ⊥
