@@ -782,4 +782,5 @@ RVMC_INLINE int MPI_Parrived(MPI_Request request, int partition, int *flag)
 #ifdef RVMC_CHECK
 #include "lib/check.h"
 #endif
+#include "lib/counts.h"
 #endif

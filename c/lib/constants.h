@@ -14,6 +14,9 @@ typedef struct MPI_Status {
     int rvmc_bytes, MPI_ERROR;
 } MPI_Status;
 
+typedef int MPI_Grequest_query_function(void *state, MPI_Status *status);
+typedef int MPI_Grequest_free_function(void *state);
+typedef int MPI_Grequest_cancel_function(void *state, int complete);
 typedef void MPI_User_function(void *in, void *inout, int *length, MPI_Datatype *type);
 typedef void MPI_Comm_errhandler_function(MPI_Comm *c, int *code, ...);
 typedef MPI_Comm_errhandler_function MPI_Comm_errhandler_fn, MPI_Handler_function;
@@ -152,6 +155,11 @@ enum {
 #define MPI_SHORT_INT RVMC_TYPE(36, 9, 8)
 #define MPI_2INT RVMC_TYPE(37, 10, 8)
 #define MPI_LONG_DOUBLE_INT RVMC_TYPE(38, 7, 32)
+/* Those of C++, which C has too. */
+#define MPI_CXX_BOOL MPI_C_BOOL
+#define MPI_CXX_FLOAT_COMPLEX MPI_C_FLOAT_COMPLEX
+#define MPI_CXX_DOUBLE_COMPLEX MPI_C_DOUBLE_COMPLEX
+#define MPI_CXX_LONG_DOUBLE_COMPLEX MPI_C_LONG_DOUBLE_COMPLEX
 /* Fortran's, which some C programs name. */
 #define MPI_CHARACTER RVMC_TYPE(39, 1, 1)
 #define MPI_LOGICAL RVMC_TYPE(40, 4, 4)
@@ -169,6 +177,9 @@ enum {
 #define MPI_REAL16 RVMC_TYPE(55, 5, 16)
 #define MPI_COMPLEX8 RVMC_TYPE(56, 6, 8)
 #define MPI_COMPLEX16 RVMC_TYPE(57, 6, 16)
+#define MPI_TYPECLASS_REAL 1
+#define MPI_TYPECLASS_INTEGER 2
+#define MPI_TYPECLASS_COMPLEX 3
 #define MPI_2INTEGER RVMC_TYPE(52, 10, 8)
 #define MPI_2REAL RVMC_TYPE(53, 11, 8)
 #define MPI_2DOUBLE_PRECISION RVMC_TYPE(54, 11, 16)

@@ -73,4 +73,12 @@ RVMC_BOTH_FOLDING(Iexscan, Exscan_init, (from, to, count, type, op, c, request, 
                   MPI_Datatype type, MPI_Op op, MPI_Comm c)
 #endif
 
+/* Requests of which the program says when they are complete (13.2). */
+int MPI_Grequest_start(MPI_Grequest_query_function *query, MPI_Grequest_free_function *free_it,
+                       MPI_Grequest_cancel_function *cancel, void *state, MPI_Request *request);
+int MPI_Grequest_complete(MPI_Request request);
+
+/* The datatype of a kind of Fortran's numbers (19.1.5). */
+int MPI_Type_match_size(int type_class, int size, MPI_Datatype *type);
+
 #endif

@@ -129,11 +129,16 @@ int MPI_Buffer_detach(void *place, int *size)
     return MPI_SUCCESS;
 }
 
+int (*rvmc_cancelled)(MPI_Request request, int *error);
+
 /* A send can't be cancelled any more: its message is on its way (3.8.4). */
 int MPI_Cancel(MPI_Request *request)
 {
     long code = RVMC_NO_CANCEL;
+    int error;
 
+    if (rvmc_cancelled && rvmc_cancelled(*request, &error))
+        return error;
     if (*request <= 0 || *request > 255)
         code = RVMC_BAD_REQUEST;
     else if (rvmc_kinds[*request] & RVMC_SENDER)

@@ -20,4 +20,7 @@ void *rvmc_owned(MPI_Request request);
 
 extern const MPI_Status rvmc_empty_status;
 
+/* Cancels a request that the program completes itself (grequests.c). Answers whether it is one. */
+extern int (*rvmc_cancelled)(MPI_Request request, int *error);
+
 #endif
